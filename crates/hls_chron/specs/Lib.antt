@@ -1,0 +1,7 @@
+pub mod Name
+pub mod NameInside
+pub mod Kinds
+pub mod Ledger
+pub mod Seats
+pub mod Asks
+pub mod Discipline

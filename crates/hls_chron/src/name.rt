@@ -1,0 +1,93 @@
+// Names of schedulers and threads.
+ghost use Rattle.std.specs.Prelude.{◌≡◌, ◌≤◌, ◌↔◌, IsSome, IfSome, length, true};
+ghost use Rattle.std.specs.List.{list_all};
+ghost use Rattle.hls_chron.specs.Name.{is_letter, may_follow, is_name, IsName};
+
+use std::marker::Model;
+
+/// How many bytes a name has at most.
+const MOST: usize = 16;
+
+/// The name of a scheduler or a thread: a lower-case letter and up to 15 more lower-case
+/// letters, digits or `_`, and not `cpu`. Contracts see a name as its text.
+#[derive(Clone, Copy, Debug, PartialEq, Eq, Hash)]
+pub struct Name {
+    len: u8,
+    text: [u8; 16],
+}
+
+impl Model for Name {
+    ghost use Rattle.std.specs.Prelude.{ℕ, List, take, length, ◌++◌, ◌-◌, replicate};
+
+    ghost Value = { List ℕ };
+
+    ghost use Rattle.hls_chron.specs.NameInside.{IsNameInside};
+    ghost use Rattle.hls_chron.specs.NameInside.{name_gives_back};
+
+    ghost view = { λ n. take n.len n.text };
+
+    ghost invariant = { IsNameInside };
+
+    ghost inverse = { λ text. record { len = length text; text = text ++ replicate (16 - length text) 0 } };
+
+    ghost inverse_ok = { name_gives_back };
+}
+
+impl Name {
+    /// The name that a text spells, or `None` where the text spells none. Takes no memory.
+    pub fn read(text: &[u8]) -> Option<Name>
+        ensures named { IsSome result ↔ IsName text.now }
+        ensures text { IfSome result (λ name. name ≡ text.now) }
+    {
+        if !is_name_text(text) {
+            return None;
+        }
+        let mut bytes = [0u8; 16];
+        bytes[..text.len()].copy_from_slice(text);
+        Some(Name {
+            len: text.len() as u8,
+            text: bytes,
+        })
+    }
+
+    /// The text of the name.
+    pub fn bytes(&self) -> &[u8]
+        ensures text { result.now ≡ self.now }
+        ensures named { IsName self.now }
+    {
+        &self.text[..self.len as usize]
+    }
+}
+
+fn is_letter_byte(byte: u8) -> bool
+    ensures { result ≡ is_letter byte }
+{
+    byte.is_ascii_lowercase()
+}
+
+fn may_follow_byte(byte: u8) -> bool
+    ensures { result ≡ may_follow byte }
+{
+    is_letter_byte(byte) || byte.is_ascii_digit() || byte == b'_'
+}
+
+fn may_all_follow(text: &[u8]) -> bool
+    ensures { result ≡ list_all may_follow text.now }
+{
+    text.iter().all(|byte| may_follow_byte(*byte))
+}
+
+fn is_name_text(text: &[u8]) -> bool
+    ensures value { result ≡ is_name text.now }
+    ensures short { result ≡ true → length text.now ≤ 16 }
+{
+    match text {
+        [] => false,
+        [first, rest @ ..] => {
+            is_letter_byte(*first)
+                && may_all_follow(rest)
+                && text.len() <= MOST
+                && text != b"cpu".as_slice()
+        }
+    }
+}
