@@ -1,0 +1,2 @@
+pub mod EarlyText
+pub mod ReportText

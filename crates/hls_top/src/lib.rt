@@ -1,0 +1,5 @@
+//! All that the program does: a scenario is read, carried out and reported.
+#![tactic(auto)]
+
+pub mod early;
+pub mod report;
