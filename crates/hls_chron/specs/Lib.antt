@@ -5,3 +5,5 @@ pub mod Ledger
 pub mod Seats
 pub mod Asks
 pub mod Discipline
+pub mod Room
+pub mod Ranges
