@@ -1,0 +1,4 @@
+pub mod Choices
+pub mod Masks
+pub mod Sounds
+pub mod Configured
