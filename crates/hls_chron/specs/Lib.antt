@@ -7,3 +7,4 @@ pub mod Asks
 pub mod Discipline
 pub mod Room
 pub mod Ranges
+pub mod Ticks

@@ -1,4 +1,3 @@
 pub mod Choices
-pub mod Masks
 pub mod Sounds
 pub mod Configured

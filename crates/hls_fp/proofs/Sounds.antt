@@ -17,7 +17,7 @@ use Rattle.hls_sched.specs.Seen.{with_slot, without_slot, tick_row}
 use Rattle.hls_fp.specs.Choice.{choice_of}
 use Rattle.hls_fp.specs.Sound.{IsSound}
 use Rattle.hls_fp.proofs.Choices.{choice_is, no_choice, asking_is, is_asking}
-use Rattle.hls_fp.proofs.Masks.{asks_with, asks_without, silent_without, within_width, silent_zero, some_slot, some_if_asks}
+use Rattle.hls_sched.proofs.Masks.{asks_with, asks_without, silent_without, within_width, silent_zero, some_slot, some_if_asks}
 
 none_at : {X : Type 0} (n k : ℕ) (x : X) → get_or (replicate n x) k x ≡ x
 none_at zero k x = refl

@@ -1,2 +1,7 @@
 pub mod EarlyText
 pub mod ReportText
+pub mod Threads
+pub mod Ready
+pub mod Schedule
+pub mod Legal
+pub mod Progress

@@ -2,4 +2,5 @@
 #![tactic(auto)]
 
 pub mod early;
+pub mod progress;
 pub mod report;
