@@ -5,3 +5,5 @@ pub mod Ready
 pub mod Schedule
 pub mod Legal
 pub mod Progress
+pub mod Linked
+pub mod Changes
