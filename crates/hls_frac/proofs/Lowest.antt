@@ -64,7 +64,8 @@ gcd_to (suc f) a (suc b) lt =
       r.0,
       λ k pos.
           let modded = sym (mul_mod k a (suc b) pos (omega arith)) in
-          IsGcd-from_mod (k * a) (k * suc b) (k * r.0) (subst (λ v. IsGcd (k * suc b) v (k * r.0)) modded (r.1 k pos)),
+          let inner = subst (λ v. IsGcd (k * suc b) v (k * r.0)) modded (r.1 k pos) in
+          IsGcd-from_mod (k * a) (k * suc b) (k * r.0) inner,
     )
 
 one_times : (a b g : ℕ) → IsGcd (1 * a) (1 * b) (1 * g) → IsGcd a b g

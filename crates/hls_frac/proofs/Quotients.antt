@@ -1,5 +1,5 @@
 -- Fractions in lowest terms: one for each value, in a total order that sums and products keep.
-use Rattle.std.proofs.Common.{◌≡◌, ℕ, ◌*◌, ◌/◌, ◌≤◌, ◌⊎◌, inl, inr, ap, sym, subst, arith, mul-pos}
+use Rattle.std.proofs.Common.{◌≡◌, ℕ, ◌*◌, ◌/◌, ◌≤◌, refl, ◌⊎◌, inl, inr, ap, sym, subst, arith, mul-pos}
 use Rattle.std.specs.Int.{IsGcd}
 use Rattle.std.proofs.lemmas.Nat.Gcd.{le_of_dvd}
 use Rattle.std.proofs.lemmas.Bool.{cases_lt}
@@ -41,7 +41,7 @@ same_value-same a b e =
     same_numbers-same a b same.0 same.1
 
 pub same-same_value : (a b : Frac) → a ≡ b → SameValue a b
-same-same_value a b e = subst (λ x. SameValue a x) e (let once : a.num * a.den ≡ a.num * a.den = omega arith in once)
+same-same_value a b e = subst (λ x. SameValue a x) e refl
 
 -- every quotient by a number above 0 is a fraction
 pub quotient_of : (num den : ℕ) → 1 ≤ den → (f : Frac) × IsQuotient f num den

@@ -39,6 +39,7 @@ impl Frac {
         Some(Self::reduced(num, den))
     }
 
+    /// The exact sum.
     pub fn add(&self, other: &Self) -> Self
         requires { SumFits self.now other.now }
         ensures { IsSum result self.now other.now }
@@ -48,6 +49,7 @@ impl Frac {
         Self::reduced(left + right, self.den * other.den)
     }
 
+    /// The exact product.
     pub fn mul(&self, other: &Self) -> Self
         requires { ProductFits self.now other.now }
         ensures { IsProduct result self.now other.now }
