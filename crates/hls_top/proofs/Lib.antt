@@ -1,3 +1,5 @@
 pub mod Lists
 pub mod Seating
 pub mod Moves
+pub mod Admissions
+pub mod Readiness

@@ -1,11 +1,12 @@
 -- What a command changes of the threads and of the root scheduler.
-use Rattle.std.specs.Prelude.{◌≡◌, ℕ, [], ◌∷◌, ◌++◌, List, length, Some, Bool, true, false, if◌then◌else◌, slice_get, slice_set}
+use Rattle.std.specs.Prelude.{◌≡◌, ◌↔◌, ℕ, [], ◌∷◌, ◌++◌, List, length, Option, Some, None, Bool, true, false, if◌then◌else◌, slice_get, slice_set}
 use Rattle.std.specs.Str.{bytes_eq}
-use Rattle.hls_sched.specs.Seen.{Seen, seated, requested, released}
+use Rattle.hls_chron.specs.Ledger.{with_row}
+use Rattle.hls_sched.specs.Seen.{Seen, seated, requested, released, tick_row, seen_asks}
 use Rattle.hls_sched.specs.declared.fault.SeatFault.{SeatFault}
 use Rattle.hls_sched.specs.declared.fault.SeatFault.TheVariants as faults
 use Rattle.hls_top.specs.declared.early.Command.{Command}
-use Rattle.hls_top.specs.declared.early.Command.TheVariants.{Wake, Block}
+use Rattle.hls_top.specs.declared.early.Command.TheVariants.{Thread as ThreadCommand, Wake, Block}
 use Rattle.hls_top.specs.declared.report.Refusal.{Refusal}
 use Rattle.hls_top.specs.declared.report.Refusal.TheVariants.{PriorityTaken, SeatsFull}
 use Rattle.hls_top.specs.declared.progress.Thread.{Thread}
@@ -68,3 +69,22 @@ pub record RousesNamed (threads threads' : List Thread) (root root' : Seen) (nam
   pub slot : ℕ
   pub named : Names threads slot name
   pub rouses : Rouses threads threads' root root' slot awake
+
+-- what a command does that is done
+abbrev pub Does : Command → (threads threads' : List Thread) (root root' : Seen) (line tick : ℕ) → Type 0
+Does (ThreadCommand name priority promise) threads threads' root root' line tick = Admits threads threads' root root' record {
+  name = name;
+  priority = priority;
+  promise = promise;
+  since = tick;
+  line = line;
+  awake = false;
+}
+Does (Wake name) threads threads' root root' line tick = RousesNamed threads threads' root root' name true
+Does (Block name) threads threads' root root' line tick = RousesNamed threads threads' root root' name false
+
+-- one tick more: where the scheduler asks, it is granted and serves the slot of its choice
+pub record Ticks (root root' : Seen) : Type 0 where
+  pub choice : Option ℕ
+  pub row : root' ≡ record root { book = with_row root.book (tick_row root.mask (Some 0) choice) }
+  pub idle : (choice ≡ None) ↔ (seen_asks root ≡ false)

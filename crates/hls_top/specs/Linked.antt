@@ -8,6 +8,7 @@ use Rattle.hls_chron.specs.Ledger.{Ledger, now_of, row_at, before}
 use Rattle.hls_chron.specs.Seats.{SlotAsks, terms_at}
 use Rattle.hls_chron.specs.Asks.{asks}
 use Rattle.hls_sched.specs.Seen.{Seen}
+use Rattle.hls_top.specs.declared.early.Item.{Item}
 use Rattle.hls_top.specs.declared.early.Scenario.{Scenario}
 use Rattle.hls_top.specs.declared.progress.Thread.{Thread}
 use Rattle.hls_top.specs.declared.progress.Progress.{Progress}
@@ -33,6 +34,16 @@ pub record IsSeated (threads : List Thread) (root : Seen) : Type 0 where
   pub few : length threads ≤ 32
   pub asking : (slot : ℕ) → SlotAsks root.mask slot ↔ HasAwake threads slot
 
+-- no two threads have one name
+abbrev pub HasOwnNames : List Thread → Type 0
+HasOwnNames threads = (j k : ℕ) (one other : Thread) → slice_get threads j ≡ Some one → slice_get threads k ≡ Some other
+    → one.name ≡ other.name → j ≡ k
+
+-- the commands that were carried out are of ticks up to the present one, and the others are of no earlier tick
+pub record IsInTime (items : List Item) (line now : ℕ) : Type 0 where
+  pub behind : (k : ℕ) (item : Item) → k < line → slice_get items k ≡ Some item → item.tick ≤ now
+  pub ahead : (k : ℕ) (item : Item) → line ≤ k → slice_get items k ≡ Some item → now ≤ item.tick
+
 -- there is room for all that is still to come
 pub record HasRoom (s : Scenario) (p : Progress) (root : Seen) : Type 0 where
   pub threads : 32 ≤ vec_capacity p.threads
@@ -48,6 +59,8 @@ pub record IsCarriedOut (s : Scenario) (p : Progress) (b : Ledger) : Type 0 wher
   pub awake : (slot : ℕ) (thread : Thread) → slice_get p.threads.items slot ≡ Some thread
       → (thread.awake ≡ true) ↔ IsReadyAfter (take p.line s.items) (seated_of thread)
   pub marks : b.marks ≡ seat_marks 0 (admitted s.root (take p.line s.items))
+  pub lines : (slot : ℕ) (thread : Thread) → slice_get p.threads.items slot ≡ Some thread → thread.line < p.line
+  pub names : HasOwnNames p.threads.items
 
 -- in each tick that has passed the slots of the ready threads asked, and the tick was idle exactly if nobody did
 pub record HasPassed (s : Scenario) (b : Ledger) : Type 0 where
@@ -59,4 +72,15 @@ pub record IsLinked (s : Scenario) (p : Progress) (root : Seen) : Type 0 where
   pub seated : IsSeated p.threads.items root
   pub room : HasRoom s p root
   pub done : IsCarriedOut s p root.book
+  pub timely : IsInTime s.items p.line (now_of root.book)
   pub passed : HasPassed s root.book
+
+-- the next command is there, and of the present tick
+pub record IsDue (s : Scenario) (line now : ℕ) : Type 0 where
+  pub item : Item
+  pub there : slice_get s.items line ≡ Some item
+  pub tick : item.tick ≡ now
+
+-- the next command, if there is one, is of a later tick
+abbrev pub NoneDue : Scenario → ℕ → ℕ → Type 0
+NoneDue s line now = (item : Item) → slice_get s.items line ≡ Some item → now < item.tick

@@ -1,6 +1,7 @@
 //! All that the program does: a scenario is read, carried out and reported.
 #![tactic(auto)]
 
+mod carry_out;
 pub mod early;
 pub mod progress;
 pub mod report;
