@@ -1,0 +1,6 @@
+pub mod Bytes
+pub mod Faults
+pub mod MemSink
+pub mod MemSource
+pub mod Status
+pub mod StdEdge
