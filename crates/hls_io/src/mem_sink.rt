@@ -1,4 +1,5 @@
-ghost use Rattle.std.specs.Prelude.{◌≡◌, ℕ, ◌≤◌, ◌<◌, ◌↔◌, ◌⊎◌, List, Some, length, vec_len, vec_capacity, min, IsErr, IfOk, OnErr, Contains};
+ghost use Rattle.std.specs.Prelude.{◌≡◌, ℕ, ◌≤◌, ◌<◌, ◌↔◌, ◌⊎◌, List, Some, length, vec_len};
+ghost use Rattle.std.specs.Prelude.{vec_capacity, min, IsErr, IfOk, OnErr, Contains};
 ghost use Rattle.std.specs.Io.{WritesAtMost};
 ghost use Rattle.std.specs.Io.KnownBytes.{WriteAppends};
 ghost use Rattle.hls_io.specs.Faults.{CountsFaults, next_count};
@@ -32,12 +33,7 @@ impl MemSink {
     /// # Errors
     ///
     /// Where there is no memory for the room.
-    pub fn new(
-        alloc: Global,
-        room: usize,
-        most: usize,
-        fail: Vec<u32>,
-    ) -> Result<Self, AllocError>
+    pub fn new(alloc: Global, room: usize, most: usize, fail: Vec<u32>) -> Result<Self, AllocError>
         requires { 1 ≤ most }
         ensures { IfOk result (IsNew room most fail.items) }
     {
@@ -60,7 +56,8 @@ impl MemSink {
 }
 
 impl Sink for MemSink {
-    ghost use Rattle.hls_io.specs.MemSink.{bytes_of, free_of, most_of, fail_of, calls_of, faults_of, KeepsPlan};
+    ghost use Rattle.hls_io.specs.MemSink.{bytes_of, free_of, most_of, fail_of, calls_of};
+    ghost use Rattle.hls_io.specs.MemSink.{faults_of, KeepsPlan};
 
     ghost written = { λ s. Some (bytes_of s) };
 
@@ -96,5 +93,31 @@ impl Sink for MemSink {
             // The room was taken when the sink was made.
             Err(_) => unreachable!(),
         }
+    }
+}
+
+#[cfg(test)]
+mod tests {
+    use super::*;
+    use std::test::Fail;
+
+    #[test]
+    fn takes_bytes_by_its_plan(rt: HostRuntime) -> Result<(), Fail> {
+        let alloc = rt.alloc();
+        let mut sink = MemSink::new(alloc, 5, 3, [1].to_vec(alloc)?)?;
+        let calls: [(&[u8], Result<usize, Failed>, &[u8]); 7] = [
+            (b"abcd", Ok(3), b"abc"),
+            (b"d", Err(Failed), b"abc"),
+            (b"d", Ok(1), b"abcd"),
+            (b"", Ok(0), b"abcd"),
+            (b"efg", Ok(1), b"abcde"),
+            (b"fg", Err(Failed), b"abcde"),
+            (b"", Ok(0), b"abcde"),
+        ];
+        for (call, (piece, taken, bytes)) in calls.iter().enumerate() {
+            assert_eq!(rt; sink.write(piece), *taken, "call {call}");
+            assert_eq!(rt; sink.bytes(), *bytes, "call {call}");
+        }
+        Ok(())
     }
 }

@@ -1,4 +1,5 @@
-ghost use Rattle.std.specs.Prelude.{◌≡◌, ℕ, ◌≤◌, ◌<◌, ◌↔◌, ◌++◌, List, Some, drop, length, min, IsErr, IfOk, OnErr, Contains};
+ghost use Rattle.std.specs.Prelude.{◌≡◌, ℕ, ◌≤◌, ◌<◌, ◌↔◌, List, Some, drop, length, min, IsErr};
+ghost use Rattle.std.specs.Prelude.{IfOk, MatchResult, OnErr, Contains};
 ghost use Rattle.std.specs.Io.{ReadsAtMost};
 ghost use Rattle.std.specs.Io.KnownBytes.{ReadConsumes};
 ghost use Rattle.hls_io.specs.Faults.{CountsFaults, next_count};
@@ -61,7 +62,8 @@ impl Source for MemSource {
         ensures listed { IsErr result ↔ Contains (fail_of self.old) (calls_of self.old) }
         ensures count { IfOk result (λ n. n ≡
             min (most_of self.old) (min (length buf.new) (length (left_of self.old)))) }
-        ensures rest { IfOk result (λ n. drop n buf.new ≡ drop n buf.old) }
+        ensures rest { MatchResult result (λ n. drop n buf.new ≡ drop n buf.old)
+            (λ _. buf.new ≡ buf.old) }
 
         ensures failed { OnErr result (faults_of self.new ≡ next_count (faults_of self.old)) }
         ensures calls { calls_of self.new ≡ next_count (calls_of self.old) }
@@ -78,5 +80,35 @@ impl Source for MemSource {
         buf[..count].copy_from_slice(&left[..count]);
         self.at += count;
         Ok(count)
+    }
+}
+
+#[cfg(test)]
+mod tests {
+    use super::*;
+    use std::test::Fail;
+
+    #[test]
+    fn gives_bytes_by_its_plan(rt: HostRuntime) -> Result<(), Fail> {
+        let alloc = rt.alloc();
+        let fail = [1, 5].to_vec(alloc)?;
+        let mut source = MemSource::new(b"abcdef".to_vec(alloc)?, 3, fail);
+        let calls: [(usize, Result<usize, Failed>, &[u8]); 8] = [
+            (4, Ok(3), b"abc-"),
+            (4, Err(Failed), b"----"),
+            (2, Ok(2), b"de--"),
+            (0, Ok(0), b"----"),
+            (4, Ok(1), b"f---"),
+            (4, Err(Failed), b"----"),
+            (4, Ok(0), b"----"),
+            (4, Ok(0), b"----"),
+        ];
+        for (call, (len, given, bytes)) in calls.iter().enumerate() {
+            let mut room = *b"----";
+            let len = room.len().min(*len);
+            assert_eq!(rt; source.read(&mut room[..len]), *given, "call {call}");
+            assert_eq!(rt; &room[..], *bytes, "call {call}");
+        }
+        Ok(())
     }
 }

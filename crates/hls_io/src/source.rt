@@ -1,4 +1,5 @@
-ghost use Rattle.std.specs.Prelude.{◌≡◌, ℕ, ◌+◌, ◌-◌, ◌<◌, ◌≤◌, ◌⊎◌, List, Option, length, vec_len, IfOk, IfSome, IsErrOf};
+ghost use Rattle.std.specs.Prelude.{◌≡◌, ℕ, ◌+◌, ◌-◌, ◌<◌, ◌≤◌, ◌⊎◌, List, Option, length, vec_len};
+ghost use Rattle.std.specs.Prelude.{IfOk, IfSome, IsErrOf};
 ghost use Rattle.std.specs.Io.{ReadsAtMost};
 ghost use Rattle.std.specs.Io.KnownBytes.{ReadConsumes};
 ghost use Rattle.hls_io.specs.Faults.{Rose, CountsFaults};
@@ -63,11 +64,7 @@ impl From<Failed> for ReadError {
 /// `Fault` where a read failed, `TooLong` where more than `most` bytes came, of which one past
 /// the limit is read and no more, and `Memory` where there is no room for the bytes. The first
 /// that is met is returned. The bytes that were read until then are lost.
-pub fn read_all<S: Source>(
-    alloc: Global,
-    source: &mut S,
-    most: usize,
-) -> Result<Vec<u8>, ReadError>
+pub fn read_all<S: Source>(alloc: Global, source: &mut S, most: usize) -> Result<Vec<u8>, ReadError>
     ensures whole { IfOk result (λ v. IsWhole (S.left source.old) (S.left source.new) v.items) }
     ensures within { IfOk result (λ v. vec_len v ≤ most) }
 
@@ -99,4 +96,34 @@ pub fn read_all<S: Source>(
         bytes.extend_from_slice(&room[..count])?;
     }
     Err(ReadError::TooLong)
+}
+
+#[cfg(test)]
+mod tests {
+    use super::*;
+    use crate::MemSource;
+    use std::test::Fail;
+
+    #[test]
+    fn reads_to_the_end_or_to_the_limit(rt: HostRuntime) -> Result<(), Fail> {
+        let alloc = rt.alloc();
+        let cases: [(usize, u32, Result<usize, ReadError>, &[u8]); 6] = [
+            (7, 9, Ok(6), b""),
+            (6, 9, Ok(6), b""),
+            (5, 9, Err(ReadError::TooLong), b""),
+            (3, 9, Err(ReadError::TooLong), b"ef"),
+            (7, 0, Err(ReadError::Fault), b"abcd"),
+            (7, 2, Err(ReadError::Fault), b""),
+        ];
+        for (case, (most, fail, given, rest)) in cases.iter().enumerate() {
+            let fail = [*fail].to_vec(alloc)?;
+            let mut source = MemSource::new(b"abcdef".to_vec(alloc)?, 4, fail);
+            let read = read_all(alloc, &mut source, *most);
+            assert_eq!(rt; read.map(|bytes| bytes.len()), *given, "case {case}");
+            let mut room = *b"----";
+            let left = source.read(&mut room).ok().unwrap_or(0).min(room.len());
+            assert_eq!(rt; &room[..left], *rest, "case {case}");
+        }
+        Ok(())
+    }
 }

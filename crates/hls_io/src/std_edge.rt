@@ -96,3 +96,71 @@ impl<W: Write + Drop> Sink for StdSink<W> {
         }
     }
 }
+
+#[cfg(test)]
+mod tests {
+    use super::*;
+    use std::io::{self, ErrorKind};
+    use std::test::Fail;
+
+    /// Fails at each call.
+    #[derive(Drop)]
+    struct Broken;
+
+    impl Read for Broken {
+        fn read(&mut self, _buf: &mut [u8]) -> io::Result<usize> {
+            Err(ErrorKind::Other.into())
+        }
+    }
+
+    impl Write for Broken {
+        fn write(&mut self, _piece: &[u8]) -> io::Result<usize> {
+            Err(ErrorKind::Other.into())
+        }
+
+        fn flush(&mut self) -> io::Result<()> {
+            Ok(())
+        }
+    }
+
+    #[test]
+    fn passes_on_what_a_reader_gives(rt: HostRuntime) -> Result<(), Fail> {
+        let mut room = *b"---";
+        let mut whole = StdSource::new(&b"abcd"[..]);
+        assert_eq!(rt; whole.read(&mut room), Ok(3));
+        assert_eq!(rt; room, *b"abc");
+        assert_eq!(rt; whole.read(&mut room), Ok(1));
+        assert_eq!(rt; room, *b"dbc");
+        assert_eq!(rt; whole.read(&mut room), Ok(0));
+        assert_eq!(rt; whole.faults, 0);
+
+        let mut broken = StdSource::new((&b"ab"[..]).chain(Broken));
+        assert_eq!(rt; broken.read(&mut room), Ok(2));
+        assert_eq!(rt; broken.read(&mut room), Err(Failed));
+        assert_eq!(rt; broken.read(&mut room), Err(Failed));
+        assert_eq!(rt; broken.faults, 2);
+        Ok(())
+    }
+
+    #[test]
+    fn passes_its_pieces_on_to_a_writer(rt: HostRuntime) -> Result<(), Fail> {
+        let mut list = StdSink::new(Vec::new(rt.alloc()));
+        assert_eq!(rt; list.write(b"ab"), Ok(2));
+        assert_eq!(rt; list.write(b""), Ok(0));
+        assert_eq!(rt; list.write(b"c"), Ok(1));
+        assert_eq!(rt; list.writer.as_slice(), b"abc".as_slice());
+        assert_eq!(rt; list.faults, 0);
+
+        let mut room = [0u8; 3];
+        let mut full = StdSink::new(&mut room[..]);
+        assert_eq!(rt; full.write(b"abcd"), Ok(3));
+        assert_eq!(rt; full.write(b"d"), Err(Failed));
+        assert_eq!(rt; full.write(b""), Ok(0));
+        assert_eq!(rt; full.faults, 1);
+
+        let mut broken = StdSink::new(Broken);
+        assert_eq!(rt; broken.write(b"a"), Err(Failed));
+        assert_eq!(rt; broken.faults, 1);
+        Ok(())
+    }
+}

@@ -14,7 +14,7 @@ pub record Wrote (old new : Option (List ℕ)) (bytes : List ℕ) (at before now
 abbrev pub invariant-loop-at : goal.invariant-loop-at
 invariant-loop-at g l =
     Wrote (g.K.Sink.written l.fn.sink) (g.K.Sink.written l.sink) l.bytes l.at
-      (g.K.Sink.faults l.fn.sink) (g.K.Sink.faults l.sink)
+    (g.K.Sink.faults l.fn.sink) (g.K.Sink.faults l.sink)
 
 abbrev pub decreases-loop-at : goal.decreases-loop-at
 decreases-loop-at g l = length l.bytes - l.at

@@ -13,7 +13,7 @@ pub record HasRead (old new : Option (List ℕ)) (bytes : List ℕ) (most before
 abbrev pub invariant-loop-room : goal.invariant-loop-room
 invariant-loop-room g l =
     HasRead (g.S.Source.left l.fn.source) (g.S.Source.left l.source) l.bytes.items l.most
-      (g.S.Source.faults l.fn.source) (g.S.Source.faults l.source)
+    (g.S.Source.faults l.fn.source) (g.S.Source.faults l.source)
 
 abbrev pub decreases-loop-room : goal.decreases-loop-room
 decreases-loop-room g l = l.most + 1 - vec_len l.bytes

@@ -1,4 +1,4 @@
-use Rattle.std.proofs.Common.{rules, ◌≡◌, ◌+◌, ◌-◌, ◌≤◌, ◌^◌, ◌<◌, ℕ, List, drop, take, length, ◌++◌, arith, length-append}
+use Rattle.std.proofs.Common.{◌≡◌, ◌+◌, drop, take, length, arith, length-append}
 use Rattle.std.proofs.lemmas.Grind.{common_steps}
 use Rattle.std.proofs.lemmas.List.{length-drop, drop_all}
 use Rattle.hls_io.proofs.Steps.{take-append-left}
@@ -13,7 +13,10 @@ returns-clause-bytes c =
     let rest = drop count c.args.buf.now in
     let len : length given ≡ count = grind (arith, common_steps) in
     let after = c.copy_from_slice.ensures.after in
-    let same : given ≡ take count (drop at bytes) = grind (arith, common_steps, after) in (
+    let same : given ≡ take count (drop at bytes) = grind (arith, common_steps, after) in
+    let given_rest = length-append given rest in
+    let buf_rest = length-drop count c.args.buf.now in
+    let left = length-drop at bytes in (
       take-append-left bytes given rest at count len same,
-      λ none some. drop_all (at + count) bytes (omega (arith, len, length-append given rest, length-drop count c.args.buf.now, length-drop at bytes)),
+      λ none some. drop_all (at + count) bytes (omega (arith, len, given_rest, buf_rest, left)),
     )
