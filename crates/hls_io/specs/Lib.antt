@@ -3,4 +3,5 @@ pub mod Faults
 pub mod MemSink
 pub mod MemSource
 pub mod Status
-pub mod StdEdge
+pub mod StdSink
+pub mod StdSource

@@ -10,7 +10,8 @@ mod mem_source;
 mod sink;
 mod source;
 mod status;
-mod std_edge;
+mod std_sink;
+mod std_source;
 
 pub use fault::Failed;
 pub use mem_sink::MemSink;
@@ -18,4 +19,5 @@ pub use mem_source::MemSource;
 pub use sink::{Sink, write_all};
 pub use source::{ReadError, Source, read_all};
 pub use status::Status;
-pub use std_edge::{StdSink, StdSource};
+pub use std_sink::StdSink;
+pub use std_source::StdSource;

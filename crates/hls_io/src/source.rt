@@ -100,6 +100,7 @@ pub fn read_all<S: Source>(alloc: Global, source: &mut S, most: usize) -> Result
 
 #[cfg(test)]
 mod tests {
+    use super::ReadError::{Fault, TooLong};
     use super::*;
     use crate::MemSource;
     use std::test::Fail;
@@ -110,10 +111,10 @@ mod tests {
         let cases: [(usize, u32, Result<usize, ReadError>, &[u8]); 6] = [
             (7, 9, Ok(6), b""),
             (6, 9, Ok(6), b""),
-            (5, 9, Err(ReadError::TooLong), b""),
-            (3, 9, Err(ReadError::TooLong), b"ef"),
-            (7, 0, Err(ReadError::Fault), b"abcd"),
-            (7, 2, Err(ReadError::Fault), b""),
+            (5, 9, Err(TooLong), b""),
+            (3, 9, Err(TooLong), b"ef"),
+            (7, 0, Err(Fault), b"abcd"),
+            (7, 2, Err(Fault), b""),
         ];
         for (case, (most, fail, given, rest)) in cases.iter().enumerate() {
             let fail = [*fail].to_vec(alloc)?;
