@@ -65,6 +65,11 @@ pub row_at-unwritten : (b : Ledger) (t : ℕ) → b.rows ≡ [] → row_at b t �
 unfolding row_at
 row_at-unwritten b t unwritten = rw unwritten (same_branches (nat_lt t b.start) no_row)
 
+-- books with the same start and rows have the same row in each tick
+pub row_at-same : (a b : Ledger) (t : ℕ) → a.start ≡ b.start → a.rows ≡ b.rows → row_at a t ≡ row_at b t
+unfolding row_at
+row_at-same a b t start rows = rw (start, rows) refl
+
 -- a filter that all pass
 filter_all : {X : Type 0} (p : X → Bool) (xs : List X)
     → ((k : ℕ) (none : X) → k < length xs → p (get_or xs k none) ≡ true) → filter p xs ≡ xs

@@ -3,3 +3,5 @@ pub mod Seating
 pub mod Moves
 pub mod Admissions
 pub mod Readiness
+pub mod Links
+pub mod Nexts

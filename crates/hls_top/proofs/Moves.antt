@@ -1,5 +1,5 @@
 -- What commands leave of the seats and of who asks.
-use Rattle.std.proofs.Common.{◌≡◌, ◌≢◌, ℕ, ◌^◌, ◌+◌, ◌<◌, ◌≤◌, List, [], ◌∷◌, ◌++◌, length, Option, Some, None, Bool, true, false, refl, arith, sym, ◌∙◌, ap, subst, inl, inr, length-append, get_or}
+use Rattle.std.proofs.Common.{◌≡◌, ◌≢◌, ℕ, zero, suc, ◌^◌, ◌+◌, ◌<◌, ◌≤◌, List, [], ◌∷◌, ◌++◌, length, Option, Some, None, Bool, true, false, refl, arith, sym, ◌∙◌, ap, subst, inl, inr, length-append, get_or}
 use Rattle.std.specs.Prelude.{slice_get, slice_set, ◌==◌, ◌↔◌, ◌⊎◌, if◌then◌else◌, position, is_some}
 use Rattle.std.specs.Option.{option_map}
 use mathlib.Core.Bool.{beq}
@@ -130,8 +130,8 @@ asking_slot threads root slot thread s there awake = (s.asking slot).1 (record {
 
 set_same : {X : Type 0} (xs : List X) (slot : ℕ) (x : X) → slice_get xs slot ≡ Some x → slice_set xs slot x ≡ xs
 set_same [] slot x there = absurd cc
-set_same (y ∷ xs) Rattle.std.proofs.Common.zero x there = let same : y ≡ x = cc in ap (λ z. z ∷ xs) (sym same)
-set_same (y ∷ xs) (Rattle.std.proofs.Common.suc slot) x there = ap (λ zs. y ∷ zs) (set_same xs slot x there)
+set_same (y ∷ xs) zero x there = let same : y ≡ x = cc in ap (λ z. z ∷ xs) (sym same)
+set_same (y ∷ xs) (suc slot) x there = ap (λ zs. y ∷ zs) (set_same xs slot x there)
 
 -- a thread that is as it is to be stays
 pub rouses_same : (threads : List Thread) (root : Seen) (slot : ℕ) (thread : Thread) (awake : Bool) → IsSeated threads root

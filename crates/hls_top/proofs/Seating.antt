@@ -111,7 +111,7 @@ not_many n lt = grind (arith, nat_tests)
 many : (n : ℕ) → 32 ≤ n → nat_le 32 n ≡ true
 many n le = grind (arith, nat_tests)
 
-length_all : (threads : List Thread) → length (seated_all threads) ≡ length threads
+pub length_all : (threads : List Thread) → length (seated_all threads) ≡ length threads
 length_all [] = refl
 length_all (thread ∷ threads) = ap (λ n. suc n) (length_all threads)
 

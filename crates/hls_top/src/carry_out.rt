@@ -67,8 +67,7 @@ fn carry_out_next(scenario: &Scenario, progress: &mut Progress, root: &mut dyn S
     let item = &scenario.items.items()[progress.line];
     let line = progress.line as u32;
     let answer = answer(&mut progress.threads, root, &scenario.root, item, line);
-    progress.answers.push_reserved(answer);
-    progress.line += 1;
+    progress.note(answer);
 }
 
 /// Whether the next command is of a tick.

@@ -1,6 +1,8 @@
 // What was carried out of a scenario so far.
+ghost use Rattle.std.specs.Prelude.{◌≡◌, ◌+◌, ◌<◌, ◌^◌, [], ◌∷◌, ◌++◌, vec_len, vec_capacity};
+
 use crate::early::Promise;
-use crate::report::Answer;
+use crate::report::{Answer, push_answer};
 use hls_chron::Name;
 
 /// A thread that is admitted. Threads stand in the order of their slots.
@@ -22,4 +24,19 @@ pub struct Progress {
     pub line: usize,
     pub answers: Vec<Answer>,
     pub threads: Vec<Thread>,
+}
+
+impl Progress {
+    /// Notes the answer to the next command, in room that is there.
+    pub fn note(&mut self, answer: Answer)
+        requires room { vec_len self.old.answers < vec_capacity self.old.answers }
+        requires line { self.old.line + 1 < 2 ^ 64 }
+        ensures answers { self.new.answers.items ≡ self.old.answers.items ++ answer ∷ [] }
+        ensures capacity { vec_capacity self.new.answers ≡ vec_capacity self.old.answers }
+        ensures line { self.new.line ≡ self.old.line + 1 }
+        ensures threads { self.new.threads ≡ self.old.threads }
+    {
+        push_answer(&mut self.answers, answer);
+        self.line += 1;
+    }
 }

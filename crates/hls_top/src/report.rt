@@ -1,4 +1,5 @@
 // What a run tells of itself.
+ghost use Rattle.std.specs.Prelude.{◌≡◌, ◌<◌, [], ◌∷◌, ◌++◌, vec_len, vec_capacity};
 
 use crate::early::{Promise, Scenario};
 use hls_chron::{List, Name};
@@ -52,4 +53,16 @@ pub struct Report {
     pub runs: List<Run>,
     pub accounts: List<Account>,
     pub idle: u32,
+}
+
+/// Appends an answer, into room that is there.
+pub fn push_answer(answers: &mut Vec<Answer>, answer: Answer)
+    requires { vec_len answers.old < vec_capacity answers.old }
+    ensures answers { answers.new.items ≡ answers.old.items ++ answer ∷ [] }
+    ensures capacity { vec_capacity answers.new ≡ vec_capacity answers.old }
+{
+    match answer {
+        Answer::Done => answers.push_reserved(Answer::Done),
+        Answer::Refused(refusal) => answers.push_reserved(Answer::Refused(refusal)),
+    }
 }
