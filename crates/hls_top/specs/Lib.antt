@@ -1,2 +1,3 @@
 pub mod EarlyText
+pub mod EarlyReading
 pub mod ReportText

@@ -2,4 +2,7 @@
 #![tactic(auto)]
 
 pub mod early;
+mod early_reader;
+mod number;
 pub mod report;
+mod tokens;

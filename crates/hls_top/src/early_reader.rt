@@ -1,0 +1,143 @@
+// Reading an early text.
+ghost use Rattle.std.specs.Prelude.{◌≡◌, ◌<◌, ◌≤◌, IfOk, MatchOption, length, List};
+ghost use Rattle.hls_top.specs.EarlyText.{IsEarlyText};
+ghost use Rattle.hls_top.specs.EarlyReading.{Gives, name_at, other_at, promise_at, thread_at, wake_at, block_at, command_at, timely_command, item_at, load_line, head_at, AreItems};
+
+use crate::early::{Command, Item, Promise, Scenario};
+use crate::number::number_until;
+use crate::tokens::{after, cut};
+use hls_chron::{List, Name};
+use std::alloc::{AllocError, Global};
+
+/// How many commands a text has at most.
+const MOST_ITEMS: usize = 65535;
+
+/// How many ticks a horizon has at most.
+const MOST_TICKS: u32 = 100000;
+
+/// How many priority numbers there are.
+const PRIORITIES: u32 = 32;
+
+#[tactic(auto, unfolding(crate::specs::EarlyReading::name_at))]
+fn name_until(text: &[u8], byte: u8) -> Option<(Name, &[u8])>
+    ensures { Gives (λ p. (p.0, p.1.now)) result (name_at byte text.now) }
+{
+    let (word, rest) = cut(text, byte)?;
+    Some((Name::read(word)?, rest))
+}
+
+// The name of a thread, which the root does not have.
+#[tactic(auto, unfolding(crate::specs::EarlyReading::other_at))]
+fn other_until<'a>(text: &'a [u8], byte: u8, root: &Name) -> Option<(Name, &'a [u8])>
+    ensures { Gives (λ p. (p.0, p.1.now)) result (other_at byte root.now text.entry.now) }
+{
+    let Some((name, rest)) = name_until(text, byte) else {
+        return None;
+    };
+    if name.bytes() == root.bytes() {
+        None
+    } else {
+        Some((name, rest))
+    }
+}
+
+#[tactic(auto, unfolding(crate::specs::EarlyReading::promise_at))]
+fn promise(text: &[u8], priority: u32) -> Option<(Promise, &[u8])>
+    ensures { Gives (λ p. (p.0, p.1.now)) result (promise_at priority text.now) }
+{
+    if let Some(rest) = after(text, b"as ALL\n") {
+        return if priority == 0 { Some((Promise::All, rest)) } else { None };
+    }
+    let rest = after(text, b"as NULL\n")?;
+    if priority < PRIORITIES {
+        Some((Promise::Null, rest))
+    } else {
+        None
+    }
+}
+
+#[tactic(auto, unfolding(crate::specs::EarlyReading::thread_at))]
+fn thread<'a>(text: &'a [u8], root: &Name) -> Option<(Command, &'a [u8])>
+    ensures { Gives (λ p. (p.0, p.1.now)) result (thread_at root.now text.entry.now) }
+{
+    let Some((name, rest)) = other_until(text, b' ', root) else {
+        return None;
+    };
+    let rest = after(rest, b"on ")?;
+    let rest = after(rest, root.bytes())?;
+    let rest = after(rest, b" prio ")?;
+    let (priority, rest) = number_until(rest, b' ')?;
+    let (promise, rest) = promise(rest, priority)?;
+    let command = Command::Thread {
+        name,
+        priority,
+        promise,
+    };
+    Some((command, rest))
+}
+
+#[tactic(auto, unfolding(crate::specs::EarlyReading::wake_at))]
+fn wake<'a>(text: &'a [u8], root: &Name) -> Option<(Command, &'a [u8])>
+    ensures { Gives (λ p. (p.0, p.1.now)) result (wake_at root.now text.entry.now) }
+{
+    let Some((name, rest)) = other_until(text, b'\n', root) else {
+        return None;
+    };
+    Some((Command::Wake { name }, rest))
+}
+
+#[tactic(auto, unfolding(crate::specs::EarlyReading::block_at))]
+fn block<'a>(text: &'a [u8], root: &Name) -> Option<(Command, &'a [u8])>
+    ensures { Gives (λ p. (p.0, p.1.now)) result (block_at root.now text.entry.now) }
+{
+    let Some((name, rest)) = other_until(text, b'\n', root) else {
+        return None;
+    };
+    Some((Command::Block { name }, rest))
+}
+
+#[tactic(auto, unfolding(crate::specs::EarlyReading::command_at))]
+fn command<'a>(text: &'a [u8], root: &Name) -> Option<(Command, &'a [u8])>
+    ensures { Gives (λ p. (p.0, p.1.now)) result (command_at root.now text.entry.now) }
+{
+    if let Some(rest) = after(text, b"thread ") {
+        return thread(rest, root);
+    }
+    if let Some(rest) = after(text, b"wake ") {
+        return wake(rest, root);
+    }
+    let rest = after(text, b"block ")?;
+    block(rest, root)
+}
+
+#[tactic(auto, unfolding(crate::specs::EarlyReading::item_at))]
+fn item<'a>(text: &'a [u8], root: &Name, horizon: u32, last: u32) -> Option<(Item, &'a [u8])>
+    ensures { Gives (λ p. (p.0, p.1.now)) result (item_at root.now horizon last text.entry.now) }
+{
+    let rest = after(text, b"at ")?;
+    let (tick, rest) = number_until(rest, b' ')?;
+    if tick < last || tick >= horizon {
+        return None;
+    }
+    let Some((command, rest)) = command(rest, root) else {
+        return None;
+    };
+    Some((Item { tick, command }, rest))
+}
+
+#[tactic(auto, unfolding(crate::specs::EarlyReading::head_at))]
+fn head(text: &[u8]) -> Option<(u32, Name, &[u8])>
+    ensures { Gives (λ p. (p.0, p.1, p.2.now)) result (head_at text.now) }
+{
+    let rest = after(text, b"hls 1\nhorizon ")?;
+    let (horizon, rest) = number_until(rest, b'\n')?;
+    if horizon < 1 || horizon > MOST_TICKS {
+        return None;
+    }
+    let rest = after(rest, b"at 0 load ")?;
+    let Some((root, rest)) = name_until(rest, b' ') else {
+        return None;
+    };
+    let rest = after(rest, b"fp on cpu as ALL\n")?;
+    Some((horizon, root, rest))
+}
