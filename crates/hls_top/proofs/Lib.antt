@@ -1,2 +1,5 @@
 pub mod TokenLaws
 pub mod NumberLaws
+pub mod CommandLaws
+pub mod ItemLaws
+pub mod HeadLaws

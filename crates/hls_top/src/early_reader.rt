@@ -141,3 +141,47 @@ fn head(text: &[u8]) -> Option<(u32, Name, &[u8])>
     let rest = after(rest, b"fp on cpu as ALL\n")?;
     Some((horizon, root, rest))
 }
+
+// The items of the lines, up to the end of the text.
+fn items(
+    alloc: Global,
+    text: &[u8],
+    root: &Name,
+    horizon: u32,
+) -> Result<Option<Vec<Item>>, AllocError>
+    requires { horizon ≤ MOST_TICKS }
+    ensures { IfOk result (λ found. MatchOption found ((items : List Item) → length items ≤ MOST_ITEMS → ¬ AreItems root.now horizon 0 text.now items) (λ items. AreItems root.now horizon 0 text.now items.items × (length items.items ≤ MOST_ITEMS))) }
+{
+    let mut items = Vec::new(alloc);
+    let mut last = 0;
+    let mut rest = text;
+    while !rest.is_empty() {
+        if items.len() == MOST_ITEMS {
+            return Ok(None);
+        }
+        let Some((item, after)) = item(rest, root, horizon, last) else {
+            return Ok(None);
+        };
+        last = item.tick;
+        items.push(item)?;
+        rest = after;
+    }
+    Ok(Some(items))
+}
+
+/// The scenario of an early text, or `None` where the text is no early text.
+pub fn read_early(alloc: Global, text: &[u8]) -> Result<Option<Scenario>, AllocError>
+    ensures read { IfOk result (λ found. MatchOption found ((s : Scenario) → ¬ IsEarlyText text.now s) (IsEarlyText text.now)) }
+{
+    let Some((horizon, root, rest)) = head(text) else {
+        return Ok(None);
+    };
+    let Some(items) = items(alloc, rest, &root, horizon)? else {
+        return Ok(None);
+    };
+    Ok(Some(Scenario {
+        horizon,
+        root,
+        items: List::of(items),
+    }))
+}
