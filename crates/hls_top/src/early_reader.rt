@@ -125,9 +125,17 @@ fn item<'a>(text: &'a [u8], root: &Name, horizon: u32, last: u32) -> Option<(Ite
     Some((Item { tick, command }, rest))
 }
 
+/// What the first three lines say, and what stands after them.
+#[derive(Debug, Drop)]
+struct Head<'a> {
+    horizon: u32,
+    root: Name,
+    rest: &'a [u8],
+}
+
 #[tactic(auto, unfolding(crate::specs::EarlyReading::head_at))]
-fn head(text: &[u8]) -> Option<(u32, Name, &[u8])>
-    ensures { Gives (λ p. (p.0, p.1, p.2.now)) result (head_at text.now) }
+fn read_head(text: &[u8]) -> Option<Head<'_>>
+    ensures { Gives (λ head. (head.horizon, head.root, head.rest.now)) result (head_at text.now) }
 {
     let rest = after(text, b"hls 1\nhorizon ")?;
     let (horizon, rest) = number_until(rest, b'\n')?;
@@ -139,7 +147,11 @@ fn head(text: &[u8]) -> Option<(u32, Name, &[u8])>
         return None;
     };
     let rest = after(rest, b"fp on cpu as ALL\n")?;
-    Some((horizon, root, rest))
+    Some(Head {
+        horizon,
+        root,
+        rest,
+    })
 }
 
 // The items of the lines, up to the end of the text.
@@ -173,15 +185,15 @@ fn items(
 pub fn read_early(alloc: Global, text: &[u8]) -> Result<Option<Scenario>, AllocError>
     ensures read { IfOk result (λ found. MatchOption found ((s : Scenario) → ¬ IsEarlyText text.now s) (IsEarlyText text.now)) }
 {
-    let Some((horizon, root, rest)) = head(text) else {
+    let Some(head) = read_head(text) else {
         return Ok(None);
     };
-    let Some(items) = items(alloc, rest, &root, horizon)? else {
+    let Some(items) = items(alloc, head.rest, &head.root, head.horizon)? else {
         return Ok(None);
     };
     Ok(Some(Scenario {
-        horizon,
-        root,
+        horizon: head.horizon,
+        root: head.root,
         items: List::of(items),
     }))
 }
