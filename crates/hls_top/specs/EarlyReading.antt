@@ -1,5 +1,5 @@
 -- Reading an early text from the left.
-use Rattle.std.specs.Prelude.{◌≡◌, ℕ, ◌+◌, ◌-◌, ◌*◌, ◌^◌, ◌<◌, ◌≤◌, ◌==◌, ◌&&◌, nat_le, nat_lt, min, not, Bool, true, false, List, [], ◌∷◌, ◌++◌, length, take, drop, fold, codes, Option, Some, None, option_map, if◌then◌else◌, map}
+use Rattle.std.specs.Prelude.{◌≡◌, ℕ, ◌+◌, ◌-◌, ◌*◌, ◌^◌, ◌≤◌, ◌==◌, ◌&&◌, nat_le, nat_lt, min, not, Bool, false, List, [], ◌∷◌, ◌++◌, length, take, drop, fold, codes, Option, Some, None, option_map, if◌then◌else◌, map}
 use Rattle.std.specs.List.{list_all, position}
 use Rattle.std.specs.Str.{bytes_eq}
 use Rattle.hls_chron.specs.Name.{is_name}
@@ -27,7 +27,8 @@ Gives view (Some x) read = read ≡ Some (view x)
 
 -- what stands after these words, where the text begins with them
 abbrev pub after_words : Text → Text → Option Text
-after_words words text = if bytes_eq (take (length words) text) words then Some (drop (length words) text) else None
+after_words words text =
+    if bytes_eq (take (length words) text) words then Some (drop (length words) text) else None
 
 -- what stands before the first such byte, and what stands after it
 abbrev pub cut_at : ℕ → Text → Option (Text × Text)
@@ -94,7 +95,8 @@ block_at root text = other_at 10 root text >>= λ name. Some (Block name.0, name
 unfoldable pub command_at : Text → Text → Option (Command × Text)
 command_at root text =
     first_of_two (after_words (codes "thread ") text) (thread_at root)
-    (first_of_two (after_words (codes "wake ") text) (wake_at root) (after_words (codes "block ") text >>= block_at root))
+    (first_of_two (after_words (codes "wake ") text) (wake_at root)
+    (after_words (codes "block ") text >>= block_at root))
 
 abbrev pub timely_command : Text → ℕ → ℕ → ℕ × Text → Option (Command × Text)
 timely_command root horizon last tick =
@@ -109,7 +111,8 @@ item_at root horizon last text = do
 
 abbrev pub load_line : ℕ × Text → Option Text
 load_line horizon =
-    if nat_le 1 horizon.0 && nat_le horizon.0 100000 then after_words (codes "at 0 load ") horizon.1 else None
+    if nat_le 1 horizon.0 && nat_le horizon.0 100000 then after_words (codes "at 0 load ") horizon.1 else
+    None
 
 -- the horizon, the root, and what stands after the first three lines
 unfoldable pub head_at : Text → Option (ℕ × Text × Text)
@@ -125,3 +128,8 @@ head_at text = do
 pub record AreItems (root : Text) (horizon last : ℕ) (text : Text) (items : List Item) : Type 0 where
   pub fit : FitItems root horizon last items
   pub spelled : text ≡ lines_text (map (item_tokens root) items)
+
+-- the text of these items, which are all of a text's
+pub record AreAllItems (root : Text) (horizon : ℕ) (text : Text) (items : List Item) : Type 0 where
+  pub few : length items ≤ 65535
+  pub are : AreItems root horizon 0 text items

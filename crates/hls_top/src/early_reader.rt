@@ -1,7 +1,8 @@
 // Reading an early text.
-ghost use Rattle.std.specs.Prelude.{◌≡◌, ◌<◌, ◌≤◌, IfOk, MatchOption, length, List};
-ghost use Rattle.hls_top.specs.EarlyText.{IsEarlyText};
-ghost use Rattle.hls_top.specs.EarlyReading.{Gives, name_at, other_at, promise_at, thread_at, wake_at, block_at, command_at, timely_command, item_at, load_line, head_at, AreItems};
+ghost use Rattle.std.specs.Prelude.{◌≡◌, ◌<◌, ◌≤◌, IfOk, MatchOption, List};
+ghost use Rattle.hls_top.specs.EarlyText.{Text, IsEarlyText};
+ghost use Rattle.hls_top.specs.EarlyReading.{Gives, name_at, other_at, promise_at, thread_at, wake_at};
+ghost use Rattle.hls_top.specs.EarlyReading.{block_at, command_at, item_at, head_at, AreAllItems};
 
 use crate::early::{Command, Item, Promise, Scenario};
 use crate::number::number_until;
@@ -46,7 +47,11 @@ fn promise(text: &[u8], priority: u32) -> Option<(Promise, &[u8])>
     ensures { Gives (λ p. (p.0, p.1.now)) result (promise_at priority text.now) }
 {
     if let Some(rest) = after(text, b"as ALL\n") {
-        return if priority == 0 { Some((Promise::All, rest)) } else { None };
+        return if priority == 0 {
+            Some((Promise::All, rest))
+        } else {
+            None
+        };
     }
     let rest = after(text, b"as NULL\n")?;
     if priority < PRIORITIES {
@@ -162,7 +167,9 @@ fn items(
     horizon: u32,
 ) -> Result<Option<Vec<Item>>, AllocError>
     requires { horizon ≤ MOST_TICKS }
-    ensures { IfOk result (λ found. MatchOption found ((items : List Item) → length items ≤ MOST_ITEMS → ¬ AreItems root.now horizon 0 text.now items) (λ items. AreItems root.now horizon 0 text.now items.items × (length items.items ≤ MOST_ITEMS))) }
+    ensures { IfOk result (λ found. MatchOption found
+        ((items : List Item) → ¬ AreAllItems root.now horizon text.now items)
+        (λ items. AreAllItems root.now horizon text.now items.items)) }
 {
     let mut items = Vec::new(alloc);
     let mut last = 0;
@@ -183,7 +190,9 @@ fn items(
 
 /// The scenario of an early text, or `None` where the text is no early text.
 pub fn read_early(alloc: Global, text: &[u8]) -> Result<Option<Scenario>, AllocError>
-    ensures read { IfOk result (λ found. MatchOption found ((s : Scenario) → ¬ IsEarlyText text.now s) (IsEarlyText text.now)) }
+    ensures read { IfOk result (λ found. MatchOption found
+        ((s : Scenario) → ¬ IsEarlyText text.now s)
+        (IsEarlyText text.now)) }
 {
     let Some(head) = read_head(text) else {
         return Ok(None);
@@ -196,4 +205,150 @@ pub fn read_early(alloc: Global, text: &[u8]) -> Result<Option<Scenario>, AllocE
         root: head.root,
         items: List::of(items),
     }))
+}
+
+/// One text has at most one scenario.
+pub fn one_scenario()
+    ensures { (text : Text) (a b : Scenario) → IsEarlyText text a → IsEarlyText text b → a ≡ b }
+{}
+
+#[cfg(test)]
+mod tests {
+    use super::*;
+    use std::test::Fail;
+
+    const SMALLEST: &[u8] = b"hls 1\nhorizon 1\nat 0 load root fp on cpu as ALL\n\
+        at 0 thread a on root prio 0 as ALL\nat 0 wake a\n";
+
+    const REFUSALS: &[u8] = b"hls 1\nhorizon 4\nat 0 load root fp on cpu as ALL\n\
+        at 0 thread a on root prio 0 as ALL\nat 0 thread b on root prio 3 as NULL\n\
+        at 0 thread a on root prio 5 as NULL\nat 0 thread c on root prio 3 as NULL\n\
+        at 0 wake b\nat 1 wake a\nat 3 block a\nat 3 wake z\n";
+
+    const LARGEST: &[u8] = b"hls 1\nhorizon 100000\nat 0 load root fp on cpu as ALL\n\
+        at 0 thread abcdefghijklmnop on root prio 31 as NULL\nat 99999 wake abcdefghijklmnop\n";
+
+    const HEAD: &[u8] = b"hls 1\nhorizon 4\nat 0 load root fp on cpu as ALL\n";
+
+    #[test]
+    fn reads_texts(rt: HostRuntime) -> Result<(), Fail> {
+        let cases = [
+            (SMALLEST, 1, 2),
+            (REFUSALS, 4, 8),
+            (LARGEST, 100000, 2),
+            (HEAD, 4, 0),
+        ];
+        for (text, horizon, count) in cases {
+            match read_early(rt.alloc(), text)? {
+                Some(scenario) => {
+                    assert_eq!(rt; scenario.horizon, horizon);
+                    assert_eq!(rt; scenario.root.bytes(), b"root".as_slice());
+                    assert_eq!(rt; scenario.items.items().len(), count);
+                }
+                None => assert!(rt; false, "no scenario of {count} commands"),
+            }
+        }
+        Ok(())
+    }
+
+    #[test]
+    fn reads_commands(rt: HostRuntime) -> Result<(), Fail> {
+        let Some(scenario) = read_early(rt.alloc(), REFUSALS)? else {
+            assert!(rt; false);
+            return Ok(());
+        };
+        let items = scenario.items.items();
+        let wanted = [
+            (0, b"a".as_slice(), Some((0, Promise::All)), true),
+            (0, b"b".as_slice(), Some((3, Promise::Null)), true),
+            (0, b"a".as_slice(), Some((5, Promise::Null)), true),
+            (0, b"c".as_slice(), Some((3, Promise::Null)), true),
+            (0, b"b".as_slice(), None, true),
+            (1, b"a".as_slice(), None, true),
+            (3, b"a".as_slice(), None, false),
+            (3, b"z".as_slice(), None, true),
+        ];
+        for (item, (tick, named, seat, runs)) in items.iter().zip(wanted) {
+            assert_eq!(rt; item.tick, tick);
+            match &item.command {
+                Command::Thread {
+                    name,
+                    priority,
+                    promise,
+                } => {
+                    assert_eq!(rt; name.bytes(), named);
+                    assert_eq!(rt; Some((*priority, *promise)), seat);
+                }
+                Command::Wake { name } => {
+                    assert_eq!(rt; name.bytes(), named);
+                    assert!(rt; seat.is_none() && runs);
+                }
+                Command::Block { name } => {
+                    assert_eq!(rt; name.bytes(), named);
+                    assert!(rt; seat.is_none() && !runs);
+                }
+            }
+        }
+        Ok(())
+    }
+
+    #[test]
+    fn turns_other_texts_away(rt: HostRuntime) -> Result<(), Fail> {
+        let texts = [
+            b"".as_slice(),
+            b"hls 1\nhorizon 4\nat 0 load root fp on cpu as ALL".as_slice(),
+            b"hls 1\nhorizon  4\nat 0 load root fp on cpu as ALL\n".as_slice(),
+            b"hls 1\nhorizon 04\nat 0 load root fp on cpu as ALL\n".as_slice(),
+            b"hls 1\nhorizon 0\nat 0 load root fp on cpu as ALL\n".as_slice(),
+            b"hls 1\nhorizon 100001\nat 0 load root fp on cpu as ALL\n".as_slice(),
+            b"hls 1\nhorizon 18446744073709551620\nat 0 load root fp on cpu as ALL\n".as_slice(),
+            b"hls 1\nhorizon 4\nat 0 load cpu fp on cpu as ALL\n".as_slice(),
+            b"hls 1\nhorizon 4\nat 0 load root fp on cpu as ALL\n\n".as_slice(),
+            b"# a\nhls 1\nhorizon 4\nat 0 load root fp on cpu as ALL\n".as_slice(),
+        ];
+        for (case, text) in texts.iter().enumerate() {
+            assert!(rt; read_early(rt.alloc(), text)?.is_none(), "head {case}");
+        }
+        Ok(())
+    }
+
+    #[test]
+    fn turns_other_lines_away(rt: HostRuntime) -> Result<(), Fail> {
+        let lines = [
+            b"at 4 wake a\n".as_slice(),
+            b"at 2 wake a\nat 1 wake a\n".as_slice(),
+            b"at 4294967296 wake a\n".as_slice(),
+            b"at 00 wake a\n".as_slice(),
+            b"at 0 wake root\n".as_slice(),
+            b"at 0 wake abcdefghijklmnopq\n".as_slice(),
+            b"at 0 wake cpu\n".as_slice(),
+            b"at 0 wake a \n".as_slice(),
+            b"at 0 wake a # now\n".as_slice(),
+            b"at 0 thread a on root prio 1 as ALL\n".as_slice(),
+            b"at 0 thread a on root prio 32 as NULL\n".as_slice(),
+            b"at 0 thread root on root prio 0 as ALL\n".as_slice(),
+            b"at 0 thread a on other prio 0 as ALL\n".as_slice(),
+            b"at 0 sleep a\n".as_slice(),
+        ];
+        for (case, line) in lines.iter().enumerate() {
+            let mut text = Vec::new(rt.alloc());
+            text.extend_from_slice(HEAD)?;
+            text.extend_from_slice(line)?;
+            assert!(rt; read_early(rt.alloc(), &text)?.is_none(), "line {case}");
+        }
+        Ok(())
+    }
+
+    #[test]
+    fn reads_the_most_commands(rt: HostRuntime) -> Result<(), Fail> {
+        let mut text = Vec::new(rt.alloc());
+        text.extend_from_slice(HEAD)?;
+        for _ in 0..65535 {
+            text.extend_from_slice(b"at 0 wake a\n")?;
+        }
+        assert!(rt; read_early(rt.alloc(), &text)?.is_some());
+        text.extend_from_slice(b"at 0 wake a\n")?;
+        assert!(rt; read_early(rt.alloc(), &text)?.is_none());
+        Ok(())
+    }
 }

@@ -51,6 +51,7 @@ fn is_number_text(text: &[u8]) -> bool
     }
 }
 
+// What at most nine digits stand for. They never reach the last value.
 fn value(digits: &[u8]) -> u32
     ensures { result ≡ fold capped_step 0 digits.now }
 {
