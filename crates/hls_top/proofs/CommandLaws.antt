@@ -9,7 +9,7 @@ use Rattle.std.proofs.lemmas.Bool.Decides.{Decides-ltb}
 use Rattle.std.proofs.lemmas.Slice.Eq.{bytes_eq-Decides}
 use Rattle.hls_chron.specs.Name.{IsName, is_name, is_letter, may_follow}
 use Rattle.hls_top.specs.EarlyText.{Text, promise_text, IsOtherName, FitsCommand}
-use Rattle.hls_top.specs.EarlyReading.{◌>>=◌, first_of_two, after_words, cut_at, number_at, name_at, other_at, all_promised, none_promised, promise_at, thread_at, wake_at, block_at, command_at}
+use Rattle.hls_top.specs.EarlyReading.{◌>>=◌, first_of_two, after_words, cut_at, number_at, name_at, other_at, all_promised, nothing_promised, promise_at, thread_at, wake_at, block_at, command_at}
 use Rattle.hls_top.specs.declared.early.Promise.{Promise}
 use Rattle.hls_top.specs.declared.early.Promise.TheVariants.{All, Null}
 use Rattle.hls_top.specs.declared.early.Command.{Command}
@@ -116,7 +116,7 @@ all_is priority text rest p e f =
     (eqb-true priority 0 h.0, after_is all_words text rest e)
 
 null_is : (priority : ℕ) (text rest : Text) (p : Promise × Text) → after_words null_words text ≡ Some rest
-    → none_promised priority rest ≡ Some p → PromiseRead priority text p
+    → nothing_promised priority rest ≡ Some p → PromiseRead priority text p
 null_is priority text rest p e f =
     let h = where_true (nat_lt priority 32) (Some (Null, rest)) p f in
     subst (λ (q : Promise × Text). PromiseRead priority text q) (in_some _ _ h.1)
@@ -127,9 +127,9 @@ promise_is : (priority : ℕ) (text : Text) (p : Promise × Text) → promise_at
 unfolding promise_at
 promise_is priority text p e =
     elim (first_or_second (after_words all_words text) (all_promised priority)
-    (after_words null_words text >>= none_promised priority) p e) [
+    (after_words null_words text >>= nothing_promised priority) p e) [
       | inl a ↦ all_is priority text a.0 p a.1 a.2
-      | inr other ↦ let b = bind_some (after_words null_words text) (none_promised priority) p other in
+      | inr other ↦ let b = bind_some (after_words null_words text) (nothing_promised priority) p other in
           null_is priority text b.0 p b.1 b.2
     ]
 

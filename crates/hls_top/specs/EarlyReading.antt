@@ -1,4 +1,5 @@
--- Reading an early text from the left.
+-- Reading an early text from the left, as the reader's private functions do it.
+-- EarlyText says what an early text is.
 use Rattle.std.specs.Prelude.{◌≡◌, ℕ, ◌+◌, ◌-◌, ◌*◌, ◌^◌, ◌≤◌, ◌==◌, ◌&&◌, nat_le, nat_lt, min, not, Bool, false, List, [], ◌∷◌, ◌++◌, length, take, drop, fold, codes, Option, Some, None, option_map, if◌then◌else◌, map}
 use Rattle.std.specs.List.{list_all, position}
 use Rattle.std.specs.Str.{bytes_eq}
@@ -68,13 +69,13 @@ other_at byte root text = name_at byte text >>= λ parts. if bytes_eq parts.0 ro
 abbrev pub all_promised : ℕ → Text → Option (Promise × Text)
 all_promised priority rest = if priority == 0 then Some (All, rest) else None
 
-abbrev pub none_promised : ℕ → Text → Option (Promise × Text)
-none_promised priority rest = if nat_lt priority 32 then Some (Null, rest) else None
+abbrev pub nothing_promised : ℕ → Text → Option (Promise × Text)
+nothing_promised priority rest = if nat_lt priority 32 then Some (Null, rest) else None
 
 unfoldable pub promise_at : ℕ → Text → Option (Promise × Text)
 promise_at priority text =
     first_of_two (after_words (codes "as ALL" ++ 10 ∷ []) text) (all_promised priority)
-    (after_words (codes "as NULL" ++ 10 ∷ []) text >>= none_promised priority)
+    (after_words (codes "as NULL" ++ 10 ∷ []) text >>= nothing_promised priority)
 
 unfoldable pub thread_at : Text → Text → Option (Command × Text)
 thread_at root text = do
@@ -111,8 +112,8 @@ item_at root horizon last text = do
 
 abbrev pub load_line : ℕ × Text → Option Text
 load_line horizon =
-    if nat_le 1 horizon.0 && nat_le horizon.0 100000 then after_words (codes "at 0 load ") horizon.1 else
-    None
+    if nat_le 1 horizon.0 && nat_le horizon.0 100000 then after_words (codes "at 0 load ") horizon.1
+    else None
 
 -- the horizon, the root, and what stands after the first three lines
 unfoldable pub head_at : Text → Option (ℕ × Text × Text)

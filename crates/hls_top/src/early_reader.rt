@@ -19,6 +19,7 @@ const MOST_TICKS: u32 = 100000;
 /// How many priority numbers there are.
 const PRIORITIES: u32 = 32;
 
+// The name before the first such byte, and what stands after the byte.
 #[tactic(auto, unfolding(crate::specs::EarlyReading::name_at))]
 fn name_until(text: &[u8], byte: u8) -> Option<(Name, &[u8])>
     ensures { Gives (λ p. (p.0, p.1.now)) result (name_at byte text.now) }
@@ -27,7 +28,7 @@ fn name_until(text: &[u8], byte: u8) -> Option<(Name, &[u8])>
     Some((Name::read(word)?, rest))
 }
 
-// The name of a thread, which the root does not have.
+// The same of a thread's name, which the root does not have.
 #[tactic(auto, unfolding(crate::specs::EarlyReading::other_at))]
 fn other_until<'a>(text: &'a [u8], byte: u8, root: &Name) -> Option<(Name, &'a [u8])>
     ensures { Gives (λ p. (p.0, p.1.now)) result (other_at byte root.now text.entry.now) }
@@ -144,7 +145,7 @@ fn read_head(text: &[u8]) -> Option<Head<'_>>
 {
     let rest = after(text, b"hls 1\nhorizon ")?;
     let (horizon, rest) = number_until(rest, b'\n')?;
-    if horizon < 1 || horizon > MOST_TICKS {
+    if horizon == 0 || horizon > MOST_TICKS {
         return None;
     }
     let rest = after(rest, b"at 0 load ")?;
