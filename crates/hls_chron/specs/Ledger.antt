@@ -1,5 +1,5 @@
 -- What contracts see of a book: a row for each tick since its start, marks between the rows, and room for more.
-use Rattle.std.specs.Prelude.{ℕ, ◌+◌, ◌-◌, ◌≤◌, [], ◌∷◌, ◌++◌, List, length, take, None, All, if◌then◌else◌, nat_le, nat_lt, filter, slice_index_or}
+use Rattle.std.specs.Prelude.{ℕ, ◌+◌, ◌-◌, ◌≤◌, [], ◌∷◌, ◌++◌, ◌<◌, List, length, take, None, if◌then◌else◌, nat_le, nat_lt, filter, slice_index_or}
 use Rattle.hls_chron.specs.declared.book.TickRow.{TickRow}
 use Rattle.hls_chron.specs.declared.book.Mark.{Mark}
 use Rattle.hls_chron.specs.declared.book.Event.{Event}
@@ -34,10 +34,16 @@ no_row = record { mask = 0; to = None; port = 0 }
 unfoldable pub row_at : Ledger → ℕ → TickRow
 row_at b t = if nat_lt t b.start then no_row else slice_index_or b.rows (t - b.start) no_row
 
--- the book as it stood before the choice of tick t: the rows before t, and the marks up to t
+-- the book as it stood before the choice of tick t: the rows before t, and the marks up to t; its room is left out
 unfoldable pub before : ℕ → Ledger → Ledger
-before t b = record b { rows = take (t - b.start) b.rows; marks = filter (λ m. nat_le m.tick t) b.marks }
+before t b = record {
+  start = b.start;
+  rows = take (t - b.start) b.rows;
+  marks = filter (λ m. nat_le m.tick t) b.marks;
+  spare_ticks = 0;
+  spare_marks = 0
+}
 
 -- each mark is of a tick up to the present one
 abbrev pub IsDated : Ledger → Type 0
-IsDated b = All (λ m. m.tick ≤ now_of b) b.marks
+IsDated b = (k : ℕ) (none : Mark) → k < length b.marks → (slice_index_or b.marks k none).tick ≤ now_of b

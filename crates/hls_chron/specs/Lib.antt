@@ -5,3 +5,6 @@ pub mod Ledger
 pub mod Seats
 pub mod Asks
 pub mod Discipline
+pub mod Room
+pub mod Ranges
+pub mod Ticks

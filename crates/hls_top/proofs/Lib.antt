@@ -3,3 +3,8 @@ pub mod NumberLaws
 pub mod CommandLaws
 pub mod ItemLaws
 pub mod HeadLaws
+pub mod Lists
+pub mod Seating
+pub mod Moves
+pub mod Admissions
+pub mod Readiness

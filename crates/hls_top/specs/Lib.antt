@@ -1,3 +1,10 @@
 pub mod EarlyText
 pub mod EarlyReading
 pub mod ReportText
+pub mod Threads
+pub mod Ready
+pub mod Schedule
+pub mod Legal
+pub mod Progress
+pub mod Linked
+pub mod Changes

@@ -1,8 +1,11 @@
 //! All that the program does: a scenario is read, carried out and reported.
 #![tactic(auto)]
 
+mod carry_out;
 pub mod early;
 mod early_reader;
 mod number;
+pub mod progress;
 pub mod report;
+mod threads;
 mod tokens;

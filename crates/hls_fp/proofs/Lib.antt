@@ -1,0 +1,3 @@
+pub mod Choices
+pub mod Sounds
+pub mod Configured

@@ -1,0 +1,4 @@
+pub mod Seen
+pub mod Fits
+pub mod Blank
+pub mod GoodKit
