@@ -1,3 +1,8 @@
+pub mod TokenLaws
+pub mod NumberLaws
+pub mod CommandLaws
+pub mod ItemLaws
+pub mod HeadLaws
 pub mod Lists
 pub mod Seating
 pub mod Moves

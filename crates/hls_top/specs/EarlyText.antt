@@ -46,12 +46,16 @@ head_lines s = (codes "hls" ∷ codes "1" ∷ []) ∷ (codes "horizon" ∷ decim
 unfoldable pub spelling : Scenario → Text
 spelling s = lines_text (head_lines s ++ map (item_tokens s.root) s.items)
 
+-- a name, and not that of the root
+abbrev pub IsOtherName : Text → Text → Type 0
+IsOtherName root name = IsName name × (name ≢ root)
+
 -- a thread is promised all only at the priority number 0, and nobody has the name of the root
 abbrev pub FitsCommand : Text → Command → Type 0
-FitsCommand root (Thread name priority All) = (priority ≡ 0) × (name ≢ root)
-FitsCommand root (Thread name priority Null) = (priority < 32) × (name ≢ root)
-FitsCommand root (Wake name) = name ≢ root
-FitsCommand root (Block name) = name ≢ root
+FitsCommand root (Thread name priority All) = (priority ≡ 0) × IsOtherName root name
+FitsCommand root (Thread name priority Null) = (priority < 32) × IsOtherName root name
+FitsCommand root (Wake name) = IsOtherName root name
+FitsCommand root (Block name) = IsOtherName root name
 
 -- ticks never fall, and are below the horizon
 abbrev pub FitItems : Text → ℕ → ℕ → List Item → Type 0
@@ -63,6 +67,7 @@ FitItems root horizon last (item ∷ items) =
 pub record IsEarly (s : Scenario) : Type 0 where
   pub some : 1 ≤ s.horizon
   pub most : s.horizon ≤ 100000
+  pub named : IsName s.root
   pub few : length s.items ≤ 65535
   pub items : FitItems s.root s.horizon 0 s.items
 

@@ -1,4 +1,5 @@
 pub mod EarlyText
+pub mod EarlyReading
 pub mod ReportText
 pub mod Threads
 pub mod Ready

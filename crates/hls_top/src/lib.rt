@@ -3,6 +3,9 @@
 
 mod carry_out;
 pub mod early;
+mod early_reader;
+mod number;
 pub mod progress;
 pub mod report;
 mod threads;
+mod tokens;
