@@ -5,3 +5,4 @@ pub mod Ready
 pub mod Schedule
 pub mod Legal
 pub mod Progress
+pub mod Reporting

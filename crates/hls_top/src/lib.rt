@@ -4,3 +4,4 @@
 pub mod early;
 pub mod progress;
 pub mod report;
+mod reporting;

@@ -1,0 +1,4 @@
+pub mod Counts
+pub mod Schedules
+pub mod Accounts
+pub mod Reports
