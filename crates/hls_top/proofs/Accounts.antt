@@ -1,5 +1,6 @@
 -- One more account behind others.
-use Rattle.std.proofs.Common.{◌≡◌, ℕ, ◌+◌, ◌<◌, List, [], ◌∷◌, ◌++◌, length, take, get_or, refl, ap, arith, map}
+use Rattle.std.proofs.Common.{◌≡◌, ℕ, ◌+◌, ◌<◌, List, [], ◌∷◌, ◌++◌, length, take, get_or, map}
+use Rattle.std.proofs.Common.{refl, ap, arith}
 use Rattle.std.proofs.lemmas.List.{map_more, length-map, length-take}
 use Rattle.hls_chron.specs.Ledger.{Ledger}
 use Rattle.hls_top.specs.declared.progress.Thread.{Thread}

@@ -1,5 +1,6 @@
 -- One more run behind others.
-use Rattle.std.proofs.Common.{◌≡◌, ◌≢◌, ℕ, ◌+◌, ◌<◌, ◌≤◌, List, [], ◌∷◌, ◌++◌, length, Option, refl, sym, ◌∙◌, arith, inl, inr}
+use Rattle.std.proofs.Common.{◌≡◌, ◌≢◌, ℕ, ◌+◌, ◌<◌, ◌≤◌, List, [], ◌∷◌, ◌++◌, length, Option}
+use Rattle.std.proofs.Common.{refl, sym, ◌∙◌, arith, inl, inr}
 use Rattle.std.proofs.lemmas.Bool.{cases_lt}
 use Rattle.std.proofs.lemmas.Bool.Decides.{nat_tests}
 use Rattle.hls_chron.specs.Ledger.{Ledger}
@@ -70,13 +71,6 @@ pub record TellsSoFar (threads : List Seated) (b : Ledger) (until : ℕ) (runs :
   pub told : TellsRuns threads b until runs
   pub within : until ≤ length b.rows
   pub last : until < length b.rows → LastDiffers runs (running threads b until)
-
-pub so_far-none : (threads : List Seated) (b : Ledger) → TellsSoFar threads b 0 []
-so_far-none threads b = record {
-  told = record { covered = refl; ran = λ t lt. absurd (omega arith) };
-  within = omega arith;
-  last = λ lt. tt;
-}
 
 pub so_far-push : (threads : List Seated) (b : Ledger) (from end : ℕ) (runs : List Run) (run : Run)
     → TellsSoFar threads b from runs → from < length b.rows → IsRun threads b from end
