@@ -1,6 +1,6 @@
 -- What a box that is set up answers.
 use Rattle.std.proofs.Common.{◌≡◌, ◌≢◌, ℕ, ◌^◌, ◌<◌, List, Option, Some, None, Bool, true, false, refl, sym, ◌∙◌, inl}
-use Rattle.std.specs.Prelude.{IfSome, IsNone, ◌↔◌}
+use Rattle.std.specs.Prelude.{IfSome, IsNone, ◌↔◌, is_some}
 use Rattle.hls_chron.specs.declared.plain.Kind.TheVariants.{Fp as FpKind}
 use Rattle.hls_chron.specs.declared.plain.Terms.{Terms}
 use Rattle.hls_chron.specs.declared.plain.Terms.TheVariants.{Cpu, Prio, Res, Weight, Slots, Turn, Sole}
@@ -11,6 +11,7 @@ use Rattle.hls_chron.specs.Asks.{some_slot_asks}
 use Rattle.hls_chron.specs.Discipline.{Serves}
 use Rattle.hls_sched.specs.Seen.{IsConfigured, config_of, seen_asks}
 use Rattle.hls_sched.specs.Fits.{IsAnswer}
+use Rattle.hls_sched.proofs.Masks.{some_if_asks}
 use Rattle.hls_sched.specs.declared.fault.SeatFault.TheVariants.{Unfit}
 use Rattle.hls_fp.specs.Choice.{choice_of}
 use Rattle.hls_fp.specs.Sound.{fp_seen, IsSound}
@@ -63,3 +64,9 @@ choice_none true b mask grant priorities choice is fits sound e =
     (λ none. silent_if_none b mask priorities fits sound (sym e ∙ is_none choice none) (some_slot_asks mask) refl,
      λ silent. none_is choice (none_if_silent priorities mask silent choice (sym e)))
 choice_none false b mask grant priorities choice is fits sound e = absurd (is refl)
+
+-- a box asks exactly where it has a choice
+pub asks_some : (b : Ledger) (mask : ℕ) (priorities : List (Option ℕ)) → mask < 2 ^ 32 → IsSound b mask priorities
+    → (choice : Option ℕ) → choice_of priorities mask ≡ choice → some_slot_asks mask ≡ is_some choice
+asks_some b mask priorities fits sound None is = silent_if_none b mask priorities fits sound is (some_slot_asks mask) refl
+asks_some b mask priorities fits sound (Some slot) is = some_if_asks mask slot (sound_serves b mask priorities slot fits sound is).asks

@@ -53,3 +53,16 @@ some_if_asks mask slot asks = elim (cases_eq mask 0) [
   | inl none ↦ absurd (silent_zero slot (rw none at asks))
   | inr some ↦ grind (arith, nat_tests, some)
 ]
+
+-- the slot that was set asks
+pub asks_with_same : (mask slot : ℕ) → SlotAsks (with_slot slot mask) slot
+asks_with_same mask slot = omega (arith, bit_at_or mask (2 ^ slot) slot, bit_at-pow_same slot, bit_at-lt mask slot)
+
+-- who asked still does
+pub still_asks_with : (mask slot k : ℕ) → SlotAsks mask k → SlotAsks (with_slot slot mask) k
+still_asks_with mask slot k asks = omega (arith, bit_at_or mask (2 ^ slot) k, bit_at-lt (2 ^ slot) k, asks)
+
+pub still_asks_without : (mask slot k : ℕ) → slot < 32 → k < 32 → k ≢ slot → SlotAsks mask k → SlotAsks (without_slot slot mask) k
+still_asks_without mask slot k lt within other asks =
+    let small : 2 ^ slot < 2 ^ 32 = pow-lt lt in
+    omega (arith, bit_at_and mask (bit_not w32 (2 ^ slot)) k, bit_at_not w32 (2 ^ slot) k small within, bit_at-pow_other slot k other, asks)

@@ -1,5 +1,5 @@
 // The trait of a scheduler.
-ghost use Rattle.std.specs.Prelude.{◌≡◌, ◌≢◌, ℕ, ◌-◌, ◌*◌, ◌<◌, ◌≤◌, ◌↔◌, Option, Some, None, true, false, OnOk, OnErr, IsNone, IfSome};
+ghost use Rattle.std.specs.Prelude.{◌≡◌, ◌≢◌, ℕ, ◌-◌, ◌*◌, ◌<◌, ◌≤◌, ◌↔◌, Option, Some, None, true, false, is_some, OnOk, OnErr, IsNone, IfSome};
 ghost use Rattle.hls_chron.specs.declared.book.Event.TheVariants.{Seat, Leave, Settle};
 ghost use Rattle.hls_chron.specs.Kinds.{kind_of};
 ghost use Rattle.hls_chron.specs.Ranges.{ConfigInRange, TermsInRange};
@@ -95,10 +95,11 @@ pub trait Scheduler: Drop {
         requires asking { SlotAsks (seen self.old).mask slot }
         ensures { seen self.new ≡ released slot (seen self.old) };
 
-    /// Whether it asks for the processor at the present tick.
+    /// Whether it asks for the processor at the present tick: it does where it has a choice.
     fn asks(&self) -> bool
         requires configured { IsConfigured (seen self.now) }
-        ensures { result ≡ seen_asks (seen self.now) };
+        ensures value { result ≡ seen_asks (seen self.now) }
+        ensures choice { result ≡ is_some (choice self.now) };
 
     /// Grants the processor through a port. The grant stands, over `turn` too, until `revoke`.
     fn grant(&mut self, port: u8)

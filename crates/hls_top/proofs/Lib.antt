@@ -2,3 +2,8 @@ pub mod Counts
 pub mod Schedules
 pub mod Accounts
 pub mod Reports
+pub mod Lists
+pub mod Seating
+pub mod Moves
+pub mod Admissions
+pub mod Readiness

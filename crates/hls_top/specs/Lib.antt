@@ -6,3 +6,5 @@ pub mod Schedule
 pub mod Legal
 pub mod Progress
 pub mod Reporting
+pub mod Linked
+pub mod Changes

@@ -1,7 +1,9 @@
 //! All that the program does: a scenario is read, carried out and reported.
 #![tactic(auto)]
 
+mod carry_out;
 pub mod early;
 pub mod progress;
 pub mod report;
 mod reporting;
+mod threads;

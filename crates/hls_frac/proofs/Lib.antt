@@ -1,0 +1,4 @@
+pub mod Lowest
+pub mod Order
+pub mod Quotients
+pub mod Limits

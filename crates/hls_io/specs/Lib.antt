@@ -1,0 +1,7 @@
+pub mod Bytes
+pub mod Faults
+pub mod MemSink
+pub mod MemSource
+pub mod Status
+pub mod StdSink
+pub mod StdSource
