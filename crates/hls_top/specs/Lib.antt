@@ -6,5 +6,6 @@ pub mod Ready
 pub mod Schedule
 pub mod Legal
 pub mod Progress
+pub mod Reporting
 pub mod Linked
 pub mod Changes

@@ -7,5 +7,6 @@ mod early_reader;
 mod number;
 pub mod progress;
 pub mod report;
+mod reporting;
 mod threads;
 mod tokens;
