@@ -3,3 +3,4 @@ pub mod Seating
 pub mod Moves
 pub mod Admissions
 pub mod Readiness
+mod ReportLines

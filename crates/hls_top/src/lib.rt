@@ -5,4 +5,5 @@ mod carry_out;
 pub mod early;
 pub mod progress;
 pub mod report;
+mod report_writer;
 mod threads;
