@@ -267,3 +267,6 @@ fn put(out: &mut Vec<u8>, text: &[u8]) -> Result<(), AllocError>
 {
     out.extend_from_slice(text)
 }
+
+#[cfg(test)]
+mod tests;
