@@ -6,46 +6,44 @@ fn name(text: &[u8]) -> Result<Name, Fail> {
     Ok(Name::read(text).ok_or("no name")?)
 }
 
-fn thread(tick: u32, text: &[u8], priority: u32, promise: Promise) -> Result<Item, Fail> {
-    let name = name(text)?;
+fn thread(tick: u32, name: Name, priority: u32, promise: Promise) -> Item {
     let command = Command::Thread {
         name,
         priority,
         promise,
     };
-    Ok(Item { tick, command })
+    Item { tick, command }
 }
 
-fn wake(tick: u32, text: &[u8]) -> Result<Item, Fail> {
-    let command = Command::Wake { name: name(text)? };
-    Ok(Item { tick, command })
+fn wake(tick: u32, name: Name) -> Item {
+    Item {
+        tick,
+        command: Command::Wake { name },
+    }
 }
 
-fn block(tick: u32, text: &[u8]) -> Result<Item, Fail> {
-    let command = Command::Block { name: name(text)? };
-    Ok(Item { tick, command })
+fn block(tick: u32, name: Name) -> Item {
+    Item {
+        tick,
+        command: Command::Block { name },
+    }
 }
 
-fn scenario(horizon: u32, items: Vec<Item>) -> Result<Scenario, Fail> {
-    let root = name(b"root")?;
-    Ok(Scenario {
-        horizon,
-        root,
-        items: List::of(items),
-    })
-}
-
-fn run(from: u32, to: u32, text: &[u8]) -> Result<Run, Fail> {
-    let thread = Some(name(text)?);
-    Ok(Run { from, to, thread })
+fn run(from: u32, to: u32, thread: Name) -> Run {
+    Run {
+        from,
+        to,
+        thread: Some(thread),
+    }
 }
 
 #[test]
 fn writes_the_smallest_report(rt: HostRuntime) -> Result<(), Fail> {
     let alloc = rt.alloc();
-    let items = vec![in alloc; thread(0, b"a", 0, Promise::All)?, wake(0, b"a")?]?;
+    let (root, a) = (name(b"root")?, name(b"a")?);
+    let items = vec![in alloc; thread(0, a, 0, Promise::All), wake(0, a)]?;
     let account = Account {
-        name: name(b"a")?,
+        name: a,
         from: 0,
         to: 0,
         promise: Promise::All,
@@ -53,9 +51,13 @@ fn writes_the_smallest_report(rt: HostRuntime) -> Result<(), Fail> {
         served: 1,
     };
     let report = Report {
-        scenario: scenario(1, items)?,
+        scenario: Scenario {
+            horizon: 1,
+            root,
+            items: List::of(items),
+        },
         answers: List::of(vec![in alloc; Answer::Done, Answer::Done]?),
-        runs: List::of(vec![in alloc; run(0, 0, b"a")?]?),
+        runs: List::of(vec![in alloc; run(0, 0, a)]?),
         accounts: List::of(vec![in alloc; account]?),
         idle: 0,
     };
@@ -81,31 +83,47 @@ end
     Ok(())
 }
 
-#[test]
-fn writes_refusals(rt: HostRuntime) -> Result<(), Fail> {
-    let alloc = rt.alloc();
+// A scenario with three commands that are refused, and the answers.
+fn refused(alloc: Global) -> Result<(Scenario, List<Answer>), Fail> {
+    let (root, a, b) = (name(b"root")?, name(b"a")?, name(b"b")?);
+    let (c, z) = (name(b"c")?, name(b"z")?);
     let items = vec![in alloc;
-        thread(0, b"a", 0, Promise::All)?,
-        thread(0, b"b", 3, Promise::Null)?,
-        thread(0, b"a", 5, Promise::Null)?,
-        thread(0, b"c", 3, Promise::Null)?,
-        wake(0, b"b")?,
-        wake(1, b"a")?,
-        block(3, b"a")?,
-        wake(3, b"z")?,
+        thread(0, a, 0, Promise::All),
+        thread(0, b, 3, Promise::Null),
+        thread(0, a, 5, Promise::Null),
+        thread(0, c, 3, Promise::Null),
+        wake(0, b),
+        wake(1, a),
+        block(3, a),
+        wake(3, z),
     ]?;
     let answers = vec![in alloc;
         Answer::Done,
         Answer::Done,
-        Answer::Refused(Refusal::NameTaken { name: name(b"a")? }),
+        Answer::Refused(Refusal::NameTaken { name: a }),
         Answer::Refused(Refusal::PriorityTaken { priority: 3 }),
         Answer::Done,
         Answer::Done,
         Answer::Done,
-        Answer::Refused(Refusal::NoSuchName { name: name(b"z")? }),
+        Answer::Refused(Refusal::NoSuchName { name: z }),
     ]?;
+    Ok((
+        Scenario {
+            horizon: 4,
+            root,
+            items: List::of(items),
+        },
+        List::of(answers),
+    ))
+}
+
+#[test]
+fn writes_refusals(rt: HostRuntime) -> Result<(), Fail> {
+    let alloc = rt.alloc();
+    let (a, b) = (name(b"a")?, name(b"b")?);
+    let (scenario, answers) = refused(alloc)?;
     let first = Account {
-        name: name(b"a")?,
+        name: a,
         from: 0,
         to: 3,
         promise: Promise::All,
@@ -113,7 +131,7 @@ fn writes_refusals(rt: HostRuntime) -> Result<(), Fail> {
         served: 2,
     };
     let second = Account {
-        name: name(b"b")?,
+        name: b,
         from: 0,
         to: 3,
         promise: Promise::Null,
@@ -121,9 +139,9 @@ fn writes_refusals(rt: HostRuntime) -> Result<(), Fail> {
         served: 2,
     };
     let report = Report {
-        scenario: scenario(4, items)?,
-        answers: List::of(answers),
-        runs: List::of(vec![in alloc; run(0, 0, b"b")?, run(1, 2, b"a")?, run(3, 3, b"b")?]?),
+        scenario,
+        answers,
+        runs: List::of(vec![in alloc; run(0, 0, b), run(1, 2, a), run(3, 3, b)]?),
         accounts: List::of(vec![in alloc; first, second]?),
         idle: 0,
     };
