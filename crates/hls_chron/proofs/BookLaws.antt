@@ -1,16 +1,17 @@
 -- What a mark and a row change of what a book says.
-use Rattle.std.proofs.Common.{◌≡◌, ℕ, suc, ◌+◌, ◌-◌, ◌<◌, ◌≤◌, List, [], ◌∷◌, ◌++◌, length, Option, Some, None, Bool, true, false, refl, ap, arith, nat_le, fold, filter, get_or, inl, inr, length-append, append-nil}
+use Rattle.std.proofs.Common.{◌≡◌, ℕ, suc, ◌+◌, ◌-◌, ◌<◌, ◌≤◌, List, [], ◌∷◌, ◌++◌, length}
+use Rattle.std.proofs.Common.{None, Bool, true, false, refl, ap, arith, nat_le, fold, filter, get_or, inl}
+use Rattle.std.proofs.Common.{inr, length-append, append-nil}
 use Rattle.std.specs.Prelude.{◌⊎◌, if◌then◌else◌, nat_lt}
 use Rattle.std.proofs.lemmas.Bool.{cases_lt, lt-ltb, le-ltb}
 use Rattle.std.proofs.lemmas.Bool.Decides.{nat_tests}
 use Rattle.std.proofs.lemmas.List.{take-append-le, get_or_append_left, get_or-append-add}
 use Rattle.std.proofs.lemmas.List.Sums.{fold-append}
 use Rattle.std.proofs.lemmas.List.Elements.{filter-append}
-use Rattle.std.proofs.Math.Seq.{take-append_seam, get_or-append_seam}
+use Rattle.std.proofs.Math.Seq.{get_or-append_seam}
 use Rattle.hls_chron.specs.declared.book.TickRow.{TickRow}
 use Rattle.hls_chron.specs.declared.book.Mark.{Mark}
 use Rattle.hls_chron.specs.declared.book.Event.{Event}
-use Rattle.hls_chron.specs.declared.plain.Terms.{Terms}
 use Rattle.hls_chron.specs.Ledger.{Ledger, no_row, now_of, with_row, with_mark, row_at, before, IsDated}
 use Rattle.hls_chron.specs.Seats.{terms_after, terms_at}
 
@@ -19,7 +20,8 @@ pub terms_at-mark : (b : Ledger) (event : Event) (slot : ℕ)
     → terms_at (with_mark b event) slot ≡ terms_after slot (terms_at b slot) event
 unfolding terms_at
 terms_at-mark b event slot =
-    fold-append (λ taken (m : Mark). terms_after slot taken m.event) None b.marks (record { tick = now_of b; event = event } ∷ [])
+    fold-append (λ taken (m : Mark). terms_after slot taken m.event) None b.marks
+    (record { tick = now_of b; event = event } ∷ [])
 
 pub terms_at-row : (b : Ledger) (row : TickRow) (slot : ℕ) → terms_at (with_row b row) slot ≡ terms_at b slot
 unfolding terms_at
@@ -28,7 +30,8 @@ terms_at-row b row slot = refl
 -- books with the same marks have the same seats
 pub terms_at-same : (a b : Ledger) (slot : ℕ) → a.marks ≡ b.marks → terms_at a slot ≡ terms_at b slot
 unfolding terms_at
-terms_at-same a b slot same = ap (λ marks. fold (λ taken (m : Mark). terms_after slot taken m.event) None marks) same
+terms_at-same a b slot same =
+    ap (λ marks. fold (λ taken (m : Mark). terms_after slot taken m.event) None marks) same
 
 pub terms_at-unmarked : (b : Ledger) (slot : ℕ) → b.marks ≡ [] → terms_at b slot ≡ None
 unfolding terms_at
@@ -70,14 +73,20 @@ filter_all : {X : Type 0} (p : X → Bool) (xs : List X)
     → ((k : ℕ) (none : X) → k < length xs → p (get_or xs k none) ≡ true) → filter p xs ≡ xs
 filter_all p [] all = refl
 filter_all p (x ∷ xs) all =
-    rw (all 0 x (omega arith)) (ap (λ ys. x ∷ ys) (filter_all p xs (λ k none lt. all (suc k) none (omega arith))))
+    rw (all 0 x (omega arith))
+    (ap (λ ys. x ∷ ys) (filter_all p xs (λ k none lt. all (suc k) none (omega arith))))
 
 -- the book before a tick that has passed, and before the present one
-pub before-mark : (b : Ledger) (event : Event) (t : ℕ) → t < now_of b → before t (with_mark b event) ≡ before t b
+pub before-mark : (b : Ledger) (event : Event) (t : ℕ) → t < now_of b
+    → before t (with_mark b event) ≡ before t b
 unfolding before
 before-mark b event t lt =
     let late : nat_le (now_of b) t ≡ false = grind (arith, nat_tests) in
-    rw (filter-append (λ (m : Mark). nat_le m.tick t) b.marks (record { tick = now_of b; event = event } ∷ []), late, append-nil) refl
+    rw (
+      filter-append (λ (m : Mark). nat_le m.tick t) b.marks (record { tick = now_of b; event = event } ∷ []),
+      late,
+      append-nil,
+    ) refl
 
 pub before-row : (b : Ledger) (row : TickRow) (t : ℕ) → t < now_of b → before t (with_row b row) ≡ before t b
 unfolding before
@@ -86,18 +95,21 @@ before-row b row t lt =
     rw (take-append-le (t - b.start) b.rows (row ∷ []) within) refl
 
 -- before its row, the present tick had all the marks
-pub before-now : (b : Ledger) (row : TickRow) → IsDated b → (before (now_of b) (with_row b row)).marks ≡ b.marks
+pub before-now : (b : Ledger) (row : TickRow) → IsDated b
+    → (before (now_of b) (with_row b row)).marks ≡ b.marks
 unfolding before
 before-now b row dated =
     filter_all (λ (m : Mark). nat_le m.tick (now_of b)) b.marks
-        (λ k none lt. let le = dated k none lt in grind (arith, nat_tests, le))
+    (λ k none lt. let le = dated k none lt in grind (arith, nat_tests, le))
 
 -- dates
-dated_at : (b : Ledger) (event : Event) → IsDated b → (k : ℕ) (none : Mark) → (k < length b.marks) ⊎ (length b.marks ≤ k)
+dated_at : (b : Ledger) (event : Event) → IsDated b → (k : ℕ) (none : Mark)
+    → (k < length b.marks) ⊎ (length b.marks ≤ k)
     → k < length (b.marks ++ (record { tick = now_of b; event = event }) ∷ [])
     → (get_or (b.marks ++ (record { tick = now_of b; event = event }) ∷ []) k none).tick ≤ now_of b
 dated_at b event dated k none (inl lt) _ =
-    rw (get_or_append_left b.marks (record { tick = now_of b; event = event } ∷ []) none k lt) (dated k none lt)
+    rw (get_or_append_left b.marks (record { tick = now_of b; event = event } ∷ []) none k lt)
+    (dated k none lt)
 dated_at b event dated k none (inr ge) lt =
     let here : k ≡ length b.marks = omega (arith, simp length-append at lt) in
     rw (here, get_or-append_seam) (omega arith)
