@@ -1,23 +1,10 @@
 // The writing of a report, a line at a time.
-ghost use Rattle.std.specs.Prelude.{◌≡◌, ◌++◌, ◌∷◌, [], OnOk, IfOk, codes, decimal, map, flat_map};
+ghost use Rattle.std.specs.Prelude.{◌≡◌, ◌++◌, ◌∷◌, [], OnOk, IfOk, codes, decimal, map};
 ghost use Rattle.std.specs.List.{join_with_byte};
-ghost use Rattle.hls_top.specs.EarlyText.{line_of, lines_text, promise_text, command_tokens, item_tokens, load_tokens};
-ghost use Rattle.hls_top.specs.ReportText.{
-  seat_tokens,
-  by_lines,
-  done_tokens,
-  refusal_tokens,
-  answer_lines,
-  answered_lines,
-  answers_lines,
-  span_text,
-  path_text,
-  run_tokens,
-  account_tokens,
-  load_lines,
-  report_head,
-  report_text,
-};
+ghost use Rattle.hls_top.specs.EarlyText.{line_of, lines_text, promise_text, command_tokens, item_tokens};
+ghost use Rattle.hls_top.specs.ReportText.{by_lines, refusal_tokens, answer_lines, answers_lines};
+ghost use Rattle.hls_top.specs.ReportText.{span_text, run_tokens, account_tokens};
+ghost use Rattle.hls_top.specs.ReportText.{load_lines, report_head, report_text};
 
 use crate::early::{Command, Item, Promise, Scenario};
 use crate::report::{Account, Answer, Refusal, Report, Run};
@@ -80,7 +67,8 @@ fn put_item(out: &mut Vec<u8>, root: &Name, item: &Item) -> Result<(), AllocErro
 }
 
 fn put_command(out: &mut Vec<u8>, root: &Name, command: &Command) -> Result<(), AllocError>
-    ensures { OnOk result (out.new.items ≡ out.old.items ++ join_with_byte 32 (command_tokens root.now command.now)) }
+    ensures { OnOk result (out.new.items
+        ≡ out.old.items ++ join_with_byte 32 (command_tokens root.now command.now)) }
 {
     match command {
         Command::Thread {
@@ -88,14 +76,8 @@ fn put_command(out: &mut Vec<u8>, root: &Name, command: &Command) -> Result<(), 
             priority,
             promise,
         } => put_thread(out, root, name, *priority, *promise),
-        Command::Wake { name } => {
-            put(out, b"wake ")?;
-            put(out, name.bytes())
-        }
-        Command::Block { name } => {
-            put(out, b"block ")?;
-            put(out, name.bytes())
-        }
+        Command::Wake { name } => put_named(out, b"wake ", name),
+        Command::Block { name } => put_named(out, b"block ", name),
     }
 }
 
@@ -107,7 +89,8 @@ fn put_thread(
     promise: Promise,
 ) -> Result<(), AllocError>
     ensures { OnOk result (out.new.items
-        ≡ out.old.items ++ join_with_byte 32 (command_tokens root.now (Command.Thread name.now priority promise))) }
+        ≡ out.old.items
+        ++ join_with_byte 32 (command_tokens root.now (Command.Thread name.now priority promise))) }
 {
     put(out, b"thread ")?;
     put(out, name.bytes())?;
@@ -120,7 +103,8 @@ fn put_thread(
 }
 
 fn put_answer(out: &mut Vec<u8>, command: &Command, answer: &Answer) -> Result<(), AllocError>
-    ensures { OnOk result (out.new.items ≡ out.old.items ++ lines_text (answer_lines command.now answer.now)) }
+    ensures { OnOk result (out.new.items
+        ≡ out.old.items ++ lines_text (answer_lines command.now answer.now)) }
 {
     match answer {
         Answer::Done => {
@@ -155,21 +139,14 @@ fn put_refusal(out: &mut Vec<u8>, refusal: &Refusal) -> Result<(), AllocError>
     ensures { OnOk result (out.new.items ≡ out.old.items ++ join_with_byte 32 (refusal_tokens refusal.now)) }
 {
     match refusal {
-        Refusal::NameTaken { name } => {
-            put(out, b"10 NameTaken ")?;
-            put(out, name.bytes())
-        }
-        Refusal::NoSuchName { name } => {
-            put(out, b"11 NoSuchName ")?;
-            put(out, name.bytes())
-        }
+        Refusal::NameTaken { name } => put_named(out, b"10 NameTaken ", name),
+        Refusal::NoSuchName { name } => put_named(out, b"11 NoSuchName ", name),
         Refusal::PriorityTaken { priority } => {
             put(out, b"17 PriorityTaken ")?;
             put_number(out, *priority)
         }
         Refusal::SeatsFull { name, seats } => {
-            put(out, b"18 SeatsFull ")?;
-            put(out, name.bytes())?;
+            put_named(out, b"18 SeatsFull ", name)?;
             put(out, b" ")?;
             put_number(out, *seats)
         }
@@ -253,6 +230,13 @@ fn put_promise(out: &mut Vec<u8>, promise: Promise) -> Result<(), AllocError>
         Promise::All => put(out, b"ALL"),
         Promise::Null => put(out, b"NULL"),
     }
+}
+
+fn put_named(out: &mut Vec<u8>, words: &[u8], name: &Name) -> Result<(), AllocError>
+    ensures { OnOk result (out.new.items ≡ out.old.items ++ (words.now ++ name.now)) }
+{
+    put(out, words)?;
+    put(out, name.bytes())
 }
 
 fn put_number(out: &mut Vec<u8>, number: u32) -> Result<(), AllocError>

@@ -5,4 +5,5 @@ use Rattle.hls_top.proofs.report_writer.put_accounts.Given as goal
 
 abbrev pub invariant-loop-account : goal.invariant-loop-account
 invariant-loop-account l =
-    l.out.items ≡ l.fn.out.items ++ lines_text ((codes "accounts" ∷ []) ∷ map account_tokens (take l.account-index l.accounts))
+    let written = map account_tokens (take l.account-index l.accounts) in
+    l.out.items ≡ l.fn.out.items ++ lines_text ((codes "accounts" ∷ []) ∷ written)

@@ -8,5 +8,8 @@ use Rattle.hls_top.proofs.report_writer.put_answers.Given as goal
 -- what was written, and what is still to come
 abbrev pub invariant-loop-item : goal.invariant-loop-item
 invariant-loop-item l =
-    l.out.items ++ lines_text (answers_lines l.scenario.root (iter_rest (zip_first l.item-iterator)) (iter_rest (zip_second l.item-iterator)))
-    ≡ l.fn.out.items ++ lines_text (answers_lines l.scenario.root l.scenario.items l.answers)
+    let root = l.scenario.root in
+    let items = iter_rest (zip_first l.item-iterator) in
+    let answers = iter_rest (zip_second l.item-iterator) in
+    l.out.items ++ lines_text (answers_lines root items answers)
+    ≡ l.fn.out.items ++ lines_text (answers_lines root l.scenario.items l.answers)

@@ -5,4 +5,5 @@ use Rattle.hls_top.proofs.report_writer.put_schedule.Given as goal
 
 abbrev pub invariant-loop-run : goal.invariant-loop-run
 invariant-loop-run l =
-    l.out.items ≡ l.fn.out.items ++ lines_text ((codes "schedule" ∷ []) ∷ map (run_tokens l.root) (take l.run-index l.runs))
+    let written = map (run_tokens l.root) (take l.run-index l.runs) in
+    l.out.items ≡ l.fn.out.items ++ lines_text ((codes "schedule" ∷ []) ∷ written)
