@@ -10,7 +10,7 @@ use Rattle.hls_top.specs.declared.report.Answer.{Answer}
 use Rattle.hls_top.specs.declared.report.Report.{Report}
 
 pub load_text : (out root : Text) →
-    ((((out ++ codes "at 0 load ") ++ root) ++ codes " fp on cpu as ALL\n= done\nby ") ++ root)
+    ((out ++ (codes "at 0 load " ++ root)) ++ (codes " fp on cpu as ALL\n= done\nby " ++ root))
     ++ codes " 0 ALL CPU ALL\n"
     ≡ out ++ lines_text (load_lines root)
 load_text out root = simp append_assoc

@@ -38,10 +38,8 @@ fn put_head(out: &mut Vec<u8>, report: &Report) -> Result<(), AllocError>
 fn put_load(out: &mut Vec<u8>, root: &Name) -> Result<(), AllocError>
     ensures { OnOk result (out.new.items ≡ out.old.items ++ lines_text (load_lines root.now)) }
 {
-    put(out, b"at 0 load ")?;
-    put(out, root.bytes())?;
-    put(out, b" fp on cpu as ALL\n= done\nby ")?;
-    put(out, root.bytes())?;
+    put_named(out, b"at 0 load ", root)?;
+    put_named(out, b" fp on cpu as ALL\n= done\nby ", root)?;
     put(out, b" 0 ALL CPU ALL\n")
 }
 
@@ -92,10 +90,8 @@ fn put_thread(
         ≡ out.old.items
         ++ join_with_byte 32 (command_tokens root.now (Command.Thread name.now priority promise))) }
 {
-    put(out, b"thread ")?;
-    put(out, name.bytes())?;
-    put(out, b" on ")?;
-    put(out, root.bytes())?;
+    put_named(out, b"thread ", name)?;
+    put_named(out, b" on ", root)?;
     put(out, b" prio ")?;
     put_number(out, priority)?;
     put(out, b" as ")?;
@@ -125,8 +121,7 @@ fn put_seats(out: &mut Vec<u8>, command: &Command) -> Result<(), AllocError>
 {
     match command {
         Command::Thread { name, promise, .. } => {
-            put(out, b"by ")?;
-            put(out, name.bytes())?;
+            put_named(out, b"by ", name)?;
             put(out, b" 0 ALL FP ")?;
             put_promise(out, *promise)?;
             put(out, b"\n")
@@ -171,10 +166,8 @@ fn put_run(out: &mut Vec<u8>, root: &Name, run: &Run) -> Result<(), AllocError>
     match &run.thread {
         None => put(out, b" idle\n"),
         Some(thread) => {
-            put(out, b" cpu/")?;
-            put(out, root.bytes())?;
-            put(out, b"/")?;
-            put(out, thread.bytes())?;
+            put_named(out, b" cpu/", root)?;
+            put_named(out, b"/", thread)?;
             put(out, b"\n")
         }
     }

@@ -4,13 +4,5 @@ use Rattle.hls_top.proofs.report_writer.put_load.Goals as goal
 
 pub returns : goal.returns
 returns c =
-    IfOk-equal _ _ _ _ c.put-5.ensures
-    (rw (
-      c.in_ok-put-4.ensures,
-      c.in_ok-put-3.ensures,
-      c.in_ok-put-2.ensures,
-      c.in_ok-put.ensures,
-      c.bytes.ensures.text,
-      c.bytes-2.ensures.text,
-    )
-    (load_text _ _))
+    IfOk-equal _ _ _ _ c.put.ensures
+    (rw (c.in_ok-put_named-2.ensures, c.in_ok-put_named.ensures) (load_text _ _))
