@@ -1,4 +1,4 @@
--- Whether a scheduler asks for the processor, by its configuration, its book and the slots that ask at present.
+-- Whether a scheduler asks for the processor, by its configuration, its book and the slots that ask now.
 use Rattle.std.specs.Prelude.{ℕ, Bool, false, not, ◌==◌}
 use Rattle.hls_chron.specs.declared.plain.Config.{Config}
 use Rattle.hls_chron.specs.declared.plain.Config.TheVariants.{Fp}

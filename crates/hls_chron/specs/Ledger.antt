@@ -1,5 +1,6 @@
--- What contracts see of a book: a row for each tick since its start, marks between the rows, and room for more.
-use Rattle.std.specs.Prelude.{ℕ, ◌+◌, ◌-◌, ◌≤◌, [], ◌∷◌, ◌++◌, ◌<◌, List, length, take, None, if◌then◌else◌, nat_le, nat_lt, filter, slice_index_or}
+-- What contracts see of a book: a row for each tick since its start, marks between rows, and room for more.
+use Rattle.std.specs.Prelude.{ℕ, ◌+◌, ◌-◌, ◌≤◌, [], ◌∷◌, ◌++◌, ◌<◌, List, length, take, None, if◌then◌else◌}
+use Rattle.std.specs.Prelude.{nat_le, nat_lt, filter, slice_index_or}
 use Rattle.hls_chron.specs.declared.book.TickRow.{TickRow}
 use Rattle.hls_chron.specs.declared.book.Mark.{Mark}
 use Rattle.hls_chron.specs.declared.book.Event.{Event}
@@ -24,7 +25,7 @@ with_row b row = record b { rows = b.rows ++ row ∷ []; spare_ticks = b.spare_t
 abbrev pub with_mark : Ledger → Event → Ledger
 with_mark b event = record b {
   marks = b.marks ++ (record { tick = now_of b; event = event }) ∷ [];
-  spare_marks = b.spare_marks - 1
+  spare_marks = b.spare_marks - 1;
 }
 
 abbrev pub no_row : TickRow
@@ -34,14 +35,14 @@ no_row = record { mask = 0; to = None; port = 0 }
 unfoldable pub row_at : Ledger → ℕ → TickRow
 row_at b t = if nat_lt t b.start then no_row else slice_index_or b.rows (t - b.start) no_row
 
--- the book as it stood before the choice of tick t: the rows before t, and the marks up to t; its room is left out
+-- the book as it stood before the choice of tick t: the rows before t, and the marks up to t, with no room
 unfoldable pub before : ℕ → Ledger → Ledger
 before t b = record {
   start = b.start;
   rows = take (t - b.start) b.rows;
   marks = filter (λ m. nat_le m.tick t) b.marks;
   spare_ticks = 0;
-  spare_marks = 0
+  spare_marks = 0;
 }
 
 -- each mark is of a tick up to the present one

@@ -1,5 +1,5 @@
 // The book of a scheduler.
-ghost use Rattle.std.specs.Prelude.{◌≡◌, ◌+◌, ◌^◌, ◌<◌, ◌≤◌, [], OnOk};
+ghost use Rattle.std.specs.Prelude.{◌≡◌, ◌+◌, ◌^◌, ◌<◌, ◌≤◌, [], OnOk, IsOk};
 ghost use Rattle.hls_chron.specs.Ledger.{now_of, with_row, with_mark};
 
 use crate::Terms;
@@ -51,11 +51,11 @@ impl Model for Book {
     ghost Value = { Ledger };
 
     ghost view = { λ b. record {
-        start = b.start;
-        rows = b.rows.items;
-        marks = b.marks.items;
-        spare_ticks = vec_capacity b.rows - vec_len b.rows;
-        spare_marks = vec_capacity b.marks - vec_len b.marks
+      start = b.start;
+      rows = b.rows.items;
+      marks = b.marks.items;
+      spare_ticks = vec_capacity b.rows - vec_len b.rows;
+      spare_marks = vec_capacity b.marks - vec_len b.marks;
     } };
 
     ghost invariant = { λ b. b.start + vec_capacity b.rows < 2 ^ 32 };
@@ -74,15 +74,17 @@ impl Book {
     }
 
     /// Makes room for so many rows and marks more. What was written stays, and so does the
-    /// room that there was, also where memory is wanting.
+    /// room that there was, also where memory is wanting. Takes no memory where there is room enough.
     pub fn reserve(&mut self, ticks: u32, marks: u32) -> Result<(), AllocError>
         requires { now_of self.old + ticks < 2 ^ 32 }
         ensures ticks { OnOk result (ticks ≤ self.new.spare_ticks) }
         ensures marks { OnOk result (marks ≤ self.new.spare_marks) }
-        ensures written { self.new ≡ record self.old { spare_ticks = self.new.spare_ticks; spare_marks = self.new.spare_marks } }
+        ensures written { self.new
+            ≡ record self.old { spare_ticks = self.new.spare_ticks; spare_marks = self.new.spare_marks } }
         ensures more_ticks { self.old.spare_ticks ≤ self.new.spare_ticks }
         ensures more_marks { self.old.spare_marks ≤ self.new.spare_marks }
         ensures within { now_of self.new + self.new.spare_ticks < 2 ^ 32 }
+        ensures enough { ticks ≤ self.old.spare_ticks → marks ≤ self.old.spare_marks → IsOk result }
     {
         self.rows.reserve_exact(ticks as usize)?;
         self.marks.reserve_exact(marks as usize)?;
@@ -126,5 +128,38 @@ impl Book {
         ensures within { now_of self.now + self.now.spare_ticks < 2 ^ 32 }
     {
         self.start + self.rows.len() as u32
+    }
+}
+
+#[cfg(test)]
+mod tests {
+    use super::*;
+    use std::test::Fail;
+
+    #[test]
+    fn keeps_rows_and_marks(rt: HostRuntime) -> Result<(), Fail> {
+        let event = Event::Seat {
+            slot: 1,
+            terms: Terms::Prio(3),
+        };
+        let first = TickRow {
+            mask: 2,
+            to: Some(1),
+            port: 0,
+        };
+        let second = TickRow {
+            mask: 0,
+            to: None,
+            port: 0,
+        };
+        let mut book = Book::new(rt.alloc(), 5);
+        book.reserve(2, 1)?;
+        book.push_tick(first);
+        book.push_mark(event);
+        book.push_tick(second);
+        assert_eq!(rt; book.rows(), [first, second].as_slice());
+        assert_eq!(rt; book.marks(), [Mark { tick: 6, event }].as_slice());
+        assert_eq!(rt; book.now(), 7);
+        Ok(())
     }
 }

@@ -91,3 +91,29 @@ fn is_name_text(text: &[u8]) -> bool
         }
     }
 }
+
+#[cfg(test)]
+mod tests {
+    use super::*;
+
+    #[test]
+    fn reads_names_alone(rt: HostRuntime) {
+        let table = [
+            (b"a".as_slice(), true),
+            (b"cpu0".as_slice(), true),
+            (b"a_9".as_slice(), true),
+            (b"abcdefghijklmnop".as_slice(), true),
+            (b"abcdefghijklmnopq".as_slice(), false),
+            (b"cpu".as_slice(), false),
+            (b"A".as_slice(), false),
+            (b"aB".as_slice(), false),
+            (b"9a".as_slice(), false),
+            (b"_a".as_slice(), false),
+            (b"a-b".as_slice(), false),
+            (b"".as_slice(), false),
+        ];
+        for (text, is_name) in table {
+            assert_eq!(rt; Name::read(text).is_some(), is_name, "at {text:?}");
+        }
+    }
+}

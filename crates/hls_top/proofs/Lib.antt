@@ -10,6 +10,7 @@ pub mod Moves
 pub mod Nexts
 pub mod NumberLaws
 pub mod Readiness
+pub mod ReportLines
 pub mod Reports
 pub mod Schedules
 pub mod Seating

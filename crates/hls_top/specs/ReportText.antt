@@ -62,11 +62,16 @@ account_tokens a =
     a.name ∷ span_text a.from a.to ∷ promise_text a.promise ∷ codes "ready" ∷ decimal a.ready
     ∷ codes "served" ∷ decimal a.served ∷ []
 
+-- the load of the root scheduler, which is always done
+abbrev pub load_lines : Text → List (List Text)
+load_lines root =
+    load_tokens root ∷ done_tokens
+    ∷ (codes "by" ∷ root ∷ codes "0" ∷ codes "ALL" ∷ codes "CPU" ∷ codes "ALL" ∷ []) ∷ []
+
 abbrev pub report_head : Report → List (List Text)
 report_head r =
     (codes "hls-report" ∷ codes "1" ∷ []) ∷ (codes "horizon" ∷ decimal r.scenario.horizon ∷ [])
-    ∷ (codes "depth" ∷ codes "3" ∷ []) ∷ load_tokens r.scenario.root ∷ done_tokens
-    ∷ (codes "by" ∷ r.scenario.root ∷ codes "0" ∷ codes "ALL" ∷ codes "CPU" ∷ codes "ALL" ∷ []) ∷ []
+    ∷ (codes "depth" ∷ codes "3" ∷ []) ∷ load_lines r.scenario.root
 
 abbrev pub report_lines : Report → List (List Text)
 report_lines r =

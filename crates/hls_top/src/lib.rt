@@ -8,5 +8,6 @@ mod number;
 pub mod progress;
 pub mod report;
 mod reporting;
+mod report_writer;
 mod threads;
 mod tokens;
