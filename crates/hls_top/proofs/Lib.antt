@@ -2,6 +2,7 @@ pub mod Accounts
 pub mod Admissions
 pub mod CommandLaws
 pub mod Counts
+pub mod Endings
 pub mod HeadLaws
 pub mod ItemLaws
 pub mod Links
@@ -10,6 +11,7 @@ pub mod Moves
 pub mod Nexts
 pub mod NumberLaws
 pub mod Readiness
+pub mod Promises
 pub mod ReportLines
 pub mod Reports
 pub mod Schedules

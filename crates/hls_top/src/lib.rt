@@ -9,5 +9,9 @@ pub mod progress;
 pub mod report;
 mod reporting;
 mod report_writer;
+mod run;
+mod stubs;
 mod threads;
 mod tokens;
+
+pub use run::hls_run;
