@@ -16,14 +16,18 @@ const BOXES: usize = 64;
 /// The exit status where the machine does not give the words of the command line.
 const NO_WORDS: u8 = 8;
 
+/// The exit status where there is no memory to begin with.
+fn out_of_memory() -> ExitCode {
+    ExitCode::from(Status::Memory.code())
+}
+
 fn main(rt: HostRuntime) -> ExitCode {
     let alloc = rt.alloc();
-    let no_memory = ExitCode::from(Status::Memory.code());
     let Ok(args) = env::args(&rt) else {
         return ExitCode::from(NO_WORDS);
     };
     let Ok(words) = args.skip(1).collect::<Vec<String>>(alloc) else {
-        return no_memory;
+        return out_of_memory();
     };
     let mut kit = Kit {
         fp: Vec::new(alloc),
@@ -36,10 +40,10 @@ fn main(rt: HostRuntime) -> ExitCode {
     };
     while kit.fp.len() < BOXES {
         let Ok(blank) = Box::new(alloc, Fp::blank(alloc)) else {
-            return no_memory;
+            return out_of_memory();
         };
         if kit.put(Kind::Fp, blank).is_err() {
-            return no_memory;
+            return out_of_memory();
         }
     }
     let mut source = StdSource::new(rt.stdin());
@@ -47,3 +51,6 @@ fn main(rt: HostRuntime) -> ExitCode {
     let status = hls_run(alloc, &words, &mut source, &mut sink, kit);
     ExitCode::from(status.code())
 }
+
+#[cfg(test)]
+mod tests;

@@ -11,11 +11,10 @@ pub returns-then-is_run : goal.returns-then-is_run
 returns-then-is_run g c =
     let is : IsRun (map string_bytes c.args.words.now.items) =
         rw c.deref.ensures.value at (c.is_run.ensures.0 c.if-is_run.true) in
-    record {
-      ends = c.run.ensures.ends _ is;
-      orderly = c.run.ensures.orderly _ is;
-      answers = must_answer _ _ (c.run.ensures.ends _ is);
-    }
+    let x : Exchange = exchange g.S.Source.left g.S.Source.faults g.K.Sink.written g.K.Sink.faults
+        (map string_bytes c.args.words.now.items) c.args.source.now c.run.new.source c.args.sink.now c.run.new.sink in
+    let ends : Ends x c.run.result = c.run.ensures.ends _ is in
+    record { ends = ends; orderly = c.run.ensures.orderly _ is; answers = must_answer x _ ends }
 
 pub returns-else-is_run : goal.returns-else-is_run
 returns-else-is_run g c =
