@@ -15,3 +15,5 @@ pub mod Reports
 pub mod Schedules
 pub mod Seating
 pub mod TokenLaws
+pub mod Passing
+pub mod Endings

@@ -80,9 +80,10 @@ as_ready : (items : List Item) (n : ℕ) (item : Item) (thread : Thread) → sli
     → (thread.awake ≡ true) ↔ IsReadyAfter (take (n + 1) items) (seated_of thread)
 as_ready items n item thread there not_wake not_block was =
     let P : List Item → Type 0 = λ some. (thread.awake ≡ true) ↔ IsReadyAfter some (seated_of thread) in
-    subst P (sym (take_next items n item there))
-        (λ awake. still_ready (take n items) item (seated_of thread) not_block (was.0 awake),
-         λ ready. was.1 (was_ready (take n items) item (seated_of thread) not_wake ready))
+    subst P (sym (take_next items n item there)) (
+      λ awake. still_ready (take n items) item (seated_of thread) not_block (was.0 awake),
+      λ ready. was.1 (was_ready (take n items) item (seated_of thread) not_wake ready),
+    )
 
 -- ---- a refused command
 
@@ -91,9 +92,9 @@ pub carried_left : (s : Scenario) (p : Progress) (root : Seen) (item : Item) (re
     → Carried s p.line root p.threads.items root
 carried_left s p root item refusal linked there refused =
     let next : admitted s.root (take (p.line + 1) s.items) ≡ admitted s.root (take p.line s.items) =
-        admitted_next s.root s.items p.line item there
-        ∙ ap (λ answer. threads_by answer p.line item (admitted s.root (take p.line s.items)))
-            (ap (λ threads. answer_to s.root threads item.command) (sym linked.done.threads) ∙ refused) in
+    admitted_next s.root s.items p.line item there
+    ∙ ap (λ answer. threads_by answer p.line item (admitted s.root (take p.line s.items)))
+    (ap (λ threads. answer_to s.root threads item.command) (sym linked.done.threads) ∙ refused) in
     record {
       seated = linked.seated;
       threads = linked.done.threads ∙ sym next;
@@ -171,15 +172,15 @@ carried_admit s p root threads' root' name priority promise tick linked there no
     let thread : Thread = record { name = name; priority = priority; promise = promise; since = tick; line = p.line; awake = false } in
     let old = admitted s.root (take p.line s.items) in
     let next : admitted s.root (take (p.line + 1) s.items) ≡ old ++ seated_of thread ∷ [] =
-        admitted_next s.root s.items p.line item there
-        ∙ ap (λ answer. threads_by answer p.line item old)
-            (ap (λ threads. answer_to s.root threads item.command) (sym linked.done.threads) ∙ done) in
+    admitted_next s.root s.items p.line item there
+    ∙ ap (λ answer. threads_by answer p.line item old)
+    (ap (λ threads. answer_to s.root threads item.command) (sym linked.done.threads) ∙ done) in
     let free = name_is_free s.root name (seated_all p.threads.items) priority promise done (has_name name (seated_all p.threads.items)) refl in
     let within : p.line ≤ length s.items = linked.done.within in
     let lt = slice_get_within s.items p.line item there in
     let length_next : length (take (p.line + 1) s.items) ≡ p.line + 1 = take_length s.items (p.line + 1) (omega arith) in
     let many : length old ≡ length p.threads.items =
-        ap (λ (threads : List Seated). length threads) (sym linked.done.threads) ∙ length_all p.threads.items in
+    ap (λ (threads : List Seated). length threads) (sym linked.done.threads) ∙ length_all p.threads.items in
     record {
       seated = admits.seated;
       threads = ap (λ threads. seated_all threads) admits.one_more ∙ seated_all-snoc p.threads.items thread
@@ -192,8 +193,10 @@ carried_admit s p root threads' root' name priority promise tick linked there no
               let same : Some thread ≡ Some other = sym here.1 ∙ ap (λ threads. slice_get threads slot) (sym admits.one_more) ∙ at in
               let e : thread ≡ other = cc in
               let P : Thread → Type 0 = λ t. (t.awake ≡ true) ↔ IsReadyAfter (take (p.line + 1) s.items) (seated_of t) in
-              subst P e (λ awake. absurd cc,
-                  λ ready. absurd (not_ready_new (take (p.line + 1) s.items) (seated_of thread) (omega arith) ready))
+              subst P e (
+                λ awake. absurd cc,
+                λ ready. absurd (not_ready_new (take (p.line + 1) s.items) (seated_of thread) (omega arith) ready),
+              )
           | inr past ↦ absurd (let no : None ≡ Some other = sym past.1 ∙ ap (λ threads. slice_get threads slot) (sym admits.one_more) ∙ at in cc)
         ]
       ];
@@ -237,8 +240,8 @@ pub set_cases : (threads : List Thread) (slot : ℕ) (thread : Thread) (awake : 
 set_cases threads slot thread awake k other there at = elim (cases_eq k slot) [
   | inl same ↦
       let here : slice_get (slice_set threads slot (with_awake awake thread)) k ≡ Some (with_awake awake thread) =
-          ap (λ n. slice_get (slice_set threads slot (with_awake awake thread)) n) same
-          ∙ slice_get-set-same threads slot (with_awake awake thread) (slice_get_within threads slot thread there) in
+      ap (λ n. slice_get (slice_set threads slot (with_awake awake thread)) n) same
+      ∙ slice_get-set-same threads slot (with_awake awake thread) (slice_get_within threads slot thread there) in
       let both : Some (with_awake awake thread) ≡ Some other = sym here ∙ at in
       inl (same, cc)
   | inr apart ↦ inr (apart, sym (slice_get-set-other threads slot k (with_awake awake thread) apart) ∙ at)
@@ -266,11 +269,11 @@ called_ready items n item thread true there within calls since =
     let P : List Item → Type 0 = λ some. (true ≡ true) ↔ IsReadyAfter some (seated_of thread) in
     let len = take_length items n within in
     subst P (sym (take_next items n item there))
-        (λ awake. ready_woken (take n items) item (seated_of thread) calls (omega arith), λ ready. refl)
+    (λ awake. ready_woken (take n items) item (seated_of thread) calls (omega arith), λ ready. refl)
 called_ready items n item thread false there within calls since =
     let P : List Item → Type 0 = λ some. (false ≡ true) ↔ IsReadyAfter some (seated_of thread) in
     subst P (sym (take_next items n item there))
-        (λ awake. absurd cc, λ ready. absurd (not_ready_blocked (take n items) item (seated_of thread) calls ready))
+    (λ awake. absurd cc, λ ready. absurd (not_ready_blocked (take n items) item (seated_of thread) calls ready))
 
 not_called_wake : (awake : Bool) (name other : Text) → name ≢ other → call_of awake name ≢ Wake other
 not_called_wake true name other apart is = apart cc
@@ -298,10 +301,10 @@ carried_rouse s p root threads' root' name awake tick linked there done r =
     let old = admitted s.root (take p.line s.items) in
     let set : threads' ≡ slice_set p.threads.items r.slot (with_awake awake thread) = r.rouses.roused thread at_slot in
     let next : admitted s.root (take (p.line + 1) s.items) ≡ old =
-        admitted_next s.root s.items p.line item there
-        ∙ ap (λ answer. threads_by answer p.line item old)
-            (ap (λ threads. answer_to s.root threads item.command) (sym linked.done.threads) ∙ done)
-        ∙ no_more awake name p.line tick old in
+    admitted_next s.root s.items p.line item there
+    ∙ ap (λ answer. threads_by answer p.line item old)
+    (ap (λ threads. answer_to s.root threads item.command) (sym linked.done.threads) ∙ done)
+    ∙ no_more awake name p.line tick old in
     record {
       seated = r.rouses.seated;
       threads = ap (λ threads. seated_all threads) set ∙ seated_all-set p.threads.items r.slot thread awake at_slot ∙ linked.done.threads ∙ sym next;
@@ -310,11 +313,11 @@ carried_rouse s p root threads' root' name awake tick linked there done r =
             | inl here ↦
                 let P : Thread → Type 0 = λ t. (t.awake ≡ true) ↔ IsReadyAfter (take (p.line + 1) s.items) (seated_of t) in
                 subst P here.1 (called_ready s.items p.line item thread awake there linked.done.within
-                    (ap (λ name. call_of awake name) (sym r.named.named)) (linked.done.lines r.slot thread at_slot))
+                (ap (λ name. call_of awake name) (sym r.named.named)) (linked.done.lines r.slot thread at_slot))
             | inr rest ↦
                 let apart : name ≢ other.name = λ same. rest.0 (linked.done.names slot r.slot other thread rest.1 at_slot (sym same ∙ sym r.named.named)) in
                 as_ready s.items p.line item other there (not_called_wake awake name other.name apart) (not_called_block awake name other.name apart)
-                    (linked.done.awake slot other rest.1)
+                (linked.done.awake slot other rest.1)
           ];
       marks = ap (λ (r : Seen). r.book.marks) r.rouses.only_mask ∙ linked.done.marks ∙ ap (λ threads. seat_marks 0 threads) (sym next);
       lines = λ slot other at.

@@ -1,5 +1,5 @@
 -- Elements of lists, by their places.
-use Rattle.std.proofs.Common.{◌≡◌, ◌≢◌, ℕ, zero, suc, ◌+◌, ◌<◌, ◌≤◌, List, [], ◌∷◌, ◌++◌, length, Option, Some, None, Bool, true, false, refl, arith, sym, ◌∙◌, ap, cond}
+use Rattle.std.proofs.Common.{◌≡◌, ◌≢◌, ℕ, zero, suc, ◌+◌, ◌-◌, ◌<◌, ◌≤◌, List, [], ◌∷◌, ◌++◌, length, Option, Some, None, Bool, true, false, refl, arith, sym, ◌∙◌, ap, cond}
 use Rattle.std.specs.Prelude.{slice_get, slice_set, ◌||◌, map, position}
 use Rattle.std.specs.List.{list_any, position_from}
 use Rattle.std.proofs.lemmas.Iterator.Adapters.{position_from-zero}
@@ -120,3 +120,8 @@ position_found test xs found is =
 
 pub position_none : {X : Type 0} (test : X → Bool) (xs : List X) → position test xs ≡ None → list_any test xs ≡ false
 position_none test xs is = none_from test xs 0 (sym (position_from-zero test xs) ∙ is)
+
+pub slice_get-append-right : {X : Type 0} (xs ys : List X) (k : ℕ) → length xs ≤ k → slice_get (xs ++ ys) k ≡ slice_get ys (k - length xs)
+slice_get-append-right [] ys k le = ap (λ n. slice_get ys n) (omega arith)
+slice_get-append-right (x ∷ xs) ys zero le = absurd (omega arith)
+slice_get-append-right (x ∷ xs) ys (suc k) le = slice_get-append-right xs ys k (omega arith) ∙ ap (λ n. slice_get ys n) (omega arith)

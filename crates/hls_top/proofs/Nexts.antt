@@ -78,7 +78,7 @@ linked_next s p p' root root' item answer linked there now is carried capacity n
         threads = rw line carried.threads;
         answers = rw line (noted ∙ ap (λ all. all ++ answer ∷ []) linked.done.answers
             ∙ ap (λ (a : Answer). answers s.root (take p.line s.items) ++ a ∷ [])
-                (is ∙ ap (λ threads. answer_to s.root threads item.command) linked.done.threads)
+            (is ∙ ap (λ threads. answer_to s.root threads item.command) linked.done.threads)
             ∙ sym (answers_next s.root s.items p.line item there));
         awake = λ slot thread at. rw line (carried.awake slot thread at);
         marks = rw line carried.marks;
@@ -175,7 +175,7 @@ pub answers_room : (s : Scenario) (p : Progress) (root : Seen) (now : ℕ) → I
 answers_room s p root now linked due =
     let lt = slice_get_within s.items p.line due.item due.there in
     let len : length p.answers.items ≡ p.line =
-        ap (λ (all : List Answer). length all) linked.done.answers ∙ answers_length s p.line linked.done.within in
+    ap (λ (all : List Answer). length all) linked.done.answers ∙ answers_length s p.line linked.done.within in
     let room = linked.room.answers in
     omega (arith, vec_len_is p)
   where

@@ -111,3 +111,10 @@ not_ready_new items thread new ready =
     let lt = command_within items ready.wake (Wake thread.name) ready.woken in
     let since = ready.since in
     omega arith
+
+-- a ready thread was woken by one of the commands, after its admission
+pub woken_within : (items : List Item) (thread : Seated) → IsReadyAfter items thread → thread.line + 1 < length items + 1
+woken_within items thread ready =
+    let lt = command_within items ready.wake (Wake thread.name) ready.woken in
+    let since = ready.since in
+    omega arith

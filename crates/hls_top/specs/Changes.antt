@@ -1,5 +1,5 @@
 -- What a command changes of the threads and of the root scheduler.
-use Rattle.std.specs.Prelude.{◌≡◌, ◌↔◌, ℕ, [], ◌∷◌, ◌++◌, List, length, Option, Some, None, Bool, true, false, if◌then◌else◌, slice_get, slice_set}
+use Rattle.std.specs.Prelude.{◌≡◌, ◌↔◌, ℕ, ◌≤◌, [], ◌∷◌, ◌++◌, List, length, Option, Some, None, Bool, true, false, if◌then◌else◌, slice_get, slice_set, vec_capacity}
 use Rattle.std.specs.Str.{bytes_eq}
 use Rattle.hls_chron.specs.Ledger.{with_row}
 use Rattle.hls_sched.specs.Seen.{Seen, seated, requested, released, tick_row, seen_asks}
@@ -10,6 +10,7 @@ use Rattle.hls_top.specs.declared.early.Command.TheVariants.{Thread as ThreadCom
 use Rattle.hls_top.specs.declared.report.Refusal.{Refusal}
 use Rattle.hls_top.specs.declared.report.Refusal.TheVariants.{PriorityTaken, SeatsFull}
 use Rattle.hls_top.specs.declared.progress.Thread.{Thread}
+use Rattle.hls_top.specs.declared.progress.Progress.{Progress}
 use Rattle.hls_top.specs.EarlyText.{Text}
 use Rattle.hls_top.specs.Linked.{IsSeated, terms_of}
 
@@ -88,3 +89,11 @@ pub record Ticks (root root' : Seen) : Type 0 where
   pub choice : Option ℕ
   pub row : root' ≡ record root { book = with_row root.book (tick_row root.mask (Some 0) choice) }
   pub idle : (choice ≡ None) ↔ (seen_asks root ≡ false)
+
+-- nothing was carried out yet, and there is room for so many answers and for 32 threads
+pub record IsNewProgress (commands : ℕ) (p : Progress) : Type 0 where
+  pub line : p.line ≡ 0
+  pub answers : p.answers.items ≡ []
+  pub threads : p.threads.items ≡ []
+  pub answers_room : commands ≤ vec_capacity p.answers
+  pub room : 32 ≤ vec_capacity p.threads

@@ -1,6 +1,7 @@
 -- The early texts: which scenarios have one, and the one text of each.
 use Rattle.std.specs.Prelude.{◌≡◌, ◌≢◌, ℕ, ◌<◌, ◌≤◌, List, [], ◌∷◌, ◌++◌, length, codes, decimal, flat_map, map}
 use Rattle.std.specs.List.{join_with_byte}
+use Rattle.hls_chron.specs.Name.{IsName}
 use Rattle.hls_top.specs.declared.early.Promise.{Promise}
 use Rattle.hls_top.specs.declared.early.Promise.TheVariants.{All, Null}
 use Rattle.hls_top.specs.declared.early.Command.{Command}

@@ -1,7 +1,9 @@
 // Carrying a scenario out, command by command and tick by tick.
-ghost use Rattle.std.specs.Prelude.{◌≡◌, ◌≢◌, ℕ, ◌+◌, ◌<◌, ◌≤◌, ◌↔◌, length, Some, None, true, false, vec_capacity, slice_get};
+ghost use Rattle.std.specs.Prelude.{◌≡◌, ◌≢◌, ℕ, ◌+◌, ◌<◌, ◌≤◌, ◌↔◌, length, Some, None, true, false, vec_capacity, slice_get, IfOk, []};
 ghost use Rattle.hls_chron.specs.Ledger.{now_of};
-ghost use Rattle.hls_sched.specs.Seen.{IsConfigured};
+ghost use Rattle.hls_sched.specs.Seen.{IsConfigured, IsBlank};
+ghost use Rattle.hls_sched.specs.GoodKit.{IsGood, boxes_of};
+ghost use Rattle.hls_top.specs.Legal.{IsLegal};
 ghost use Rattle.hls_top.specs.EarlyText.{IsEarly, FitsCommand};
 ghost use Rattle.hls_top.specs.Progress.{seated_all};
 ghost use Rattle.hls_top.specs.Threads.{answer_to};
@@ -12,10 +14,12 @@ ghost use Rattle.hls_top.specs.declared.early.Item.{Item};
 
 use crate::early::{Command, Item, Promise, Scenario};
 use crate::progress::{Progress, Thread};
-use crate::report::Answer;
+use crate::report::{Answer, Report};
+use crate::reporting::report_of;
 use crate::threads::{admit, rouse};
-use hls_chron::Name;
-use hls_sched::Scheduler;
+use hls_chron::{Config, Kind, Name};
+use hls_sched::{Kit, Scheduler};
+use std::alloc::{AllocError, Global};
 
 /// Carries a command out, and gives its answer.
 fn answer(
@@ -112,7 +116,7 @@ fn run_tick(root: &mut dyn Scheduler)
 }
 
 /// Carries a whole scenario out.
-pub fn run_scenario(scenario: &Scenario, progress: &mut Progress, root: &mut dyn Scheduler)
+fn run_scenario(scenario: &Scenario, progress: &mut Progress, root: &mut dyn Scheduler)
     requires early { IsEarly scenario.now }
     requires linked { IsLinked scenario.now progress.old (seen root.old) }
     requires start { now_of (seen root.old).book ≡ 0 }
@@ -123,5 +127,41 @@ pub fn run_scenario(scenario: &Scenario, progress: &mut Progress, root: &mut dyn
     for _ in 0..scenario.horizon {
         carry_out_due(scenario, progress, root);
         run_tick(root);
+    }
+}
+
+/// Carries a scenario out on a blank box, and tells of it in a report.
+fn carry_out_on(
+    alloc: Global,
+    scenario: Scenario,
+    root: &mut dyn Scheduler,
+) -> Result<Report, AllocError>
+    requires early { IsEarly scenario }
+    requires blank { IsBlank Kind.Fp (seen root.old) }
+    ensures { IfOk result (IsLegal scenario) }
+{
+    let commands = scenario.items.items().len();
+    root.setup(&Config::Fp, 0, scenario.horizon, commands as u32)?;
+    let mut progress = Progress::start(alloc, commands)?;
+    run_scenario(&scenario, &mut progress, root);
+    root.vouch();
+    report_of(alloc, scenario, progress, root.book())
+}
+
+/// Carries a scenario out with a box of the kit, and tells of it in a report.
+///
+/// # Errors
+///
+/// Where memory is wanting.
+pub fn carry_out(alloc: Global, scenario: Scenario, kit: Kit) -> Result<Report, AllocError>
+    requires good { IsGood (λ b. seen (b.vtable, b.value)) kit }
+    requires boxed { boxes_of Kind.Fp kit ≢ [] }
+    requires early { IsEarly scenario }
+    ensures { IfOk result (IsLegal scenario) }
+{
+    let mut kit = kit;
+    match kit.take(Kind::Fp) {
+        Some(mut root) => carry_out_on(alloc, scenario, &mut *root),
+        None => unreachable!(),
     }
 }

@@ -7,7 +7,7 @@ mod early_reader;
 mod number;
 pub mod progress;
 pub mod report;
-mod reporting;
 mod report_writer;
+mod reporting;
 mod threads;
 mod tokens;

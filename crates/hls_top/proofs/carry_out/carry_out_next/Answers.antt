@@ -9,7 +9,7 @@ use Rattle.hls_top.proofs.carry_out.carry_out_next.Goals as goal
 pub answer-answer-requires-clause-fits : goal.answer-answer-requires-clause-fits
 answer-answer-requires-clause-fits g c =
     let there = item_read c.args.scenario.now c.items.result.now c.args.progress.now.line c.index-items-progress.result
-        c.items.ensures c.requires.due c.index-items-progress.is in
+    c.items.ensures c.requires.due c.index-items-progress.is in
     next_fits c.args.scenario.now c.args.progress.now.line c.index-items-progress.result c.requires.early.items there
 
 pub answer-answer-requires-clause-marks : goal.answer-answer-requires-clause-marks
@@ -30,8 +30,8 @@ returns-clause-linked g c =
     let now = same_tick s p.line _ item c.requires.due there in
     let is = c.answer-answer.ensures.answer in
     let carried = carried_next s p _ c.answer-answer.new.threads.items _ item c.answer-answer.result c.requires.linked there now is
-        c.answer-answer.ensures.done c.answer-answer.ensures.refused in
+    c.answer-answer.ensures.done c.answer-answer.ensures.refused in
     linked_next s p c.note.new.self _ _ item c.answer-answer.result c.requires.linked there now is
-        (rw c.note.ensures.threads carried)
-        (rw c.note.ensures.threads c.answer-answer.ensures.capacity)
-        c.note.ensures.answers c.note.ensures.capacity c.note.ensures.line
+    (rw c.note.ensures.threads carried)
+    (rw c.note.ensures.threads c.answer-answer.ensures.capacity)
+    c.note.ensures.answers c.note.ensures.capacity c.note.ensures.line

@@ -1,0 +1,23 @@
+use Rattle.std.proofs.Common.{subst}
+use Rattle.hls_chron.specs.declared.plain.Config.{Config}
+use Rattle.hls_chron.specs.Discipline.{KeepsDiscipline}
+use Rattle.hls_top.proofs.Endings.{linked_start, since_below, legal_if_ok, discipline_fp}
+use Rattle.hls_top.proofs.carry_out.carry_out_on.Goals as goal
+
+pub run_scenario-requires-clause-linked : goal.run_scenario-requires-clause-linked
+run_scenario-requires-clause-linked g c =
+    linked_start c.args.scenario c.in_ok-progress.progress _
+        (rw c.items-commands.ensures at c.in_ok-progress.ensures)
+        (rw c.items-commands.ensures at c.in_ok-setup.ensures.0)
+
+pub report_of-requires-clause-since : goal.report_of-requires-clause-since
+report_of-requires-clause-since g c =
+    since_below c.args.scenario c.run_scenario.new.progress _ c.requires.early.items c.run_scenario.ensures.linked
+        c.run_scenario.ensures.done
+
+pub returns : goal.returns
+returns g c =
+    legal_if_ok c.args.scenario c.run_scenario.new.progress _ c.report_of.result c.run_scenario.ensures.linked
+        c.run_scenario.ensures.done c.run_scenario.ensures.ended
+        (discipline_fp c.run_scenario.new.progress.threads.items _ c.run_scenario.ensures.linked.seated c.vouch.ensures)
+        (rw c.book.ensures at c.report_of.ensures)
