@@ -1,0 +1,4 @@
+pub mod ServiceLemmas
+pub mod Offsets
+pub mod Promises
+pub mod Windows
