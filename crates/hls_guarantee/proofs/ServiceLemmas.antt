@@ -1,7 +1,6 @@
 -- The service of parts, of later parts, and of schedules that agree or serve more.
-use Rattle.std.proofs.Common.{◌≡◌, ℕ, zero, suc, ◌+◌, ◌-◌, ◌<◌, ◌≤◌, Bool, true, false, refl, ap, ◌∙◌, sym, arith}
-use Rattle.std.proofs.Common.{inl, inr, add-zero, add-suc}
-use Rattle.std.proofs.lemmas.Bool.{cases_Bool}
+use Rattle.std.proofs.Common.{◌≡◌, ℕ, zero, suc, ◌+◌, ◌-◌, ◌<◌, ◌≤◌, Bool, true, false, refl, ap, arith}
+use Rattle.std.proofs.Common.{add-zero, add-suc}
 use Rattle.hls_guarantee.specs.Service.{one_if, service}
 
 pub one_if-le : (b : Bool) → one_if b ≤ 1
@@ -57,7 +56,8 @@ service-within f a m i n lo hi =
     record { less = omega arith; idle = omega arith }
 
 -- schedules that agree on the ticks
-pub service-agree : (f g : ℕ → Bool) (i n : ℕ) → ((t : ℕ) → i ≤ t → t < i + n → f t ≡ g t) → service f i n ≡ service g i n
+pub service-agree : (f g : ℕ → Bool) (i n : ℕ) → ((t : ℕ) → i ≤ t → t < i + n → f t ≡ g t) →
+    service f i n ≡ service g i n
 unfolding service
 service-agree f g i zero same = refl
 service-agree f g i (suc n) same =
@@ -70,7 +70,8 @@ one_if-more false b more = omega arith
 one_if-more true b more = let e : one_if b ≡ 1 = ap one_if (more refl) in omega arith
 
 -- a schedule that serves more
-pub service-more : (f g : ℕ → Bool) (i n : ℕ) → ((t : ℕ) → f t ≡ true → g t ≡ true) → service f i n ≤ service g i n
+pub service-more : (f g : ℕ → Bool) (i n : ℕ) → ((t : ℕ) → f t ≡ true → g t ≡ true) →
+    service f i n ≤ service g i n
 unfolding service
 service-more f g i zero more = omega arith
 service-more f g i (suc n) more =

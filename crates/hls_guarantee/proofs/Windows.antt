@@ -1,6 +1,6 @@
 -- The same promise of the same ticks, counted from another tick on; lists of ticks.
-use Rattle.std.proofs.Common.{◌≡◌, ℕ, ◌+◌, ◌-◌, ◌*◌, ◌<◌, ◌≤◌, Bool, true, false, List, [], ◌∷◌, ◌++◌, length}
-use Rattle.std.proofs.Common.{refl, ap, ◌∙◌, sym, subst, arith, get_or, length-append}
+use Rattle.std.proofs.Common.{◌≡◌, ℕ, ◌+◌, ◌-◌, ◌<◌, ◌≤◌, Bool, false, List, ◌++◌, length}
+use Rattle.std.proofs.Common.{ap, ◌∙◌, sym, subst, arith, get_or, length-append}
 use Rattle.std.proofs.lemmas.List.{get_or_append_left, get_or-append-add}
 use Rattle.hls_guarantee.specs.declared.Guarantee.{Guarantee}
 use Rattle.hls_guarantee.specs.declared.Guarantee.TheVariants.{All, Null, Resb, Resc, Psbe}
@@ -70,7 +70,8 @@ pub record IsWindow (list : List Bool) (f : ℕ → Bool) (lo : ℕ) : Type 0 wh
   pub same : (t : ℕ) → t < length list → schedule_of list t ≡ f (t + lo)
 
 -- a range that begins at lo, from 0 on
-from_zero : (g : Guarantee) (f : ℕ → Bool) (lo n : ℕ) → Satisfies g f lo (lo + n) ≡ Satisfies g f (0 + lo) (n + lo)
+from_zero : (g : Guarantee) (f : ℕ → Bool) (lo n : ℕ) →
+    Satisfies g f lo (lo + n) ≡ Satisfies g f (0 + lo) (n + lo)
 from_zero g f lo n =
     let start : lo ≡ 0 + lo = omega arith in
     let end : lo + n ≡ n + lo = omega arith in
@@ -87,21 +88,23 @@ pub satisfies-window : (g : Guarantee) (list : List Bool) (f : ℕ → Bool) (lo
     ListSatisfies g list → Satisfies g f lo (lo + length list)
 satisfies-window g list f lo w s =
     let there = satisfies-later g f lo 0 (length list)
-      (satisfies-agree g (schedule_of list) (λ t. f (t + lo)) 0 (length list) (λ t a b. w.same t b) s) in
+    (satisfies-agree g (schedule_of list) (λ t. f (t + lo)) 0 (length list) (λ t a b. w.same t b) s) in
     subst (λ T. T) (sym (from_zero g f lo (length list))) there
 
 -- a part of a list
-part-window : (before part after : List Bool) → IsWindow part (schedule_of (before ++ (part ++ after))) (length before)
+part-window : (before part after : List Bool) →
+    IsWindow part (schedule_of (before ++ (part ++ after))) (length before)
 part-window before part after = record {
   same = λ t lt.
       let there : get_or (before ++ (part ++ after)) (length before + t) false ≡ get_or (part ++ after) t false =
-        get_or-append-add before (part ++ after) t false in
+      get_or-append-add before (part ++ after) t false in
       let here : get_or (part ++ after) t false ≡ get_or part t false = get_or_append_left part after false t lt in
       let e : length before + t ≡ t + length before = omega arith in
       sym here ∙ sym there ∙ ap (λ n. get_or (before ++ (part ++ after)) n false) e;
 }
 
-pub list-part : (g : Guarantee) (before part after : List Bool) → ListSatisfies g (before ++ (part ++ after)) →
+pub list-part : (g : Guarantee) (before part after : List Bool) →
+    ListSatisfies g (before ++ (part ++ after)) →
     ListSatisfies g part
 list-part g before part after s =
     let whole : List Bool = before ++ (part ++ after) in
@@ -112,7 +115,8 @@ list-part g before part after s =
     window-satisfies g part (schedule_of whole) n (part-window before part after)
     (satisfies-part g (schedule_of whole) 0 (length whole) n (n + length part) (omega arith) fits s)
 
-pub list-more : (g : Guarantee) (less more : List Bool) → IsSoft g → ServesMore less more → ListSatisfies g less →
+pub list-more : (g : Guarantee) (less more : List Bool) → IsSoft g → ServesMore less more →
+    ListSatisfies g less →
     ListSatisfies g more
 list-more g less more soft serves s =
     subst (λ n. Satisfies g (schedule_of more) 0 n) serves.same_length

@@ -1,5 +1,5 @@
 -- The service that a schedule gives. A schedule is a test on ticks, true at those that are served.
-use Rattle.std.specs.Prelude.{◌≡◌, ℕ, zero, suc, ◌+◌, ◌≤◌, Bool, true, false, List, length, slice_index_or}
+use Rattle.std.specs.Prelude.{◌≡◌, ℕ, zero, suc, ◌+◌, ◌-◌, ◌≤◌, min, Bool, true, false, List, length, slice_index_or}
 
 abbrev pub one_if : Bool → ℕ
 one_if true = 1
@@ -9,6 +9,10 @@ one_if false = 0
 unfoldable pub service : (served : ℕ → Bool) (i n : ℕ) → ℕ
 service served i zero = 0
 service served i (suc n) = service served i n + one_if (served (i + n))
+
+-- the service of the y ticks that end before tick k, or of as many as there are
+abbrev pub service_before : (served : ℕ → Bool) (y k : ℕ) → ℕ
+service_before served y k = service served (k - y) (min y k)
 
 -- P holds of every part of the ticks from lo on and before hi: of the n ticks from i on, and of their service
 abbrev pub EveryPart : (P : (i n got : ℕ) → Type 0) (served : ℕ → Bool) (lo hi : ℕ) → Type 0

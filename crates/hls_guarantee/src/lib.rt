@@ -7,7 +7,10 @@ ghost use Rattle.hls_guarantee.specs.Limits.{IsReservation, IsLimited, IsValid, 
 
 use hls_frac::Frac;
 
+mod deciding;
 pub mod laws;
+
+pub use deciding::holds;
 
 /// What a seat is promised of each window in which it is ready. Ticks are counted in whole ticks.
 #[derive(Clone, Copy, Debug, PartialEq, Eq)]
