@@ -5,3 +5,4 @@ pub mod Windows
 pub mod Slides
 pub mod Debts
 pub mod Blocks
+pub mod Texts
