@@ -6,3 +6,4 @@ pub mod Slides
 pub mod Debts
 pub mod Blocks
 pub mod Texts
+pub mod Spellings
