@@ -7,3 +7,4 @@ pub mod Debts
 pub mod Blocks
 pub mod Texts
 pub mod Spellings
+pub mod Injective

@@ -103,32 +103,47 @@ joined word first second = simp append_assoc
 ticks-lacks : (x y : ℕ) → IsReservation x y → list_any (λ b. b == 32) (decimal x) ≡ false
 ticks-lacks x y ok = decimal-lacks 32 x (omega arith) (omega (arith, ok.fits, ok.size))
 
-pub parts_of : (g : Guarantee) (text : List ℕ) → IsValid g → text ≢ codes "ALL" → text ≢ codes "NULL" →
-    text ≡ spelling g → Parts g text
-parts_of All text valid all null is = absurd (all is)
-parts_of Null text valid all null is = absurd (null is)
-parts_of (Resb true x y) text valid all null is = record {
+-- a guarantee without numbers, or the parts of its text
+pub data Kind (text : List ℕ) : Guarantee → Type 0 where
+  all : text ≡ codes "ALL" → Kind text All
+  null : text ≡ codes "NULL" → Kind text Null
+  numbered : {g : Guarantee} → Parts g text → Kind text g
+
+pub kind_of : (g : Guarantee) (text : List ℕ) → IsValid g → text ≡ spelling g → Kind text g
+kind_of All text valid is = all is
+kind_of Null text valid is = null is
+kind_of (Resb true x y) text valid is = numbered (record {
   word = codes "RESBH"; first = decimal x; second = decimal y;
   whole = is ∙ joined (codes "RESBH") (decimal x) (decimal y);
   lacks_word = refl; lacks_first = ticks-lacks x y valid; fields = (refl, refl, refl);
-}
-parts_of (Resb false x y) text valid all null is = record {
+})
+kind_of (Resb false x y) text valid is = numbered (record {
   word = codes "RESBS"; first = decimal x; second = decimal y;
   whole = is ∙ joined (codes "RESBS") (decimal x) (decimal y);
   lacks_word = refl; lacks_first = ticks-lacks x y valid; fields = (refl, refl, refl);
-}
-parts_of (Resc true x y) text valid all null is = record {
+})
+kind_of (Resc true x y) text valid is = numbered (record {
   word = codes "RESCH"; first = decimal x; second = decimal y;
   whole = is ∙ joined (codes "RESCH") (decimal x) (decimal y);
   lacks_word = refl; lacks_first = ticks-lacks x y valid; fields = (refl, refl, refl);
-}
-parts_of (Resc false x y) text valid all null is = record {
+})
+kind_of (Resc false x y) text valid is = numbered (record {
   word = codes "RESCS"; first = decimal x; second = decimal y;
   whole = is ∙ joined (codes "RESCS") (decimal x) (decimal y);
   lacks_word = refl; lacks_first = ticks-lacks x y valid; fields = (refl, refl, refl);
-}
-parts_of (Psbe s d) text valid all null is = record {
+})
+kind_of (Psbe s d) text valid is = numbered (record {
   word = codes "PSBE"; first = fraction_text s; second = fraction_text d;
   whole = is ∙ joined (codes "PSBE") (fraction_text s) (fraction_text d);
   lacks_word = refl; lacks_first = fraction-lacks s valid.rate; fields = (refl, refl, refl);
-}
+})
+
+parts_of_kind : (g : Guarantee) (text : List ℕ) → text ≢ codes "ALL" → text ≢ codes "NULL" → Kind text g →
+    Parts g text
+parts_of_kind _ text not_all not_null (all e) = absurd (not_all e)
+parts_of_kind _ text not_all not_null (null e) = absurd (not_null e)
+parts_of_kind g text not_all not_null (numbered p) = p
+
+pub parts_of : (g : Guarantee) (text : List ℕ) → IsValid g → text ≢ codes "ALL" → text ≢ codes "NULL" →
+    text ≡ spelling g → Parts g text
+parts_of g text valid not_all not_null is = parts_of_kind g text not_all not_null (kind_of g text valid is)

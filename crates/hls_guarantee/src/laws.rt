@@ -18,6 +18,7 @@ ghost use Rattle.hls_guarantee.specs.Service.{schedule_of, ServesMore};
 ghost use Rattle.hls_guarantee.specs.Satisfaction.{Satisfies, ListSatisfies, IsSoft};
 ghost use Rattle.hls_guarantee.specs.Cap.{KeepsCap};
 ghost use Rattle.hls_guarantee.specs.Limits.{IsValid, IsNarrow};
+ghost use Rattle.hls_guarantee.specs.Spelling.{spelling};
 
 use crate::Guarantee;
 use hls_frac::Frac;
@@ -78,3 +79,11 @@ pub fn limits_of_shares(s: Frac, d: Frac)
 pub fn narrow_is_valid(g: Guarantee)
     ensures { IsNarrow g → IsValid g }
 {}
+
+/// No two valid guarantees have one text.
+pub fn spelling_is_injective(g: Guarantee, h: Guarantee)
+    requires g { IsValid g }
+    requires h { IsValid h }
+    ensures { spelling g ≡ spelling h → g ≡ h }
+{
+}
