@@ -52,8 +52,8 @@ fraction-same f g wf wg same = elim (cases_whole f) [
     | inr more_g ↦
         let texts = sym (text_of_ratio f more_f) ∙ same ∙ text_of_ratio g more_g in
         let parts = cut_same 47 (decimal f.num) (decimal f.den) (decimal g.num) (decimal g.den) texts
-          (decimal-lacks 47 f.num (omega arith) (fits_num f wf))
-          (decimal-lacks 47 g.num (omega arith) (fits_num g wg)) in
+        (decimal-lacks 47 f.num (omega arith) (fits_num f wf))
+        (decimal-lacks 47 g.num (omega arith) (fits_num g wg)) in
         let den_f : f.den ≤ 10 ^ 13 = omega (arith, wf.den) in
         let den_g : g.den ≤ 10 ^ 13 = omega (arith, wg.den) in
         same_numbers-same f g (number-same f.num g.num wf.num wg.num parts.0)
@@ -81,7 +81,7 @@ record Picked (g : Guarantee) (word first second : List ℕ) : Type 0 where
 data Shape (word first second : List ℕ) : Guarantee → Type 0 where
   reserved : {g : Guarantee} → Picked g word first second → Shape word first second g
   shared : {s d : Frac} → word ≡ codes "PSBE" → first ≡ fraction_text s → second ≡ fraction_text d →
-    IsShare (10 ^ 13) (10 ^ 8) s d → Shape word first second (Psbe s d)
+      IsShare (10 ^ 13) (10 ^ 8) s d → Shape word first second (Psbe s d)
 
 picked : (g : Guarantee) (word w first second : List ℕ) (x y : ℕ) → IsReservation x y → pick w x y ≡ Some g →
     (word ≡ w) × (first ≡ decimal x) × (second ≡ decimal y) → Shape word first second g
@@ -127,7 +127,7 @@ shape-same word first second _ _ (shared {s = s} {d = d} is a b ok) (shared {s =
 parts-same : (text : List ℕ) (g h : Guarantee) → IsValid g → IsValid h → Parts g text → Parts h text → g ≡ h
 parts-same text g h valid_g valid_h p q =
     let outer = cut_same 32 p.word (p.first ++ (32 ∷ p.second)) q.word (q.first ++ (32 ∷ q.second))
-      (sym p.whole ∙ q.whole) p.lacks_word q.lacks_word in
+    (sym p.whole ∙ q.whole) p.lacks_word q.lacks_word in
     let inner = cut_same 32 p.first p.second q.first q.second outer.1 p.lacks_first q.lacks_first in
     let one = subst (λ w. HasFields h w q.first q.second) (sym outer.0) q.fields in
     let two = subst (λ a. HasFields h p.word a q.second) (sym inner.0) one in

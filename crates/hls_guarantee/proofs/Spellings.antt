@@ -29,8 +29,8 @@ pub decimal-lacks : (m n : ℕ) → m < 48 → n < 10 ^ 64 → list_any (λ b. b
 decimal-lacks m n lt fits =
     decimal_by_steps_wide (λ k ds. list_any (λ b. b == m) ds ≡ false) (λ k small. digit_lacks m k lt)
     (λ k ds big front.
-     let last = digit_lacks m (k % 10) lt in
-     list_any-append (λ b. b == m) ds ((48 + k % 10) ∷ []) ∙ rw front last) n fits
+    let last = digit_lacks m (k % 10) lt in
+    list_any-append (λ b. b == m) ds ((48 + k % 10) ∷ []) ∙ rw front last) n fits
 
 -- a text with a mark
 pub has_mark : (m : ℕ) (front rest : List ℕ) → list_any (λ b. b == m) (front ++ (m ∷ rest)) ≡ true
@@ -113,29 +113,49 @@ pub kind_of : (g : Guarantee) (text : List ℕ) → IsValid g → text ≡ spell
 kind_of All text valid is = all is
 kind_of Null text valid is = null is
 kind_of (Resb true x y) text valid is = numbered (record {
-  word = codes "RESBH"; first = decimal x; second = decimal y;
+  word = codes "RESBH";
+  first = decimal x;
+  second = decimal y;
   whole = is ∙ joined (codes "RESBH") (decimal x) (decimal y);
-  lacks_word = refl; lacks_first = ticks-lacks x y valid; fields = (refl, refl, refl);
+  lacks_word = refl;
+  lacks_first = ticks-lacks x y valid;
+  fields = (refl, refl, refl);
 })
 kind_of (Resb false x y) text valid is = numbered (record {
-  word = codes "RESBS"; first = decimal x; second = decimal y;
+  word = codes "RESBS";
+  first = decimal x;
+  second = decimal y;
   whole = is ∙ joined (codes "RESBS") (decimal x) (decimal y);
-  lacks_word = refl; lacks_first = ticks-lacks x y valid; fields = (refl, refl, refl);
+  lacks_word = refl;
+  lacks_first = ticks-lacks x y valid;
+  fields = (refl, refl, refl);
 })
 kind_of (Resc true x y) text valid is = numbered (record {
-  word = codes "RESCH"; first = decimal x; second = decimal y;
+  word = codes "RESCH";
+  first = decimal x;
+  second = decimal y;
   whole = is ∙ joined (codes "RESCH") (decimal x) (decimal y);
-  lacks_word = refl; lacks_first = ticks-lacks x y valid; fields = (refl, refl, refl);
+  lacks_word = refl;
+  lacks_first = ticks-lacks x y valid;
+  fields = (refl, refl, refl);
 })
 kind_of (Resc false x y) text valid is = numbered (record {
-  word = codes "RESCS"; first = decimal x; second = decimal y;
+  word = codes "RESCS";
+  first = decimal x;
+  second = decimal y;
   whole = is ∙ joined (codes "RESCS") (decimal x) (decimal y);
-  lacks_word = refl; lacks_first = ticks-lacks x y valid; fields = (refl, refl, refl);
+  lacks_word = refl;
+  lacks_first = ticks-lacks x y valid;
+  fields = (refl, refl, refl);
 })
 kind_of (Psbe s d) text valid is = numbered (record {
-  word = codes "PSBE"; first = fraction_text s; second = fraction_text d;
+  word = codes "PSBE";
+  first = fraction_text s;
+  second = fraction_text d;
   whole = is ∙ joined (codes "PSBE") (fraction_text s) (fraction_text d);
-  lacks_word = refl; lacks_first = fraction-lacks s valid.rate; fields = (refl, refl, refl);
+  lacks_word = refl;
+  lacks_first = fraction-lacks s valid.rate;
+  fields = (refl, refl, refl);
 })
 
 parts_of_kind : (g : Guarantee) (text : List ℕ) → text ≢ codes "ALL" → text ≢ codes "NULL" → Kind text g →

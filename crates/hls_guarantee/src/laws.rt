@@ -85,5 +85,4 @@ pub fn spelling_is_injective(g: Guarantee, h: Guarantee)
     requires g { IsValid g }
     requires h { IsValid h }
     ensures { spelling g ≡ spelling h → g ≡ h }
-{
-}
+{}

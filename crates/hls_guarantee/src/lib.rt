@@ -10,6 +10,8 @@ use hls_frac::Frac;
 mod deciding;
 pub mod laws;
 mod reading;
+#[cfg(test)]
+mod tests;
 mod writing;
 
 pub use deciding::holds;

@@ -1,7 +1,25 @@
 //! Reading a guarantee from its text.
 
 ghost use Rattle.std.specs.Prelude.{
-    ◌≡◌, ◌≢◌, ℕ, ◌^◌, ◌<◌, ◌≤◌, ◌==◌, ◌↔◌, List, ◌∷◌, ◌++◌, codes, decimal, true, false, position, IsTrue, IfSome, IsSomeAnd
+  ◌≡◌,
+  ◌≢◌,
+  ℕ,
+  ◌^◌,
+  ◌<◌,
+  ◌≤◌,
+  ◌==◌,
+  ◌↔◌,
+  List,
+  ◌∷◌,
+  ◌++◌,
+  codes,
+  decimal,
+  true,
+  false,
+  position,
+  IsTrue,
+  IfSome,
+  IsSomeAnd,
 };
 ghost use Rattle.std.specs.List.{list_any};
 ghost use Rattle.hls_frac.specs.Frac.{IsWithin};
@@ -50,10 +68,8 @@ fn first_mark(text: &[u8], mark: u8) -> Option<usize>
 /// What stands before and after the first mark.
 fn split_at_first(text: &[u8], mark: u8) -> Option<(&[u8], &[u8])>
     ensures found { IfSome result (λ p. text.now ≡ p.0.now ++ (mark ∷ p.1.now)) }
-    ensures first {
-        (front rest : List ℕ) → text.now ≡ front ++ (mark ∷ rest) → list_any (λ b. b == mark) front ≡ false →
-        IsSomeAnd result (λ p. (p.0.now ≡ front) × (p.1.now ≡ rest))
-    }
+    ensures first { (front rest : List ℕ) → text.now ≡ front ++ (mark ∷ rest) → list_any (λ b. b == mark) front ≡ false →
+        IsSomeAnd result (λ p. (p.0.now ≡ front) × (p.1.now ≡ rest)) }
 {
     match first_mark(text, mark) {
         Some(at) => Some((&text[..at], &text[at + 1..])),
@@ -75,9 +91,7 @@ fn ticks(text: &[u8]) -> Option<u32>
 /// The fraction that a text spells, in lowest terms, a whole one without a denominator.
 fn fraction(text: &[u8]) -> Option<Frac>
     ensures found { IfSome result (λ f. text.now ≡ fraction_text f) }
-    ensures exact {
-        (f : Frac) → IsWithin f (10 ^ 13) (10 ^ 8) → text.now ≡ fraction_text f → result ≡ Some f
-    }
+    ensures exact { (f : Frac) → IsWithin f (10 ^ 13) (10 ^ 8) → text.now ≡ fraction_text f → result ≡ Some f }
 {
     match split_at_first(text, b'/') {
         Some((num, den)) => ratio(num, den),
@@ -87,13 +101,9 @@ fn fraction(text: &[u8]) -> Option<Frac>
 
 /// The fraction that two numbers spell, if they are in lowest terms and the denominator is to be written.
 fn ratio(num: &[u8], den: &[u8]) -> Option<Frac>
-    ensures found {
-        IfSome result (λ f. (num.now ≡ decimal f.num) × (den.now ≡ decimal f.den) × (f.den ≢ 1))
-    }
-    ensures exact {
-        (f : Frac) → IsWithin f (10 ^ 13) (10 ^ 8) → num.now ≡ decimal f.num → den.now ≡ decimal f.den →
-        f.den ≢ 1 → result ≡ Some f
-    }
+    ensures found { IfSome result (λ f. (num.now ≡ decimal f.num) × (den.now ≡ decimal f.den) × (f.den ≢ 1)) }
+    ensures exact { (f : Frac) → IsWithin f (10 ^ 13) (10 ^ 8) → num.now ≡ decimal f.num → den.now ≡ decimal f.den →
+        f.den ≢ 1 → result ≡ Some f }
 {
     match (number(num), number(den)) {
         (Some(num), Some(den)) => quotient(u128::from(num), u128::from(den)),
@@ -115,9 +125,7 @@ fn quotient(num: u128, den: u128) -> Option<Frac>
 /// The whole number that a text spells, as a fraction.
 fn whole(text: &[u8]) -> Option<Frac>
     ensures found { IfSome result (λ f. (text.now ≡ decimal f.num) × (f.den ≡ 1)) }
-    ensures exact {
-        (f : Frac) → IsWithin f (10 ^ 13) (10 ^ 8) → text.now ≡ decimal f.num → f.den ≡ 1 → result ≡ Some f
-    }
+    ensures exact { (f : Frac) → IsWithin f (10 ^ 13) (10 ^ 8) → text.now ≡ decimal f.num → f.den ≡ 1 → result ≡ Some f }
 {
     match number(text) {
         Some(num) => Frac::make(u128::from(num), 1),
@@ -128,9 +136,7 @@ fn whole(text: &[u8]) -> Option<Frac>
 /// The share that two fields spell.
 fn share(first: &[u8], second: &[u8]) -> Option<Guarantee>
     ensures found { IfSome result (λ g. HasFields g (codes "PSBE") first.now second.now) }
-    ensures exact {
-        (g : Guarantee) → IsValid g → HasFields g (codes "PSBE") first.now second.now → result ≡ Some g
-    }
+    ensures exact { (g : Guarantee) → IsValid g → HasFields g (codes "PSBE") first.now second.now → result ≡ Some g }
 {
     let s = fraction(first)?;
     let d = fraction(second)?;
@@ -140,9 +146,7 @@ fn share(first: &[u8], second: &[u8]) -> Option<Guarantee>
 /// The guarantee that a word and two fields spell.
 fn with_numbers(word: &[u8], first: &[u8], second: &[u8]) -> Option<Guarantee>
     ensures found { IfSome result (λ g. HasFields g word.now first.now second.now) }
-    ensures exact {
-        (g : Guarantee) → IsValid g → HasFields g word.now first.now second.now → result ≡ Some g
-    }
+    ensures exact { (g : Guarantee) → IsValid g → HasFields g word.now first.now second.now → result ≡ Some g }
 {
     if word == b"PSBE".as_slice() {
         return share(first, second);
@@ -174,10 +178,8 @@ fn reservation(word: &[u8], x: u32, y: u32) -> Option<Guarantee>
 /// The guarantee that a word and what stands after it spell.
 fn after_word(word: &[u8], fields: &[u8]) -> Option<Guarantee>
     ensures found { IfSome result (λ g. word.now ++ (32 ∷ fields.now) ≡ spelling g) }
-    ensures exact {
-        (g : Guarantee) (first second : List ℕ) → IsValid g → HasFields g word.now first second →
-        fields.now ≡ first ++ (32 ∷ second) → list_any (λ b. b == 32) first ≡ false → result ≡ Some g
-    }
+    ensures exact { (g : Guarantee) (first second : List ℕ) → IsValid g → HasFields g word.now first second →
+        fields.now ≡ first ++ (32 ∷ second) → list_any (λ b. b == 32) first ≡ false → result ≡ Some g }
 {
     match split_at_first(fields, b' ') {
         Some((first, second)) => with_numbers(word, first, second),
@@ -188,10 +190,8 @@ fn after_word(word: &[u8], fields: &[u8]) -> Option<Guarantee>
 /// The guarantee with numbers that a text spells.
 fn numbered(text: &[u8]) -> Option<Guarantee>
     ensures found { IfSome result (λ g. text.now ≡ spelling g) }
-    ensures exact {
-        (g : Guarantee) → IsValid g → text.now ≢ codes "ALL" → text.now ≢ codes "NULL" →
-        text.now ≡ spelling g → result ≡ Some g
-    }
+    ensures exact { (g : Guarantee) → IsValid g → text.now ≢ codes "ALL" → text.now ≢ codes "NULL" →
+        text.now ≡ spelling g → result ≡ Some g }
 {
     match split_at_first(text, b' ') {
         Some((word, fields)) => after_word(word, fields),

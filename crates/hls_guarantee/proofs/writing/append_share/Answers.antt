@@ -14,8 +14,8 @@ returns-clause-err c =
     let second = c.in_ok-append_fraction.ensures.ok in
     let third = c.in_ok-extend_from_slice-2.ensures.items in
     let middle : c.extend_from_slice-2.new.self.items ≡ out ++ (word ++ (s ++ codes " ")) =
-      third ∙ ap (λ l. l ++ codes " ") (second ∙ ap (λ l. l ++ s) first) ∙ joined in
+    third ∙ ap (λ l. l ++ codes " ") (second ∙ ap (λ l. l ++ s) first) ∙ joined in
     on_err_weaker c.append_fraction-2.result
     (λ begins. begins_still out (word ++ (s ++ codes " ")) c.extend_from_slice-2.new.self.items
-     c.append_fraction-2.new.out.items middle begins)
+    c.append_fraction-2.new.out.items middle begins)
     c.append_fraction-2.ensures.err
