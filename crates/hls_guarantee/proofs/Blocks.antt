@@ -74,7 +74,8 @@ marked_none hard x y f len broken wide blank = record {
 
 -- one more end
 marked_kept : (hard : Bool) (x y : ℕ) (f : ℕ → Bool) (len k got before : ℕ) (broken : List Bool) →
-    got ≡ service_before f y (k + 1) → Reserved hard x y f len (k + 1) → Marked hard x y f len k before broken →
+    got ≡ service_before f y (k + 1) → Reserved hard x y f len (k + 1) →
+    Marked hard x y f len k before broken →
     Marked hard x y f len (k + 1) got broken
 marked_kept hard x y f len k got before broken is r marked = record {
   count = is;
@@ -115,7 +116,9 @@ marked_lost hard x y f len k got before at broken phase small near is lost marke
             let here : m % y ≡ at = ap (λ (t : ℕ). t % y) e ∙ sym phase in
             absurd (let no : false ≡ true = sym free ∙ found_at broken at (m % y) within here in cc)
         | inr old ↦ elim (cases_eq (m % y) at) [
-          | inl here ↦ absurd (let no : false ≡ true = sym free ∙ found_at broken at (m % y) within here in cc)
+          | inl here ↦
+              let found = found_at broken at (m % y) within here in
+              absurd (let no : false ≡ true = sym free ∙ found in cc)
           | inr ne ↦ marked.kept m some old (sym (not_elsewhere broken at (m % y) ne) ∙ free)
         ]
       ];
@@ -170,7 +173,8 @@ unmarked_kept hard x y e k got f len broken fits small all marked free i (suc n)
     let ends : i + suc n ≤ m = piece.ends in
     let phase : m % y ≡ e = add-mul-mod_self_right e piece.cut y ∙ mod-eq_of_lt small in
     let at : get_or broken (m % y) false ≡ false = ap (λ (t : ℕ). get_or broken t false) phase ∙ free in
-    piece-part hard x y f len m i (suc n) (omega arith) starts ends hi (marked.kept m (omega arith) (omega arith) at)
+    let kept = marked.kept m (omega arith) (omega arith) at in
+    piece-part hard x y f len m i (suc n) (omega arith) starts ends hi kept
 
 -- and where every piece is reserved there is no mark
 pub kept_unmarked : (hard : Bool) (x y e k got : ℕ) (f : ℕ → Bool) (len : ℕ) (broken : List Bool) → e < y →

@@ -57,7 +57,8 @@ most_next rate whole f j d o i (suc n) end =
     let at : i + n ≡ j = omega arith in
     let v : one_if (f (i + n)) ≡ one_if (f j) = ap (λ (t : ℕ). one_if (f t)) at in
     let push = service-push f i n in
-    most_push rate whole d n (service f i n) (service f i (suc n)) (one_if (f j)) (o.most i n at) (omega arith)
+    most_push rate whole d n (service f i n) (service f i (suc n)) (one_if (f j)) (o.most i n at)
+    (omega arith)
 
 pub owed_next : (rate whole : ℕ) (f : ℕ → Bool) (j d : ℕ) → Owed rate whole f j d →
     Owed rate whole f (j + 1) (d + rate - whole * one_if (f j))
@@ -71,7 +72,8 @@ owed_next rate whole f j d o = elim (cases_lt (d + rate) (whole * one_if (f j)))
         let e = o.ends in
         let v : one_if (f (o.from + o.ticks)) ≡ one_if (f j) = ap (λ (t : ℕ). one_if (f t)) e in
         let push = service-push f o.from o.ticks in
-        met_push rate whole d o.ticks _ (service f o.from (suc o.ticks)) (one_if (f j)) owes o.met (omega arith);
+        met_push rate whole d o.ticks _ (service f o.from (suc o.ticks)) (one_if (f j)) owes o.met
+        (omega arith);
   }
   | inl paid ↦ record {
     most = most_next rate whole f j d o;

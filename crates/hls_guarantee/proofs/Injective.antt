@@ -1,7 +1,7 @@
 -- One text spells one guarantee.
-use Rattle.std.proofs.Common.{◌≡◌, ℕ, ◌+◌, ◌^◌, ◌<◌, ◌≤◌, Bool, true, false, List, [], ◌∷◌, ◌++◌, length, take, drop}
-use Rattle.std.proofs.Common.{refl, sym, ap, ◌∙◌, subst, arith, inl, inr, ◌⊎◌, Some, None, Option}
-use Rattle.std.specs.Prelude.{◌==◌, ◌||◌, codes, decimal, position, if◌then◌else◌}
+use Rattle.std.proofs.Common.{◌≡◌, ℕ, ◌^◌, ◌<◌, ◌≤◌, true, false, List, ◌∷◌, ◌++◌, length}
+use Rattle.std.proofs.Common.{refl, sym, ap, ◌∙◌, subst, arith, inl, inr, Some, None, Option}
+use Rattle.std.specs.Prelude.{◌==◌, codes, decimal, if◌then◌else◌}
 use Rattle.std.specs.List.{list_any}
 use Rattle.std.specs.Str.{bytes_eq}
 use Rattle.std.proofs.lemmas.Fmt.{decimal_injective}
@@ -30,6 +30,9 @@ cut_same m a b p q same lacks_a lacks_p =
 number-same : (m n : ℕ) → m ≤ 10 ^ 13 → n ≤ 10 ^ 13 → decimal m ≡ decimal n → m ≡ n
 number-same m n small_m small_n same = decimal_injective m n (omega arith) (omega arith) same
 
+ticks-same : (m n : ℕ) → m ≤ 20000 → n ≤ 20000 → decimal m ≡ decimal n → m ≡ n
+ticks-same m n small_m small_n same = decimal_injective m n (omega arith) (omega arith) same
+
 whole_not_ratio : (m : ℕ) (f : Frac) → m < 10 ^ 64 → decimal m ≡ decimal f.num ++ (47 ∷ decimal f.den) → ⊥
 whole_not_ratio m f fits same =
     let has = has_mark 47 (decimal f.num) (decimal f.den) in
@@ -44,11 +47,13 @@ fraction-same f g wf wg same = elim (cases_whole f) [
         let texts = sym (text_of_whole f one_f) ∙ same ∙ text_of_whole g one_g in
         same_numbers-same f g (number-same f.num g.num wf.num wg.num texts) (one_f ∙ sym one_g)
     | inr more_g ↦
-        absurd (whole_not_ratio f.num g (fits_num f wf) (sym (text_of_whole f one_f) ∙ same ∙ text_of_ratio g more_g))
+        let texts = sym (text_of_whole f one_f) ∙ same ∙ text_of_ratio g more_g in
+        absurd (whole_not_ratio f.num g (fits_num f wf) texts)
   ]
   | inr more_f ↦ elim (cases_whole g) [
     | inl one_g ↦
-        absurd (whole_not_ratio g.num f (fits_num g wg) (sym (text_of_whole g one_g) ∙ sym same ∙ text_of_ratio f more_f))
+        let texts = sym (text_of_whole g one_g) ∙ sym same ∙ text_of_ratio f more_f in
+        absurd (whole_not_ratio g.num f (fits_num g wg) texts)
     | inr more_g ↦
         let texts = sym (text_of_ratio f more_f) ∙ same ∙ text_of_ratio g more_g in
         let parts = cut_same 47 (decimal f.num) (decimal f.den) (decimal g.num) (decimal g.den) texts
@@ -100,13 +105,18 @@ shape_of : (g : Guarantee) (word first second : List ℕ) → IsValid g → HasF
 unfolding pick
 shape_of All word first second valid fields = absurd fields
 shape_of Null word first second valid fields = absurd fields
-shape_of (Resb true x y) word first second valid fields = picked _ word (codes "RESBH") first second x y valid refl fields
-shape_of (Resb false x y) word first second valid fields = picked _ word (codes "RESBS") first second x y valid refl fields
-shape_of (Resc true x y) word first second valid fields = picked _ word (codes "RESCH") first second x y valid refl fields
-shape_of (Resc false x y) word first second valid fields = picked _ word (codes "RESCS") first second x y valid refl fields
+shape_of (Resb true x y) word first second valid fields =
+    picked _ word (codes "RESBH") first second x y valid refl fields
+shape_of (Resb false x y) word first second valid fields =
+    picked _ word (codes "RESBS") first second x y valid refl fields
+shape_of (Resc true x y) word first second valid fields =
+    picked _ word (codes "RESCH") first second x y valid refl fields
+shape_of (Resc false x y) word first second valid fields =
+    picked _ word (codes "RESCS") first second x y valid refl fields
 shape_of (Psbe s d) word first second valid fields = shared fields.0 fields.1 fields.2 valid
 
-not_picked : (word first second : List ℕ) (g : Guarantee) → word ≡ codes "PSBE" → Picked g word first second → ⊥
+not_picked : (word first second : List ℕ) (g : Guarantee) → word ≡ codes "PSBE" →
+    Picked g word first second → ⊥
 unfolding pick
 not_picked word first second g is p =
     let none = subst (λ w. pick w p.x p.y ≡ Some g) is p.is in cc
@@ -114,11 +124,14 @@ not_picked word first second g is p =
 shape-same : (word first second : List ℕ) (g h : Guarantee) → Shape word first second g →
     Shape word first second h → g ≡ h
 shape-same word first second g h (reserved p) (reserved q) =
-    let x : p.x ≡ q.x = decimal_injective p.x q.x (omega (arith, p.size_x)) (omega (arith, q.size_x)) (sym p.first_is ∙ q.first_is) in
-    let y : p.y ≡ q.y = decimal_injective p.y q.y (omega (arith, p.size_y)) (omega (arith, q.size_y)) (sym p.second_is ∙ q.second_is) in
-    let same : Some g ≡ Some h = sym p.is ∙ ap (λ v. pick word v p.y) x ∙ ap (λ v. pick word q.x v) y ∙ q.is in cc
-shape-same word first second g _ (reserved p) (shared is a b ok) = absurd (not_picked word first second g is p)
-shape-same word first second _ h (shared is a b ok) (reserved q) = absurd (not_picked word first second h is q)
+    let x : p.x ≡ q.x = ticks-same p.x q.x p.size_x q.size_x (sym p.first_is ∙ q.first_is) in
+    let y : p.y ≡ q.y = ticks-same p.y q.y p.size_y q.size_y (sym p.second_is ∙ q.second_is) in
+    let moved = ap (λ v. pick word v p.y) x ∙ ap (λ v. pick word q.x v) y in
+    let same : Some g ≡ Some h = sym p.is ∙ moved ∙ q.is in cc
+shape-same word first second g _ (reserved p) (shared is a b ok) =
+    absurd (not_picked word first second g is p)
+shape-same word first second _ h (shared is a b ok) (reserved q) =
+    absurd (not_picked word first second h is q)
 shape-same word first second _ _ (shared {s = s} {d = d} is a b ok) (shared {s = t} {d = e} is' a' b' ok') =
     let rates : s ≡ t = fraction-same s t ok.rate ok'.rate (sym a ∙ a') in
     let errors : d ≡ e = fraction-same d e ok.error ok'.error (sym b ∙ b') in

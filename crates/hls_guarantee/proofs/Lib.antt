@@ -8,3 +8,4 @@ pub mod Blocks
 pub mod Texts
 pub mod Spellings
 pub mod Injective
+pub mod Pieces

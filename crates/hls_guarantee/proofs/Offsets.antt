@@ -15,7 +15,7 @@ pub cut_at : (y c : ℕ) → 0 < y → Cut y c
 cut_at y c pos = record { offset = c % y; pieces = c / y; small = omega arith; is = omega arith }
 
 -- fewer pieces end at least y earlier
-fewer : (y m n : ℕ) → m < n → m * y + y ≤ n * y
+pub fewer : (y m n : ℕ) → m < n → m * y + y ≤ n * y
 fewer y m n lt =
     let up : y * (m + 1) ≤ y * n = mul-le-mul_left y (let s : m + 1 ≤ n = omega arith in s) in
     omega (arith, up)

@@ -61,7 +61,8 @@ pub service-agree : (f g : ℕ → Bool) (i n : ℕ) → ((t : ℕ) → i ≤ t 
 unfolding service
 service-agree f g i zero same = refl
 service-agree f g i (suc n) same =
-    let here : one_if (f (i + n)) ≡ one_if (g (i + n)) = ap one_if (same (i + n) (omega arith) (omega arith)) in
+    let at : f (i + n) ≡ g (i + n) = same (i + n) (omega arith) (omega arith) in
+    let here : one_if (f (i + n)) ≡ one_if (g (i + n)) = ap one_if at in
     let rest = service-agree f g i n (λ t lo hi. same t lo (omega arith)) in
     omega arith
 

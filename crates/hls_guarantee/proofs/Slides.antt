@@ -36,8 +36,10 @@ slide_full f y k le =
     let split : service f a (1 + y) ≡ service f a 1 + service f (a + 1) y = service-add f a 1 y in
     let one : service f a 1 ≡ service f a 0 + one_if (f (a + 0)) = service-push f a 0 in
     let none : service f a 0 ≡ 0 = service-none f a in
-    let left : one_if (f (a + 0)) ≡ one_if (f a) = ap (λ (t : ℕ). one_if (f t)) (let e : a + 0 ≡ a = omega arith in e) in
-    let count : service f a (suc y) ≡ service f a (1 + y) = ap (λ (t : ℕ). service f a t) (let e : suc y ≡ 1 + y = omega arith in e) in
+    let here : a + 0 ≡ a = omega arith in
+    let left : one_if (f (a + 0)) ≡ one_if (f a) = ap (λ (t : ℕ). one_if (f t)) here in
+    let ticks : suc y ≡ 1 + y = omega arith in
+    let count : service f a (suc y) ≡ service f a (1 + y) = ap (λ (t : ℕ). service f a t) ticks in
     rw (start, n, n_next) (omega arith)
 
 -- a part of reserved ticks is reserved
@@ -79,7 +81,8 @@ slid_none hard x y f le =
     }
 
 pub slid_next : (hard : Bool) (x y : ℕ) (f : ℕ → Bool) (k n got before : ℕ) → n ≡ min y (k + 1) →
-    got ≡ service_before f y (k + 1) → IsReserved hard x y n got → Slid hard x y f k before → Slid hard x y f (k + 1) got
+    got ≡ service_before f y (k + 1) → IsReserved hard x y n got → Slid hard x y f k before →
+    Slid hard x y f (k + 1) got
 slid_next hard x y f k n got before len is r slid = record {
   count = is;
   kept = λ m le. elim (cases_lt k m) [

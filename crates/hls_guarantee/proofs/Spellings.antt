@@ -1,5 +1,5 @@
 -- The texts of numbers, fractions and guarantees, cut at their marks.
-use Rattle.std.proofs.Common.{◌≡◌, ◌≢◌, ℕ, ◌+◌, ◌*◌, ◌^◌, ◌%◌, ◌<◌, ◌≤◌, Bool, true, false, List, [], ◌∷◌, ◌++◌}
+use Rattle.std.proofs.Common.{◌≡◌, ◌≢◌, ℕ, ◌+◌, ◌*◌, ◌^◌, ◌%◌, ◌<◌, Bool, true, false, List, [], ◌∷◌, ◌++◌}
 use Rattle.std.proofs.Common.{refl, sym, ap, ◌∙◌, arith, append_assoc, eqb, inl, inr, ◌⊎◌}
 use Rattle.std.specs.Prelude.{◌==◌, ◌||◌, codes, decimal, Option, Some, None, IfSome, IsSome}
 use Rattle.std.specs.List.{list_any}
@@ -35,7 +35,8 @@ decimal-lacks m n lt fits =
 -- a text with a mark
 pub has_mark : (m : ℕ) (front rest : List ℕ) → list_any (λ b. b == m) (front ++ (m ∷ rest)) ≡ true
 has_mark m [] rest = rw (eq-eqb m m refl) refl
-has_mark m (x ∷ front) rest = either_true (x == m) (list_any (λ b. b == m) (front ++ (m ∷ rest))) (has_mark m front rest)
+has_mark m (x ∷ front) rest =
+    either_true (x == m) (list_any (λ b. b == m) (front ++ (m ∷ rest))) (has_mark m front rest)
   where
     either_true : (a b : Bool) → b ≡ true → (a || b) ≡ true
     either_true true b h = refl
@@ -55,7 +56,8 @@ whole_num f num value = omega (arith, value, ap (λ v. num * v) (whole_den f num
 pub whole_found : (r : Option Frac) (text : List ℕ) (num : ℕ) → text ≡ decimal num →
     IfSome r (λ f. IsQuotient f num 1) → IfSome r (λ f. (text ≡ decimal f.num) × (f.den ≡ 1))
 whole_found None text num is value = tt
-whole_found (Some f) text num is value = (is ∙ ap decimal (sym (whole_num f num value)), whole_den f num value)
+whole_found (Some f) text num is value =
+    (is ∙ ap decimal (sym (whole_num f num value)), whole_den f num value)
 
 pub whole_exact : (r : Option Frac) (num : ℕ) (f : Frac) → IsSome r → IfSome r (λ f. IsQuotient f num 1) →
     f.num ≡ num → f.den ≡ 1 → r ≡ Some f
@@ -77,9 +79,12 @@ fits_num f w = omega (arith, w.num)
 pub fits_den : (f : Frac) → IsWithin f (10 ^ 13) (10 ^ 8) → f.den < 10 ^ 64
 fits_den f w = omega (arith, w.den)
 
-fraction-lacks : (f : Frac) → IsWithin f (10 ^ 13) (10 ^ 8) → list_any (λ b. b == 32) (fraction_text f) ≡ false
+fraction-lacks : (f : Frac) → IsWithin f (10 ^ 13) (10 ^ 8) →
+    list_any (λ b. b == 32) (fraction_text f) ≡ false
 fraction-lacks f w = elim (cases_one f.den) [
-  | inl one ↦ ap (list_any (λ b. b == 32)) (text_of_whole f one) ∙ decimal-lacks 32 f.num (omega arith) (fits_num f w)
+  | inl one ↦
+      ap (list_any (λ b. b == 32)) (text_of_whole f one) ∙
+      decimal-lacks 32 f.num (omega arith) (fits_num f w)
   | inr more ↦
       let num = decimal-lacks 32 f.num (omega arith) (fits_num f w) in
       let den = decimal-lacks 32 f.den (omega arith) (fits_den f w) in
@@ -97,7 +102,8 @@ pub record Parts (g : Guarantee) (text : List ℕ) : Type 0 where
   pub lacks_first : list_any (λ b. b == 32) first ≡ false
   pub fields : HasFields g word first second
 
-joined : (word first second : List ℕ) → with_fields word first second ≡ word ++ (32 ∷ (first ++ (32 ∷ second)))
+joined : (word first second : List ℕ) →
+    with_fields word first second ≡ word ++ (32 ∷ (first ++ (32 ∷ second)))
 joined word first second = simp append_assoc
 
 ticks-lacks : (x y : ℕ) → IsReservation x y → list_any (λ b. b == 32) (decimal x) ≡ false

@@ -1,11 +1,13 @@
 -- Texts that are cut at a mark, and texts that begin with one.
-use Rattle.std.proofs.Common.{◌≡◌, ℕ, suc, zero, ◌+◌, ◌-◌, ◌<◌, ◌≤◌, Bool, true, false, List, [], ◌∷◌, ◌++◌, length}
-use Rattle.std.proofs.Common.{refl, sym, ap, ◌∙◌, subst, arith, get_or, take, drop, Some, None, Option, eqb, cond}
-use Rattle.std.proofs.Common.{length-append, eq-eqb, inl, inr}
+use Rattle.std.proofs.Common.{◌≡◌, ℕ, suc, zero, ◌+◌, ◌-◌, ◌<◌, ◌≤◌, Bool, true, false, List, [], ◌∷◌, ◌++◌}
+use Rattle.std.proofs.Common.{length}
+use Rattle.std.proofs.Common.{refl, sym, ap, ◌∙◌, subst, arith, get_or, take, drop, Some, None, cond}
+use Rattle.std.proofs.Common.{length-append, eq-eqb}
 use Rattle.std.specs.Prelude.{◌==◌, ◌||◌, nat_lt, position}
 use Rattle.std.specs.List.{list_any, position_or_len}
 use Rattle.std.proofs.lemmas.Bool.{lt-ltb, eqb-true}
-use Rattle.std.proofs.lemmas.List.{get_or_append_left, get_or-append-add, take_all, take-append-drop, length-drop}
+use Rattle.std.proofs.lemmas.List.{get_or_append_left, get_or-append-add, take_all, take-append-drop}
+use Rattle.std.proofs.lemmas.List.{length-drop}
 use Rattle.std.proofs.lemmas.List.Sums.{position_or_len_is}
 use Rattle.std.proofs.lemmas.List.Quantifiers.{position-Some}
 use Rattle.std.proofs.Math.Seq.{take-append_seam, drop-append-add, drop-cons}
@@ -57,7 +59,8 @@ parts_first m at text front rest found is lacks =
     let same : Some at ≡ Some (length front) = found ∙ position_first m text front rest is lacks in
     let here : at ≡ length front = cc in
     let dropped : drop (length front + 1) (front ++ (m ∷ rest)) ≡ rest = drop-append-add front (m ∷ rest) 1 in
-    let left : length (front ++ (m ∷ rest)) - (length front + 1) ≡ length rest = omega (arith, whole_len m front rest) in (
+    let left : length (front ++ (m ∷ rest)) - (length front + 1) ≡ length rest =
+    omega (arith, whole_len m front rest) in (
       rw (here, is) (take-append_seam front (m ∷ rest)),
       rw (here, is, dropped, left) (take_all (length rest) rest (omega arith)),
     )
@@ -73,9 +76,11 @@ pub parts_whole : (m at : ℕ) (text : List ℕ) → Some at ≡ position (λ b.
 parts_whole m at text found =
     let p = position-Some (λ b. b == m) text at 0 (sym found) in
     let mark : get_or text at 0 ≡ m = eqb-true (get_or text at 0) m p.1 in
-    let rest = take_all (length text - (at + 1)) (drop (at + 1) text) (omega (arith, length-drop (at + 1) text)) in
+    let fits = length-drop (at + 1) text in
+    let rest = take_all (length text - (at + 1)) (drop (at + 1) text) (omega arith) in
     let next : at + 1 ≡ suc at = omega arith in
-    rw (rest, next) (sym (take-append-drop at text) ∙ ap (λ l. take at text ++ l) (drop-cons text at 0 p.0 ∙ ap (λ b. b ∷ drop (suc at) text) mark))
+    let back = drop-cons text at 0 p.0 ∙ ap (λ b. b ∷ drop (suc at) text) mark in
+    rw (rest, next) (sym (take-append-drop at text) ∙ ap (λ l. take at text ++ l) back)
 
 take_front : (m n : ℕ) (xs : List ℕ) → m ≤ n → take m (take n xs) ≡ take m xs
 take_front zero n xs le = refl
@@ -88,4 +93,5 @@ pub begins_still : (out more middle new : List ℕ) → middle ≡ out ++ more �
     take (length out) new ≡ out
 begins_still out more middle new is begins =
     let fits : length out ≤ length middle = omega (arith, ap length is, length-append out more) in
-    sym (take_front (length out) (length middle) new fits) ∙ ap (take (length out)) (begins ∙ is) ∙ take-append_seam out more
+    sym (take_front (length out) (length middle) new fits) ∙ ap (take (length out)) (begins ∙ is) ∙
+    take-append_seam out more

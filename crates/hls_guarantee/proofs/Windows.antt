@@ -80,7 +80,8 @@ from_zero g f lo n =
 pub window-satisfies : (g : Guarantee) (list : List Bool) (f : ℕ → Bool) (lo : ℕ) → IsWindow list f lo →
     Satisfies g f lo (lo + length list) → ListSatisfies g list
 window-satisfies g list f lo w s =
-    let moved : Satisfies g f (0 + lo) (length list + lo) = subst (λ T. T) (from_zero g f lo (length list)) s in
+    let moved : Satisfies g f (0 + lo) (length list + lo) =
+    subst (λ T. T) (from_zero g f lo (length list)) s in
     satisfies-agree g (λ t. f (t + lo)) (schedule_of list) 0 (length list) (λ t a b. sym (w.same t b))
     (satisfies-earlier g f lo 0 (length list) moved)
 
@@ -96,9 +97,11 @@ part-window : (before part after : List Bool) →
     IsWindow part (schedule_of (before ++ (part ++ after))) (length before)
 part-window before part after = record {
   same = λ t lt.
-      let there : get_or (before ++ (part ++ after)) (length before + t) false ≡ get_or (part ++ after) t false =
+      let there : get_or (before ++ (part ++ after)) (length before + t) false ≡
+      get_or (part ++ after) t false =
       get_or-append-add before (part ++ after) t false in
-      let here : get_or (part ++ after) t false ≡ get_or part t false = get_or_append_left part after false t lt in
+      let here : get_or (part ++ after) t false ≡ get_or part t false =
+      get_or_append_left part after false t lt in
       let e : length before + t ≡ t + length before = omega arith in
       sym here ∙ sym there ∙ ap (λ n. get_or (before ++ (part ++ after)) n false) e;
 }

@@ -1,5 +1,6 @@
 -- The service that a schedule gives. A schedule is a test on ticks, true at those that are served.
-use Rattle.std.specs.Prelude.{◌≡◌, ℕ, zero, suc, ◌+◌, ◌-◌, ◌≤◌, min, Bool, true, false, List, length, slice_index_or}
+use Rattle.std.specs.Prelude.{◌≡◌, ℕ, zero, suc, ◌+◌, ◌-◌, ◌≤◌, min, Bool, true, false, List, length}
+use Rattle.std.specs.Prelude.{slice_index_or}
 
 abbrev pub one_if : Bool → ℕ
 one_if true = 1
@@ -21,6 +22,10 @@ EveryPart P served lo hi = (i n : ℕ) → lo ≤ i → i + n ≤ hi → P i n (
 -- a list of served and unserved ticks as a schedule of the ticks from 0 on
 abbrev pub schedule_of : List Bool → ℕ → Bool
 schedule_of list t = slice_index_or list t false
+
+-- P holds of every part of the list
+abbrev pub EveryPartOf : (P : (i n got : ℕ) → Type 0) → List Bool → Type 0
+EveryPartOf P list = EveryPart P (schedule_of list) 0 (length list)
 
 -- the same ticks, and each that the first list serves the second serves too
 pub record ServesMore (less more : List Bool) : Type 0 where

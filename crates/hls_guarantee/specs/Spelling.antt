@@ -24,9 +24,13 @@ spelling (Psbe s d) = with_fields (codes "PSBE") (fraction_text s) (fraction_tex
 abbrev pub HasFields : Guarantee → (word first second : List ℕ) → Type 0
 HasFields All word first second = ⊥
 HasFields Null word first second = ⊥
-HasFields (Resb true x y) word first second = (word ≡ codes "RESBH") × (first ≡ decimal x) × (second ≡ decimal y)
-HasFields (Resb false x y) word first second = (word ≡ codes "RESBS") × (first ≡ decimal x) × (second ≡ decimal y)
-HasFields (Resc true x y) word first second = (word ≡ codes "RESCH") × (first ≡ decimal x) × (second ≡ decimal y)
-HasFields (Resc false x y) word first second = (word ≡ codes "RESCS") × (first ≡ decimal x) × (second ≡ decimal y)
+HasFields (Resb true x y) word first second =
+    (word ≡ codes "RESBH") × (first ≡ decimal x) × (second ≡ decimal y)
+HasFields (Resb false x y) word first second =
+    (word ≡ codes "RESBS") × (first ≡ decimal x) × (second ≡ decimal y)
+HasFields (Resc true x y) word first second =
+    (word ≡ codes "RESCH") × (first ≡ decimal x) × (second ≡ decimal y)
+HasFields (Resc false x y) word first second =
+    (word ≡ codes "RESCS") × (first ≡ decimal x) × (second ≡ decimal y)
 HasFields (Psbe s d) word first second =
     (word ≡ codes "PSBE") × (first ≡ fraction_text s) × (second ≡ fraction_text d)

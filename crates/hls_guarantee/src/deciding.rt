@@ -19,7 +19,7 @@ ghost use Rattle.std.specs.Prelude.{
   slice_set,
   if◌then◌else◌,
 };
-ghost use Rattle.hls_guarantee.specs.Service.{one_if, schedule_of, service, service_before, EveryPart};
+ghost use Rattle.hls_guarantee.specs.Service.{one_if, schedule_of, service, service_before, EveryPartOf};
 ghost use Rattle.hls_guarantee.specs.Satisfaction.{IsReserved, InPiece, HasShare, ListSatisfies};
 ghost use Rattle.hls_guarantee.specs.Limits.{IsReservation, IsShare, IsValid};
 
@@ -53,18 +53,18 @@ fn serves_all(list: &[bool]) -> bool
 /// Whether every part has its share.
 fn share_holds(s: &Frac, d: &Frac, list: &[bool]) -> bool
     requires { IsShare (10 ^ 13) (10 ^ 8) s.now d.now }
-    ensures { IsTrue result ↔ EveryPart (λ i n got. HasShare s.now d.now n got) (schedule_of list.now) 0 (length list.now) }
+    ensures { IsTrue result ↔ EveryPartOf (λ i n got. HasShare s.now d.now n got) list.now }
 {
     debt_stays(s.num * d.den, d.den * s.den, d.num * s.den, list)
 }
 
-/// Whether no part of `n` ticks is owed more than `most`: each tick owes `rate`, and a served one pays `whole`.
+/// Whether no part is owed more than `most`: each tick owes `rate`, and a served one pays `whole`.
 fn debt_stays(rate: u128, whole: u128, most: u128, list: &[bool]) -> bool
     requires rate { rate ≤ 10 ^ 21 }
     requires whole { whole ≤ 10 ^ 21 }
     requires most { most ≤ 10 ^ 21 }
     ensures { IsTrue result ↔
-        EveryPart (λ i n got. rate * n ≤ whole * got + most) (schedule_of list.now) 0 (length list.now) }
+        EveryPartOf (λ i n got. rate * n ≤ whole * got + most) list.now }
 {
     let mut debt = 0;
     for served in list {
@@ -123,7 +123,7 @@ fn next_service(list: &[bool], width: usize, at: usize, before: u32) -> u32
 fn windows_hold(hard: bool, x: u32, y: u32, list: &[bool]) -> bool
     requires { IsReservation x y }
     ensures { IsTrue result ↔
-        EveryPart (λ i n got. n ≤ y → IsReserved hard x y n got) (schedule_of list.now) 0 (length list.now) }
+        EveryPartOf (λ i n got. n ≤ y → IsReserved hard x y n got) list.now }
 {
     let width = y as usize;
     let mut got = 0;
@@ -143,7 +143,7 @@ fn blocks_hold(hard: bool, x: u32, y: u32, list: &[bool]) -> bool
     requires few { length list.now ≤ 1000000 }
     ensures { IsTrue result ↔
         ((e : ℕ) × (e < y) ×
-        EveryPart (λ i n got. InPiece e y i n → IsReserved hard x y n got) (schedule_of list.now) 0 (length list.now)) }
+        EveryPartOf (λ i n got. InPiece e y i n → IsReserved hard x y n got) list.now) }
 {
     let mut broken = none_broken();
     mark_broken(hard, x, y, list, &mut broken);
@@ -165,7 +165,7 @@ fn mark_broken(hard: bool, x: u32, y: u32, list: &[bool], broken: &mut [bool])
     requires blank { (r : ℕ) → slice_index_or broken.old r false ≡ false }
     ensures { (e : ℕ) → e < y →
         (slice_index_or broken.new e false ≡ false) ↔
-        EveryPart (λ i n got. InPiece e y i n → IsReserved hard x y n got) (schedule_of list.now) 0 (length list.now) }
+        EveryPartOf (λ i n got. InPiece e y i n → IsReserved hard x y n got) list.now }
 {
     let width = y as usize;
     let mut got = 0;

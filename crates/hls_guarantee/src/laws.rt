@@ -14,10 +14,10 @@ ghost use Rattle.std.specs.Prelude.{
   length,
   true,
 };
-ghost use Rattle.hls_guarantee.specs.Service.{schedule_of, ServesMore};
-ghost use Rattle.hls_guarantee.specs.Satisfaction.{Satisfies, ListSatisfies, IsSoft};
+ghost use Rattle.hls_guarantee.specs.Service.{service, schedule_of, ServesMore};
+ghost use Rattle.hls_guarantee.specs.Satisfaction.{Satisfies, ListSatisfies, IsReserved, IsPiece, IsSoft};
 ghost use Rattle.hls_guarantee.specs.Cap.{KeepsCap};
-ghost use Rattle.hls_guarantee.specs.Limits.{IsValid, IsNarrow};
+ghost use Rattle.hls_guarantee.specs.Limits.{IsReservation, IsValid, IsNarrow};
 ghost use Rattle.hls_guarantee.specs.Spelling.{spelling};
 
 use crate::Guarantee;
@@ -25,9 +25,12 @@ use hls_frac::Frac;
 
 /// What is promised and capped of some ticks is promised and capped of each part of them.
 pub fn parts_satisfy(g: Guarantee)
-    ensures ticks { (served : ℕ → Bool) (lo hi i j : ℕ) → lo ≤ i → j ≤ hi → Satisfies g served lo hi → Satisfies g served i j }
-    ensures cap { (served : ℕ → Bool) (lo hi i j : ℕ) → lo ≤ i → j ≤ hi → KeepsCap g served lo hi → KeepsCap g served i j }
-    ensures list { (before part after : List Bool) → ListSatisfies g (before ++ (part ++ after)) → ListSatisfies g part }
+    ensures ticks { (served : ℕ → Bool) (lo hi i j : ℕ) → lo ≤ i → j ≤ hi →
+        Satisfies g served lo hi → Satisfies g served i j }
+    ensures cap { (served : ℕ → Bool) (lo hi i j : ℕ) → lo ≤ i → j ≤ hi →
+        KeepsCap g served lo hi → KeepsCap g served i j }
+    ensures list { (before part after : List Bool) → ListSatisfies g (before ++ (part ++ after)) →
+        ListSatisfies g part }
 {}
 
 /// A soft guarantee is satisfied also where more ticks are served.
@@ -35,7 +38,8 @@ pub fn more_service_satisfies(g: Guarantee)
     requires { IsSoft g }
     ensures ticks { (less more : ℕ → Bool) (lo hi : ℕ) → ((t : ℕ) → less t ≡ true → more t ≡ true) →
         Satisfies g less lo hi → Satisfies g more lo hi }
-    ensures list { (less more : List Bool) → ServesMore less more → ListSatisfies g less → ListSatisfies g more }
+    ensures list { (less more : List Bool) → ServesMore less more → ListSatisfies g less →
+        ListSatisfies g more }
 {}
 
 /// `ALL` is satisfied exactly where every tick is served.
@@ -54,6 +58,15 @@ pub fn windows_are_lists(g: Guarantee)
     ensures { (list : List Bool) (served : ℕ → Bool) (lo : ℕ) →
         ((t : ℕ) → t < length list → schedule_of list t ≡ served (t + lo)) →
         ListSatisfies g list ↔ Satisfies g served lo (lo + length list) }
+{}
+
+/// A guarantee by blocks is satisfied exactly where at some offset each whole piece of the list is reserved.
+pub fn blocks_are_pieces(hard: bool, x: u32, y: u32)
+    requires { IsReservation x y }
+    ensures { (list : List Bool) → ListSatisfies (Guarantee.Resb hard x y) list ↔
+        ((e : ℕ) × (e < y) ×
+        ((k i n : ℕ) → IsPiece e y (length list) k i n →
+        IsReserved hard x y n (service (schedule_of list) i n))) }
 {}
 
 /// A reservation of either kind has `1 <= x <= y <= 20000`.

@@ -68,7 +68,8 @@ fn first_mark(text: &[u8], mark: u8) -> Option<usize>
 /// What stands before and after the first mark.
 fn split_at_first(text: &[u8], mark: u8) -> Option<(&[u8], &[u8])>
     ensures found { IfSome result (λ p. text.now ≡ p.0.now ++ (mark ∷ p.1.now)) }
-    ensures first { (front rest : List ℕ) → text.now ≡ front ++ (mark ∷ rest) → list_any (λ b. b == mark) front ≡ false →
+    ensures first { (front rest : List ℕ) → text.now ≡ front ++ (mark ∷ rest) →
+        list_any (λ b. b == mark) front ≡ false →
         IsSomeAnd result (λ p. (p.0.now ≡ front) × (p.1.now ≡ rest)) }
 {
     match first_mark(text, mark) {
@@ -91,7 +92,8 @@ fn ticks(text: &[u8]) -> Option<u32>
 /// The fraction that a text spells, in lowest terms, a whole one without a denominator.
 fn fraction(text: &[u8]) -> Option<Frac>
     ensures found { IfSome result (λ f. text.now ≡ fraction_text f) }
-    ensures exact { (f : Frac) → IsWithin f (10 ^ 13) (10 ^ 8) → text.now ≡ fraction_text f → result ≡ Some f }
+    ensures exact { (f : Frac) → IsWithin f (10 ^ 13) (10 ^ 8) → text.now ≡ fraction_text f →
+        result ≡ Some f }
 {
     match split_at_first(text, b'/') {
         Some((num, den)) => ratio(num, den),
@@ -102,7 +104,8 @@ fn fraction(text: &[u8]) -> Option<Frac>
 /// The fraction that two numbers spell, if they are in lowest terms and the denominator is to be written.
 fn ratio(num: &[u8], den: &[u8]) -> Option<Frac>
     ensures found { IfSome result (λ f. (num.now ≡ decimal f.num) × (den.now ≡ decimal f.den) × (f.den ≢ 1)) }
-    ensures exact { (f : Frac) → IsWithin f (10 ^ 13) (10 ^ 8) → num.now ≡ decimal f.num → den.now ≡ decimal f.den →
+    ensures exact { (f : Frac) → IsWithin f (10 ^ 13) (10 ^ 8) → num.now ≡ decimal f.num →
+        den.now ≡ decimal f.den →
         f.den ≢ 1 → result ≡ Some f }
 {
     match (number(num), number(den)) {
@@ -125,7 +128,8 @@ fn quotient(num: u128, den: u128) -> Option<Frac>
 /// The whole number that a text spells, as a fraction.
 fn whole(text: &[u8]) -> Option<Frac>
     ensures found { IfSome result (λ f. (text.now ≡ decimal f.num) × (f.den ≡ 1)) }
-    ensures exact { (f : Frac) → IsWithin f (10 ^ 13) (10 ^ 8) → text.now ≡ decimal f.num → f.den ≡ 1 → result ≡ Some f }
+    ensures exact { (f : Frac) → IsWithin f (10 ^ 13) (10 ^ 8) → text.now ≡ decimal f.num → f.den ≡ 1 →
+        result ≡ Some f }
 {
     match number(text) {
         Some(num) => Frac::make(u128::from(num), 1),
@@ -136,7 +140,8 @@ fn whole(text: &[u8]) -> Option<Frac>
 /// The share that two fields spell.
 fn share(first: &[u8], second: &[u8]) -> Option<Guarantee>
     ensures found { IfSome result (λ g. HasFields g (codes "PSBE") first.now second.now) }
-    ensures exact { (g : Guarantee) → IsValid g → HasFields g (codes "PSBE") first.now second.now → result ≡ Some g }
+    ensures exact { (g : Guarantee) → IsValid g → HasFields g (codes "PSBE") first.now second.now →
+        result ≡ Some g }
 {
     let s = fraction(first)?;
     let d = fraction(second)?;
@@ -146,7 +151,8 @@ fn share(first: &[u8], second: &[u8]) -> Option<Guarantee>
 /// The guarantee that a word and two fields spell.
 fn with_numbers(word: &[u8], first: &[u8], second: &[u8]) -> Option<Guarantee>
     ensures found { IfSome result (λ g. HasFields g word.now first.now second.now) }
-    ensures exact { (g : Guarantee) → IsValid g → HasFields g word.now first.now second.now → result ≡ Some g }
+    ensures exact { (g : Guarantee) → IsValid g → HasFields g word.now first.now second.now →
+        result ≡ Some g }
 {
     if word == b"PSBE".as_slice() {
         return share(first, second);

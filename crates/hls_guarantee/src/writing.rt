@@ -54,7 +54,8 @@ fn append_reservation(word: &[u8], x: u32, y: u32, out: &mut Vec<u8>) -> Result<
 
 fn append_share(s: &Frac, d: &Frac, out: &mut Vec<u8>) -> Result<(), AllocError>
     ensures ok { OnOk result
-        (out.new.items ≡ out.old.items ++ with_fields (codes "PSBE") (fraction_text s.now) (fraction_text d.now)) }
+        (out.new.items ≡ out.old.items ++
+        with_fields (codes "PSBE") (fraction_text s.now) (fraction_text d.now)) }
     ensures err { OnErr result (take (length out.old.items) out.new.items ≡ out.old.items) }
 {
     out.extend_from_slice(b"PSBE ")?;

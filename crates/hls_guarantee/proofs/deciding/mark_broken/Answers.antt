@@ -32,13 +32,15 @@ loop-at-preserved c =
     (c.is_reserved-kept.ensures.0 kept))
     (λ r. c.is_reserved-kept.ensures.1
     (is-reserved c.args.hard c.args.x c.args.y (schedule_of c.args.list.now) len (c.loop-at.at + 1)
-    c.piece_len-n.result c.next_service-got.result past near c.piece_len-n.ensures c.next_service-got.ensures r))
+    c.piece_len-n.result c.next_service-got.result past near c.piece_len-n.ensures
+    c.next_service-got.ensures r))
     c.mark.ensures c.loop-at.invariant
 
 pub returns : goal.returns
 returns c = λ e small. (
   unmarked_kept c.args.hard c.args.x c.args.y e c.loop-at.at c.loop-at.got (schedule_of c.args.list.now)
-      (length c.args.list.now) c.loop-at.broken c.requires.range.fits small (omega (arith, c.loop-at-test.false))
+      (length c.args.list.now) c.loop-at.broken c.requires.range.fits small
+      (omega (arith, c.loop-at-test.false))
       c.loop-at.invariant,
   kept_unmarked c.args.hard c.args.x c.args.y e c.loop-at.at c.loop-at.got (schedule_of c.args.list.now)
       (length c.args.list.now) c.loop-at.broken small c.loop-at.invariant,

@@ -9,4 +9,5 @@ returns-in-Some-Some-clause-exact c = λ f within num den more.
     let second = c.in-Some-Some.ensures'.exact f.den den_fits den in
     let num_is : c.in-Some-Some.num ≡ f.num = cc in
     let den_is : c.in-Some-Some.den ≡ f.den = cc in
-    c.quotient.ensures.exact f (sym (c.from.ensures ∙ num_is)) (sym (c.from-in-Some-Some.ensures ∙ den_is)) more
+    c.quotient.ensures.exact f (sym (c.from.ensures ∙ num_is)) (sym (c.from-in-Some-Some.ensures ∙ den_is))
+    more

@@ -1,4 +1,4 @@
-use Rattle.std.proofs.Common.{◌≡◌, ℕ, List, ◌++◌, codes, sym, ◌∙◌, ap, append_assoc}
+use Rattle.std.proofs.Common.{◌≡◌, ℕ, List, ◌++◌, codes, ◌∙◌, ap, append_assoc}
 use Rattle.std.proofs.lemmas.Result.{on_err_weaker}
 use Rattle.hls_guarantee.specs.Spelling.{fraction_text}
 use Rattle.hls_guarantee.proofs.Texts.{begins_still}
