@@ -45,7 +45,7 @@ pub fn holds(g: &Guarantee, list: &[bool]) -> bool
 }
 
 fn serves_all(list: &[bool]) -> bool
-    ensures { IsTrue result ↔ ((t : ℕ) → 0 ≤ t → t < length list.now → schedule_of list.now t ≡ true) }
+    ensures { IsTrue result ↔ ListSatisfies Guarantee.All list.now }
 {
     list.iter().all(|served| *served)
 }

@@ -120,9 +120,16 @@ fn quotient(num: u128, den: u128) -> Option<Frac>
     ensures exact { (f : Frac) → f.num ≡ num → f.den ≡ den → f.den ≢ 1 → result ≡ Some f }
 {
     match Frac::make(num, den) {
-        Some(f) if f.num == num && f.den == den && f.den != 1 => Some(f),
+        Some(f) if is_written(f, num, den) => Some(f),
         _ => None,
     }
+}
+
+/// Whether these are the numbers of the fraction, and the denominator is to be written.
+fn is_written(f: Frac, num: u128, den: u128) -> bool
+    ensures { IsTrue result ↔ ((f.num ≡ num) × (f.den ≡ den) × (f.den ≢ 1)) }
+{
+    f.num == num && f.den == den && f.den != 1
 }
 
 /// The whole number that a text spells, as a fraction.
