@@ -10,12 +10,14 @@ use hls_frac::Frac;
 mod deciding;
 pub mod laws;
 mod reading;
+mod rule;
 #[cfg(test)]
 mod tests;
 mod writing;
 
 pub use deciding::holds;
 pub use reading::read_guarantee;
+pub use rule::RuleName;
 pub use writing::write_guarantee;
 
 /// What a seat is promised of each window in which it is ready. Ticks are counted in whole ticks.
