@@ -1,5 +1,38 @@
 -- One tick more leaves the root scheduler, the threads and the text linked.
-use Rattle.std.proofs.Common.{◌≡◌, ◌≢◌, ℕ, zero, suc, ◌+◌, ◌-◌, ◌<◌, ◌≤◌, List, [], ◌∷◌, ◌++◌, length, take, Option, Some, None, Bool, true, false, refl, arith, sym, ◌∙◌, ap, subst, inl, inr, length-append, nat_le, filter}
+use Rattle.std.proofs.Common.{
+  ◌≡◌,
+  ◌≢◌,
+  ℕ,
+  zero,
+  suc,
+  ◌+◌,
+  ◌-◌,
+  ◌<◌,
+  ◌≤◌,
+  List,
+  [],
+  ◌∷◌,
+  ◌++◌,
+  length,
+  take,
+  Option,
+  Some,
+  None,
+  Bool,
+  true,
+  false,
+  refl,
+  arith,
+  sym,
+  ◌∙◌,
+  ap,
+  subst,
+  inl,
+  inr,
+  length-append,
+  nat_le,
+  filter,
+}
 use Rattle.std.specs.Prelude.{slice_get, ◌⊎◌, ◌↔◌, map}
 use Rattle.std.specs.Option.{option_map}
 use Rattle.std.proofs.lemmas.Bool.{cases_lt}
@@ -31,7 +64,8 @@ use Rattle.hls_top.proofs.Nexts.{ticks_rise}
 -- ---- the commands up to a tick are the first ones
 
 -- all commands are later
-none_to : (t : ℕ) (items : List Item) → ((k : ℕ) (item : Item) → slice_get items k ≡ Some item → t < item.tick)
+none_to : (t : ℕ) (items : List Item) → ((k : ℕ) (item : Item) → slice_get items k ≡ Some item
+    → t < item.tick)
     → filter (λ (item : Item). nat_le item.tick t) items ≡ []
 none_to t [] later = refl
 none_to t (item ∷ items) later =
@@ -39,7 +73,8 @@ none_to t (item ∷ items) later =
     let late : nat_le item.tick t ≡ false = grind (arith, nat_tests) in
     rw late (none_to t items (λ k. later (suc k)))
 
-first_to : (t line : ℕ) (items : List Item) → ((k : ℕ) (item : Item) → k < line → slice_get items k ≡ Some item → item.tick ≤ t)
+first_to : (t line : ℕ) (items : List Item) → ((k : ℕ) (item : Item) → k < line
+    → slice_get items k ≡ Some item → item.tick ≤ t)
     → ((k : ℕ) (item : Item) → line ≤ k → slice_get items k ≡ Some item → t < item.tick)
     → filter (λ (item : Item). nat_le item.tick t) items ≡ take line items
 first_to t zero items behind ahead = none_to t items (λ k item. ahead k item (omega arith))
@@ -51,8 +86,10 @@ first_to t (suc line) (item ∷ items) behind ahead =
     (λ k other lt. behind (suc k) other (omega arith))
     (λ k other ge. ahead (suc k) other (omega arith))))
 
-pub items_to_now : (t line : ℕ) (items : List Item) → ((k : ℕ) (item : Item) → k < line → slice_get items k ≡ Some item → item.tick ≤ t)
-    → ((k : ℕ) (item : Item) → line ≤ k → slice_get items k ≡ Some item → t < item.tick) → items_to t items ≡ take line items
+pub items_to_now : (t line : ℕ) (items : List Item) → ((k : ℕ) (item : Item) → k < line
+    → slice_get items k ≡ Some item → item.tick ≤ t)
+    → ((k : ℕ) (item : Item) → line ≤ k → slice_get items k ≡ Some item → t < item.tick)
+    → items_to t items ≡ take line items
 unfolding items_to
 items_to_now t line items behind ahead = first_to t line items behind ahead
 
@@ -68,18 +105,21 @@ all_later s line now fits none k item le at =
 
 -- ---- the slots that ask are those of the ready threads
 
-ready_of_awake : (s : Scenario) (p : Progress) (root : Seen) (t slot : ℕ) → IsLinked s p root → items_to t s.items ≡ take p.line s.items
+ready_of_awake : (s : Scenario) (p : Progress) (root : Seen) (t slot : ℕ) → IsLinked s p root
+    → items_to t s.items ≡ take p.line s.items
     → HasAwake p.threads.items slot → HasReady s slot t
 ready_of_awake s p root t slot linked to h =
     let grows = admitted_first s.root s.items p.line linked.done.within in
     let old = admitted s.root (take p.line s.items) in
     let at : slice_get old slot ≡ Some (seated_of h.thread) =
     ap (λ threads. slice_get threads slot) (sym linked.done.threads)
-    ∙ slice_get-map seated_of p.threads.items slot ∙ ap (λ (thread : Option Thread). option_map seated_of thread) h.there in
+    ∙ slice_get-map seated_of p.threads.items slot
+    ∙ ap (λ (thread : Option Thread). option_map seated_of thread) h.there in
     let lt = slice_get_within old slot (seated_of h.thread) at in
     record {
       thread = seated_of h.thread;
-      there = ap (λ threads. slice_get threads slot) grows.is ∙ slice_get-append-left old grows.new slot lt ∙ at;
+      there = ap (λ threads. slice_get threads slot) grows.is ∙ slice_get-append-left old grows.new slot lt
+          ∙ at;
       ready = rw to ((linked.done.awake slot h.thread h.there).0 h.awake);
     }
 
@@ -88,7 +128,8 @@ mapped : (thread : Option Thread) (seated : Seated) → option_map seated_of thr
 mapped None seated is = absurd cc
 mapped (Some one) seated is = (one, refl, cc)
 
-awake_of_ready : (s : Scenario) (p : Progress) (root : Seen) (t slot : ℕ) → IsLinked s p root → items_to t s.items ≡ take p.line s.items
+awake_of_ready : (s : Scenario) (p : Progress) (root : Seen) (t slot : ℕ) → IsLinked s p root
+    → items_to t s.items ≡ take p.line s.items
     → HasReady s slot t → HasAwake p.threads.items slot
 awake_of_ready s p root t slot linked to h =
     let grows = admitted_first s.root s.items p.line linked.done.within in
@@ -96,18 +137,23 @@ awake_of_ready s p root t slot linked to h =
     let ready : IsReadyAfter (take p.line s.items) h.thread = rw to at h.ready in
     let len = take_length s.items p.line linked.done.within in
     let woken = woken_within (take p.line s.items) h.thread ready in
-    let at : slice_get (old ++ grows.new) slot ≡ Some h.thread = ap (λ threads. slice_get threads slot) (sym grows.is) ∙ h.there in
+    let at : slice_get (old ++ grows.new) slot ≡ Some h.thread = ap (λ threads. slice_get threads slot)
+    (sym grows.is) ∙ h.there in
     let before : slot < length old = elim (cases_lt slot (length old)) [
       | inl lt ↦ lt
-      | inr ge ↦ absurd (let late = grows.late (slot - length old) h.thread (sym (slice_get-append-right old grows.new slot ge) ∙ at) in omega arith)
+      | inr ge ↦ absurd (let late = grows.late (slot - length old) h.thread (sym
+          (slice_get-append-right old grows.new slot ge) ∙ at) in omega arith)
     ] in
-    let at_old : slice_get old slot ≡ Some h.thread = sym (slice_get-append-left old grows.new slot before) ∙ at in
+    let at_old : slice_get old slot ≡ Some h.thread = sym (slice_get-append-left old grows.new slot before)
+    ∙ at in
     let found = mapped (slice_get p.threads.items slot) h.thread
-    (sym (slice_get-map seated_of p.threads.items slot) ∙ ap (λ threads. slice_get threads slot) linked.done.threads ∙ at_old) in
+    (sym (slice_get-map seated_of p.threads.items slot)
+    ∙ ap (λ threads. slice_get threads slot) linked.done.threads ∙ at_old) in
     record {
       thread = found.0;
       there = found.1;
-      awake = (linked.done.awake slot found.0 found.1).1 (let P : Seated → Type 0 = λ seated. IsReadyAfter (take p.line s.items) seated in
+      awake = (linked.done.awake slot found.0 found.1).1 (let P : Seated
+          → Type 0 = λ seated. IsReadyAfter (take p.line s.items) seated in
           subst P (sym found.2) ready);
     }
 
@@ -124,8 +170,10 @@ row_mask mask (Some slot) = refl
 asks_fp : (root : Seen) → root.config ≡ Some Fp → seen_asks root ≡ some_slot_asks root.mask
 asks_fp root is = rw is refl
 
-pub linked_tick : (s : Scenario) (p : Progress) (root root' : Seen) → FitItems s.root s.horizon 0 s.items → IsLinked s p root
-    → NoneDue s p.line (now_of root.book) → now_of root.book < s.horizon → Ticks root root' → IsLinked s p root'
+pub linked_tick : (s : Scenario) (p : Progress) (root root' : Seen) → FitItems s.root s.horizon 0 s.items
+    → IsLinked s p root
+    → NoneDue s p.line (now_of root.book) → now_of root.book < s.horizon → Ticks root root'
+    → IsLinked s p root'
 linked_tick s p root root' fits linked none lt ticks =
     let now = now_of root.book in
     let row = tick_row root.mask (Some 0) ticks.choice in
@@ -176,7 +224,12 @@ linked_tick s p root root' fits linked none lt ticks =
           | inl past ↦ rw (row_at-past root.book row t past) (linked.passed.idle t past)
           | inr here ↦
               let same : t ≡ now = omega (arith, next) in
-              rw (same, row_at-now root.book row, row_mask root.mask ticks.choice, row_to root.mask ticks.choice)
+              rw (
+                same,
+                row_at-now root.book row,
+                row_mask root.mask ticks.choice,
+                row_to root.mask ticks.choice,
+              )
               (rw (asks_fp root linked.seated.config) at ticks.idle)
         ];
       };

@@ -1,5 +1,20 @@
 // Carrying a scenario out, command by command and tick by tick.
-ghost use Rattle.std.specs.Prelude.{◌≡◌, ◌≢◌, ℕ, ◌+◌, ◌<◌, ◌≤◌, ◌↔◌, length, Some, None, true, false, vec_capacity, slice_get, IfOk, []};
+ghost use Rattle.std.specs.Prelude.{
+  ◌≡◌,
+  ◌≢◌,
+  ◌+◌,
+  ◌<◌,
+  ◌≤◌,
+  length,
+  Some,
+  None,
+  true,
+  false,
+  vec_capacity,
+  slice_get,
+  IfOk,
+  [],
+};
 ghost use Rattle.hls_chron.specs.Ledger.{now_of};
 ghost use Rattle.hls_sched.specs.Seen.{IsConfigured, IsBlank};
 ghost use Rattle.hls_sched.specs.GoodKit.{IsGood, boxes_of};
@@ -34,8 +49,10 @@ fn answer(
     requires room { 32 ≤ vec_capacity threads.old }
     requires marks { 0 < (seen root.old).book.spare_marks }
     ensures answer { result ≡ answer_to root_name.now (seated_all threads.old.items) item.now.command }
-    ensures done { result ≡ Answer.Done → Does item.now.command threads.old.items threads.new.items (seen root.old) (seen root.new) line item.now.tick }
-    ensures refused { (refusal : Refusal) → result ≡ Answer.Refused refusal → LeavesAll threads.old.items threads.new.items (seen root.old) (seen root.new) }
+    ensures done { result ≡ Answer.Done → Does item.now.command threads.old.items threads.new.items
+        (seen root.old) (seen root.new) line item.now.tick }
+    ensures refused { (refusal : Refusal) → result ≡ Answer.Refused refusal
+        → LeavesAll threads.old.items threads.new.items (seen root.old) (seen root.new) }
     ensures capacity { vec_capacity threads.new ≡ vec_capacity threads.old }
 {
     match &item.command {
@@ -77,7 +94,8 @@ fn carry_out_next(scenario: &Scenario, progress: &mut Progress, root: &mut dyn S
 /// Whether the next command is of a tick.
 fn is_due(scenario: &Scenario, line: usize, now: u32) -> bool
     ensures due { result ≡ true → IsDue scenario.now line now }
-    ensures not_due { result ≡ false → (item : Item) → slice_get scenario.now.items line ≡ Some item → item.tick ≢ now }
+    ensures not_due { result ≡ false → (item : Item) → slice_get scenario.now.items line ≡ Some item
+        → item.tick ≢ now }
 {
     match scenario.items.items().get(line) {
         Some(item) => item.tick == now,

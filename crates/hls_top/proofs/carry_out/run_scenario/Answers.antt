@@ -7,10 +7,12 @@ use Rattle.hls_top.proofs.carry_out.run_scenario.Goals as goal
 pub loop-preserved : goal.loop-preserved
 loop-preserved g c =
     let s = c.args.scenario.now in
-    let now = c.carry_out_due.ensures.now ∙ c.loop.invariant.now in
+    let due = c.carry_out_due.ensures in
+    let now = due.now ∙ c.loop.invariant.now in
+    let early = still_to_come _ c.loop.counter s.horizon now c.loop-test.true in
     record {
-      linked = linked_tick s c.carry_out_due.new.progress _ _ c.requires.early.items c.carry_out_due.ensures.linked
-          c.carry_out_due.ensures.none_due (still_to_come _ c.loop.counter s.horizon now c.loop-test.true) c.run_tick.ensures;
+      linked = linked_tick s c.carry_out_due.new.progress _ _ c.requires.early.items due.linked due.none_due
+          early c.run_tick.ensures;
       now = now_ticked _ _ c.run_tick.ensures ∙ ap (λ (n : ℕ). n + 1) now;
     }
 
