@@ -48,6 +48,30 @@ impl Kit {
             Kind::Join => pop_counted(&mut self.join, &mut self.used[5]),
         }
     }
+
+    /// Puts a blank box behind the others of its kind, as whoever makes a kit does. The kit is
+    /// as before where memory is wanting, and the box is dropped.
+    pub fn put(&mut self, kind: Kind, blank: Box<dyn Scheduler>) -> Result<(), AllocError>
+        requires good { IsGood seen self.old }
+        requires boxed { kind ≢ Kind.Cpu }
+        requires blank { IsBlank kind (seen blank) }
+        ensures put { OnOk result (boxes_of kind self.new ≡ boxes_of kind self.old ++ blank ∷ []) }
+        ensures unchanged { OnErr result (boxes_of kind self.new ≡ boxes_of kind self.old) }
+        ensures others { (other : Kind) → other ≢ kind → boxes_of other self.new ≡ boxes_of other self.old }
+        ensures uncounted { self.new.used ≡ self.old.used }
+        ensures good { IsGood seen self.new }
+    {
+        match kind {
+            Kind::Cpu => unreachable!(),
+            Kind::Fp => self.fp.push(blank)?,
+            Kind::Edf => self.edf.push(blank)?,
+            Kind::Sfq => self.sfq.push(blank)?,
+            Kind::Rr => self.rr.push(blank)?,
+            Kind::Wheel => self.wheel.push(blank)?,
+            Kind::Join => self.join.push(blank)?,
+        }
+        Ok(())
+    }
 }
 
 /// Takes the last box of a list, and counts it.

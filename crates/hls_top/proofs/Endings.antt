@@ -1,38 +1,7 @@
 -- How a scenario begins and how it ends, and that its report is legal.
-use Rattle.std.proofs.Common.{
-  ◌≡◌,
-  ◌≢◌,
-  ℕ,
-  zero,
-  suc,
-  ◌+◌,
-  ◌-◌,
-  ◌*◌,
-  ◌<◌,
-  ◌≤◌,
-  List,
-  [],
-  ◌∷◌,
-  ◌++◌,
-  length,
-  take,
-  Option,
-  Some,
-  None,
-  Bool,
-  true,
-  false,
-  refl,
-  arith,
-  sym,
-  ◌∙◌,
-  ap,
-  subst,
-  inl,
-  inr,
-  get_or,
-  append-nil,
-}
+use Rattle.std.proofs.Common.{◌≡◌, ◌≢◌, ℕ, zero, suc, ◌+◌, ◌-◌, ◌*◌, ◌<◌, ◌≤◌, List, [], ◌∷◌, ◌++◌, length}
+use Rattle.std.proofs.Common.{take, Option, Some, None, Bool, true, false, refl, arith, sym, ◌∙◌, ap, subst}
+use Rattle.std.proofs.Common.{inl, inr, get_or, append-nil}
 use Rattle.std.specs.Prelude.{slice_get, ◌⊎◌, ◌↔◌, map, vec_capacity, IfOk, Result, Ok, Err}
 use Rattle.std.specs.Option.{option_map, option_and_then}
 use Rattle.std.specs.List.{All}
@@ -56,16 +25,8 @@ use Rattle.hls_top.specs.declared.progress.Thread.{Thread}
 use Rattle.hls_top.specs.declared.progress.Progress.{Progress}
 use Rattle.hls_top.specs.EarlyText.{Text, FitItems, IsEarly}
 use Rattle.hls_top.specs.Progress.{seated_of, seated_all}
-use Rattle.hls_top.specs.Threads.{
-  Seated,
-  answer_to,
-  threads_by,
-  threads_after,
-  admitted_from,
-  answers_from,
-  admitted,
-  answers,
-}
+use Rattle.hls_top.specs.Threads.{Seated, answer_to, threads_by, threads_after, admitted_from, answers_from}
+use Rattle.hls_top.specs.Threads.{admitted, answers}
 use Rattle.hls_top.specs.Schedule.{ran_at}
 use Rattle.hls_top.specs.Legal.{HasReady, name_in, seat_marks, accounts_of, IsLegal}
 use Rattle.hls_top.specs.Reporting.{running, TellsOf}

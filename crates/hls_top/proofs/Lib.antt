@@ -2,6 +2,7 @@ pub mod Accounts
 pub mod Admissions
 pub mod CommandLaws
 pub mod Counts
+pub mod Endings
 pub mod HeadLaws
 pub mod ItemLaws
 pub mod Links
@@ -9,11 +10,12 @@ pub mod Lists
 pub mod Moves
 pub mod Nexts
 pub mod NumberLaws
+pub mod Outcomes
+pub mod Passing
+pub mod Promises
 pub mod Readiness
 pub mod ReportLines
 pub mod Reports
 pub mod Schedules
 pub mod Seating
 pub mod TokenLaws
-pub mod Passing
-pub mod Endings

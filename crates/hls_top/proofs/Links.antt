@@ -1,36 +1,7 @@
 -- The next command leaves the root scheduler, the threads and the text linked.
-use Rattle.std.proofs.Common.{
-  ◌≡◌,
-  ◌≢◌,
-  ℕ,
-  zero,
-  suc,
-  ◌+◌,
-  ◌<◌,
-  ◌≤◌,
-  List,
-  [],
-  ◌∷◌,
-  ◌++◌,
-  length,
-  take,
-  Option,
-  Some,
-  None,
-  Bool,
-  true,
-  false,
-  refl,
-  arith,
-  sym,
-  ◌∙◌,
-  ap,
-  subst,
-  inl,
-  inr,
-  length-append,
-  append-nil,
-}
+use Rattle.std.proofs.Common.{◌≡◌, ◌≢◌, ℕ, zero, suc, ◌+◌, ◌<◌, ◌≤◌, List, [], ◌∷◌, ◌++◌, length, take}
+use Rattle.std.proofs.Common.{Option, Some, None, Bool, true, false, refl, arith, sym, ◌∙◌, ap, subst, inl}
+use Rattle.std.proofs.Common.{inr, length-append, append-nil}
 use Rattle.std.specs.Prelude.{slice_get, slice_set, ◌⊎◌, ◌↔◌, map, vec_len, vec_capacity, ◌||◌}
 use Rattle.std.specs.Str.{bytes_eq}
 use Rattle.std.proofs.lemmas.Bool.{cases_lt, cases_eq}
@@ -54,16 +25,8 @@ use Rattle.hls_top.specs.Progress.{seated_of, seated_all}
 use Rattle.hls_top.specs.Threads.{Seated, is_named, has_name, answer_to, threads_by, admitted, answers}
 use Rattle.hls_top.specs.Ready.{IsReadyAfter}
 use Rattle.hls_top.specs.Legal.{seat_marks}
-use Rattle.hls_top.specs.Linked.{
-  IsSeated,
-  HasRoom,
-  IsCarriedOut,
-  IsInTime,
-  HasPassed,
-  HasOwnNames,
-  IsLinked,
-  terms_of,
-}
+use Rattle.hls_top.specs.Linked.{IsSeated, HasRoom, IsCarriedOut, IsInTime, HasPassed, HasOwnNames}
+use Rattle.hls_top.specs.Linked.{IsLinked, terms_of}
 use Rattle.hls_top.specs.Changes.{call_of, with_awake, LeavesAll, Admits, Rouses, RousesNamed, Does}
 use Rattle.hls_top.proofs.Lists.{list_any-at, list_any-map, slice_get-set-same, slice_get-set-other}
 use Rattle.hls_top.proofs.Seating.{length_all, answer_named}

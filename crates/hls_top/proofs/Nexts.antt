@@ -1,35 +1,7 @@
 -- The step from one command to the next, whatever it is.
-use Rattle.std.proofs.Common.{
-  ◌≡◌,
-  ◌≢◌,
-  ℕ,
-  zero,
-  suc,
-  ◌+◌,
-  ◌<◌,
-  ◌≤◌,
-  List,
-  [],
-  ◌∷◌,
-  ◌++◌,
-  length,
-  take,
-  Option,
-  Some,
-  None,
-  Bool,
-  true,
-  false,
-  refl,
-  arith,
-  sym,
-  ◌∙◌,
-  ap,
-  subst,
-  inl,
-  inr,
-  get_or,
-}
+use Rattle.std.proofs.Common.{◌≡◌, ◌≢◌, ℕ, zero, suc, ◌+◌, ◌<◌, ◌≤◌, List, [], ◌∷◌, ◌++◌, length, take}
+use Rattle.std.proofs.Common.{Option, Some, None, Bool, true, false, refl, arith, sym, ◌∙◌, ap, subst, inl}
+use Rattle.std.proofs.Common.{inr, get_or}
 use Rattle.std.specs.Prelude.{slice_get, ◌⊎◌, ◌↔◌, vec_len, vec_capacity}
 use Rattle.std.proofs.lemmas.Bool.{cases_lt}
 use Rattle.std.proofs.lemmas.Option.{slice_get_within, slice_get_read}

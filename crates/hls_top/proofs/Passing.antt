@@ -1,38 +1,7 @@
 -- One tick more leaves the root scheduler, the threads and the text linked.
-use Rattle.std.proofs.Common.{
-  ◌≡◌,
-  ◌≢◌,
-  ℕ,
-  zero,
-  suc,
-  ◌+◌,
-  ◌-◌,
-  ◌<◌,
-  ◌≤◌,
-  List,
-  [],
-  ◌∷◌,
-  ◌++◌,
-  length,
-  take,
-  Option,
-  Some,
-  None,
-  Bool,
-  true,
-  false,
-  refl,
-  arith,
-  sym,
-  ◌∙◌,
-  ap,
-  subst,
-  inl,
-  inr,
-  length-append,
-  nat_le,
-  filter,
-}
+use Rattle.std.proofs.Common.{◌≡◌, ◌≢◌, ℕ, zero, suc, ◌+◌, ◌-◌, ◌<◌, ◌≤◌, List, [], ◌∷◌, ◌++◌, length, take}
+use Rattle.std.proofs.Common.{Option, Some, None, Bool, true, false, refl, arith, sym, ◌∙◌, ap, subst, inl}
+use Rattle.std.proofs.Common.{inr, length-append, nat_le, filter}
 use Rattle.std.specs.Prelude.{slice_get, ◌⊎◌, ◌↔◌, map}
 use Rattle.std.specs.Option.{option_map}
 use Rattle.std.proofs.lemmas.Bool.{cases_lt}

@@ -1,34 +1,7 @@
 -- The seats of the root scheduler, and the threads in them.
-use Rattle.std.proofs.Common.{
-  ◌≡◌,
-  ◌≢◌,
-  ℕ,
-  suc,
-  ◌^◌,
-  ◌+◌,
-  ◌<◌,
-  ◌≤◌,
-  List,
-  [],
-  ◌∷◌,
-  ◌++◌,
-  length,
-  Option,
-  Some,
-  None,
-  Bool,
-  true,
-  false,
-  refl,
-  arith,
-  sym,
-  ◌∙◌,
-  ap,
-  subst,
-  inl,
-  inr,
-  length-append,
-}
+use Rattle.std.proofs.Common.{◌≡◌, ◌≢◌, ℕ, suc, ◌^◌, ◌+◌, ◌<◌, ◌≤◌, List, [], ◌∷◌, ◌++◌, length, Option}
+use Rattle.std.proofs.Common.{Some, None, Bool, true, false, refl, arith, sym, ◌∙◌, ap, subst, inl, inr}
+use Rattle.std.proofs.Common.{length-append}
 use Rattle.std.specs.Prelude.{slice_get, slice_set, ◌==◌, ◌||◌, ◌↔◌, map, nat_le, if◌then◌else◌}
 use Rattle.std.specs.Str.{bytes_eq}
 use Rattle.std.specs.List.{list_any}
@@ -55,14 +28,8 @@ use Rattle.hls_top.specs.Progress.{seated_of, seated_all}
 use Rattle.hls_top.specs.Threads.{Seated, has_name, has_priority, answer_to}
 use Rattle.hls_top.specs.Linked.{IsSeated, terms_of}
 use Rattle.hls_top.specs.Changes.{refusal_for}
-use Rattle.hls_top.proofs.Lists.{
-  slice_get-some,
-  slice_get-none,
-  list_any-at,
-  Passes,
-  passes_of_any,
-  list_any-map,
-}
+use Rattle.hls_top.proofs.Lists.{slice_get-some, slice_get-none, list_any-at, Passes, passes_of_any}
+use Rattle.hls_top.proofs.Lists.{list_any-map}
 
 pub config_fp : (threads : List Thread) (root : Seen) → IsSeated threads root → config_of root ≡ Fp
 config_fp threads root s = rw s.config refl

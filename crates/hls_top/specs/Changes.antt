@@ -1,25 +1,6 @@
 -- What a command changes of the threads and of the root scheduler.
-use Rattle.std.specs.Prelude.{
-  ◌≡◌,
-  ◌↔◌,
-  ℕ,
-  ◌≤◌,
-  [],
-  ◌∷◌,
-  ◌++◌,
-  List,
-  length,
-  Option,
-  Some,
-  None,
-  Bool,
-  true,
-  false,
-  if◌then◌else◌,
-  slice_get,
-  slice_set,
-  vec_capacity,
-}
+use Rattle.std.specs.Prelude.{◌≡◌, ◌↔◌, ℕ, ◌≤◌, [], ◌∷◌, ◌++◌, List, length, Option, Some, None, Bool, true}
+use Rattle.std.specs.Prelude.{false, if◌then◌else◌, slice_get, slice_set, vec_capacity}
 use Rattle.std.specs.Str.{bytes_eq}
 use Rattle.hls_chron.specs.Ledger.{with_row}
 use Rattle.hls_sched.specs.Seen.{Seen, seated, requested, released, tick_row, seen_asks}

@@ -9,3 +9,7 @@ pub mod Progress
 pub mod Reporting
 pub mod Linked
 pub mod Changes
+pub mod Words
+pub mod Exchange
+pub mod Ends
+pub mod Says

@@ -1,20 +1,6 @@
 // Carrying a scenario out, command by command and tick by tick.
-ghost use Rattle.std.specs.Prelude.{
-  ◌≡◌,
-  ◌≢◌,
-  ◌+◌,
-  ◌<◌,
-  ◌≤◌,
-  length,
-  Some,
-  None,
-  true,
-  false,
-  vec_capacity,
-  slice_get,
-  IfOk,
-  [],
-};
+ghost use Rattle.std.specs.Prelude.{◌≡◌, ◌≢◌, ◌+◌, ◌<◌, ◌≤◌, length, Some, None, true, false, vec_capacity};
+ghost use Rattle.std.specs.Prelude.{slice_get, IfOk, []};
 ghost use Rattle.hls_chron.specs.Ledger.{now_of};
 ghost use Rattle.hls_sched.specs.Seen.{IsConfigured, IsBlank};
 ghost use Rattle.hls_sched.specs.GoodKit.{IsGood, boxes_of};

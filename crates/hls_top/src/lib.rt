@@ -9,5 +9,8 @@ pub mod progress;
 pub mod report;
 mod report_writer;
 mod reporting;
+mod run;
 mod threads;
 mod tokens;
+
+pub use run::hls_run;

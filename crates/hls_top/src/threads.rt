@@ -1,25 +1,6 @@
 // The threads on the root scheduler: admitting, waking and blocking them.
-ghost use Rattle.std.specs.Prelude.{
-  ◌≡◌,
-  ◌≢◌,
-  ℕ,
-  ◌<◌,
-  ◌≤◌,
-  [],
-  ◌∷◌,
-  ◌++◌,
-  List,
-  length,
-  Some,
-  None,
-  true,
-  false,
-  slice_get,
-  slice_set,
-  vec_capacity,
-  position,
-  ◌||◌,
-};
+ghost use Rattle.std.specs.Prelude.{◌≡◌, ◌≢◌, ℕ, ◌<◌, ◌≤◌, [], ◌∷◌, ◌++◌, List, length, Some, None, true};
+ghost use Rattle.std.specs.Prelude.{false, slice_get, slice_set, vec_capacity, position, ◌||◌};
 ghost use Rattle.std.specs.Str.{bytes_eq};
 ghost use Rattle.hls_chron.specs.declared.plain.Config.TheVariants.{Fp};
 ghost use Rattle.hls_chron.specs.Seats.{SlotAsks, terms_at, IsFree};

@@ -1,16 +1,8 @@
 use Rattle.std.proofs.Common.{refl, sym, ◌∙◌, ap, ◌≡◌, true, false, get_or, Some}
 use Rattle.std.specs.Prelude.{slice_get}
 use Rattle.std.proofs.lemmas.Option.{slice_get-get_or}
-use Rattle.hls_top.proofs.Moves.{
-  taken_slot,
-  silent_slot,
-  asking_slot,
-  rouses_same,
-  rouses_told,
-  same_truth,
-  other_truth,
-  not_false_truth,
-}
+use Rattle.hls_top.proofs.Moves.{taken_slot, silent_slot, asking_slot, rouses_same, rouses_told, same_truth}
+use Rattle.hls_top.proofs.Moves.{other_truth, not_false_truth}
 use Rattle.hls_top.proofs.threads.set_awake.Goals as goal
 
 pub returns-then-threads-slot : goal.returns-then-threads-slot
@@ -31,7 +23,8 @@ pub tell-requires-clause-silent : goal.tell-requires-clause-silent
 tell-requires-clause-silent g c = λ wake.
     let threads = c.args.threads.now in
     let there = slice_get-get_or threads c.args.slot c.index-threads-slot.result c.requires.there in
-    silent_slot threads _ c.args.slot _ c.requires.seated there (other_truth _ (rw wake at c.if-threads-slot.false))
+    silent_slot threads _ c.args.slot _ c.requires.seated there (other_truth _
+    (rw wake at c.if-threads-slot.false))
 
 pub tell-requires-clause-asking : goal.tell-requires-clause-asking
 tell-requires-clause-asking g c = λ block.
