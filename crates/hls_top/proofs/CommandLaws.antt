@@ -1,5 +1,6 @@
 -- The commands that are read are those whose text stands there.
-use Rattle.std.proofs.Common.{◌≡◌, ℕ, ◌<◌, ◌^◌, Bool, true, false, cond, [], ◌∷◌, ◌++◌, refl, ap, ◌∙◌, subst, arith, inl, inr, codes}
+use Rattle.std.proofs.Common.{◌≡◌, ℕ, ◌<◌, ◌^◌, Bool, true, false, cond, [], ◌∷◌, ◌++◌, refl, ap, ◌∙◌}
+use Rattle.std.proofs.Common.{subst, arith, inl, inr, codes}
 use Rattle.std.specs.Prelude.{◌==◌, ◌⊎◌, ◌≢◌, not, nat_lt, decimal, Option, Some, None}
 use Rattle.std.specs.List.{list_all}
 use Rattle.std.specs.Str.{bytes_eq}
@@ -9,12 +10,15 @@ use Rattle.std.proofs.lemmas.Bool.Decides.{Decides-ltb}
 use Rattle.std.proofs.lemmas.Slice.Eq.{bytes_eq-Decides}
 use Rattle.hls_chron.specs.Name.{IsName, is_name, is_letter, may_follow}
 use Rattle.hls_top.specs.EarlyText.{Text, promise_text, IsOtherName, FitsCommand}
-use Rattle.hls_top.specs.EarlyReading.{◌>>=◌, first_of_two, after_words, cut_at, number_at, name_at, other_at, all_promised, nothing_promised, promise_at, thread_at, wake_at, block_at, command_at}
+use Rattle.hls_top.specs.EarlyReading.{◌>>=◌, first_of_two, after_words, cut_at, number_at, name_at}
+use Rattle.hls_top.specs.EarlyReading.{other_at, all_promised, nothing_promised, promise_at, thread_at}
+use Rattle.hls_top.specs.EarlyReading.{wake_at, block_at, command_at}
 use Rattle.hls_top.specs.declared.early.Promise.{Promise}
 use Rattle.hls_top.specs.declared.early.Promise.TheVariants.{All, Null}
 use Rattle.hls_top.specs.declared.early.Command.{Command}
 use Rattle.hls_top.specs.declared.early.Command.TheVariants.{Thread, Wake, Block}
-use Rattle.hls_top.proofs.TokenLaws.{bind_some, in_some, where_true, where_false, and_left, and_right, after_is, after_again, lacks, cut_is, cut_again}
+use Rattle.hls_top.proofs.TokenLaws.{bind_some, in_some, where_true, where_false, and_left, and_right}
+use Rattle.hls_top.proofs.TokenLaws.{after_is, after_again, lacks, cut_is, cut_again}
 use Rattle.hls_top.proofs.NumberLaws.{number_at_is, number_at_again}
 
 -- ---- names

@@ -1,12 +1,16 @@
 -- The head of a text is read where it stands, and a text has one scenario at most.
-use Rattle.std.proofs.Common.{◌≡◌, ℕ, ◌<◌, ◌≤◌, ◌^◌, true, cond, List, [], ◌∷◌, ◌++◌, map, refl, sym, ap, ap₂, ◌∙◌, subst, arith, append_assoc, codes}
+use Rattle.std.proofs.Common.{◌≡◌, ℕ, ◌<◌, ◌≤◌, ◌^◌, true, cond, List, [], ◌∷◌, ◌++◌, map, refl, sym, ap}
+use Rattle.std.proofs.Common.{ap₂, ◌∙◌, subst, arith, append_assoc, codes}
 use Rattle.std.specs.Prelude.{◌&&◌, nat_le, decimal, Option, Some, None}
 use Rattle.hls_chron.specs.Name.{IsName}
-use Rattle.hls_top.specs.EarlyText.{Text, line_of, lines_text, item_tokens, load_tokens, spelling, IsEarlyText}
-use Rattle.hls_top.specs.EarlyReading.{◌>>=◌, after_words, number_at, name_at, load_line, head_at, AreItems, AreAllItems}
+use Rattle.hls_top.specs.EarlyText.{Text, line_of, lines_text, item_tokens, load_tokens, spelling}
+use Rattle.hls_top.specs.EarlyText.{IsEarlyText}
+use Rattle.hls_top.specs.EarlyReading.{◌>>=◌, after_words, number_at, name_at, load_line, head_at, AreItems}
+use Rattle.hls_top.specs.EarlyReading.{AreAllItems}
 use Rattle.hls_top.specs.declared.early.Item.{Item}
 use Rattle.hls_top.specs.declared.early.Scenario.{Scenario}
-use Rattle.hls_top.proofs.TokenLaws.{bind_some, some_is, in_some, where_true, and_left, and_right, after_is, after_again}
+use Rattle.hls_top.proofs.TokenLaws.{bind_some, some_is, in_some, where_true, and_left, and_right, after_is}
+use Rattle.hls_top.proofs.TokenLaws.{after_again}
 use Rattle.hls_top.proofs.NumberLaws.{number_at_is, number_at_again}
 use Rattle.hls_top.proofs.CommandLaws.{name_at_is, name_at_again}
 use Rattle.hls_top.proofs.ItemLaws.{le_where, true_where_le, same_items}

@@ -1,14 +1,18 @@
 -- The items that are read are those whose lines stand there.
-use Rattle.std.proofs.Common.{◌≡◌, ℕ, ◌+◌, ◌<◌, ◌≤◌, ◌^◌, true, cond, List, [], ◌∷◌, ◌++◌, length, map, refl, sym, ap, ap₂, ◌∙◌, subst, arith, append_assoc, append-nil, codes, length-append, suc}
+use Rattle.std.proofs.Common.{◌≡◌, ℕ, ◌+◌, ◌<◌, ◌≤◌, ◌^◌, true, cond, List, [], ◌∷◌, ◌++◌, length, map}
+use Rattle.std.proofs.Common.{refl, sym, ap, ap₂, ◌∙◌, subst, arith, append_assoc, append-nil, codes}
+use Rattle.std.proofs.Common.{length-append, suc}
 use Rattle.std.specs.Prelude.{◌&&◌, nat_lt, nat_le, decimal, Option, Some, None}
 use Rattle.std.proofs.lemmas.Grind.{common_steps}
 use Rattle.std.proofs.lemmas.Bool.{ltb-true}
 use Rattle.hls_top.specs.EarlyText.{Text, line_of, lines_text, command_tokens, item_tokens, FitsCommand}
-use Rattle.hls_top.specs.EarlyReading.{◌>>=◌, after_words, number_at, command_at, timely_command, item_at, AreItems, AreAllItems}
+use Rattle.hls_top.specs.EarlyReading.{◌>>=◌, after_words, number_at, command_at, timely_command, item_at}
+use Rattle.hls_top.specs.EarlyReading.{AreItems, AreAllItems}
 use Rattle.hls_top.specs.declared.early.Command.{Command}
 use Rattle.hls_top.specs.declared.early.Command.TheVariants.{Thread, Wake, Block}
 use Rattle.hls_top.specs.declared.early.Item.{Item}
-use Rattle.hls_top.proofs.TokenLaws.{bind_some, some_is, in_some, where_true, and_left, and_right, after_is, after_again}
+use Rattle.hls_top.proofs.TokenLaws.{bind_some, some_is, in_some, where_true, and_left, and_right, after_is}
+use Rattle.hls_top.proofs.TokenLaws.{after_again}
 use Rattle.hls_top.proofs.NumberLaws.{number_at_is, number_at_again}
 use Rattle.hls_top.proofs.CommandLaws.{command_line, command_is, command_again}
 

@@ -10,8 +10,10 @@ pub mod Lists
 pub mod Moves
 pub mod Nexts
 pub mod NumberLaws
-pub mod Readiness
+pub mod Outcomes
+pub mod Passing
 pub mod Promises
+pub mod Readiness
 pub mod ReportLines
 pub mod Reports
 pub mod Schedules

@@ -1,13 +1,17 @@
 -- The numbers that are read are those whose decimal text stands there.
-use Rattle.std.proofs.Common.{◌≡◌, ℕ, ◌+◌, ◌-◌, ◌*◌, ◌^◌, ◌<◌, ◌≤◌, Bool, true, false, [], ◌∷◌, ◌++◌, length, get_or, refl, sym, ap, ◌∙◌, subst, arith, rules, suc, zero}
+use Rattle.std.proofs.Common.{◌≡◌, ℕ, ◌+◌, ◌-◌, ◌*◌, ◌^◌, ◌<◌, ◌≤◌, Bool, true, false, [], ◌∷◌, ◌++◌}
+use Rattle.std.proofs.Common.{length, get_or, refl, sym, ap, ◌∙◌, subst, arith, rules, suc, zero}
 use Rattle.std.specs.Prelude.{◌==◌, not, nat_le, min, fold, decimal, Some}
 use Rattle.std.specs.List.{list_all}
 use Rattle.std.proofs.lemmas.Grind.{common_steps}
-use Rattle.std.proofs.lemmas.Fmt.{digits_value-decimal, decimal-digits_value, decimal_nonempty, first_decimal, decimal_digit, length-decimal-le, digits_decimal}
+use Rattle.std.proofs.lemmas.Fmt.{digits_value-decimal, decimal-digits_value, decimal_nonempty}
+use Rattle.std.proofs.lemmas.Fmt.{first_decimal, decimal_digit, length-decimal-le, digits_decimal}
 use Rattle.std.proofs.lemmas.Str.Parse.{IsNumeralModel, numerals_by_fold, digits_value_short}
 use Rattle.hls_top.specs.EarlyText.{Text}
-use Rattle.hls_top.specs.EarlyReading.{is_digit, is_number, capped_step, number_of, number_first, number_at, cut_at}
-use Rattle.hls_top.proofs.TokenLaws.{bind_some, in_some, where_true, and_left, and_right, not_true, lacks, cut_is, cut_again}
+use Rattle.hls_top.specs.EarlyReading.{is_digit, is_number, capped_step, number_of, number_first, number_at}
+use Rattle.hls_top.specs.EarlyReading.{cut_at}
+use Rattle.hls_top.proofs.TokenLaws.{bind_some, in_some, where_true, and_left, and_right, not_true, lacks}
+use Rattle.hls_top.proofs.TokenLaws.{cut_is, cut_again}
 
 abbrev are_digits : Text → Bool
 are_digits text = list_all is_digit text

@@ -1,5 +1,6 @@
 -- What a command changes of the threads and of the root scheduler.
-use Rattle.std.specs.Prelude.{◌≡◌, ◌↔◌, ℕ, [], ◌∷◌, ◌++◌, List, length, Option, Some, None, Bool, true, false, if◌then◌else◌, slice_get, slice_set}
+use Rattle.std.specs.Prelude.{◌≡◌, ◌↔◌, ℕ, ◌≤◌, [], ◌∷◌, ◌++◌, List, length, Option, Some, None, Bool, true}
+use Rattle.std.specs.Prelude.{false, if◌then◌else◌, slice_get, slice_set, vec_capacity}
 use Rattle.std.specs.Str.{bytes_eq}
 use Rattle.hls_chron.specs.Ledger.{with_row}
 use Rattle.hls_sched.specs.Seen.{Seen, seated, requested, released, tick_row, seen_asks}
@@ -10,6 +11,7 @@ use Rattle.hls_top.specs.declared.early.Command.TheVariants.{Thread as ThreadCom
 use Rattle.hls_top.specs.declared.report.Refusal.{Refusal}
 use Rattle.hls_top.specs.declared.report.Refusal.TheVariants.{PriorityTaken, SeatsFull}
 use Rattle.hls_top.specs.declared.progress.Thread.{Thread}
+use Rattle.hls_top.specs.declared.progress.Progress.{Progress}
 use Rattle.hls_top.specs.EarlyText.{Text}
 use Rattle.hls_top.specs.Linked.{IsSeated, terms_of}
 
@@ -59,27 +61,31 @@ pub record Admits (threads threads' : List Thread) (root root' : Seen) (thread :
   pub seated : IsSeated threads' root'
 
 -- the thread in a slot is awake or not, and of the root scheduler no more has changed than which slots ask
-pub record Rouses (threads threads' : List Thread) (root root' : Seen) (slot : ℕ) (awake : Bool) : Type 0 where
-  pub roused : (thread : Thread) → slice_get threads slot ≡ Some thread → threads' ≡ slice_set threads slot (with_awake awake thread)
+pub record Rouses (threads threads' : List Thread) (root root' : Seen) (slot : ℕ)
+    (awake : Bool) : Type 0 where
+  pub roused : (thread : Thread) → slice_get threads slot ≡ Some thread
+      → threads' ≡ slice_set threads slot (with_awake awake thread)
   pub only_mask : root' ≡ record root { mask = root'.mask }
   pub seated : IsSeated threads' root'
 
 -- the same of the thread with a name
-pub record RousesNamed (threads threads' : List Thread) (root root' : Seen) (name : Text) (awake : Bool) : Type 0 where
+pub record RousesNamed (threads threads' : List Thread) (root root' : Seen) (name : Text)
+    (awake : Bool) : Type 0 where
   pub slot : ℕ
   pub named : Names threads slot name
   pub rouses : Rouses threads threads' root root' slot awake
 
 -- what a command does that is done
 abbrev pub Does : Command → (threads threads' : List Thread) (root root' : Seen) (line tick : ℕ) → Type 0
-Does (ThreadCommand name priority promise) threads threads' root root' line tick = Admits threads threads' root root' record {
-  name = name;
-  priority = priority;
-  promise = promise;
-  since = tick;
-  line = line;
-  awake = false;
-}
+Does (ThreadCommand name priority promise) threads threads' root root' line tick =
+    Admits threads threads' root root' record {
+      name = name;
+      priority = priority;
+      promise = promise;
+      since = tick;
+      line = line;
+      awake = false;
+    }
 Does (Wake name) threads threads' root root' line tick = RousesNamed threads threads' root root' name true
 Does (Block name) threads threads' root root' line tick = RousesNamed threads threads' root root' name false
 
@@ -88,3 +94,11 @@ pub record Ticks (root root' : Seen) : Type 0 where
   pub choice : Option ℕ
   pub row : root' ≡ record root { book = with_row root.book (tick_row root.mask (Some 0) choice) }
   pub idle : (choice ≡ None) ↔ (seen_asks root ≡ false)
+
+-- nothing was carried out yet, and there is room for so many answers and for 32 threads
+pub record IsNewProgress (commands : ℕ) (p : Progress) : Type 0 where
+  pub line : p.line ≡ 0
+  pub answers : p.answers.items ≡ []
+  pub threads : p.threads.items ≡ []
+  pub answers_room : commands ≤ vec_capacity p.answers
+  pub room : 32 ≤ vec_capacity p.threads

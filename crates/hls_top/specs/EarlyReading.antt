@@ -1,6 +1,8 @@
 -- Reading an early text from the left, as the reader's private functions do it.
 -- EarlyText says what an early text is.
-use Rattle.std.specs.Prelude.{◌≡◌, ℕ, ◌+◌, ◌-◌, ◌*◌, ◌^◌, ◌≤◌, ◌==◌, ◌&&◌, nat_le, nat_lt, min, not, Bool, false, List, [], ◌∷◌, ◌++◌, length, take, drop, fold, codes, Option, Some, None, option_map, if◌then◌else◌, map}
+use Rattle.std.specs.Prelude.{◌≡◌, ℕ, ◌+◌, ◌-◌, ◌*◌, ◌^◌, ◌≤◌, ◌==◌, ◌&&◌, nat_le, nat_lt, min, not, Bool}
+use Rattle.std.specs.Prelude.{false, List, [], ◌∷◌, ◌++◌, length, take, drop, fold, codes, Option, Some}
+use Rattle.std.specs.Prelude.{None, option_map, if◌then◌else◌, map}
 use Rattle.std.specs.List.{list_all, position}
 use Rattle.std.specs.Str.{bytes_eq}
 use Rattle.hls_chron.specs.Name.{is_name}

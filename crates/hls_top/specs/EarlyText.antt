@@ -1,6 +1,8 @@
 -- The early texts: which scenarios have one, and the one text of each.
-use Rattle.std.specs.Prelude.{◌≡◌, ◌≢◌, ℕ, ◌<◌, ◌≤◌, List, [], ◌∷◌, ◌++◌, length, codes, decimal, flat_map, map}
+use Rattle.std.specs.Prelude.{◌≡◌, ◌≢◌, ℕ, ◌<◌, ◌≤◌, List, [], ◌∷◌, ◌++◌, length, codes, decimal, flat_map}
+use Rattle.std.specs.Prelude.{map}
 use Rattle.std.specs.List.{join_with_byte}
+use Rattle.hls_chron.specs.Name.{IsName}
 use Rattle.hls_top.specs.declared.early.Promise.{Promise}
 use Rattle.hls_top.specs.declared.early.Promise.TheVariants.{All, Null}
 use Rattle.hls_top.specs.declared.early.Command.{Command}
@@ -26,7 +28,8 @@ promise_text Null = codes "NULL"
 -- the tokens of a command at the root scheduler of this name
 abbrev pub command_tokens : Text → Command → List Text
 command_tokens root (Thread name priority promise) =
-    codes "thread" ∷ name ∷ codes "on" ∷ root ∷ codes "prio" ∷ decimal priority ∷ codes "as" ∷ promise_text promise ∷ []
+    codes "thread" ∷ name ∷ codes "on" ∷ root ∷ codes "prio" ∷ decimal priority ∷ codes "as"
+    ∷ promise_text promise ∷ []
 command_tokens root (Wake name) = codes "wake" ∷ name ∷ []
 command_tokens root (Block name) = codes "block" ∷ name ∷ []
 
@@ -36,10 +39,12 @@ item_tokens root item = codes "at" ∷ decimal item.tick ∷ command_tokens root
 -- the load of the root scheduler
 abbrev pub load_tokens : Text → List Text
 load_tokens root =
-    codes "at" ∷ codes "0" ∷ codes "load" ∷ root ∷ codes "fp" ∷ codes "on" ∷ codes "cpu" ∷ codes "as" ∷ codes "ALL" ∷ []
+    codes "at" ∷ codes "0" ∷ codes "load" ∷ root ∷ codes "fp" ∷ codes "on" ∷ codes "cpu" ∷ codes "as"
+    ∷ codes "ALL" ∷ []
 
 abbrev pub head_lines : Scenario → List (List Text)
-head_lines s = (codes "hls" ∷ codes "1" ∷ []) ∷ (codes "horizon" ∷ decimal s.horizon ∷ []) ∷ load_tokens s.root ∷ []
+head_lines s = (codes "hls" ∷ codes "1" ∷ []) ∷
+    (codes "horizon" ∷ decimal s.horizon ∷ []) ∷ load_tokens s.root ∷ []
 
 -- the text of a scenario
 unfoldable pub spelling : Scenario → Text
@@ -60,7 +65,8 @@ FitsCommand root (Block name) = IsOtherName root name
 abbrev pub FitItems : Text → ℕ → ℕ → List Item → Type 0
 FitItems root horizon last [] = Unit {0}
 FitItems root horizon last (item ∷ items) =
-    (last ≤ item.tick) × (item.tick < horizon) × FitsCommand root item.command × FitItems root horizon item.tick items
+    (last ≤ item.tick) ×
+    (item.tick < horizon) × FitsCommand root item.command × FitItems root horizon item.tick items
 
 -- the scenario is an early one
 pub record IsEarly (s : Scenario) : Type 0 where

@@ -44,7 +44,8 @@ IsAnswer bytes Done output = IsReportOf bytes output
 IsAnswer bytes RefusedText output = IsNoEarlyText bytes × (output ≡ refusal_line)
 IsAnswer bytes _ output = ⊥
 
--- what is to be written at a status: at `run` about the bytes that were read, and at other words, which read nothing, how
+-- what is to be written at a status: at `run` about the bytes that were read, and at other words, which
+-- read nothing, how
 -- the program is used
 abbrev pub IsOutput : Exchange → Status → Text → Type 0
 IsOutput x Usage output = ¬ IsRun x.words × (x.left_after ≡ x.left) × (output ≡ usage_line)
@@ -104,7 +105,8 @@ Ends x TooLong = IsTooLong x
 -- the answers that must come, unless memory is wanting, where no fault is counted
 pub record MustAnswer (x : Exchange) (status : Status) : Type 0 where
   -- an early text within the limit is answered with its report
-  pub reports : IsRun x.words → (bytes : Text) (scenario : Scenario) → x.left ≡ Some bytes → IsEarlyText bytes scenario
+  pub reports : IsRun x.words → (bytes : Text) (scenario : Scenario) → x.left ≡ Some bytes
+      → IsEarlyText bytes scenario
       → length bytes ≤ limit → IsFaultless x → (status ≡ Done) ⊎ (status ≡ Memory)
   -- any other text within the limit is refused
   pub refuses_text : IsRun x.words → (bytes : Text) → x.left ≡ Some bytes → IsNoEarlyText bytes

@@ -5,7 +5,8 @@ use Rattle.hls_io.specs.Faults.{Rose}
 use Rattle.hls_top.specs.EarlyText.{Text}
 use Rattle.hls_top.specs.Words.{IsRun}
 
--- the words, the bytes that are left to be read and those that were written, where they are told, and the faults that were
+-- the words, the bytes that are left to be read and those that were written, where they are told, and the
+-- faults that were
 -- counted, each before the run and after it
 pub record Exchange : Type 0 where
   pub words : List Text
@@ -42,7 +43,8 @@ pub record IsFaultless (x : Exchange) : Type 0 where
   pub reads : ¬ Rose x.read_faults x.read_faults_after
   pub writes : ¬ Rose x.write_faults x.write_faults_after
 
--- what holds however a run ends: whether bytes are told stays as it was, no count of faults falls, at most one byte past the
+-- what holds however a run ends: whether bytes are told stays as it was, no count of faults falls, at most
+-- one byte past the
 -- limit is read, and none at other words
 pub record IsOrderly (x : Exchange) : Type 0 where
   pub source_told : TellsAlike x.left x.left_after

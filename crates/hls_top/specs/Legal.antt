@@ -1,5 +1,6 @@
 -- The legal report of a scenario.
-use Rattle.std.specs.Prelude.{◌≡◌, ℕ, ◌+◌, ◌-◌, ◌<◌, ◌≤◌, ◌↔◌, Bool, true, false, List, [], ◌∷◌, length, Option, Some, None, is_none, slice_get}
+use Rattle.std.specs.Prelude.{◌≡◌, ℕ, ◌+◌, ◌-◌, ◌<◌, ◌≤◌, ◌↔◌, Bool, true, false, List, [], ◌∷◌, length}
+use Rattle.std.specs.Prelude.{Option, Some, None, is_none, slice_get}
 use Rattle.std.specs.Option.{option_map, option_and_then}
 use Rattle.hls_chron.specs.declared.plain.Config.TheVariants.{Fp}
 use Rattle.hls_chron.specs.declared.plain.Terms.TheVariants.{Prio}
@@ -34,9 +35,11 @@ pub record HasReady (s : Scenario) (slot t : ℕ) : Type 0 where
 
 -- the name of the thread in the slot that was served
 abbrev pub name_in : List Seated → Option ℕ → Option Text
-name_in threads slot = option_and_then (λ slot. option_map (λ (thread : Seated). thread.name) (slice_get threads slot)) slot
+name_in threads slot = option_and_then (λ slot. option_map (λ (thread : Seated). thread.name)
+    (slice_get threads slot)) slot
 
--- the book is the projection of the run on the root scheduler: in each tick the slots of the ready threads ask, and the slot
+-- the book is the projection of the run on the root scheduler: in each tick the slots of the ready threads
+-- ask, and the slot
 -- of the thread that ran is served
 pub record IsProjection (s : Scenario) (runs : List Run) (b : Ledger) : Type 0 where
   pub start : b.start ≡ 0
@@ -66,11 +69,13 @@ pub record IsLegal (s : Scenario) (r : Report) : Type 0 where
   pub scenario : r.scenario ≡ s
   pub answers : r.answers ≡ answers s.root s.items
   pub covered : Covers 0 s.horizon r.runs
-  -- the book of the root scheduler, which follows its discipline, and where a tick is idle exactly if it does not ask
+  -- the book of the root scheduler, which follows its discipline, and where a tick is idle exactly if it
+  -- does not ask
   pub book : Ledger
   pub projected : IsProjection s r.runs book
   pub discipline : KeepsDiscipline Fp book
-  pub idle : (t : ℕ) → t < s.horizon → (ran_at r.runs t ≡ None) ↔ (asks Fp (before t book) (row_at book t).mask ≡ false)
+  pub idle : (t : ℕ) → t < s.horizon → (ran_at r.runs t ≡ None) ↔ (asks Fp (before t book)
+      (row_at book t).mask ≡ false)
   pub accounts : r.accounts ≡ accounts_of s.horizon book 0 (admitted s.root s.items)
   pub idle_ticks : r.idle ≡ count (λ t. is_none (ran_at r.runs t)) 0 s.horizon
 

@@ -1,5 +1,6 @@
 -- How the root scheduler and the threads hang together, while a scenario is carried out.
-use Rattle.std.specs.Prelude.{◌≡◌, ◌≢◌, ℕ, ◌+◌, ◌*◌, ◌<◌, ◌≤◌, ◌↔◌, List, length, Option, Some, None, true, false, slice_get, take, vec_len, vec_capacity}
+use Rattle.std.specs.Prelude.{◌≡◌, ◌≢◌, ℕ, ◌+◌, ◌*◌, ◌<◌, ◌≤◌, ◌↔◌, List, length, Option, Some, None, true}
+use Rattle.std.specs.Prelude.{false, slice_get, take, vec_len, vec_capacity}
 use Rattle.std.specs.Option.{option_map}
 use Rattle.hls_chron.specs.declared.plain.Config.TheVariants.{Fp}
 use Rattle.hls_chron.specs.declared.plain.Terms.{Terms}
@@ -36,10 +37,12 @@ pub record IsSeated (threads : List Thread) (root : Seen) : Type 0 where
 
 -- no two threads have one name
 abbrev pub HasOwnNames : List Thread → Type 0
-HasOwnNames threads = (j k : ℕ) (one other : Thread) → slice_get threads j ≡ Some one → slice_get threads k ≡ Some other
+HasOwnNames threads = (j k : ℕ) (one other : Thread) → slice_get threads j ≡ Some one
+    → slice_get threads k ≡ Some other
     → one.name ≡ other.name → j ≡ k
 
--- the commands that were carried out are of ticks up to the present one, and the others are of no earlier tick
+-- the commands that were carried out are of ticks up to the present one, and the others are of no earlier
+-- tick
 pub record IsInTime (items : List Item) (line now : ℕ) : Type 0 where
   pub behind : (k : ℕ) (item : Item) → k < line → slice_get items k ≡ Some item → item.tick ≤ now
   pub ahead : (k : ℕ) (item : Item) → line ≤ k → slice_get items k ≡ Some item → now ≤ item.tick
@@ -59,14 +62,17 @@ pub record IsCarriedOut (s : Scenario) (p : Progress) (b : Ledger) : Type 0 wher
   pub awake : (slot : ℕ) (thread : Thread) → slice_get p.threads.items slot ≡ Some thread
       → (thread.awake ≡ true) ↔ IsReadyAfter (take p.line s.items) (seated_of thread)
   pub marks : b.marks ≡ seat_marks 0 (admitted s.root (take p.line s.items))
-  pub lines : (slot : ℕ) (thread : Thread) → slice_get p.threads.items slot ≡ Some thread → thread.line < p.line
+  pub lines : (slot : ℕ) (thread : Thread) → slice_get p.threads.items slot ≡ Some thread
+      → thread.line < p.line
   pub names : HasOwnNames p.threads.items
 
--- in each tick that has passed the slots of the ready threads asked, and the tick was idle exactly if nobody did
+-- in each tick that has passed the slots of the ready threads asked, and the tick was idle exactly if
+-- nobody did
 pub record HasPassed (s : Scenario) (b : Ledger) : Type 0 where
   pub start : b.start ≡ 0
   pub asked : (t slot : ℕ) → t < now_of b → SlotAsks (row_at b t).mask slot ↔ HasReady s slot t
-  pub idle : (t : ℕ) → t < now_of b → ((row_at b t).to ≡ None) ↔ (asks Fp (before t b) (row_at b t).mask ≡ false)
+  pub idle : (t : ℕ) → t < now_of b → ((row_at b t).to ≡ None) ↔ (asks Fp (before t b) (row_at b t).mask
+      ≡ false)
 
 pub record IsLinked (s : Scenario) (p : Progress) (root : Seen) : Type 0 where
   pub seated : IsSeated p.threads.items root

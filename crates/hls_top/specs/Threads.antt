@@ -1,5 +1,6 @@
 -- The threads that are admitted at the root scheduler, and the answers to commands.
-use Rattle.std.specs.Prelude.{ℕ, ◌+◌, ◌==◌, ◌||◌, nat_le, Bool, false, List, [], ◌∷◌, ◌++◌, length, if◌then◌else◌, Option}
+use Rattle.std.specs.Prelude.{ℕ, ◌+◌, ◌==◌, ◌||◌, nat_le, Bool, false, List, [], ◌∷◌, ◌++◌, length}
+use Rattle.std.specs.Prelude.{if◌then◌else◌, Option}
 use Rattle.std.specs.Str.{bytes_eq}
 use Rattle.std.specs.List.{list_any}
 use Rattle.hls_top.specs.EarlyText.{Text}
@@ -56,12 +57,14 @@ threads_after root line item threads = threads_by (answer_to root threads item.c
 -- the threads after commands of which the first has this place, and the answers to them
 unfoldable pub admitted_from : Text → ℕ → List Seated → List Item → List Seated
 admitted_from root line threads [] = threads
-admitted_from root line threads (item ∷ items) = admitted_from root (line + 1) (threads_after root line item threads) items
+admitted_from root line threads (item ∷ items) = admitted_from root (line + 1)
+    (threads_after root line item threads) items
 
 unfoldable pub answers_from : Text → ℕ → List Seated → List Item → List Answer
 answers_from root line threads [] = []
 answers_from root line threads (item ∷ items) =
-    answer_to root threads item.command ∷ answers_from root (line + 1) (threads_after root line item threads) items
+    answer_to root threads item.command ∷ answers_from root (line + 1)
+    (threads_after root line item threads) items
 
 -- the threads in the order of their slots, and the answers, where nobody is admitted at first
 abbrev pub admitted : Text → List Item → List Seated

@@ -1,7 +1,10 @@
 // Carrying a scenario out, command by command and tick by tick.
-ghost use Rattle.std.specs.Prelude.{◌≡◌, ◌≢◌, ℕ, ◌+◌, ◌<◌, ◌≤◌, ◌↔◌, length, Some, None, true, false, vec_capacity, slice_get};
+ghost use Rattle.std.specs.Prelude.{◌≡◌, ◌≢◌, ◌+◌, ◌<◌, ◌≤◌, length, Some, None, true, false, vec_capacity};
+ghost use Rattle.std.specs.Prelude.{slice_get, IfOk, []};
 ghost use Rattle.hls_chron.specs.Ledger.{now_of};
-ghost use Rattle.hls_sched.specs.Seen.{IsConfigured};
+ghost use Rattle.hls_sched.specs.Seen.{IsConfigured, IsBlank};
+ghost use Rattle.hls_sched.specs.GoodKit.{IsGood, boxes_of};
+ghost use Rattle.hls_top.specs.Legal.{IsLegal};
 ghost use Rattle.hls_top.specs.EarlyText.{IsEarly, FitsCommand};
 ghost use Rattle.hls_top.specs.Progress.{seated_all};
 ghost use Rattle.hls_top.specs.Threads.{answer_to};
@@ -12,10 +15,12 @@ ghost use Rattle.hls_top.specs.declared.early.Item.{Item};
 
 use crate::early::{Command, Item, Promise, Scenario};
 use crate::progress::{Progress, Thread};
-use crate::report::Answer;
+use crate::report::{Answer, Report};
+use crate::reporting::report_of;
 use crate::threads::{admit, rouse};
-use hls_chron::Name;
-use hls_sched::Scheduler;
+use hls_chron::{Config, Kind, Name};
+use hls_sched::{Kit, Scheduler};
+use std::alloc::{AllocError, Global};
 
 /// Carries a command out, and gives its answer.
 fn answer(
@@ -30,8 +35,10 @@ fn answer(
     requires room { 32 ≤ vec_capacity threads.old }
     requires marks { 0 < (seen root.old).book.spare_marks }
     ensures answer { result ≡ answer_to root_name.now (seated_all threads.old.items) item.now.command }
-    ensures done { result ≡ Answer.Done → Does item.now.command threads.old.items threads.new.items (seen root.old) (seen root.new) line item.now.tick }
-    ensures refused { (refusal : Refusal) → result ≡ Answer.Refused refusal → LeavesAll threads.old.items threads.new.items (seen root.old) (seen root.new) }
+    ensures done { result ≡ Answer.Done → Does item.now.command threads.old.items threads.new.items
+        (seen root.old) (seen root.new) line item.now.tick }
+    ensures refused { (refusal : Refusal) → result ≡ Answer.Refused refusal
+        → LeavesAll threads.old.items threads.new.items (seen root.old) (seen root.new) }
     ensures capacity { vec_capacity threads.new ≡ vec_capacity threads.old }
 {
     match &item.command {
@@ -73,7 +80,8 @@ fn carry_out_next(scenario: &Scenario, progress: &mut Progress, root: &mut dyn S
 /// Whether the next command is of a tick.
 fn is_due(scenario: &Scenario, line: usize, now: u32) -> bool
     ensures due { result ≡ true → IsDue scenario.now line now }
-    ensures not_due { result ≡ false → (item : Item) → slice_get scenario.now.items line ≡ Some item → item.tick ≢ now }
+    ensures not_due { result ≡ false → (item : Item) → slice_get scenario.now.items line ≡ Some item
+        → item.tick ≢ now }
 {
     match scenario.items.items().get(line) {
         Some(item) => item.tick == now,
@@ -112,7 +120,7 @@ fn run_tick(root: &mut dyn Scheduler)
 }
 
 /// Carries a whole scenario out.
-pub fn run_scenario(scenario: &Scenario, progress: &mut Progress, root: &mut dyn Scheduler)
+fn run_scenario(scenario: &Scenario, progress: &mut Progress, root: &mut dyn Scheduler)
     requires early { IsEarly scenario.now }
     requires linked { IsLinked scenario.now progress.old (seen root.old) }
     requires start { now_of (seen root.old).book ≡ 0 }
@@ -123,5 +131,41 @@ pub fn run_scenario(scenario: &Scenario, progress: &mut Progress, root: &mut dyn
     for _ in 0..scenario.horizon {
         carry_out_due(scenario, progress, root);
         run_tick(root);
+    }
+}
+
+/// Carries a scenario out on a blank box, and tells of it in a report.
+fn carry_out_on(
+    alloc: Global,
+    scenario: Scenario,
+    root: &mut dyn Scheduler,
+) -> Result<Report, AllocError>
+    requires early { IsEarly scenario }
+    requires blank { IsBlank Kind.Fp (seen root.old) }
+    ensures { IfOk result (IsLegal scenario) }
+{
+    let commands = scenario.items.items().len();
+    root.setup(&Config::Fp, 0, scenario.horizon, commands as u32)?;
+    let mut progress = Progress::start(alloc, commands)?;
+    run_scenario(&scenario, &mut progress, root);
+    root.vouch();
+    report_of(alloc, scenario, progress, root.book())
+}
+
+/// Carries a scenario out with a box of the kit, and tells of it in a report.
+///
+/// # Errors
+///
+/// Where memory is wanting.
+pub fn carry_out(alloc: Global, scenario: Scenario, kit: Kit) -> Result<Report, AllocError>
+    requires good { IsGood (λ b. seen (b.vtable, b.value)) kit }
+    requires boxed { boxes_of Kind.Fp kit ≢ [] }
+    requires early { IsEarly scenario }
+    ensures { IfOk result (IsLegal scenario) }
+{
+    let mut kit = kit;
+    match kit.take(Kind::Fp) {
+        Some(mut root) => carry_out_on(alloc, scenario, &mut *root),
+        None => unreachable!(),
     }
 }

@@ -7,10 +7,9 @@ mod early_reader;
 mod number;
 pub mod progress;
 pub mod report;
-mod reporting;
 mod report_writer;
+mod reporting;
 mod run;
-mod stubs;
 mod threads;
 mod tokens;
 

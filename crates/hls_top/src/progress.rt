@@ -1,9 +1,13 @@
 // What was carried out of a scenario so far.
-ghost use Rattle.std.specs.Prelude.{◌≡◌, ◌+◌, ◌<◌, ◌^◌, [], ◌∷◌, ◌++◌, vec_len, vec_capacity};
+ghost use Rattle.std.specs.Prelude.{◌≡◌, ◌+◌, ◌<◌, ◌^◌, [], ◌∷◌, ◌++◌, vec_len, vec_capacity, IfOk};
 
 use crate::early::Promise;
 use crate::report::{Answer, push_answer};
 use hls_chron::Name;
+use std::alloc::{AllocError, Global};
+
+/// How many seats a scheduler has at most.
+const SEATS: usize = 32;
 
 /// A thread that is admitted. Threads stand in the order of their slots.
 #[derive(Debug, Drop)]
@@ -27,6 +31,20 @@ pub struct Progress {
 }
 
 impl Progress {
+    ghost use Rattle.hls_top.specs.Changes.{IsNewProgress};
+
+    /// Nothing carried out yet, with room for the answers to so many commands and for all the
+    /// threads that a scheduler has seats for.
+    pub fn start(alloc: Global, commands: usize) -> Result<Progress, AllocError>
+        ensures { IfOk result (IsNewProgress commands) }
+    {
+        Ok(Progress {
+            line: 0,
+            answers: Vec::with_capacity(alloc, commands)?,
+            threads: Vec::with_capacity(alloc, SEATS)?,
+        })
+    }
+
     /// Notes the answer to the next command, in room that is there.
     pub fn note(&mut self, answer: Answer)
         requires room { vec_len self.old.answers < vec_capacity self.old.answers }

@@ -1,5 +1,6 @@
 // The call that does all that the program does.
-ghost use Rattle.std.specs.Prelude.{◌≡◌, ◌≢◌, ◌↔◌, ◌⊎◌, [], List, IsTrue, IfOk, MatchOption, map, string_bytes};
+ghost use Rattle.std.specs.Prelude.{◌≡◌, ◌≢◌, ◌↔◌, ◌⊎◌, [], List, IsTrue, IfOk, MatchOption, map};
+ghost use Rattle.std.specs.Prelude.{string_bytes};
 ghost use Rattle.hls_chron.specs.declared.plain.Kind.TheVariants.{Fp};
 ghost use Rattle.hls_sched.specs.GoodKit.{IsGood, boxes_of};
 ghost use Rattle.hls_top.specs.EarlyText.{Text};
@@ -8,9 +9,9 @@ ghost use Rattle.hls_top.specs.Exchange.{exchange, IsOrderly};
 ghost use Rattle.hls_top.specs.Ends.{Ends, MustAnswer, IsNoEarlyText, IsReportOf};
 ghost use Rattle.hls_top.specs.Says.{shown, Says, SaysAnswer, SaysNothing, IsSteady};
 
+use crate::carry_out::carry_out;
 use crate::early_reader::read_early;
 use crate::report_writer::write_report;
-use crate::stubs::carry_out;
 use hls_io::{ReadError, Sink, Source, Status, read_all, write_all};
 use hls_sched::Kit;
 use std::alloc::{AllocError, Global};

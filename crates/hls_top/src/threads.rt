@@ -1,5 +1,6 @@
 // The threads on the root scheduler: admitting, waking and blocking them.
-ghost use Rattle.std.specs.Prelude.{◌≡◌, ◌≢◌, ℕ, ◌<◌, ◌≤◌, ◌↔◌, [], ◌∷◌, ◌++◌, List, length, Some, None, true, false, IfSome, IfNone, IsSome, IsNone, slice_get, slice_set, vec_capacity, position, ◌||◌};
+ghost use Rattle.std.specs.Prelude.{◌≡◌, ◌≢◌, ℕ, ◌<◌, ◌≤◌, [], ◌∷◌, ◌++◌, List, length, Some, None, true};
+ghost use Rattle.std.specs.Prelude.{false, slice_get, slice_set, vec_capacity, position, ◌||◌};
 ghost use Rattle.std.specs.Str.{bytes_eq};
 ghost use Rattle.hls_chron.specs.declared.plain.Config.TheVariants.{Fp};
 ghost use Rattle.hls_chron.specs.Seats.{SlotAsks, terms_at, IsFree};
@@ -8,7 +9,8 @@ ghost use Rattle.hls_sched.specs.Fits.{IsAnswer, IsFirst};
 ghost use Rattle.hls_top.specs.Progress.{seated_all};
 ghost use Rattle.hls_top.specs.Threads.{has_name, has_priority, answer_to};
 ghost use Rattle.hls_top.specs.Linked.{IsSeated, terms_of};
-ghost use Rattle.hls_top.specs.Changes.{is_thread_named, told, Names, Admits, Rouses, RousesNamed, LeavesAll, refusal_for, call_of};
+ghost use Rattle.hls_top.specs.Changes.{is_thread_named, told, Admits, Rouses, RousesNamed, LeavesAll};
+ghost use Rattle.hls_top.specs.Changes.{refusal_for, call_of};
 ghost use Rattle.hls_top.specs.declared.report.Refusal.{Refusal};
 ghost use Rattle.hls_top.specs.declared.early.Command.TheVariants.{Thread as ThreadCommand};
 
@@ -93,9 +95,12 @@ pub fn admit(
     requires range { thread.priority ≤ 31 }
     requires room { 32 ≤ vec_capacity threads.old }
     requires marks { 0 < (seen root.old).book.spare_marks }
-    ensures answer { result ≡ answer_to root_name.now (seated_all threads.old.items) (ThreadCommand thread.name thread.priority thread.promise) }
-    ensures done { result ≡ Answer.Done → Admits threads.old.items threads.new.items (seen root.old) (seen root.new) thread }
-    ensures refused { (refusal : Refusal) → result ≡ Answer.Refused refusal → LeavesAll threads.old.items threads.new.items (seen root.old) (seen root.new) }
+    ensures answer { result ≡ answer_to root_name.now (seated_all threads.old.items)
+        (ThreadCommand thread.name thread.priority thread.promise) }
+    ensures done { result ≡ Answer.Done
+        → Admits threads.old.items threads.new.items (seen root.old) (seen root.new) thread }
+    ensures refused { (refusal : Refusal) → result ≡ Answer.Refused refusal
+        → LeavesAll threads.old.items threads.new.items (seen root.old) (seen root.new) }
     ensures capacity { vec_capacity threads.new ≡ vec_capacity threads.old }
 {
     if is_taken(threads, root_name, &thread.name) {
@@ -141,9 +146,12 @@ fn set_awake(threads: &mut [Thread], root: &mut dyn Scheduler, slot: usize, awak
 /// Wakes or blocks the thread with a name, or tells that nobody has it.
 pub fn rouse(threads: &mut [Thread], root: &mut dyn Scheduler, name: &Name, awake: bool) -> Answer
     requires seated { IsSeated threads.old (seen root.old) }
-    ensures answer { (root_name : List ℕ) → result ≡ answer_to root_name (seated_all threads.old) (call_of awake name.now) }
-    ensures done { result ≡ Answer.Done → RousesNamed threads.old threads.new (seen root.old) (seen root.new) name.now awake }
-    ensures refused { (refusal : Refusal) → result ≡ Answer.Refused refusal → LeavesAll threads.old threads.new (seen root.old) (seen root.new) }
+    ensures answer { (root_name : List ℕ)
+        → result ≡ answer_to root_name (seated_all threads.old) (call_of awake name.now) }
+    ensures done { result ≡ Answer.Done
+        → RousesNamed threads.old threads.new (seen root.old) (seen root.new) name.now awake }
+    ensures refused { (refusal : Refusal) → result ≡ Answer.Refused refusal
+        → LeavesAll threads.old threads.new (seen root.old) (seen root.new) }
 {
     match find_thread(threads, name) {
         None => Answer::Refused(Refusal::NoSuchName { name: *name }),

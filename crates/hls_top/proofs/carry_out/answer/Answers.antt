@@ -11,4 +11,7 @@ returns-in-Wake-clause-answer g c =
 
 pub returns-in-Block-clause-answer : goal.returns-in-Block-clause-answer
 returns-in-Block-clause-answer g c =
-    rw (c.in-Block.is, ← c.deref_mut-in-Block.ensures.value) (c.rouse-in-Block.ensures.answer c.args.root_name.now)
+    rw (
+      c.in-Block.is,
+      ← c.deref_mut-in-Block.ensures.value,
+    ) (c.rouse-in-Block.ensures.answer c.args.root_name.now)

@@ -1,5 +1,5 @@
 use Rattle.std.proofs.Common.{rules}
-use Rattle.hls_top.proofs.Endings.{report_is}
+use Rattle.hls_top.proofs.Outcomes.{report_is}
 use Rattle.hls_top.proofs.run.report_on.Goals as goal
 
 pub returns : goal.returns

@@ -1,0 +1,11 @@
+pub mod ServiceLemmas
+pub mod Offsets
+pub mod Promises
+pub mod Windows
+pub mod Slides
+pub mod Debts
+pub mod Blocks
+pub mod Texts
+pub mod Spellings
+pub mod Injective
+pub mod Pieces

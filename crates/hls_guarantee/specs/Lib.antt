@@ -1,0 +1,6 @@
+pub mod Service
+pub mod Satisfaction
+pub mod Cap
+pub mod Limits
+pub mod Spelling
+pub use Rattle.hls_frac.specs.Frac

@@ -1,0 +1,231 @@
+//! Values of the published tables, and `holds` beside a slow reading of each promise.
+
+ghost use Rattle.std.specs.Prelude.{ℕ, ◌≤◌, ◌<◌, length};
+
+use crate::{Guarantee, holds, read_guarantee, valid, write_guarantee};
+use hls_frac::Frac;
+use std::process::Abort;
+use std::test::Fail;
+
+fn blocks(hard: bool, x: u32, y: u32) -> Guarantee {
+    Guarantee::Resb { hard, x, y }
+}
+
+fn windows(hard: bool, x: u32, y: u32) -> Guarantee {
+    Guarantee::Resc { hard, x, y }
+}
+
+fn share(s: (u128, u128), d: (u128, u128)) -> Result<Guarantee, Fail> {
+    Ok(Guarantee::Psbe {
+        s: Frac::make(s.0, s.1).ok_or("a rate over 0")?,
+        d: Frac::make(d.0, d.1).ok_or("an error over 0")?,
+    })
+}
+
+#[test]
+fn decides_lists(rt: HostRuntime) -> Result<(), Fail> {
+    let half = share((1, 2), (1, 1))?;
+    let cases: [(Guarantee, &[u8], bool); 10] = [
+        (Guarantee::All, b"", true),
+        (Guarantee::All, b"10", false),
+        (windows(false, 1, 2), b"0", true),
+        (windows(false, 1, 2), b"1001", false),
+        (blocks(false, 1, 2), b"1001", true),
+        (blocks(false, 1, 2), b"000", false),
+        (blocks(true, 1, 2), b"11", true),
+        (blocks(true, 1, 2), b"111", false),
+        (half, b"0010", true),
+        (half, b"0001", false),
+    ];
+    for (g, digits, want) in cases {
+        let list: Vec<bool> = digits
+            .iter()
+            .map(|digit| *digit == b'1')
+            .collect(rt.alloc())?;
+        assert!(rt; valid(&g));
+        assert!(rt; list.len() <= 4);
+        assert_eq!(rt; holds(&g, list.as_slice()), want, "{g:?} at {digits:?}");
+    }
+    Ok(())
+}
+
+fn count(part: &[bool]) -> u64 {
+    part.iter().filter(|served| **served).count() as u64
+}
+
+/// Whether a part has what a reservation wants of it.
+fn is_reserved(hard: bool, x: u32, y: u32, part: &[bool]) -> bool {
+    let got = count(part);
+    let enough = u64::from(x).saturating_add(part.len() as u64) <= u64::from(y).saturating_add(got);
+    enough && (!hard || got <= u64::from(x))
+}
+
+/// Whether a part of `p` ticks has at least `s * p - d`.
+fn has_share(s: &Frac, d: &Frac, part: &[bool]) -> bool {
+    let owed = s
+        .num
+        .saturating_mul(part.len() as u128)
+        .saturating_mul(d.den);
+    let paid = d
+        .den
+        .saturating_mul(u128::from(count(part)))
+        .saturating_add(d.num);
+    owed <= paid.saturating_mul(s.den)
+}
+
+/// Whether every part of at most so many ticks is as wanted.
+fn every_part<P: Fn(&[bool]) -> bool>(list: &[bool], most: usize, wanted: P) -> bool
+    requires { P.IsAlwaysCallable wanted }
+{
+    for from in 0..list.len() {
+        for to in from..list.len() {
+            if to - from < most && !wanted(&list[from..to + 1]) {
+                return false;
+            }
+        }
+    }
+    true
+}
+
+/// Whether every piece of a list cut at this offset is reserved.
+fn every_piece(hard: bool, x: u32, y: u32, offset: usize, list: &[bool]) -> bool
+    requires { 0 < y }
+{
+    let (front, rest) = list.split_at(offset.min(list.len()));
+    is_reserved(hard, x, y, front)
+        && rest
+            .chunks(y as usize)
+            .all(|piece| is_reserved(hard, x, y, piece))
+}
+
+/// The promise of a guarantee, read part by part and piece by piece.
+fn is_satisfied(g: &Guarantee, list: &[bool]) -> bool {
+    match *g {
+        Guarantee::All => every_part(list, 1, |part| count(part) == 1),
+        Guarantee::Null => true,
+        Guarantee::Resc { hard, x, y } => {
+            every_part(list, y as usize, |part| is_reserved(hard, x, y, part))
+        }
+        Guarantee::Resb { hard, x, y } => {
+            for offset in 0..y {
+                if every_piece(hard, x, y, offset as usize, list) {
+                    return true;
+                }
+            }
+            false
+        }
+        Guarantee::Psbe { s, d } => every_part(list, list.len(), |part| has_share(&s, &d, part)),
+    }
+}
+
+fn compare(rt: &impl Abort, g: Guarantee, list: &[bool])
+    requires { length list.now ≤ 8 }
+{
+    assert!(rt; valid(&g));
+    assert_eq!(rt;
+        holds(&g, list),
+        is_satisfied(&g, list),
+        "{g:?} at {list:?}"
+    );
+}
+
+/// The lowest bits of a number.
+fn bits(number: u32) -> [bool; 8] {
+    let mut list = [false; 8];
+    for at in 0..8u32 {
+        list[at as usize] = number >> at & 1 == 1;
+    }
+    list
+}
+
+#[test]
+fn decides_as_the_promises_read(rt: HostRuntime) -> Result<(), Fail> {
+    for number in 0..256 {
+        let list = bits(number);
+        for len in 0..9 {
+            let list = &list[..len];
+            compare(&rt, Guarantee::All, list);
+            compare(&rt, Guarantee::Null, list);
+            for y in 1..5 {
+                for x in 1..y + 1 {
+                    for hard in [false, true] {
+                        compare(&rt, blocks(hard, x, y), list);
+                        compare(&rt, windows(hard, x, y), list);
+                    }
+                    compare(&rt, share((u128::from(x), u128::from(y)), (1, 2))?, list);
+                    compare(&rt, share((u128::from(x), u128::from(y)), (3, 2))?, list);
+                }
+            }
+        }
+    }
+    Ok(())
+}
+
+#[test]
+fn spells(rt: HostRuntime) -> Result<(), Fail> {
+    let cases: [(Guarantee, &[u8]); 11] = [
+        (Guarantee::All, b"ALL"),
+        (Guarantee::Null, b"NULL"),
+        (blocks(true, 3, 10), b"RESBH 3 10"),
+        (blocks(false, 1, 20_000), b"RESBS 1 20000"),
+        (windows(true, 20_000, 20_000), b"RESCH 20000 20000"),
+        (windows(false, 1, 1), b"RESCS 1 1"),
+        (share((3, 10), (42, 10))?, b"PSBE 3/10 21/5"),
+        (share((1, 1), (0, 7))?, b"PSBE 1 0"),
+        (share((9, 40), (83, 20))?, b"PSBE 9/40 83/20"),
+        (
+            share((99_999_999, 100_000_000), (10_000_000_000_000, 1))?,
+            b"PSBE 99999999/100000000 10000000000000",
+        ),
+        (
+            share((1, 100_000_000), (9_999_999_999_999, 100_000_000))?,
+            b"PSBE 1/100000000 9999999999999/100000000",
+        ),
+    ];
+    for (g, text) in cases {
+        assert!(rt; valid(&g));
+        let mut out = Vec::from_slice(rt.alloc(), b"as ")?;
+        write_guarantee(&g, &mut out)?;
+        assert_eq!(rt; &out[..3], b"as ".as_slice());
+        assert_eq!(rt; &out[3..], text, "{g:?}");
+        assert_eq!(rt; read_guarantee(text), Some(g));
+    }
+    Ok(())
+}
+
+#[test]
+fn reads_no_other_text(rt: HostRuntime) {
+    let texts: [&[u8]; 28] = [
+        b"",
+        b"all",
+        b"ALL ",
+        b" ALL",
+        b"NULL\n",
+        b"RESBH",
+        b"RESBH 3",
+        b"RESBH 3 10 ",
+        b"RESBH  3 10",
+        b"RESBH 3\t10",
+        b"RESBX 3 10",
+        b"RESBH 03 10",
+        b"RESBH 3 010",
+        b"RESBH +3 10",
+        b"RESBH 0 10",
+        b"RESBH 11 10",
+        b"RESCS 1 20001",
+        b"RESCS 1 340282366920938463463374607431768211456",
+        b"PSBE 1/2",
+        b"PSBE 2/4 1",
+        b"PSBE 1/2 2/1",
+        b"PSBE 0 1",
+        b"PSBE 3/2 1",
+        b"PSBE 1/0 1",
+        b"PSBE 1/2/3 1",
+        b"PSBE 1/100000001 1",
+        b"PSBE 1/2 10000000000001",
+        b"PSBE 1/2 1 1",
+    ];
+    for text in texts {
+        assert_eq!(rt; read_guarantee(text), None, "{text:?}");
+    }
+}
