@@ -43,7 +43,8 @@ impl Scheduler for Fp {
 
     ghost choice = { λ s. choice_of s.priorities s.mask };
 
-    ghost keeps = { λ s configured. keeps_discipline s.configured s.book s.mask s.grant s.sound.discipline configured };
+    ghost keeps = { λ s configured.
+        keeps_discipline s.configured s.book s.mask s.grant s.sound.discipline configured };
 
     fn kind(&self) -> Kind {
         Kind::Fp
