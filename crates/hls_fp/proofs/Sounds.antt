@@ -1,21 +1,20 @@
 -- What each change leaves of what the fields keep.
-use Rattle.std.proofs.Common.{◌≡◌, ◌≢◌, ℕ, ◌^◌, ◌<◌, ◌≤◌, List, [], ◌∷◌, ◌++◌, length, Option, Some, None}
-use Rattle.std.proofs.Common.{Bool, true, false, suc, zero, refl, arith, sym, ◌∙◌, ap, subst, inl, inr}
+use Rattle.std.proofs.Common.{◌≡◌, ◌≢◌, ℕ, ◌^◌, ◌<◌, List, [], length, Option, Some, None}
+use Rattle.std.proofs.Common.{Bool, true, false, suc, zero, refl, arith, sym, ◌∙◌, subst, inl, inr}
 use Rattle.std.proofs.Common.{get_or, get_or-set_same, get_or-set_other}
-use Rattle.std.specs.Prelude.{IfSome, IsNone, slice_set, replicate, if◌then◌else◌, ◌==◌, ◌⊎◌, ◌↔◌, is_some}
+use Rattle.std.specs.Prelude.{slice_set, replicate, if◌then◌else◌, ◌==◌}
 use Rattle.std.proofs.lemmas.Bool.{cases_eq}
 use Rattle.std.proofs.lemmas.Bool.Decides.{nat_tests}
-use Rattle.hls_chron.specs.declared.book.TickRow.{TickRow}
 use Rattle.hls_chron.specs.declared.book.Event.TheVariants.{Seat, Leave, Settle}
 use Rattle.hls_chron.specs.declared.plain.Terms.TheVariants.{Prio}
 use Rattle.hls_chron.specs.declared.plain.Config.TheVariants.{Fp}
-use Rattle.hls_chron.specs.Ledger.{Ledger, now_of, before, with_row, with_mark, IsDated}
-use Rattle.hls_chron.specs.Seats.{SlotAsks, terms_at, terms_after, priority_at, priority_in}
+use Rattle.hls_chron.specs.Ledger.{Ledger, now_of, before, with_row, with_mark}
+use Rattle.hls_chron.specs.Seats.{SlotAsks, terms_at, priority_at}
 use Rattle.hls_chron.specs.Asks.{some_slot_asks}
-use Rattle.hls_chron.specs.Discipline.{HasLeastPriority, KeepsDiscipline}
+use Rattle.hls_chron.specs.Discipline.{HasLeastPriority}
 use Rattle.hls_chron.proofs.BookLaws.{terms_at-mark, terms_at-row, terms_at-same, terms_at-unmarked}
 use Rattle.hls_chron.proofs.BookLaws.{before-now, dated-mark, dated-row, dated-unmarked}
-use Rattle.hls_chron.proofs.DisciplineLaws.{ServesInTick, discipline-mark, discipline-row}
+use Rattle.hls_chron.proofs.DisciplineLaws.{discipline-mark, discipline-row}
 use Rattle.hls_chron.proofs.DisciplineLaws.{discipline-unwritten}
 use Rattle.hls_sched.specs.Seen.{with_slot, without_slot, tick_row}
 use Rattle.hls_fp.specs.Choice.{choice_of}

@@ -1,5 +1,4 @@
 // A box of fixed priority.
-ghost use Rattle.std.specs.Prelude.{◌≡◌};
 ghost use Rattle.hls_fp.specs.Choice.{choice_of};
 ghost use Rattle.hls_fp.specs.Sound.{fp_seen, IsSound, keeps_discipline};
 ghost use Rattle.hls_sched.specs.Seen.{IsBlank};

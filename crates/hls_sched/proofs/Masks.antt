@@ -1,7 +1,6 @@
 -- The bits of a mask of slots.
-use Rattle.std.proofs.Common.{◌≡◌, ◌≢◌, ℕ, ◌^◌, ◌<◌, ◌≤◌, Bool, true, false, arith, inl, inr, w32}
-use Rattle.std.specs.Prelude.{◌⊎◌, not, ◌==◌}
-use Rattle.std.specs.Int.{bit_not, bit_at, trailing_zeros}
+use Rattle.std.proofs.Common.{◌≡◌, ◌≢◌, ℕ, ◌^◌, ◌<◌, true, arith, inl, inr, w32}
+use Rattle.std.specs.Int.{bit_not, trailing_zeros}
 use Rattle.std.proofs.Math.Pow.{pow-lt}
 use Rattle.std.proofs.lemmas.Bool.{cases_lt, cases_eq}
 use Rattle.std.proofs.lemmas.Bool.Decides.{nat_tests}
@@ -20,15 +19,25 @@ asks_with mask slot k asks other =
 -- a slot that asks where one was cleared asked before
 pub asks_without : (mask slot k : ℕ) → SlotAsks (without_slot slot mask) k → SlotAsks mask k
 asks_without mask slot k asks =
-    omega (arith, bit_at_and mask (bit_not w32 (2 ^ slot)) k, bit_at-lt mask k,
-        bit_at-lt (bit_not w32 (2 ^ slot)) k, asks)
+    omega (
+      arith,
+      bit_at_and mask (bit_not w32 (2 ^ slot)) k,
+      bit_at-lt mask k,
+      bit_at-lt (bit_not w32 (2 ^ slot)) k,
+      asks,
+    )
 
 -- the slot that was cleared does not ask
 pub silent_without : (mask slot : ℕ) → slot < 32 → SlotAsks (without_slot slot mask) slot → ⊥
 silent_without mask slot lt asks =
     let small : 2 ^ slot < 2 ^ 32 = pow-lt lt in
-    omega (arith, bit_at_and mask (bit_not w32 (2 ^ slot)) slot, bit_at_not w32 (2 ^ slot) slot small lt,
-        bit_at-pow_same slot, asks)
+    omega (
+      arith,
+      bit_at_and mask (bit_not w32 (2 ^ slot)) slot,
+      bit_at_not w32 (2 ^ slot) slot small lt,
+      bit_at-pow_same slot,
+      asks,
+    )
 
 -- only slots of the width ask
 pub within_width : (mask slot : ℕ) → mask < 2 ^ 32 → SlotAsks mask slot → slot < 32
@@ -72,5 +81,10 @@ pub still_asks_without : (mask slot k : ℕ) → slot < 32 → k < 32 → k ≢ 
     → SlotAsks (without_slot slot mask) k
 still_asks_without mask slot k lt within other asks =
     let small : 2 ^ slot < 2 ^ 32 = pow-lt lt in
-    omega (arith, bit_at_and mask (bit_not w32 (2 ^ slot)) k, bit_at_not w32 (2 ^ slot) k small within,
-        bit_at-pow_other slot k other, asks)
+    omega (
+      arith,
+      bit_at_and mask (bit_not w32 (2 ^ slot)) k,
+      bit_at_not w32 (2 ^ slot) k small within,
+      bit_at-pow_other slot k other,
+      asks,
+    )

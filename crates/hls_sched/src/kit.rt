@@ -3,11 +3,9 @@ ghost use Rattle.std.specs.Prelude.{◌≡◌, ◌≢◌, ◌+◌, ◌-◌, ◌^
 ghost use Rattle.std.specs.Prelude.{slice_index, slice_set};
 ghost use Rattle.hls_chron.specs.declared.plain.Kind.{Kind};
 ghost use Rattle.hls_sched.specs.Seen.{IsBlank};
-ghost use Rattle.hls_sched.specs.Blank.{AllBlank};
 
 use crate::Scheduler;
 use hls_chron::Kind;
-use std::alloc::AllocError;
 
 /// Blank boxes that are there to be loaded, a list for each kind, and how many of each kind
 /// were taken, in the order of the lists. A box that was taken does not come back.

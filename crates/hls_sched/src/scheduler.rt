@@ -1,12 +1,9 @@
 // The trait of a scheduler.
 ghost use Rattle.std.specs.Prelude.{◌≡◌, ◌≢◌, ℕ, ◌<◌, ◌≤◌, ◌↔◌, Option, None, true, false, is_some};
 ghost use Rattle.std.specs.Prelude.{OnOk, OnErr, IsNone, IfSome};
-ghost use Rattle.hls_chron.specs.declared.book.Event.TheVariants.{Seat, Leave, Settle};
 ghost use Rattle.hls_chron.specs.Kinds.{kind_of};
 ghost use Rattle.hls_chron.specs.Ranges.{ConfigInRange, TermsInRange};
-ghost use Rattle.hls_chron.specs.Ledger.{now_of};
 ghost use Rattle.hls_chron.specs.Seats.{terms_at, SlotAsks, IsFree, IsFull};
-ghost use Rattle.hls_chron.specs.Asks.{asks};
 ghost use Rattle.hls_chron.specs.Discipline.{Serves, KeepsDiscipline};
 ghost use Rattle.hls_chron.specs.Room.{room_used};
 ghost use Rattle.hls_sched.specs.Seen.{Seen, config_of, IsConfigured, IsSetUp, seen_asks};
