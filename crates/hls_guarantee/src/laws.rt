@@ -17,6 +17,7 @@ ghost use Rattle.std.specs.Prelude.{
 ghost use Rattle.hls_guarantee.specs.Service.{service, schedule_of, ServesMore};
 ghost use Rattle.hls_guarantee.specs.Satisfaction.{Satisfies, ListSatisfies, IsReserved, IsPiece, IsSoft};
 ghost use Rattle.hls_guarantee.specs.Cap.{KeepsCap};
+ghost use Rattle.hls_guarantee.specs.Supply.{Supplies};
 ghost use Rattle.hls_guarantee.specs.Limits.{IsReservation, IsValid, IsNarrow};
 ghost use Rattle.hls_guarantee.specs.Spelling.{spelling};
 
@@ -31,6 +32,14 @@ pub fn parts_satisfy(g: Guarantee)
         KeepsCap g served lo hi → KeepsCap g served i j }
     ensures list { (before part after : List Bool) → ListSatisfies g (before ++ (part ++ after)) →
         ListSatisfies g part }
+{}
+
+/// Supply speaks only of the ticks of its range: it goes over to a later start, and to a schedule and an asking
+/// that agree from there on.
+pub fn supply_goes_over(g: Guarantee)
+    ensures { (served given asks wants : ℕ → Bool) (lo hi from : ℕ) → lo ≤ from →
+        ((t : ℕ) → from ≤ t → t < hi → served t ≡ given t) → ((t : ℕ) → from ≤ t → t < hi → asks t ≡ wants t) →
+        Supplies g served asks lo hi → Supplies g given wants from hi }
 {}
 
 /// A soft guarantee is satisfied also where more ticks are served.
