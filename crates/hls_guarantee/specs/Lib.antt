@@ -1,5 +1,6 @@
 pub mod Service
 pub mod Satisfaction
+pub mod Pieces
 pub mod Cap
 pub mod Supply
 pub mod Limits
