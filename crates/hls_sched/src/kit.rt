@@ -1,11 +1,12 @@
 // The kit of boxes.
 ghost use Rattle.std.specs.Prelude.{◌≡◌, ◌≢◌, ◌+◌, ◌-◌, ◌^◌, [], ◌∷◌, ◌++◌, min, IfSome, IfNone, IsNone, ◌↔◌};
-ghost use Rattle.std.specs.Prelude.{slice_index, slice_set};
+ghost use Rattle.std.specs.Prelude.{slice_index, slice_set, OnOk, OnErr};
 ghost use Rattle.hls_chron.specs.declared.plain.Kind.{Kind};
 ghost use Rattle.hls_sched.specs.Seen.{IsBlank};
 
 use crate::Scheduler;
 use hls_chron::Kind;
+use std::alloc::AllocError;
 
 /// Blank boxes that are there to be loaded, a list for each kind, and how many of each kind
 /// were taken, in the order of the lists. A box that was taken does not come back.
