@@ -9,3 +9,10 @@ pub mod Texts
 pub mod Spellings
 pub mod Injective
 pub mod Pieces
+pub mod Missed
+pub mod Spans
+pub mod Shares
+pub mod Fractions
+pub mod Readings
+pub mod Caps
+pub mod Conversions

@@ -4,5 +4,6 @@ pub mod Pieces
 pub mod Cap
 pub mod Supply
 pub mod Limits
+pub mod Conversions
 pub mod Spelling
 pub use Rattle.hls_frac.specs.Frac

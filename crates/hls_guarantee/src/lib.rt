@@ -7,6 +7,7 @@ ghost use Rattle.hls_guarantee.specs.Limits.{IsReservation, IsLimited, IsValid, 
 
 use hls_frac::Frac;
 
+pub mod conversion_laws;
 mod deciding;
 pub mod laws;
 mod reading;
