@@ -72,7 +72,7 @@ lower_share : (s d s' d' : Frac) (f : ℕ → Bool) (lo hi : ℕ) → IsValid (P
     Leads R1 (Psbe s d) (Psbe s' d') → Satisfies (Psbe s d) f lo hi → Satisfies (Psbe s' d') f lo hi
 lower_share s d s' d' f lo hi valid leads share = λ i n from to.
     share-less s.num s.den d.num d.den s'.num s'.den d'.num d'.den n (service f i n)
-    valid.some d.positive leads.0 leads.1 (share i n from to)
+    valid.some d.positive (omega (arith, leads.0)) (omega (arith, leads.1)) (share i n from to)
 
 all-share : (s d : Frac) (f : ℕ → Bool) (lo hi : ℕ) → s.num ≤ s.den → Satisfies All f lo hi →
     Satisfies (Psbe s d) f lo hi
@@ -88,9 +88,9 @@ some-y x y valid =
 sound : (rule : RuleName) (g h : Guarantee) (f : ℕ → Bool) (lo hi : ℕ) → IsValid g → IsValid h →
     Leads rule g h → Satisfies g f lo hi → Satisfies h f lo hi
 sound R1 (Resc false x y) (Resc false x' y') f lo hi from to leads s =
-    shorter_windows x y x' y' f lo hi from to leads.0 leads.1 s
+    shorter_windows x y x' y' f lo hi from to (omega (arith, leads.0)) (omega (arith, leads.1)) s
 sound R1 (Resb false x y) (Resb false x' y') f lo hi from to leads s =
-    rw leads.1 (soft_blocks false x y x' f lo hi leads.0 s)
+    rw leads.1 (soft_blocks false x y x' f lo hi (omega (arith, leads.0)) s)
 sound R1 (Psbe s d) (Psbe s' d') f lo hi from to leads share =
     lower_share s d s' d' f lo hi from leads share
 sound R2 (Resb true x y) h f lo hi from to leads s =
@@ -98,17 +98,18 @@ sound R2 (Resb true x y) h f lo hi from to leads s =
 sound R2 (Resc true x y) h f lo hi from to leads s =
     subst (λ k. Satisfies k f lo hi) (sym leads) (soft_windows true x y f lo hi s)
 sound R3 (Resb hard x y) (Resc false x' y') f lo hi from to leads s =
-    blocks_windows hard x y x' y' f lo hi from to leads.0 leads.1 s
+    blocks_windows hard x y x' y' f lo hi from to (omega (arith, leads.0)) (omega (arith, leads.1)) s
 sound R4 (Resb hard x y) (Psbe s d) f lo hi from to leads own =
-    few-share s d x y (2 * x) f lo hi (some-y x y from) from.fits leads.0 leads.1
+    few-share s d x y (2 * x) f lo hi (some-y x y from) from.fits leads.0 (omega (arith, leads.1))
     (blocks-few hard x y f lo hi from own)
 sound R5 (Resc hard x y) (Psbe s d) f lo hi from to leads own =
-    few-share s d x y x f lo hi (some-y x y from) from.fits leads.0 leads.1
+    few-share s d x y x f lo hi (some-y x y from) from.fits leads.0 (omega (arith, leads.1))
     (windows-few hard x y f lo hi from own)
 sound R6 (Psbe s d) (Resc false x' y') f lo hi from to leads share =
-    share-windows s d x' y' f lo hi from.fits leads share
+    share-windows s d x' y' f lo hi from.fits (omega (arith, leads)) share
 sound R6 (Psbe s d) (Resb false x' y') f lo hi from to leads share =
-    windows-blocks false x' y' f lo hi to.some to.fits (share-windows s d x' y' f lo hi from.fits leads share)
+    let windows = share-windows s d x' y' f lo hi from.fits (omega (arith, leads)) share in
+    windows-blocks false x' y' f lo hi to.some to.fits windows
 sound R7 (Resc hard x y) h f lo hi from to leads s =
     subst (λ k. Satisfies k f lo hi) (sym leads) (windows-blocks hard x y f lo hi from.some from.fits s)
 sound R8 All (Resb false x' y') f lo hi from to leads s =

@@ -5,7 +5,7 @@ use Rattle.hls_frac.specs.Frac.{IsQuotient}
 use Rattle.hls_guarantee.specs.declared.Guarantee.TheVariants.{All, Resb, Resc, Psbe}
 use Rattle.hls_guarantee.specs.Service.{one_if, service}
 use Rattle.hls_guarantee.specs.Satisfaction.{IsReserved, InPiece, Satisfies}
-use Rattle.hls_guarantee.specs.Conversions.{IsError, LeavesOf}
+use Rattle.hls_guarantee.specs.Conversions.{IsError, Covers}
 use Rattle.hls_guarantee.proofs.ServiceLemmas.{service-none, service-push}
 use Rattle.hls_guarantee.proofs.Missed.{missed, balance, balance_to}
 use Rattle.hls_guarantee.proofs.Spans.{Spans, PieceSpans, longer}
@@ -84,9 +84,9 @@ pub all-windows : (x y : ℕ) (f : ℕ → Bool) (lo hi : ℕ) → x ≤ y → S
 all-windows x y f lo hi le s = λ i n from to short.
     soft x y n (service f i n) (omega (arith, all-served f lo hi i n s from to))
 
-pub share-windows : (s d : Frac) (x y : ℕ) (f : ℕ → Bool) (lo hi : ℕ) → s.num ≤ s.den → LeavesOf s d x y →
+pub share-windows : (s d : Frac) (x y : ℕ) (f : ℕ → Bool) (lo hi : ℕ) → s.num ≤ s.den → Covers s d x y →
     Satisfies (Psbe s d) f lo hi → Satisfies (Resc false x y) f lo hi
 share-windows s d x y f lo hi one leads share = λ i n from to short.
     soft x y n (service f i n)
-    (share-reserves s.num s.den d.num d.den x y n (service f i n) s.positive d.positive one leads short
+    (share-reserves s.num s.den d.num d.den x y n (service f i n) s.positive d.positive one (omega (arith, leads)) short
     (share i n from to))

@@ -5,5 +5,6 @@ pub mod Cap
 pub mod Supply
 pub mod Limits
 pub mod Conversions
+pub mod Steps
 pub mod Spelling
 pub use Rattle.hls_frac.specs.Frac
