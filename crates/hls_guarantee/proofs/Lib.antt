@@ -16,3 +16,4 @@ pub mod Fractions
 pub mod Readings
 pub mod Caps
 pub mod Conversions
+pub mod Lendings

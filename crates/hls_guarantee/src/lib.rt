@@ -12,6 +12,7 @@ mod deciding;
 pub mod laws;
 mod reading;
 mod rule;
+pub mod step_laws;
 #[cfg(test)]
 mod tests;
 mod writing;

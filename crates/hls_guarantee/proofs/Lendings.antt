@@ -1,0 +1,80 @@
+-- What follows from the table of steps at schedulers.
+use Rattle.std.proofs.Common.{◌≡◌, ℕ, ◌+◌, ◌*◌, ◌≤◌, refl, sym, ◌∙◌, arith, ap, mul-le-mul_left, mul-pos}
+use Rattle.std.proofs.Math.Nat.{le_of_mul-le-mul_right}
+use Rattle.hls_frac.specs.declared.Frac.{Frac}
+use Rattle.hls_frac.specs.Frac.{IsAtMost, IsQuotient}
+use Rattle.hls_frac.proofs.Quotients.{quotient-same}
+use Rattle.hls_chron.specs.declared.plain.Config.{Config}
+use Rattle.hls_chron.specs.declared.plain.Config.TheVariants as configs
+use Rattle.hls_chron.specs.declared.plain.Terms.{Terms}
+use Rattle.hls_chron.specs.declared.plain.Terms.TheVariants as terms
+use Rattle.hls_chron.specs.Ranges.{ConfigInRange}
+use Rattle.hls_guarantee.specs.declared.Guarantee.{Guarantee}
+use Rattle.hls_guarantee.specs.declared.Guarantee.TheVariants.{All, Psbe}
+use Rattle.hls_guarantee.specs.Conversions.{StartsNoLater}
+use Rattle.hls_guarantee.specs.Steps.{IsFairShare, LendsByTerms}
+
+-- two shares of the same weight
+same_error : (d p q : Frac) (total weight others rest more left : ℕ) → 1 ≤ total → others ≡ more → rest ≡ left →
+    IsQuotient p ((d.num + others * d.den) * weight + rest * d.den) (d.den * total) →
+    IsQuotient q ((d.num + more * d.den) * weight + left * d.den) (d.den * total) → p ≡ q
+same_error d p q total weight others rest more left some e f is_p is_q =
+    let size : 1 ≤ d.den * total = mul-pos d.positive some in
+    let seats = ap (λ (n : ℕ). n * d.den * weight) e in
+    let weights = ap (λ (n : ℕ). n * d.den) f in
+    let num : (d.num + others * d.den) * weight + rest * d.den ≡
+        (d.num + more * d.den) * weight + left * d.den = omega (arith, seats, weights) in
+    quotient-same p q _ _ _ _ size size is_p is_q (ap (λ (n : ℕ). n * (d.den * total)) num)
+
+same_share : (total most weight : ℕ) (s d p e q f : Frac) → 1 ≤ total → IsFairShare total most weight s d p e →
+    IsFairShare total most weight s d q f → (p ≡ q) × (e ≡ f)
+same_share total most weight s d p e q f some a b =
+    let size : 1 ≤ s.den * total = mul-pos s.positive some in
+    let others : a.others ≡ b.others = (let x = a.seats in let y = b.seats in omega arith) in
+    let rest : a.rest ≡ b.rest = (let x = a.weights in let y = b.weights in omega arith) in (
+      quotient-same p q _ _ _ _ size size a.rate b.rate refl,
+      same_error d e f total weight a.others a.rest b.others b.rest some others rest a.error b.error,
+    )
+
+psbe-same : (s d t e : Frac) → s ≡ t → d ≡ e → Psbe s d ≡ Psbe t e
+psbe-same s d t e first second = ap (λ (f : Frac). Psbe f d) first ∙ ap (λ (f : Frac). Psbe t f) second
+
+pub lends-one : (config : Config) (terms : Terms) (g h k : Guarantee) → ConfigInRange config →
+    LendsByTerms config terms g h → LendsByTerms config terms g k → h ≡ k
+lends-one configs.Cpu terms.Cpu All h k range a b = a ∙ sym b
+lends-one configs.Fp (terms.Prio priority) g h k range a b = a.1 ∙ sym b.1
+lends-one configs.Edf (terms.Res hard x y) All h k range a b = a ∙ sym b
+lends-one (configs.Wheel frame) (terms.Slots places) All h k range a b = a.1 ∙ sym b.1
+lends-one (configs.Sfq total most) (terms.Weight weight) (Psbe s d) (Psbe p e) (Psbe q f) range a b =
+    let same = same_share total most weight s d p e q f range.0.0 a b in
+    psbe-same p e q f same.0 same.1
+lends-one (configs.Join ports) terms.Sole g h k range a b = a.1 ∙ sym b.1
+lends-one (configs.Sfq total most) (terms.Weight weight) (Psbe s d) (Psbe p e) k range a b = absurd b
+lends-one _ _ _ _ _ range a b = absurd a
+
+-- a fair share is a lower one
+pub fair-at_most : (total most weight : ℕ) (s d p e : Frac) → 1 ≤ weight → IsFairShare total most weight s d p e →
+    IsAtMost p s
+fair-at_most total most weight s d p e some a =
+    let sum = a.weights in
+    let pos : 1 ≤ total = omega arith in
+    let fits : weight ≤ total = omega arith in
+    let rate : p.num * (s.den * total) ≡ s.num * weight * p.den = a.rate in
+    let less = mul-le-mul_left (s.num * p.den) fits in
+    le_of_mul-le-mul_right {k = total} (omega (arith, rate, less)) pos
+
+later_by : (dn dd sn sd pn pd en ed total weight others rest : ℕ) → 1 ≤ total →
+    pn * (sd * total) ≡ sn * weight * pd →
+    en * (dd * total) ≡ ((dn + others * dd) * weight + rest * dd) * ed →
+    dn * pn * (ed * sd) ≤ en * sn * (dd * pd)
+later_by dn dd sn sd pn pd en ed total weight others rest pos rate error =
+    let first = ap (λ (n : ℕ). n * (dn * ed)) rate in
+    let second = ap (λ (n : ℕ). n * (sn * pd)) error in
+    le_of_mul-le-mul_right {k = total} (omega (arith, first, second)) pos
+
+pub fair-later : (total most weight : ℕ) (s d p e : Frac) → 1 ≤ weight → IsFairShare total most weight s d p e →
+    StartsNoLater s d p e
+fair-later total most weight s d p e some a =
+    let sum = a.weights in
+    let pos : 1 ≤ total = omega arith in
+    later_by d.num d.den s.num s.den p.num p.den e.num e.den total weight a.others a.rest pos a.rate a.error

@@ -1,0 +1,47 @@
+//! What holds of the steps at schedulers: each function's contract is a law, and its body does nothing.
+
+ghost use Rattle.std.specs.Prelude.{◌≡◌, ◌≢◌, ℕ, ◌≤◌, ◌↔◌};
+ghost use Rattle.hls_chron.specs.Kinds.{kind_of, terms_kind};
+ghost use Rattle.hls_chron.specs.Ranges.{ConfigInRange};
+ghost use Rattle.hls_guarantee.specs.Conversions.{Leads};
+ghost use Rattle.hls_guarantee.specs.Steps.{IsFairShare, LendsByTerms, LendsThrough};
+
+use crate::{Guarantee, RuleName};
+use hls_chron::{Config, Terms};
+use hls_frac::Frac;
+
+/// The processor lends every tick to its one seat, and nothing to any other.
+pub fn processor_lends_every_tick(terms: Terms, g: Guarantee, h: Guarantee)
+    ensures { (port : ℕ) → LendsThrough Config.Cpu terms port g h ↔
+        ((terms ≡ Terms.Cpu) × (port ≡ 0) × (g ≡ Guarantee.All) × (h ≡ Guarantee.All)) }
+{}
+
+/// On terms that are not of its kind a scheduler promises nothing.
+pub fn other_terms_lend_nothing(config: Config, terms: Terms, g: Guarantee, h: Guarantee)
+    requires { kind_of config ≢ terms_kind terms }
+    ensures { (port : ℕ) → LendsThrough config terms port g h → h ≡ Guarantee.Null }
+{}
+
+/// A turn in a round is promised nothing.
+pub fn turns_lend_nothing(quantum: u32, terms: Terms, g: Guarantee, h: Guarantee)
+    ensures { (port : ℕ) → LendsThrough (Config.Rr quantum) terms port g h → h ≡ Guarantee.Null }
+{}
+
+/// Terms of a scheduler's kind make one guarantee of what the scheduler has.
+pub fn terms_lend_one_guarantee(config: Config, terms: Terms, g: Guarantee, h: Guarantee, other: Guarantee)
+    requires { ConfigInRange config }
+    ensures { LendsByTerms config terms g h → LendsByTerms config terms g other → h ≡ other }
+{}
+
+/// A fair share is a lower share that starts no earlier, as by `R1`.
+pub fn fair_shares_are_lesser(total: u32, most: u32, weight: u32, s: Frac, d: Frac, rate: Frac, error: Frac)
+    requires weight { 1 ≤ weight }
+    requires share { IsFairShare total most weight s d rate error }
+    ensures { Leads RuleName.R1 (Guarantee.Psbe s d) (Guarantee.Psbe rate error) }
+{}
+
+/// A seat that is alone, with the whole weight, has the whole share.
+pub fn sole_weight_has_the_share(total: u32, s: Frac, d: Frac)
+    requires { 1 ≤ total }
+    ensures { IsFairShare total 1 total s d s d }
+{}
