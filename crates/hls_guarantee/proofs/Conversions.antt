@@ -1,5 +1,5 @@
 -- Each rule of conversion is sound: for what is promised, and for what is capped.
-use Rattle.std.proofs.Common.{◌≡◌, ℕ, zero, suc, ◌+◌, ◌*◌, ◌-◌, ◌≤◌, Bool, true, false, arith, sym, subst}
+use Rattle.std.proofs.Common.{ℕ, ◌+◌, ◌*◌, ◌-◌, ◌≤◌, Bool, true, false, arith, sym, subst}
 use Rattle.std.proofs.Common.{mul-le-mul_right}
 use Rattle.hls_frac.specs.declared.Frac.{Frac}
 use Rattle.hls_guarantee.specs.declared.Guarantee.{Guarantee}

@@ -21,7 +21,7 @@ share-reserves sn sd dn dd a b p n den den' one leads le share =
     let rest = mul-le-mul_right (r * dd) one in
     let whole = ap (λ (v : ℕ). sn * v * dd) sum in
     let most : a ≤ n + r =
-        le_of_mul-le-mul_right {k = dd * sd} (omega (arith, leads, share, whole, rest)) (mul-pos den' den) in
+    le_of_mul-le-mul_right {k = dd * sd} (omega (arith, leads, share, whole, rest)) (mul-pos den' den) in
     omega (arith, most)
 
 -- x of y ticks with an error of m / y are a share

@@ -23,7 +23,7 @@ same_error d p q total weight others rest more left some e f is_p is_q =
     let seats = ap (λ (n : ℕ). n * d.den * weight) e in
     let weights = ap (λ (n : ℕ). n * d.den) f in
     let num : (d.num + others * d.den) * weight + rest * d.den ≡
-        (d.num + more * d.den) * weight + left * d.den = omega (arith, seats, weights) in
+    (d.num + more * d.den) * weight + left * d.den = omega (arith, seats, weights) in
     quotient-same p q _ _ _ _ size size is_p is_q (ap (λ (n : ℕ). n * (d.den * total)) num)
 
 same_share : (total most weight : ℕ) (s d p e q f : Frac) → 1 ≤ total → IsFairShare total most weight s d p e →

@@ -1,5 +1,5 @@
 -- The ticks that a schedule does not serve, counted from tick 0 on.
-use Rattle.std.proofs.Common.{◌≡◌, ℕ, zero, suc, ◌+◌, ◌-◌, ◌≤◌, Bool, true, false, refl, arith}
+use Rattle.std.proofs.Common.{◌≡◌, ℕ, zero, suc, ◌+◌, ◌-◌, ◌≤◌, Bool, arith}
 use Rattle.std.proofs.Common.{add-zero, add-suc}
 use Rattle.hls_guarantee.specs.Service.{one_if, service}
 use Rattle.hls_guarantee.proofs.ServiceLemmas.{one_if-le, service-le}

@@ -1,5 +1,5 @@
 -- Guarantees as bounds on the unserved ticks, and such bounds as soft guarantees.
-use Rattle.std.proofs.Common.{◌≡◌, ℕ, zero, suc, ◌+◌, ◌*◌, ◌-◌, ◌<◌, ◌≤◌, Bool, true, false, arith, ap}
+use Rattle.std.proofs.Common.{◌≡◌, ℕ, zero, suc, ◌+◌, ◌*◌, ◌-◌, ◌≤◌, Bool, true, false, arith, ap}
 use Rattle.hls_frac.specs.declared.Frac.{Frac}
 use Rattle.hls_frac.specs.Frac.{IsQuotient}
 use Rattle.hls_guarantee.specs.declared.Guarantee.TheVariants.{All, Resb, Resc, Psbe}
@@ -7,7 +7,7 @@ use Rattle.hls_guarantee.specs.Service.{one_if, service}
 use Rattle.hls_guarantee.specs.Satisfaction.{IsReserved, InPiece, Satisfies}
 use Rattle.hls_guarantee.specs.Conversions.{IsError, Covers}
 use Rattle.hls_guarantee.proofs.ServiceLemmas.{service-none, service-push}
-use Rattle.hls_guarantee.proofs.Missed.{missed, balance, balance_to}
+use Rattle.hls_guarantee.proofs.Missed.{balance, balance_to}
 use Rattle.hls_guarantee.proofs.Spans.{Spans, PieceSpans, longer}
 use Rattle.hls_guarantee.proofs.Shares.{HasFew}
 use Rattle.hls_guarantee.proofs.Fractions.{share-reserves, reserve-shares}
@@ -29,7 +29,7 @@ pub blocks-spans : (hard : Bool) (x y : ℕ) (f : ℕ → Bool) (lo hi : ℕ) �
 blocks-spans hard x y f lo hi le s = record {
   few = λ k i j from up to begun still.
       let piece : InPiece s.0 y i (j - i) =
-          record { cut = k; starts = begun; ends = (let end : i + (j - i) ≡ j = omega arith in rw end still) } in
+      record { cut = k; starts = begun; ends = (let end : i + (j - i) ≡ j = omega arith in rw end still) } in
       let reserved = s.2 i (j - i) from (omega arith) piece in
       omega (arith, reserved.enough, balance_to f i j up);
 }

@@ -58,7 +58,7 @@ piece_spans x c e y f lo hi small sum p = record {
                   omega (arith, first, second)
               | inl three ↦
                   let whole = p.few (suc k) m (m + y)
-                      (omega arith) (omega arith) (omega arith) (omega arith) (omega arith) in
+                  (omega arith) (omega arith) (omega arith) (omega arith) (omega arith) in
                   omega (arith, whole, slow f i m (omega arith), slow f (m + y) j (omega arith))
             ]
       ];

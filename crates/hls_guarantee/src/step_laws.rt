@@ -28,13 +28,27 @@ pub fn turns_lend_nothing(quantum: u32, terms: Terms, g: Guarantee, h: Guarantee
 {}
 
 /// Terms of a scheduler's kind make one guarantee of what the scheduler has.
-pub fn terms_lend_one_guarantee(config: Config, terms: Terms, g: Guarantee, h: Guarantee, other: Guarantee)
+pub fn terms_lend_one_guarantee(
+    config: Config,
+    terms: Terms,
+    g: Guarantee,
+    h: Guarantee,
+    other: Guarantee,
+)
     requires { ConfigInRange config }
     ensures { LendsByTerms config terms g h → LendsByTerms config terms g other → h ≡ other }
 {}
 
 /// A fair share is a lower share that starts no earlier, as by `R1`.
-pub fn fair_shares_are_lesser(total: u32, most: u32, weight: u32, s: Frac, d: Frac, rate: Frac, error: Frac)
+pub fn fair_shares_are_lesser(
+    total: u32,
+    most: u32,
+    weight: u32,
+    s: Frac,
+    d: Frac,
+    rate: Frac,
+    error: Frac,
+)
     requires weight { 1 ≤ weight }
     requires share { IsFairShare total most weight s d rate error }
     ensures { Leads RuleName.R1 (Guarantee.Psbe s d) (Guarantee.Psbe rate error) }
