@@ -54,10 +54,16 @@ by_missed x y c m i n u v got sum even few =
     let window = ap (λ (k : ℕ). n * k) sum in
     omega (arith, served, window, few)
 
-error-over : (dn dd m x y c : ℕ) → y ≡ c + x → dn * y + m * x * dd ≡ m * y * dd → dn * y ≡ m * c * dd
-error-over dn dd m x y c sum error =
-    let whole = ap (λ (k : ℕ). m * k * dd) sum in
+-- an error as a quotient, where c of y ticks are left over
+pub error-quotient : (d : Frac) (m x y c : ℕ) → y ≡ c + x → IsError d m x y → IsQuotient d (m * c) y
+error-quotient d m x y c sum error =
+    let whole = ap (λ (k : ℕ). m * k * d.den) sum in
     omega (arith, error, whole)
+
+pub quotient-error : (d : Frac) (m x y c : ℕ) → y ≡ c + x → IsQuotient d (m * c) y → IsError d m x y
+quotient-error d m x y c sum quotient =
+    let whole = ap (λ (k : ℕ). m * k * d.den) sum in
+    omega (arith, quotient, whole)
 
 -- few unserved ticks are a share
 pub few-share : (s d : Frac) (x y m : ℕ) (f : ℕ → Bool) (lo hi : ℕ) → 1 ≤ y → x ≤ y → IsQuotient s x y →
@@ -67,7 +73,7 @@ few-share s d x y m f lo hi some le rate error few = λ i n from to.
     let c : ℕ = y - x in
     let sum : y ≡ c + x = omega arith in
     let most = by_missed x y c m i n _ _ _ sum (balance f i n) (few i (i + n) from (omega arith) to) in
-    let over = error-over d.num d.den m x y c sum error in
+    let over = error-quotient d m x y c sum error in
     reserve-shares s.num s.den d.num d.den x y (m * c) n (service f i n) some rate over most
 
 -- where each tick is served, each part is
