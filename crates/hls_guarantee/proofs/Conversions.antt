@@ -9,6 +9,7 @@ use Rattle.hls_guarantee.specs.declared.rule.RuleName.TheVariants.{R1, R2, R3, R
 use Rattle.hls_guarantee.specs.Service.{service}
 use Rattle.hls_guarantee.specs.Satisfaction.{Satisfies}
 use Rattle.hls_guarantee.specs.Cap.{KeepsCap}
+use Rattle.hls_guarantee.specs.Supply.{Supplies}
 use Rattle.hls_guarantee.specs.Limits.{IsReservation, IsValid}
 use Rattle.hls_guarantee.specs.Conversions.{Leads, Converts}
 use Rattle.hls_guarantee.proofs.Shares.{HasFew, span-share, piece-share}
@@ -148,3 +149,10 @@ capped _ (Psbe s d) _ f lo hi from leads kept = absurd leads
 pub converts-keeps_cap : (rule : RuleName) (g h : Guarantee) (f : ℕ → Bool) (lo hi : ℕ) → Converts rule g h →
     KeepsCap g f lo hi → KeepsCap h f lo hi
 converts-keeps_cap rule g h f lo hi c kept = capped rule g h f lo hi c.from c.leads kept
+
+pub converts-supplies : (rule : RuleName) (g h : Guarantee) (f a : ℕ → Bool) (lo hi : ℕ) → Converts rule g h →
+    Supplies g f a lo hi → Supplies h f a lo hi
+converts-supplies rule g h f a lo hi c s = record {
+  met = λ i j from to all. converts-satisfies rule g h f i j c (s.met i j from to all);
+  capped = converts-keeps_cap rule g h f lo hi c s.capped;
+}

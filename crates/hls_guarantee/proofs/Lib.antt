@@ -17,3 +17,4 @@ pub mod Readings
 pub mod Caps
 pub mod Conversions
 pub mod Lendings
+pub mod FairShares

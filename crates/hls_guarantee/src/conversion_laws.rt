@@ -4,6 +4,7 @@ ghost use Rattle.std.specs.Prelude.{ℕ, ◌+◌, ◌*◌, ◌-◌, ◌≤◌, �
 ghost use Rattle.hls_frac.specs.Frac.{IsAtMost, IsProduct, IsQuotient};
 ghost use Rattle.hls_guarantee.specs.Satisfaction.{Satisfies, ListSatisfies};
 ghost use Rattle.hls_guarantee.specs.Cap.{KeepsCap, ListKeepsCap};
+ghost use Rattle.hls_guarantee.specs.Supply.{Supplies};
 ghost use Rattle.hls_guarantee.specs.Conversions.{Converts, Leads, IsError, StartsNoLater, Covers};
 
 use crate::{Guarantee, RuleName};
@@ -23,6 +24,13 @@ pub fn conversions_keep_caps(rule: RuleName, g: Guarantee, h: Guarantee)
     ensures list { (list : List Bool) → ListKeepsCap g list → ListKeepsCap h list }
 {}
 
+/// Where a rule leads from one guarantee to another, a schedule that supplies the one supplies the other.
+pub fn conversions_keep_supply(rule: RuleName, g: Guarantee, h: Guarantee)
+    requires { Converts rule g h }
+    ensures { (served asks : ℕ → Bool) (lo hi : ℕ) → Supplies g served asks lo hi →
+        Supplies h served asks lo hi }
+{}
+
 /// By `R3` blocks of `y` ticks are windows of `2 * y - x` ticks or more.
 pub fn blocks_are_longer_windows(hard: bool, x: u32, y: u32, less: u32, longer: u32)
     requires { x ≤ y }
@@ -37,7 +45,14 @@ pub fn errors_are_quotients(d: Frac, m: u32, x: u32, y: u32)
 {}
 
 /// The order of two starts is that of two products: `first` is `d * rate`, and `second` is `error * s`.
-pub fn starts_compare_as_products(s: Frac, d: Frac, rate: Frac, error: Frac, first: Frac, second: Frac)
+pub fn starts_compare_as_products(
+    s: Frac,
+    d: Frac,
+    rate: Frac,
+    error: Frac,
+    first: Frac,
+    second: Frac,
+)
     requires first { IsProduct first d rate }
     requires second { IsProduct second error s }
     ensures { StartsNoLater s d rate error ↔ IsAtMost first second }

@@ -1,6 +1,7 @@
 //! What holds of the steps at schedulers: each function's contract is a law, and its body does nothing.
 
-ghost use Rattle.std.specs.Prelude.{◌≡◌, ◌≢◌, ℕ, ◌≤◌, ◌↔◌};
+ghost use Rattle.std.specs.Prelude.{◌≡◌, ◌≢◌, ℕ, ◌-◌, ◌≤◌, ◌↔◌};
+ghost use Rattle.hls_frac.specs.Frac.{IsQuotient, IsSum, IsProduct};
 ghost use Rattle.hls_chron.specs.Kinds.{kind_of, terms_kind};
 ghost use Rattle.hls_chron.specs.Ranges.{ConfigInRange};
 ghost use Rattle.hls_guarantee.specs.Conversions.{Leads};
@@ -58,4 +59,32 @@ pub fn fair_shares_are_lesser(
 pub fn sole_weight_has_the_share(total: u32, s: Frac, d: Frac)
     requires { 1 ≤ total }
     ensures { IsFairShare total 1 total s d s d }
+{}
+
+/// The rate is `s * part`, and the error `(d + others) * part + rest`, where `part` is `weight / total`, `others`
+/// is `most - 1`, and `rest` is `(total - weight) / total`.
+pub fn fair_shares_are_sums_of_products(
+    total: u32,
+    most: u32,
+    weight: u32,
+    s: Frac,
+    d: Frac,
+    part: Frac,
+    others: Frac,
+    waiting: Frac,
+    slowed: Frac,
+    rest: Frac,
+    rate: Frac,
+    error: Frac,
+)
+    requires most { 1 ≤ most }
+    requires weight { 1 ≤ weight }
+    requires total { weight ≤ total }
+    requires part { IsQuotient part weight total }
+    requires others { IsQuotient others (most - 1) 1 }
+    requires waiting { IsSum waiting d others }
+    requires slowed { IsProduct slowed waiting part }
+    requires rest { IsQuotient rest (total - weight) total }
+    ensures { IsFairShare total most weight s d rate error ↔
+        (IsProduct rate s part × IsSum error slowed rest) }
 {}
