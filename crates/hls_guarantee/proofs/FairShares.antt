@@ -95,7 +95,8 @@ share-fractions total most weight s d part others waiting slowed rest rate error
     let pos : 1 ≤ total = omega arith in
     let o : share.others ≡ most - 1 = omega arith in
     let r : share.rest ≡ total - weight = omega arith in
-    let first : IsQuotient error ((d.num + (most - 1) * d.den) * weight + share.rest * d.den) (d.den * total) =
+    let first : IsQuotient error ((d.num + (most - 1) * d.den) * weight + share.rest * d.den)
+    (d.den * total) =
     subst (λ n. IsQuotient error ((d.num + n * d.den) * weight + share.rest * d.den) (d.den * total))
     o share.error in
     let second : IsQuotient error ((d.num + (most - 1) * d.den) * weight + (total - weight) * d.den)
@@ -104,12 +105,14 @@ share-fractions total most weight s d part others waiting slowed rest rate error
     r first in
     let whole = scaled error.num error.den d.num d.den weight total (most - 1) (total - weight) second in
     let slow = slowed-quotient total most weight d part others waiting slowed rest a in (
-      quotient-product rate s part s.num s.den weight total (mul-pos s.positive pos) refl a.part_is share.rate,
+      quotient-product rate s part s.num s.den weight total (mul-pos s.positive pos) refl a.part_is
+          share.rate,
       quotient-sum error slowed rest _ _ _ _ (all_positive d total pos) slow a.rest_is whole,
     )
 
 pub fractions-share : (total most weight : ℕ) (s d part others waiting slowed rest rate error : Frac) →
-    1 ≤ most → 1 ≤ weight → weight ≤ total → AreFractions total most weight d part others waiting slowed rest →
+    1 ≤ most → 1 ≤ weight → weight ≤ total →
+    AreFractions total most weight d part others waiting slowed rest →
     IsProduct rate s part × IsSum error slowed rest → IsFairShare total most weight s d rate error
 fractions-share total most weight s d part others waiting slowed rest rate error some light fits a both =
     let slow = slowed-quotient total most weight d part others waiting slowed rest a in

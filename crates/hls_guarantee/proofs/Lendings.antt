@@ -15,7 +15,8 @@ use Rattle.hls_guarantee.specs.Conversions.{StartsNoLater}
 use Rattle.hls_guarantee.specs.Steps.{IsFairShare, LendsByTerms}
 
 -- two shares of the same weight
-same_error : (d p q : Frac) (total weight others rest more left : ℕ) → 1 ≤ total → others ≡ more → rest ≡ left →
+same_error : (d p q : Frac) (total weight others rest more left : ℕ) → 1 ≤ total → others ≡ more →
+    rest ≡ left →
     IsQuotient p ((d.num + others * d.den) * weight + rest * d.den) (d.den * total) →
     IsQuotient q ((d.num + more * d.den) * weight + left * d.den) (d.den * total) → p ≡ q
 same_error d p q total weight others rest more left some e f is_p is_q =
@@ -26,8 +27,8 @@ same_error d p q total weight others rest more left some e f is_p is_q =
     (d.num + more * d.den) * weight + left * d.den = omega (arith, seats, weights) in
     quotient-same p q _ _ _ _ size size is_p is_q (ap (λ (n : ℕ). n * (d.den * total)) num)
 
-same_share : (total most weight : ℕ) (s d p e q f : Frac) → 1 ≤ total → IsFairShare total most weight s d p e →
-    IsFairShare total most weight s d q f → (p ≡ q) × (e ≡ f)
+same_share : (total most weight : ℕ) (s d p e q f : Frac) → 1 ≤ total →
+    IsFairShare total most weight s d p e → IsFairShare total most weight s d q f → (p ≡ q) × (e ≡ f)
 same_share total most weight s d p e q f some a b =
     let size : 1 ≤ s.den * total = mul-pos s.positive some in
     let others : a.others ≡ b.others = (let x = a.seats in let y = b.seats in omega arith) in
@@ -53,8 +54,8 @@ lends-one (configs.Sfq total most) (terms.Weight weight) (Psbe s d) (Psbe p e) k
 lends-one _ _ _ _ _ range a b = absurd a
 
 -- a fair share is a lower one
-pub fair-at_most : (total most weight : ℕ) (s d p e : Frac) → 1 ≤ weight → IsFairShare total most weight s d p e →
-    IsAtMost p s
+pub fair-at_most : (total most weight : ℕ) (s d p e : Frac) → 1 ≤ weight →
+    IsFairShare total most weight s d p e → IsAtMost p s
 fair-at_most total most weight s d p e some a =
     let sum = a.weights in
     let pos : 1 ≤ total = omega arith in
@@ -72,8 +73,8 @@ later_by dn dd sn sd pn pd en ed total weight others rest pos rate error =
     let second = ap (λ (n : ℕ). n * (sn * pd)) error in
     le_of_mul-le-mul_right {k = total} (omega (arith, first, second)) pos
 
-pub fair-later : (total most weight : ℕ) (s d p e : Frac) → 1 ≤ weight → IsFairShare total most weight s d p e →
-    StartsNoLater s d p e
+pub fair-later : (total most weight : ℕ) (s d p e : Frac) → 1 ≤ weight →
+    IsFairShare total most weight s d p e → StartsNoLater s d p e
 fair-later total most weight s d p e some a =
     let sum = a.weights in
     let pos : 1 ≤ total = omega arith in

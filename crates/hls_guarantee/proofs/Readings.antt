@@ -94,5 +94,5 @@ pub share-windows : (s d : Frac) (x y : ℕ) (f : ℕ → Bool) (lo hi : ℕ) �
     Satisfies (Psbe s d) f lo hi → Satisfies (Resc false x y) f lo hi
 share-windows s d x y f lo hi one leads share = λ i n from to short.
     soft x y n (service f i n)
-    (share-reserves s.num s.den d.num d.den x y n (service f i n) s.positive d.positive one (omega (arith, leads)) short
-    (share i n from to))
+    (share-reserves s.num s.den d.num d.den x y n (service f i n) s.positive d.positive one
+    (omega (arith, leads)) short (share i n from to))

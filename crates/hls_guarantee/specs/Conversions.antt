@@ -1,4 +1,5 @@
--- The rules by which what satisfies one guarantee satisfies another, after Regehr 2001.
+-- The rules by which what satisfies one guarantee satisfies another.
+-- That guarantees are converted is Regehr's (2001); the form of the rules is this project's own.
 use Rattle.std.specs.Prelude.{◌≡◌, ℕ, ◌+◌, ◌*◌, ◌≤◌, true, false}
 use Rattle.hls_frac.specs.declared.Frac.{Frac}
 use Rattle.hls_frac.specs.Frac.{IsAtMost, IsQuotient}

@@ -11,7 +11,7 @@ use Rattle.hls_guarantee.specs.declared.Guarantee.TheVariants.{All, Null, Resb, 
 use Rattle.hls_guarantee.specs.Satisfaction.{IsSoft}
 use Rattle.hls_guarantee.specs.Limits.{IsValid}
 
--- of the share s with the error d, the share of a seat beside at most so many others of at most the rest
+-- the share s' with the error d' that a seat has of s with d, beside at most `others` seats of at most `rest`
 pub record IsFairShare (total most weight : ℕ) (s d s' d' : Frac) : Type 0 where
   pub others : ℕ
   pub rest : ℕ
@@ -31,7 +31,8 @@ LendsByTerms configs.Fp (terms.Prio priority) g h = (priority ≡ 0) × (h ≡ g
 -- a reservation gets its budget in each of its periods
 LendsByTerms configs.Edf (terms.Res hard x y) All h = h ≡ Resb hard x y
 -- places of a frame come round with it
-LendsByTerms (configs.Wheel frame) (terms.Slots places) All h = (places ≤ frame) × (h ≡ Resc true places frame)
+LendsByTerms (configs.Wheel frame) (terms.Slots places) All h =
+    (places ≤ frame) × (h ≡ Resc true places frame)
 -- a weight is a part of a share
 LendsByTerms (configs.Sfq total most) (terms.Weight weight) (Psbe s d) (Psbe s' d') =
     IsFairShare total most weight s d s' d'

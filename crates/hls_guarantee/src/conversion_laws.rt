@@ -17,7 +17,7 @@ pub fn conversions_keep_satisfaction(rule: RuleName, g: Guarantee, h: Guarantee)
     ensures list { (list : List Bool) → ListSatisfies g list → ListSatisfies h list }
 {}
 
-/// Where a rule leads from one guarantee to another, ticks that keep the cap of the one keep that of the other.
+/// Where a rule leads from one guarantee to another, ticks that keep the cap of the one keep the other's.
 pub fn conversions_keep_caps(rule: RuleName, g: Guarantee, h: Guarantee)
     requires { Converts rule g h }
     ensures ticks { (served : ℕ → Bool) (lo hi : ℕ) → KeepsCap g served lo hi → KeepsCap h served lo hi }

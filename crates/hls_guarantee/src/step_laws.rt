@@ -61,8 +61,8 @@ pub fn sole_weight_has_the_share(total: u32, s: Frac, d: Frac)
     ensures { IsFairShare total 1 total s d s d }
 {}
 
-/// The rate is `s * part`, and the error `(d + others) * part + rest`, where `part` is `weight / total`, `others`
-/// is `most - 1`, and `rest` is `(total - weight) / total`.
+/// The rate is `s * part`, and the error `(d + others) * part + rest`, where `part` is `weight / total`,
+/// `others` is `most - 1`, and `rest` is `(total - weight) / total`.
 pub fn fair_shares_are_sums_of_products(
     total: u32,
     most: u32,
