@@ -1,23 +1,27 @@
 -- What each change leaves of what the fields keep.
-use Rattle.std.proofs.Common.{◌≡◌, ◌≢◌, ℕ, ◌^◌, ◌<◌, ◌≤◌, List, [], ◌∷◌, ◌++◌, length, Option, Some, None, Bool, true, false, suc, zero, refl, arith, sym, ◌∙◌, ap, subst, inl, inr, get_or, get_or-set_same, get_or-set_other}
-use Rattle.std.specs.Prelude.{IfSome, IsNone, slice_set, replicate, if◌then◌else◌, ◌==◌, ◌⊎◌, ◌↔◌, is_some}
+use Rattle.std.proofs.Common.{◌≡◌, ◌≢◌, ℕ, ◌^◌, ◌<◌, List, [], length, Option, Some, None}
+use Rattle.std.proofs.Common.{Bool, true, false, suc, zero, refl, arith, sym, ◌∙◌, subst, inl, inr}
+use Rattle.std.proofs.Common.{get_or, get_or-set_same, get_or-set_other}
+use Rattle.std.specs.Prelude.{slice_set, replicate, if◌then◌else◌, ◌==◌}
 use Rattle.std.proofs.lemmas.Bool.{cases_eq}
 use Rattle.std.proofs.lemmas.Bool.Decides.{nat_tests}
-use Rattle.hls_chron.specs.declared.book.TickRow.{TickRow}
 use Rattle.hls_chron.specs.declared.book.Event.TheVariants.{Seat, Leave, Settle}
 use Rattle.hls_chron.specs.declared.plain.Terms.TheVariants.{Prio}
 use Rattle.hls_chron.specs.declared.plain.Config.TheVariants.{Fp}
-use Rattle.hls_chron.specs.Ledger.{Ledger, now_of, before, with_row, with_mark, IsDated}
-use Rattle.hls_chron.specs.Seats.{SlotAsks, terms_at, terms_after, priority_at, priority_in}
+use Rattle.hls_chron.specs.Ledger.{Ledger, now_of, before, with_row, with_mark}
+use Rattle.hls_chron.specs.Seats.{SlotAsks, terms_at, priority_at}
 use Rattle.hls_chron.specs.Asks.{some_slot_asks}
-use Rattle.hls_chron.specs.Discipline.{HasLeastPriority, KeepsDiscipline}
-use Rattle.hls_chron.proofs.BookLaws.{terms_at-mark, terms_at-row, terms_at-same, terms_at-unmarked, before-now, dated-mark, dated-row, dated-unmarked}
-use Rattle.hls_chron.proofs.DisciplineLaws.{ServesInTick, discipline-mark, discipline-row, discipline-unwritten}
+use Rattle.hls_chron.specs.Discipline.{HasLeastPriority}
+use Rattle.hls_chron.proofs.BookLaws.{terms_at-mark, terms_at-row, terms_at-same, terms_at-unmarked}
+use Rattle.hls_chron.proofs.BookLaws.{before-now, dated-mark, dated-row, dated-unmarked}
+use Rattle.hls_chron.proofs.DisciplineLaws.{discipline-mark, discipline-row}
+use Rattle.hls_chron.proofs.DisciplineLaws.{discipline-unwritten}
 use Rattle.hls_sched.specs.Seen.{with_slot, without_slot, tick_row}
 use Rattle.hls_fp.specs.Choice.{choice_of}
 use Rattle.hls_fp.specs.Sound.{IsSound}
 use Rattle.hls_fp.proofs.Choices.{choice_is, no_choice, asking_is, is_asking}
-use Rattle.hls_sched.proofs.Masks.{asks_with, asks_without, silent_without, within_width, silent_zero, some_slot, some_if_asks}
+use Rattle.hls_sched.proofs.Masks.{asks_with, asks_without, silent_without, within_width, silent_zero}
+use Rattle.hls_sched.proofs.Masks.{some_slot, some_if_asks}
 
 none_at : {X : Type 0} (n k : ℕ) (x : X) → get_or (replicate n x) k x ≡ x
 none_at zero k x = refl
@@ -41,21 +45,31 @@ sound_empty b rows marks = record {
   discipline = discipline-unwritten Fp b rows;
 }
 
-pub sound_request : (b : Ledger) (mask : ℕ) (priorities : List (Option ℕ)) (slot : ℕ) → IsSound b mask priorities
+pub sound_request : (b : Ledger) (mask : ℕ) (priorities : List (Option ℕ)) (slot : ℕ)
+    → IsSound b mask priorities
     → terms_at b slot ≢ None → IsSound b (with_slot slot mask) priorities
 sound_request b mask priorities slot s taken = record {
-  matches = s.matches; numbered = s.numbered; within = s.within; dated = s.dated; discipline = s.discipline;
+  matches = s.matches;
+  numbered = s.numbered;
+  within = s.within;
+  dated = s.dated;
+  discipline = s.discipline;
   seated = λ k asks. elim (cases_eq k slot) [
     | inl same ↦ (let P : ℕ → Type 0 = λ n. terms_at b n ≢ None in subst P (sym same) taken)
     | inr other ↦ s.seated k (asks_with mask slot k asks other)
-  ]
+  ];
 }
 
-pub sound_release : (b : Ledger) (mask : ℕ) (priorities : List (Option ℕ)) (slot : ℕ) → IsSound b mask priorities
+pub sound_release : (b : Ledger) (mask : ℕ) (priorities : List (Option ℕ)) (slot : ℕ)
+    → IsSound b mask priorities
     → IsSound b (without_slot slot mask) priorities
 sound_release b mask priorities slot s = record {
-  matches = s.matches; numbered = s.numbered; within = s.within; dated = s.dated; discipline = s.discipline;
-  seated = λ k asks. s.seated k (asks_without mask slot k asks)
+  matches = s.matches;
+  numbered = s.numbered;
+  within = s.within;
+  dated = s.dated;
+  discipline = s.discipline;
+  seated = λ k asks. s.seated k (asks_without mask slot k asks);
 }
 
 pub sound_settle : (b : Ledger) (mask : ℕ) (priorities : List (Option ℕ)) → IsSound b mask priorities
@@ -70,7 +84,8 @@ sound_settle b mask priorities s = record {
 }
 
 -- the choice is one that the discipline names
-pub sound_serves : (b : Ledger) (mask : ℕ) (priorities : List (Option ℕ)) (slot : ℕ) → mask < 2 ^ 32 → IsSound b mask priorities
+pub sound_serves : (b : Ledger) (mask : ℕ) (priorities : List (Option ℕ)) (slot : ℕ) → mask < 2 ^ 32
+    → IsSound b mask priorities
     → choice_of priorities mask ≡ Some slot → HasLeastPriority b mask slot
 sound_serves b mask priorities slot fits s is =
     let chosen = choice_is priorities mask slot is in
@@ -88,7 +103,8 @@ sound_serves b mask priorities slot fits s is =
     }
 
 -- there is no choice exactly where nobody asks
-pub silent_if_none : (b : Ledger) (mask : ℕ) (priorities : List (Option ℕ)) → mask < 2 ^ 32 → IsSound b mask priorities
+pub silent_if_none : (b : Ledger) (mask : ℕ) (priorities : List (Option ℕ)) → mask < 2 ^ 32
+    → IsSound b mask priorities
     → choice_of priorities mask ≡ None → (asks : Bool) → some_slot_asks mask ≡ asks → asks ≡ false
 silent_if_none b mask priorities fits s none false is = refl
 silent_if_none b mask priorities fits s none true is = absurd (
@@ -108,7 +124,8 @@ none_if_silent priorities mask silent (Some slot) is = absurd (
     let no : true ≡ false = sym (some_if_asks mask slot asks) ∙ silent in cc)
 
 -- the row of a tick serves the choice or nobody
-pub row_serves : (mask : ℕ) (grant choice : Option ℕ) (slot : ℕ) → (tick_row mask grant choice).to ≡ Some slot → choice ≡ Some slot
+pub row_serves : (mask : ℕ) (grant choice : Option ℕ) (slot : ℕ)
+    → (tick_row mask grant choice).to ≡ Some slot → choice ≡ Some slot
 row_serves mask (Some port) (Some at) slot is = is
 row_serves mask (Some port) None slot is = absurd cc
 row_serves mask None choice slot is = absurd cc
@@ -119,7 +136,8 @@ row_mask mask (Some port) None = refl
 row_mask mask None choice = refl
 
 -- books with the same marks serve the same slots
-serves-same : (a b : Ledger) (mask slot : ℕ) → a.marks ≡ b.marks → HasLeastPriority b mask slot → HasLeastPriority a mask slot
+serves-same : (a b : Ledger) (mask slot : ℕ) → a.marks ≡ b.marks → HasLeastPriority b mask slot
+    → HasLeastPriority a mask slot
 serves-same a b mask slot same h = record {
   asks = h.asks;
   seated = rw (terms_at-same a b slot same) h.seated;
@@ -127,7 +145,8 @@ serves-same a b mask slot same h = record {
       (rw (terms_at-same a b slot same) at has) (rw (terms_at-same a b other same) at has_rival);
 }
 
-pub sound_row : (b : Ledger) (mask : ℕ) (priorities : List (Option ℕ)) (grant : Option ℕ) → mask < 2 ^ 32 → IsSound b mask priorities
+pub sound_row : (b : Ledger) (mask : ℕ) (priorities : List (Option ℕ)) (grant : Option ℕ) → mask < 2 ^ 32
+    → IsSound b mask priorities
     → IsSound (with_row b (tick_row mask grant (choice_of priorities mask))) mask priorities
 sound_row b mask priorities grant fits s =
     let row = tick_row mask grant (choice_of priorities mask) in
@@ -138,31 +157,42 @@ sound_row b mask priorities grant fits s =
       seated = λ slot asks. rw terms_at-row (s.seated slot asks);
       dated = dated-row b row s.dated;
       discipline = discipline-row Fp b row s.discipline (λ slot is.
-          let serves = sound_serves b mask priorities slot fits s (row_serves mask grant (choice_of priorities mask) slot is) in
+          let serves = sound_serves b mask priorities slot fits s
+          (row_serves mask grant (choice_of priorities mask) slot is) in
           rw (row_mask mask grant (choice_of priorities mask)) (record {
             asked = some_if_asks mask slot serves.asks;
-            served = serves-same (before (now_of b) (with_row b row)) b mask slot (before-now b row s.dated) serves;
+            served = serves-same (before (now_of b) (with_row b row)) b mask slot
+                (before-now b row s.dated) serves;
           }));
     }
 
 -- a seat that is taken
-seated_same : (b : Ledger) (slot k priority : ℕ) → slot ≡ k → terms_at (with_mark b (Seat slot (Prio priority))) k ≡ Some (Prio priority)
-seated_same b slot k priority same = terms_at-mark b (Seat slot (Prio priority)) k ∙ if_here slot k same (Some (Prio priority)) (terms_at b k)
+seated_same : (b : Ledger) (slot k priority : ℕ) → slot ≡ k
+    → terms_at (with_mark b (Seat slot (Prio priority))) k ≡ Some (Prio priority)
+seated_same b slot k priority same = terms_at-mark b (Seat slot (Prio priority)) k
+    ∙ if_here slot k same (Some (Prio priority)) (terms_at b k)
 
-seated_other : (b : Ledger) (slot k priority : ℕ) → slot ≢ k → terms_at (with_mark b (Seat slot (Prio priority))) k ≡ terms_at b k
-seated_other b slot k priority other = terms_at-mark b (Seat slot (Prio priority)) k ∙ if_other slot k (Some (Prio priority)) (terms_at b k) other
+seated_other : (b : Ledger) (slot k priority : ℕ) → slot ≢ k
+    → terms_at (with_mark b (Seat slot (Prio priority))) k ≡ terms_at b k
+seated_other b slot k priority other = terms_at-mark b (Seat slot (Prio priority)) k
+    ∙ if_other slot k (Some (Prio priority)) (terms_at b k) other
 
-pub sound_seat : (b : Ledger) (mask : ℕ) (priorities : List (Option ℕ)) (slot priority : ℕ) → slot < 32 → length priorities ≡ 32
-    → IsSound b mask priorities → IsSound (with_mark b (Seat slot (Prio priority))) mask (slice_set priorities slot (Some priority))
+pub sound_seat : (b : Ledger) (mask : ℕ) (priorities : List (Option ℕ)) (slot priority : ℕ) → slot < 32
+    → length priorities ≡ 32 → IsSound b mask priorities
+    → IsSound (with_mark b (Seat slot (Prio priority))) mask (slice_set priorities slot (Some priority))
 sound_seat b mask priorities slot priority lt len s = record {
   matches = λ k within. elim (cases_eq slot k) [
-    | inl same ↦ rw (seated_same b slot k priority same, ← same) (get_or-set_same priorities slot (Some priority) None (omega (arith, len)))
-    | inr other ↦ rw (seated_other b slot k priority other, get_or-set_other priorities slot k (Some priority) None (λ e. other (sym e)))
-        (s.matches k within)
+    | inl same ↦ rw (seated_same b slot k priority same, ← same)
+        (get_or-set_same priorities slot (Some priority) None (omega (arith, len)))
+    | inr other ↦ rw (
+      seated_other b slot k priority other,
+      get_or-set_other priorities slot k (Some priority) None (λ e. other (sym e)),
+    ) (s.matches k within)
   ];
   numbered = λ k is. elim (cases_eq slot k) [
     | inl same ↦ absurd (let no : Some priority ≡ None = rw (seated_same b slot k priority same) at is in cc)
-    | inr other ↦ rw (seated_other b slot k priority other) (s.numbered k (rw (seated_other b slot k priority other) at is))
+    | inr other ↦ rw (seated_other b slot k priority other)
+        (s.numbered k (rw (seated_other b slot k priority other) at is))
   ];
   within = λ k taken. elim (cases_eq slot k) [
     | inl same ↦ omega arith
@@ -183,12 +213,17 @@ left_same b slot k same = terms_at-mark b (Leave slot) k ∙ if_here slot k same
 left_other : (b : Ledger) (slot k : ℕ) → slot ≢ k → terms_at (with_mark b (Leave slot)) k ≡ terms_at b k
 left_other b slot k other = terms_at-mark b (Leave slot) k ∙ if_other slot k None (terms_at b k) other
 
-pub sound_leave : (b : Ledger) (mask : ℕ) (priorities : List (Option ℕ)) (slot : ℕ) → slot < 32 → length priorities ≡ 32
-    → IsSound b mask priorities → IsSound (with_mark b (Leave slot)) (without_slot slot mask) (slice_set priorities slot None)
+pub sound_leave : (b : Ledger) (mask : ℕ) (priorities : List (Option ℕ)) (slot : ℕ) → slot < 32
+    → length priorities ≡ 32 → IsSound b mask priorities
+    → IsSound (with_mark b (Leave slot)) (without_slot slot mask) (slice_set priorities slot None)
 sound_leave b mask priorities slot lt len s = record {
   matches = λ k within. elim (cases_eq slot k) [
-    | inl same ↦ rw (left_same b slot k same, ← same) (get_or-set_same priorities slot None None (omega (arith, len)))
-    | inr other ↦ rw (left_other b slot k other, get_or-set_other priorities slot k None None (λ e. other (sym e))) (s.matches k within)
+    | inl same ↦ rw (left_same b slot k same, ← same)
+        (get_or-set_same priorities slot None None (omega (arith, len)))
+    | inr other ↦ rw (
+      left_other b slot k other,
+      get_or-set_other priorities slot k None None (λ e. other (sym e)),
+    ) (s.matches k within)
   ];
   numbered = λ k is. elim (cases_eq slot k) [
     | inl same ↦ left_same b slot k same
@@ -199,7 +234,8 @@ sound_leave b mask priorities slot lt len s = record {
     | inr other ↦ s.within k (rw (left_other b slot k other) at taken)
   ];
   seated = λ k asks. elim (cases_eq slot k) [
-    | inl same ↦ absurd (let P : ℕ → Type 0 = λ n. SlotAsks (without_slot slot mask) n in silent_without mask slot lt (subst P (sym same) asks))
+    | inl same ↦ absurd (let P : ℕ → Type 0 = λ n. SlotAsks (without_slot slot mask) n in
+        silent_without mask slot lt (subst P (sym same) asks))
     | inr other ↦ rw (left_other b slot k other) (s.seated k (asks_without mask slot k asks))
   ];
   dated = dated-mark b (Leave slot) s.dated;

@@ -1,5 +1,6 @@
 -- What a box of fixed priority shows of itself, and what its fields keep.
-use Rattle.std.specs.Prelude.{◌≡◌, ◌≢◌, ℕ, ◌<◌, List, Option, Some, None, Bool, true, false, if◌then◌else◌, slice_index_or, refl}
+use Rattle.std.specs.Prelude.{◌≡◌, ◌≢◌, ℕ, ◌<◌, List, Option, Some, None, Bool, true, false}
+use Rattle.std.specs.Prelude.{if◌then◌else◌, slice_index_or, refl}
 use Rattle.hls_chron.specs.declared.plain.Kind.TheVariants.{Fp as FpKind}
 use Rattle.hls_chron.specs.declared.plain.Config.TheVariants.{Fp}
 use Rattle.hls_chron.specs.Ledger.{Ledger, IsDated}
@@ -8,8 +9,13 @@ use Rattle.hls_chron.specs.Discipline.{KeepsDiscipline}
 use Rattle.hls_sched.specs.Seen.{Seen, IsConfigured, config_of}
 
 abbrev pub fp_seen : Bool → Ledger → ℕ → Option ℕ → Seen
-fp_seen configured book mask grant =
-    record { kind = FpKind; config = (if configured then Some Fp else None); book = book; mask = mask; grant = grant }
+fp_seen configured book mask grant = record {
+  kind = FpKind;
+  config = (if configured then Some Fp else None);
+  book = book;
+  mask = mask;
+  grant = grant;
+}
 
 pub record IsSound (b : Ledger) (mask : ℕ) (priorities : List (Option ℕ)) : Type 0 where
   -- each slot has the priority number of its seat
@@ -24,6 +30,7 @@ pub record IsSound (b : Ledger) (mask : ℕ) (priorities : List (Option ℕ)) : 
 
 -- a box that is set up keeps the discipline
 pub keeps_discipline : (configured : Bool) (b : Ledger) (mask : ℕ) (grant : Option ℕ) → KeepsDiscipline Fp b
-    → IsConfigured (fp_seen configured b mask grant) → KeepsDiscipline (config_of (fp_seen configured b mask grant)) b
+    → IsConfigured (fp_seen configured b mask grant)
+    → KeepsDiscipline (config_of (fp_seen configured b mask grant)) b
 keeps_discipline true b mask grant kept is = kept
 keeps_discipline false b mask grant kept is = absurd (is refl)

@@ -1,5 +1,4 @@
 // A box of fixed priority.
-ghost use Rattle.std.specs.Prelude.{◌≡◌};
 ghost use Rattle.hls_fp.specs.Choice.{choice_of};
 ghost use Rattle.hls_fp.specs.Sound.{fp_seen, IsSound, keeps_discipline};
 ghost use Rattle.hls_sched.specs.Seen.{IsBlank};
@@ -43,7 +42,8 @@ impl Scheduler for Fp {
 
     ghost choice = { λ s. choice_of s.priorities s.mask };
 
-    ghost keeps = { λ s configured. keeps_discipline s.configured s.book s.mask s.grant s.sound.discipline configured };
+    ghost keeps = { λ s configured.
+        keeps_discipline s.configured s.book s.mask s.grant s.sound.discipline configured };
 
     fn kind(&self) -> Kind {
         Kind::Fp

@@ -3,5 +3,7 @@
 
 mod fp;
 mod slots;
+#[cfg(test)]
+mod tests;
 
 pub use fp::Fp;

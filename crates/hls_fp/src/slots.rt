@@ -1,5 +1,6 @@
 // The seats by slot, each with its priority number, and the slots that ask, a bit each.
-ghost use Rattle.std.specs.Prelude.{◌≡◌, ◌≢◌, ℕ, ◌^◌, ◌<◌, length, Some, None, IfSome, IsNone, IsTrue, ◌↔◌, slice_index_or};
+ghost use Rattle.std.specs.Prelude.{◌≡◌, ◌≢◌, ℕ, ◌^◌, ◌<◌, length, slice_index_or};
+ghost use Rattle.std.specs.Prelude.{Some, None, IfSome, IsNone};
 ghost use Rattle.hls_sched.specs.Seen.{tick_row};
 ghost use Rattle.hls_fp.specs.Choice.{better_of, priority_asking, choice_of};
 
@@ -74,7 +75,8 @@ pub fn first_free(priorities: &[Option<u32>]) -> Option<u32>
     requires { length priorities.now ≡ 32 }
     ensures within { IfSome result (λ slot. slot < 32) }
     ensures free { IfSome result (λ slot. slice_index_or priorities.now slot None ≡ None) }
-    ensures least { IfSome result (λ slot. (other : ℕ) → other < slot → slice_index_or priorities.now other None ≢ None) }
+    ensures least { IfSome result
+        (λ slot. (other : ℕ) → other < slot → slice_index_or priorities.now other None ≢ None) }
     ensures full { IsNone result → (slot : ℕ) → slot < 32 → slice_index_or priorities.now slot None ≢ None }
 {
     for slot in 0..SEATS {
@@ -90,7 +92,8 @@ pub fn find_priority(priorities: &[Option<u32>], priority: u32) -> Option<u32>
     requires { length priorities.now ≡ 32 }
     ensures found { IfSome result (λ slot. slice_index_or priorities.now slot None ≡ Some priority) }
     ensures within { IfSome result (λ slot. slot < 32) }
-    ensures none { IsNone result → (slot : ℕ) → slot < 32 → slice_index_or priorities.now slot None ≢ Some priority }
+    ensures none { IsNone result → (slot : ℕ) → slot < 32
+        → slice_index_or priorities.now slot None ≢ Some priority }
 {
     for slot in 0..SEATS {
         if priorities[slot as usize] == Some(priority) {

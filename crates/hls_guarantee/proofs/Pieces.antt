@@ -4,7 +4,8 @@ use Rattle.std.specs.Prelude.{min}
 use Rattle.std.proofs.lemmas.Bool.{cases_lt}
 use Rattle.hls_guarantee.specs.declared.Guarantee.TheVariants.{Resb}
 use Rattle.hls_guarantee.specs.Service.{service}
-use Rattle.hls_guarantee.specs.Satisfaction.{IsReserved, InPiece, IsPiece, piece_start, Satisfies}
+use Rattle.hls_guarantee.specs.Satisfaction.{IsReserved, InPiece, Satisfies}
+use Rattle.hls_guarantee.specs.Pieces.{IsPiece, piece_start}
 use Rattle.hls_guarantee.proofs.Offsets.{cut_at, fewer}
 use Rattle.hls_guarantee.proofs.Slides.{reserved-part, reserved-none}
 

@@ -7,6 +7,7 @@ use Rattle.hls_guarantee.specs.declared.Guarantee.TheVariants.{All, Null, Resb, 
 use Rattle.hls_guarantee.specs.Service.{EveryPart}
 use Rattle.hls_guarantee.specs.Satisfaction.{IsReserved, InPiece, HasShare, Satisfies, IsSoft}
 use Rattle.hls_guarantee.specs.Cap.{KeepsCap, processor_parts, parts_of}
+use Rattle.hls_guarantee.specs.Supply.{Supplies}
 use Rattle.hls_guarantee.proofs.ServiceLemmas.{service-agree, service-more}
 
 -- parts of a part
@@ -92,3 +93,13 @@ satisfies-more (Resb hard x y) f h lo hi soft more s = (
 )
 satisfies-more (Psbe s d) f h lo hi soft more share = λ i n a b.
     share-more s d n _ _ (service-more f h i n more) (share i n a b)
+
+-- supply goes over to a later start and to schedules and asking that agree from there on
+pub supplies-agree : (g : Guarantee) (f h a b : ℕ → Bool) (lo hi from : ℕ) → lo ≤ from → Agree f h from hi →
+    Agree a b from hi → Supplies g f a lo hi → Supplies g h b from hi
+supplies-agree g f h a b lo hi from le same asks s = record {
+  met = λ i j x y all.
+      satisfies-agree g f h i j (λ t u v. same t (omega arith) (omega arith))
+      (s.met i j (omega arith) y (λ t u v. asks t (omega arith) (omega arith) ∙ all t u v));
+  capped = keeps_cap-agree g f h from hi same (keeps_cap-part g f lo hi from hi le (omega arith) s.capped);
+}

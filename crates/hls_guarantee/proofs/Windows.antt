@@ -1,14 +1,16 @@
 -- The same promise of the same ticks, counted from another tick on; lists of ticks.
-use Rattle.std.proofs.Common.{◌≡◌, ℕ, ◌+◌, ◌-◌, ◌<◌, ◌≤◌, Bool, false, List, ◌++◌, length}
+use Rattle.std.proofs.Common.{◌≡◌, ℕ, ◌+◌, ◌-◌, ◌*◌, ◌<◌, ◌≤◌, Bool, true, false, List, ◌++◌, length}
 use Rattle.std.proofs.Common.{ap, ◌∙◌, sym, subst, arith, get_or, length-append}
 use Rattle.std.proofs.lemmas.List.{get_or_append_left, get_or-append-add}
 use Rattle.hls_guarantee.specs.declared.Guarantee.{Guarantee}
 use Rattle.hls_guarantee.specs.declared.Guarantee.TheVariants.{All, Null, Resb, Resc, Psbe}
 use Rattle.hls_guarantee.specs.Service.{service, EveryPart, schedule_of, ServesMore}
 use Rattle.hls_guarantee.specs.Satisfaction.{IsReserved, InPiece, HasShare, Satisfies, ListSatisfies, IsSoft}
+use Rattle.hls_guarantee.specs.Cap.{KeepsCap, ListKeepsCap, processor_parts, parts_of}
 use Rattle.hls_guarantee.proofs.ServiceLemmas.{service-shift}
 use Rattle.hls_guarantee.proofs.Offsets.{later_offset, earlier_offset, piece_later, piece_earlier}
 use Rattle.hls_guarantee.proofs.Promises.{satisfies-agree, satisfies-part, satisfies-more}
+use Rattle.hls_guarantee.proofs.Promises.{keeps_cap-agree, keeps_cap-part}
 
 -- the ticks from lo + k on, counted from lo on
 pub every-earlier : (P : ℕ → ℕ → Type 0) (f : ℕ → Bool) (k lo hi : ℕ) →
@@ -65,23 +67,45 @@ satisfies-later (Resb hard x y) f k lo hi s =
     )
 satisfies-later (Psbe s d) f k lo hi share = every-later (λ n got. HasShare s d n got) f k lo hi share
 
+-- the like for caps
+pub keeps_cap-earlier : (g : Guarantee) (f : ℕ → Bool) (k lo hi : ℕ) → KeepsCap g f (lo + k) (hi + k) →
+    KeepsCap g (λ t. f (t + k)) lo hi
+keeps_cap-earlier All f k lo hi c = tt
+keeps_cap-earlier Null f k lo hi c = tt
+keeps_cap-earlier (Resc true x y) f k lo hi c = every-earlier (λ n got. n ≤ y → got ≤ x) f k lo hi c
+keeps_cap-earlier (Resc false x y) f k lo hi c = tt
+keeps_cap-earlier (Resb true x y) f k lo hi c =
+    every-earlier (λ n got. got * processor_parts ≤ parts_of x y * n + 2 * x * processor_parts) f k lo hi c
+keeps_cap-earlier (Resb false x y) f k lo hi c = tt
+keeps_cap-earlier (Psbe s d) f k lo hi c = tt
+
+pub keeps_cap-later : (g : Guarantee) (f : ℕ → Bool) (k lo hi : ℕ) → KeepsCap g (λ t. f (t + k)) lo hi →
+    KeepsCap g f (lo + k) (hi + k)
+keeps_cap-later All f k lo hi c = tt
+keeps_cap-later Null f k lo hi c = tt
+keeps_cap-later (Resc true x y) f k lo hi c = every-later (λ n got. n ≤ y → got ≤ x) f k lo hi c
+keeps_cap-later (Resc false x y) f k lo hi c = tt
+keeps_cap-later (Resb true x y) f k lo hi c =
+    every-later (λ n got. got * processor_parts ≤ parts_of x y * n + 2 * x * processor_parts) f k lo hi c
+keeps_cap-later (Resb false x y) f k lo hi c = tt
+keeps_cap-later (Psbe s d) f k lo hi c = tt
+
 -- the list has the ticks of the schedule from lo on
 pub record IsWindow (list : List Bool) (f : ℕ → Bool) (lo : ℕ) : Type 0 where
   pub same : (t : ℕ) → t < length list → schedule_of list t ≡ f (t + lo)
 
 -- a range that begins at lo, from 0 on
-from_zero : (g : Guarantee) (f : ℕ → Bool) (lo n : ℕ) →
-    Satisfies g f lo (lo + n) ≡ Satisfies g f (0 + lo) (n + lo)
-from_zero g f lo n =
+from_zero : (P : ℕ → ℕ → Type 0) (lo n : ℕ) → P lo (lo + n) ≡ P (0 + lo) (n + lo)
+from_zero P lo n =
     let start : lo ≡ 0 + lo = omega arith in
     let end : lo + n ≡ n + lo = omega arith in
-    ap (λ (t : ℕ). Satisfies g f t (lo + n)) start ∙ ap (λ (t : ℕ). Satisfies g f (0 + lo) t) end
+    ap (λ (t : ℕ). P t (lo + n)) start ∙ ap (λ (t : ℕ). P (0 + lo) t) end
 
 pub window-satisfies : (g : Guarantee) (list : List Bool) (f : ℕ → Bool) (lo : ℕ) → IsWindow list f lo →
     Satisfies g f lo (lo + length list) → ListSatisfies g list
 window-satisfies g list f lo w s =
     let moved : Satisfies g f (0 + lo) (length list + lo) =
-    subst (λ T. T) (from_zero g f lo (length list)) s in
+    subst (λ T. T) (from_zero (Satisfies g f) lo (length list)) s in
     satisfies-agree g (λ t. f (t + lo)) (schedule_of list) 0 (length list) (λ t a b. sym (w.same t b))
     (satisfies-earlier g f lo 0 (length list) moved)
 
@@ -90,7 +114,22 @@ pub satisfies-window : (g : Guarantee) (list : List Bool) (f : ℕ → Bool) (lo
 satisfies-window g list f lo w s =
     let there = satisfies-later g f lo 0 (length list)
     (satisfies-agree g (schedule_of list) (λ t. f (t + lo)) 0 (length list) (λ t a b. w.same t b) s) in
-    subst (λ T. T) (sym (from_zero g f lo (length list))) there
+    subst (λ T. T) (sym (from_zero (Satisfies g f) lo (length list))) there
+
+pub window-keeps_cap : (g : Guarantee) (list : List Bool) (f : ℕ → Bool) (lo : ℕ) → IsWindow list f lo →
+    KeepsCap g f lo (lo + length list) → ListKeepsCap g list
+window-keeps_cap g list f lo w c =
+    let moved : KeepsCap g f (0 + lo) (length list + lo) =
+    subst (λ T. T) (from_zero (KeepsCap g f) lo (length list)) c in
+    keeps_cap-agree g (λ t. f (t + lo)) (schedule_of list) 0 (length list) (λ t a b. sym (w.same t b))
+    (keeps_cap-earlier g f lo 0 (length list) moved)
+
+pub keeps_cap-window : (g : Guarantee) (list : List Bool) (f : ℕ → Bool) (lo : ℕ) → IsWindow list f lo →
+    ListKeepsCap g list → KeepsCap g f lo (lo + length list)
+keeps_cap-window g list f lo w c =
+    let there = keeps_cap-later g f lo 0 (length list)
+    (keeps_cap-agree g (schedule_of list) (λ t. f (t + lo)) 0 (length list) (λ t a b. w.same t b) c) in
+    subst (λ T. T) (sym (from_zero (KeepsCap g f) lo (length list))) there
 
 -- a part of a list
 part-window : (before part after : List Bool) →
@@ -117,6 +156,17 @@ list-part g before part after s =
     let fits : n + length part ≤ length whole = omega arith in
     window-satisfies g part (schedule_of whole) n (part-window before part after)
     (satisfies-part g (schedule_of whole) 0 (length whole) n (n + length part) (omega arith) fits s)
+
+pub list-cap : (g : Guarantee) (before part after : List Bool) → ListKeepsCap g (before ++ (part ++ after)) →
+    ListKeepsCap g part
+list-cap g before part after c =
+    let whole : List Bool = before ++ (part ++ after) in
+    let long = length-append before (part ++ after) in
+    let inner = length-append part after in
+    let n : ℕ = length before in
+    let fits : n + length part ≤ length whole = omega arith in
+    window-keeps_cap g part (schedule_of whole) n (part-window before part after)
+    (keeps_cap-part g (schedule_of whole) 0 (length whole) n (n + length part) (omega arith) fits c)
 
 pub list-more : (g : Guarantee) (less more : List Bool) → IsSoft g → ServesMore less more →
     ListSatisfies g less →

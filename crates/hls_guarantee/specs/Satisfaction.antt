@@ -1,5 +1,5 @@
 -- What a guarantee promises of the ticks from lo on and before hi of a schedule.
-use Rattle.std.specs.Prelude.{◌≡◌, ℕ, zero, suc, ◌+◌, ◌*◌, ◌≤◌, ◌<◌, min, Bool, true, false, List, length}
+use Rattle.std.specs.Prelude.{◌≡◌, ℕ, ◌+◌, ◌*◌, ◌≤◌, ◌<◌, Bool, true, false, List, length}
 use Rattle.hls_frac.specs.declared.Frac.{Frac}
 use Rattle.hls_guarantee.specs.declared.Guarantee.{Guarantee}
 use Rattle.hls_guarantee.specs.declared.Guarantee.TheVariants.{All, Null, Resb, Resc, Psbe}
@@ -16,15 +16,11 @@ pub record InPiece (e y i n : ℕ) : Type 0 where
   pub starts : e + cut * y ≤ i + y
   pub ends : i + n ≤ e + cut * y
 
--- where piece k begins
-abbrev pub piece_start : (e y k : ℕ) → ℕ
-piece_start e y zero = 0
-piece_start e y (suc k) = e + k * y
-
 -- of n ticks at least s * n - d are served
 abbrev pub HasShare : (s d : Frac) (n got : ℕ) → Type 0
 HasShare s d n got = s.num * n * d.den ≤ (got * d.den + d.num) * s.den
 
+-- every tick; nothing; by sliding windows; by the pieces of one offset; by a share
 abbrev pub Satisfies : Guarantee → (served : ℕ → Bool) (lo hi : ℕ) → Type 0
 Satisfies All served lo hi = (t : ℕ) → lo ≤ t → t < hi → served t ≡ true
 Satisfies Null served lo hi = Unit {0}
@@ -37,11 +33,6 @@ Satisfies (Psbe s d) served lo hi = EveryPart (λ i n got. HasShare s d n got) s
 -- the same of a list of served and unserved ticks
 abbrev pub ListSatisfies : Guarantee → List Bool → Type 0
 ListSatisfies g list = Satisfies g (schedule_of list) 0 (length list)
-
--- a list of this length is cut before the items e, e + y and so on: piece k is of the n items from i on
-pub record IsPiece (e y len k i n : ℕ) : Type 0 where
-  pub first : i ≡ piece_start e y k
-  pub last : i + n ≡ min (piece_start e y (suc k)) len
 
 -- a promise that more service never breaks
 abbrev pub IsSoft : Guarantee → Type 0

@@ -11,10 +11,6 @@ unfoldable pub service : (served : ℕ → Bool) (i n : ℕ) → ℕ
 service served i zero = 0
 service served i (suc n) = service served i n + one_if (served (i + n))
 
--- the service of the y ticks that end before tick k, or of as many as there are
-abbrev pub service_before : (served : ℕ → Bool) (y k : ℕ) → ℕ
-service_before served y k = service served (k - y) (min y k)
-
 -- P holds of every part of the ticks from lo on and before hi: of the n ticks from i on, and of their service
 abbrev pub EveryPart : (P : (i n got : ℕ) → Type 0) (served : ℕ → Bool) (lo hi : ℕ) → Type 0
 EveryPart P served lo hi = (i n : ℕ) → lo ≤ i → i + n ≤ hi → P i n (service served i n)
@@ -31,3 +27,7 @@ EveryPartOf P list = EveryPart P (schedule_of list) 0 (length list)
 pub record ServesMore (less more : List Bool) : Type 0 where
   pub same_length : length less ≡ length more
   pub served : (t : ℕ) → schedule_of less t ≡ true → schedule_of more t ≡ true
+
+-- the service of the y ticks that end before tick k, or of as many as there are
+abbrev pub service_before : (served : ℕ → Bool) (y k : ℕ) → ℕ
+service_before served y k = service served (k - y) (min y k)

@@ -15,8 +15,10 @@ ghost use Rattle.std.specs.Prelude.{
   true,
 };
 ghost use Rattle.hls_guarantee.specs.Service.{service, schedule_of, ServesMore};
-ghost use Rattle.hls_guarantee.specs.Satisfaction.{Satisfies, ListSatisfies, IsReserved, IsPiece, IsSoft};
-ghost use Rattle.hls_guarantee.specs.Cap.{KeepsCap};
+ghost use Rattle.hls_guarantee.specs.Satisfaction.{Satisfies, ListSatisfies, IsReserved, IsSoft};
+ghost use Rattle.hls_guarantee.specs.Pieces.{IsPiece};
+ghost use Rattle.hls_guarantee.specs.Cap.{KeepsCap, ListKeepsCap};
+ghost use Rattle.hls_guarantee.specs.Supply.{Supplies};
 ghost use Rattle.hls_guarantee.specs.Limits.{IsReservation, IsValid, IsNarrow};
 ghost use Rattle.hls_guarantee.specs.Spelling.{spelling};
 
@@ -31,6 +33,17 @@ pub fn parts_satisfy(g: Guarantee)
         KeepsCap g served lo hi → KeepsCap g served i j }
     ensures list { (before part after : List Bool) → ListSatisfies g (before ++ (part ++ after)) →
         ListSatisfies g part }
+    ensures list_cap { (before part after : List Bool) → ListKeepsCap g (before ++ (part ++ after)) →
+        ListKeepsCap g part }
+{}
+
+/// Supply speaks only of the ticks of its range: it goes over to a later start, and to a schedule and an
+/// asking that agree from there on.
+pub fn supply_goes_over(g: Guarantee)
+    ensures { (served given asks wants : ℕ → Bool) (lo hi from : ℕ) → lo ≤ from →
+        ((t : ℕ) → from ≤ t → t < hi → served t ≡ given t) →
+        ((t : ℕ) → from ≤ t → t < hi → asks t ≡ wants t) →
+        Supplies g served asks lo hi → Supplies g given wants from hi }
 {}
 
 /// A soft guarantee is satisfied also where more ticks are served.
@@ -53,11 +66,14 @@ pub fn null_promises_nothing()
     ensures { (list : List Bool) → ListSatisfies Guarantee.Null list }
 {}
 
-/// A list of the ticks of a schedule from some tick on satisfies what these ticks satisfy.
+/// A list of the ticks of a schedule from some tick on satisfies and caps what these ticks satisfy and cap.
 pub fn windows_are_lists(g: Guarantee)
-    ensures { (list : List Bool) (served : ℕ → Bool) (lo : ℕ) →
+    ensures satisfied { (list : List Bool) (served : ℕ → Bool) (lo : ℕ) →
         ((t : ℕ) → t < length list → schedule_of list t ≡ served (t + lo)) →
         ListSatisfies g list ↔ Satisfies g served lo (lo + length list) }
+    ensures capped { (list : List Bool) (served : ℕ → Bool) (lo : ℕ) →
+        ((t : ℕ) → t < length list → schedule_of list t ≡ served (t + lo)) →
+        ListKeepsCap g list ↔ KeepsCap g served lo (lo + length list) }
 {}
 
 /// A guarantee by blocks is satisfied exactly where at some offset each whole piece of the list is reserved.

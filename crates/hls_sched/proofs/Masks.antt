@@ -1,29 +1,43 @@
 -- The bits of a mask of slots.
-use Rattle.std.proofs.Common.{◌≡◌, ◌≢◌, ℕ, ◌^◌, ◌<◌, ◌≤◌, Bool, true, false, arith, inl, inr, w32}
-use Rattle.std.specs.Prelude.{◌⊎◌, not, ◌==◌}
-use Rattle.std.specs.Int.{bit_not, bit_at, trailing_zeros}
+use Rattle.std.proofs.Common.{◌≡◌, ◌≢◌, ℕ, ◌^◌, ◌<◌, true, arith, inl, inr, w32}
+use Rattle.std.specs.Int.{bit_not, trailing_zeros}
 use Rattle.std.proofs.Math.Pow.{pow-lt}
 use Rattle.std.proofs.lemmas.Bool.{cases_lt, cases_eq}
 use Rattle.std.proofs.lemmas.Bool.Decides.{nat_tests}
-use Rattle.std.proofs.lemmas.Nat.Bits.{bit_at_or, bit_at_and, bit_at_not, bit_at-pow_same, bit_at-pow_other, bit_at-lt, bit_at-zero, bit_at_above, bit_at-trailing_zeros}
+use Rattle.std.proofs.lemmas.Nat.Bits.{bit_at_or, bit_at_and, bit_at_not, bit_at-pow_same}
+use Rattle.std.proofs.lemmas.Nat.Bits.{bit_at-pow_other, bit_at-lt, bit_at-zero, bit_at_above}
+use Rattle.std.proofs.lemmas.Nat.Bits.{bit_at-trailing_zeros}
 use Rattle.hls_chron.specs.Seats.{SlotAsks}
 use Rattle.hls_chron.specs.Asks.{some_slot_asks}
 use Rattle.hls_sched.specs.Seen.{with_slot, without_slot}
 
 -- another slot than the one that was set asked before
 pub asks_with : (mask slot k : ℕ) → SlotAsks (with_slot slot mask) k → k ≢ slot → SlotAsks mask k
-asks_with mask slot k asks other = omega (arith, bit_at_or mask (2 ^ slot) k, bit_at-pow_other slot k other, asks)
+asks_with mask slot k asks other =
+    omega (arith, bit_at_or mask (2 ^ slot) k, bit_at-pow_other slot k other, asks)
 
 -- a slot that asks where one was cleared asked before
 pub asks_without : (mask slot k : ℕ) → SlotAsks (without_slot slot mask) k → SlotAsks mask k
 asks_without mask slot k asks =
-    omega (arith, bit_at_and mask (bit_not w32 (2 ^ slot)) k, bit_at-lt mask k, bit_at-lt (bit_not w32 (2 ^ slot)) k, asks)
+    omega (
+      arith,
+      bit_at_and mask (bit_not w32 (2 ^ slot)) k,
+      bit_at-lt mask k,
+      bit_at-lt (bit_not w32 (2 ^ slot)) k,
+      asks,
+    )
 
 -- the slot that was cleared does not ask
 pub silent_without : (mask slot : ℕ) → slot < 32 → SlotAsks (without_slot slot mask) slot → ⊥
 silent_without mask slot lt asks =
     let small : 2 ^ slot < 2 ^ 32 = pow-lt lt in
-    omega (arith, bit_at_and mask (bit_not w32 (2 ^ slot)) slot, bit_at_not w32 (2 ^ slot) slot small lt, bit_at-pow_same slot, asks)
+    omega (
+      arith,
+      bit_at_and mask (bit_not w32 (2 ^ slot)) slot,
+      bit_at_not w32 (2 ^ slot) slot small lt,
+      bit_at-pow_same slot,
+      asks,
+    )
 
 -- only slots of the width ask
 pub within_width : (mask slot : ℕ) → mask < 2 ^ 32 → SlotAsks mask slot → slot < 32
@@ -56,13 +70,21 @@ some_if_asks mask slot asks = elim (cases_eq mask 0) [
 
 -- the slot that was set asks
 pub asks_with_same : (mask slot : ℕ) → SlotAsks (with_slot slot mask) slot
-asks_with_same mask slot = omega (arith, bit_at_or mask (2 ^ slot) slot, bit_at-pow_same slot, bit_at-lt mask slot)
+asks_with_same mask slot =
+    omega (arith, bit_at_or mask (2 ^ slot) slot, bit_at-pow_same slot, bit_at-lt mask slot)
 
 -- who asked still does
 pub still_asks_with : (mask slot k : ℕ) → SlotAsks mask k → SlotAsks (with_slot slot mask) k
 still_asks_with mask slot k asks = omega (arith, bit_at_or mask (2 ^ slot) k, bit_at-lt (2 ^ slot) k, asks)
 
-pub still_asks_without : (mask slot k : ℕ) → slot < 32 → k < 32 → k ≢ slot → SlotAsks mask k → SlotAsks (without_slot slot mask) k
+pub still_asks_without : (mask slot k : ℕ) → slot < 32 → k < 32 → k ≢ slot → SlotAsks mask k
+    → SlotAsks (without_slot slot mask) k
 still_asks_without mask slot k lt within other asks =
     let small : 2 ^ slot < 2 ^ 32 = pow-lt lt in
-    omega (arith, bit_at_and mask (bit_not w32 (2 ^ slot)) k, bit_at_not w32 (2 ^ slot) k small within, bit_at-pow_other slot k other, asks)
+    omega (
+      arith,
+      bit_at_and mask (bit_not w32 (2 ^ slot)) k,
+      bit_at_not w32 (2 ^ slot) k small within,
+      bit_at-pow_other slot k other,
+      asks,
+    )

@@ -1,5 +1,6 @@
 -- What contracts see of a scheduler, and what each call makes of it.
-use Rattle.std.specs.Prelude.{◌≡◌, ◌≢◌, ℕ, ◌-◌, ◌*◌, ◌^◌, ◌≤◌, [], Option, Some, None, Bool, unwrap_or, bit_and, bit_or}
+use Rattle.std.specs.Prelude.{◌≡◌, ◌≢◌, ℕ, ◌-◌, ◌*◌, ◌^◌, ◌≤◌, [], Option, Some, None, Bool, unwrap_or}
+use Rattle.std.specs.Prelude.{bit_and, bit_or}
 use Rattle.std.specs.Int.{bit_not, w32}
 use Rattle.hls_chron.specs.declared.book.TickRow.{TickRow}
 use Rattle.hls_chron.specs.declared.book.Event.TheVariants.{Seat, Leave, Settle}
@@ -11,7 +12,8 @@ use Rattle.hls_chron.specs.Kinds.{kind_of}
 use Rattle.hls_chron.specs.Ledger.{Ledger, with_row, with_mark}
 use Rattle.hls_chron.specs.Asks.{asks}
 
--- the kind, the configuration if there is one yet, the book, the slots that ask, a bit each, and the port of the grant
+-- the kind, the configuration if there is one yet, the book, the slots that ask, a bit each, and the port
+-- of the grant
 pub record Seen : Type 0 where
   pub kind : Kind
   pub config : Option Config
@@ -32,7 +34,8 @@ pub record IsBlank (kind : Kind) (s : Seen) : Type 0 where
   pub of_kind : s.kind ≡ kind
   pub blank : s.config ≡ None
 
--- as it is after `setup`: nothing is written, nobody asks, and there is room to the horizon and for two marks a command
+-- as it is after `setup`: nothing is written, nobody asks, and there is room to the horizon and for two
+-- marks a command
 pub record IsSetUp (config : Config) (now horizon commands : ℕ) (s : Seen) : Type 0 where
   pub of_kind : s.kind ≡ kind_of config
   pub configured : s.config ≡ Some config

@@ -1,8 +1,8 @@
 // The kit of boxes.
-ghost use Rattle.std.specs.Prelude.{◌≡◌, ◌≢◌, ◌+◌, ◌-◌, ◌^◌, [], ◌∷◌, ◌++◌, min, IfSome, IfNone, IsNone, ◌↔◌, slice_index, slice_set, OnOk, OnErr};
+ghost use Rattle.std.specs.Prelude.{◌≡◌, ◌≢◌, ◌+◌, ◌-◌, ◌^◌, [], ◌∷◌, ◌++◌, min, IfSome, IfNone, IsNone, ◌↔◌};
+ghost use Rattle.std.specs.Prelude.{slice_index, slice_set, OnOk, OnErr};
 ghost use Rattle.hls_chron.specs.declared.plain.Kind.{Kind};
 ghost use Rattle.hls_sched.specs.Seen.{IsBlank};
-ghost use Rattle.hls_sched.specs.Blank.{AllBlank};
 
 use crate::Scheduler;
 use hls_chron::Kind;
@@ -31,7 +31,8 @@ impl Kit {
         requires boxed { kind ≢ Kind.Cpu }
         ensures blank { IfSome result (λ b. IsBlank kind (seen b)) }
         ensures taken { IfSome result (λ b. boxes_of kind self.old ≡ boxes_of kind self.new ++ b ∷ []) }
-        ensures counted { IfSome result (λ _. self.new.used ≡ slice_set self.old.used (place_of kind) (min (slice_index self.old.used (place_of kind) + 1) (2 ^ 32 - 1))) }
+        ensures counted { IfSome result (λ _. self.new.used ≡ slice_set self.old.used (place_of kind)
+            (min (slice_index self.old.used (place_of kind) + 1) (2 ^ 32 - 1))) }
         ensures none { IsNone result ↔ (boxes_of kind self.old ≡ []) }
         ensures unchanged { IfNone result (boxes_of kind self.new ≡ boxes_of kind self.old) }
         ensures uncounted { IfNone result (self.new.used ≡ self.old.used) }

@@ -1,14 +1,13 @@
 // The trait of a scheduler.
-ghost use Rattle.std.specs.Prelude.{◌≡◌, ◌≢◌, ℕ, ◌-◌, ◌*◌, ◌<◌, ◌≤◌, ◌↔◌, Option, Some, None, true, false, is_some, OnOk, OnErr, IsNone, IfSome};
-ghost use Rattle.hls_chron.specs.declared.book.Event.TheVariants.{Seat, Leave, Settle};
+ghost use Rattle.std.specs.Prelude.{◌≡◌, ◌≢◌, ℕ, ◌<◌, ◌≤◌, ◌↔◌, Option, None, true, false, is_some};
+ghost use Rattle.std.specs.Prelude.{OnOk, OnErr, IsNone, IfSome};
 ghost use Rattle.hls_chron.specs.Kinds.{kind_of};
 ghost use Rattle.hls_chron.specs.Ranges.{ConfigInRange, TermsInRange};
-ghost use Rattle.hls_chron.specs.Ledger.{now_of};
 ghost use Rattle.hls_chron.specs.Seats.{terms_at, SlotAsks, IsFree, IsFull};
-ghost use Rattle.hls_chron.specs.Asks.{asks};
 ghost use Rattle.hls_chron.specs.Discipline.{Serves, KeepsDiscipline};
 ghost use Rattle.hls_chron.specs.Room.{room_used};
-ghost use Rattle.hls_sched.specs.Seen.{Seen, config_of, IsConfigured, IsSetUp, requested, released, seated, left, settled, granted, revoked, turned, seen_asks};
+ghost use Rattle.hls_sched.specs.Seen.{Seen, config_of, IsConfigured, IsSetUp, seen_asks};
+ghost use Rattle.hls_sched.specs.Seen.{requested, released, seated, left, settled, granted, revoked, turned};
 ghost use Rattle.hls_sched.specs.Fits.{IsAnswer};
 
 use crate::SeatFault;
@@ -120,7 +119,8 @@ pub trait Scheduler: Drop {
     fn choice(&self) -> Option<u32>
         requires configured { IsConfigured (seen self.now) }
         ensures value { result ≡ choice self.now }
-        ensures serves { IfSome result (Serves (config_of (seen self.now)) (seen self.now).book (seen self.now).mask) }
+        ensures serves { IfSome result
+            (Serves (config_of (seen self.now)) (seen self.now).book (seen self.now).mask) }
         ensures none { IsNone result ↔ (seen_asks (seen self.now) ≡ false) };
 
     /// Lets one tick pass, and writes its row: the slots that ask, and where it is granted the

@@ -13,4 +13,5 @@ returns-in_default-clause-exact c = λ f num den more.
     let num_is = ap (λ (v : Frac). v.num) same ∙ num in
     let den_is = ap (λ (v : Frac). v.den) same ∙ den in
     let more_is : c.in-Some.f.den ≢ 1 = λ e. more (sym (ap (λ (v : Frac). v.den) same) ∙ e) in
-    absurd (let no : false ≡ true = sym c.if-is_written.false ∙ c.is_written.ensures.1 (num_is, den_is, more_is) in cc)
+    let written = c.is_written.ensures.1 (num_is, den_is, more_is) in
+    absurd (let no : false ≡ true = sym c.if-is_written.false ∙ written in cc)
