@@ -1,1 +1,3 @@
 mod Appends
+mod Options
+mod Spaces
