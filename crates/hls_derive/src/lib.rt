@@ -2,10 +2,10 @@
 #![tactic(auto)]
 
 mod derivation;
-// mod reading;
+mod reading;
 mod words;
 mod writing;
 
 pub use derivation::{Derivation, Place, SchedStep, Step};
-// pub use reading::read_derivation;
+pub use reading::read_derivation;
 pub use writing::write_derivation;

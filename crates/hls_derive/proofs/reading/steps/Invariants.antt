@@ -1,0 +1,12 @@
+use Rattle.std.proofs.Common.{◌≡◌, ◌++◌, length}
+use Rattle.hls_derive.specs.Derivation.{AreValid}
+use Rattle.hls_derive.specs.DerivationText.{steps_text}
+use Rattle.hls_derive.specs.Reading.{IsEnd}
+use Rattle.hls_derive.proofs.Parses.{SoFar}
+use Rattle.hls_derive.proofs.reading.steps.Given as goal
+
+abbrev pub invariant-loop-step : goal.invariant-loop-step
+invariant-loop-step l = SoFar l.text l.steps.items l.rest
+
+abbrev pub decreases-loop-step : goal.decreases-loop-step
+decreases-loop-step l = length l.rest
