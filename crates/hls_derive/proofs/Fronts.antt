@@ -1,7 +1,6 @@
 -- One guarantee, one conversion and one step through a scheduler stand at the front of a text.
-use Rattle.std.proofs.Common.{◌≡◌, ℕ, ◌+◌, ◌-◌, ◌<◌, ◌≤◌, ◌^◌, true, false, List, [], ◌∷◌, ◌++◌, refl, sym, ap, ap₂, ◌∙◌, arith, subst, append_assoc, inl, inr, take, drop, length, ◌⊎◌}
-use Rattle.std.specs.Prelude.{◌==◌, ◌&&◌, nat_le, codes, decimal, Option, Some, None, if◌then◌else◌}
-use Rattle.std.specs.List.{list_any}
+use Rattle.std.proofs.Common.{◌≡◌, ℕ, ◌+◌, ◌-◌, ◌<◌, ◌≤◌, ◌^◌, true, false, List, [], ◌∷◌, ◌++◌, refl, sym, ap, ap₂, ◌∙◌, arith, append_assoc, inl, inr, take, drop, length, ◌⊎◌}
+use Rattle.std.specs.Prelude.{◌==◌, nat_le, codes, decimal, Some, None, if◌then◌else◌}
 use Rattle.std.proofs.Math.Seq.{take-append_seam}
 use Rattle.std.proofs.lemmas.List.{take-append-drop}
 use Rattle.std.proofs.lemmas.Fmt.{decimal_digit}
@@ -21,7 +20,7 @@ use Rattle.hls_guarantee.proofs.Injective.{spelling-same}
 use Rattle.hls_derive.specs.declared.derivation.Step.{Step}
 use Rattle.hls_derive.specs.declared.derivation.SchedStep.{SchedStep}
 use Rattle.hls_derive.specs.Derivation.{PortFits}
-use Rattle.hls_derive.specs.DerivationText.{rule_text, scheduler_text, reached_text, step_text, sched_text}
+use Rattle.hls_derive.specs.DerivationText.{rule_text, scheduler_text}
 use Rattle.hls_derive.specs.Reading.{IsEnd, place_of_space, spaces_of, Stands, StepStands, SchedStands, rule_at, port_of, scheduler_at}
 use Rattle.hls_derive.proofs.Spaces.{spaces, spaces-append, no_spaces, cut_same, place_behind, place_ends}
 

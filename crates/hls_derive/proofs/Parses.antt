@@ -1,6 +1,6 @@
 -- Conversions one after the other, and whole derivations, are read in one way.
-use Rattle.std.proofs.Common.{◌≡◌, ℕ, zero, suc, ◌+◌, ◌<◌, ◌≤◌, List, [], ◌∷◌, ◌++◌, length, get_or, refl, sym, ap, ap₂, ◌∙◌, arith, subst, append_assoc, append-nil, length-append}
-use Rattle.std.specs.Prelude.{Option, Some, None, All, codes, flat_map}
+use Rattle.std.proofs.Common.{◌≡◌, ℕ, zero, suc, ◌<◌, ◌≤◌, List, [], ◌∷◌, ◌++◌, length, refl, sym, ap, ap₂, ◌∙◌, arith, subst, append_assoc, append-nil, length-append}
+use Rattle.std.specs.Prelude.{codes}
 use Rattle.std.proofs.lemmas.Grind.{flat_map-append}
 use Rattle.std.proofs.lemmas.List.Elements.{All-append}
 use Rattle.hls_guarantee.specs.declared.Guarantee.{Guarantee}
@@ -211,10 +211,9 @@ all_same text d rest e read p =
     let third = one_sched read.scheduler d.sched e.sched read.last_steps p.last_steps read.sched
     (then_sched text d.from d.before read.scheduler e read.two p) in
     let moved = subst (λ l. StepsStand l e.after []) (sym third.1) p.after in
-    let fourth = one_list read.last_steps d.after e.after rest [] read.after moved in
-    (
+    let fourth = one_list read.last_steps d.after e.after rest [] read.after moved in (
       ap (λ g. made g d.before d.sched d.after) two.0 ∙ ap (λ l. made e.from l d.sched d.after) two.1
-      ∙ ap (λ s. made e.from e.before s d.after) third.0 ∙ ap (λ l. made e.from e.before e.sched l) fourth.0,
+          ∙ ap (λ s. made e.from e.before s d.after) third.0 ∙ ap (λ l. made e.from e.before e.sched l) fourth.0,
       fourth.1,
     )
 

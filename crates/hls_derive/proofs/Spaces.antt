@@ -1,12 +1,12 @@
 -- Where the spaces of a text stand.
-use Rattle.std.proofs.Common.{◌≡◌, ◌≢◌, ℕ, zero, suc, ◌+◌, ◌<◌, ◌≤◌, ◌^◌, Bool, true, false, cond, List, [], ◌∷◌, ◌++◌}
-use Rattle.std.proofs.Common.{length, get_or, take, drop, refl, sym, ap, ◌∙◌, arith, subst, append_assoc, inl, inr, eqb}
-use Rattle.std.specs.Prelude.{◌==◌, ◌||◌, codes, decimal, if◌then◌else◌}
+use Rattle.std.proofs.Common.{◌≡◌, ◌≢◌, ℕ, zero, suc, ◌+◌, ◌<◌, ◌≤◌, Bool, true, false, cond, List, [], ◌∷◌, ◌++◌}
+use Rattle.std.proofs.Common.{length, get_or, take, drop, refl, sym, ap, ◌∙◌, arith, subst, inl, inr, eqb}
+use Rattle.std.specs.Prelude.{◌==◌, ◌||◌, if◌then◌else◌}
 use Rattle.std.specs.List.{list_any}
 use Rattle.std.proofs.Math.Seq.{drop-cons, take-append_seam, drop-append_seam}
 use Rattle.std.proofs.lemmas.Bool.{eq-eqb, eqb-true}
 use Rattle.std.proofs.lemmas.Bool.Decides.{eqb_tells}
-use Rattle.std.proofs.lemmas.List.{drop_all, length-append}
+use Rattle.std.proofs.lemmas.List.{drop_all}
 use Rattle.hls_derive.specs.Reading.{IsEnd, place_of_space}
 
 -- ---- going over a text from the left
@@ -106,12 +106,11 @@ pub cut_same : (front rest other behind : List ℕ) → front ++ rest ≡ other 
 cut_same front rest other behind same ends ends_too as_many =
     let len : length front ≡ length other =
     sym (place_behind front rest ends) ∙ ap (λ n. place_of_space n (front ++ rest)) as_many
-    ∙ ap (place_of_space (spaces other)) same ∙ place_behind other behind ends_too in
-    (
+    ∙ ap (place_of_space (spaces other)) same ∙ place_behind other behind ends_too in (
       sym (take-append_seam front rest) ∙ ap (λ n. take n (front ++ rest)) len ∙ ap (take (length other)) same
-      ∙ take-append_seam other behind,
+          ∙ take-append_seam other behind,
       sym (drop-append_seam front rest) ∙ ap (λ n. drop n (front ++ rest)) len ∙ ap (drop (length other)) same
-      ∙ drop-append_seam other behind,
+          ∙ drop-append_seam other behind,
     )
 
 -- the place is within the text, and nothing or a space stands there

@@ -5,7 +5,6 @@ use Rattle.hls_chron.specs.declared.plain.Kind.TheVariants.{Join}
 use Rattle.hls_guarantee.specs.declared.Guarantee.{Guarantee}
 use Rattle.hls_guarantee.specs.Limits.{IsValid}
 use Rattle.hls_derive.specs.declared.derivation.Step.{Step}
-use Rattle.hls_derive.specs.declared.derivation.SchedStep.{SchedStep}
 use Rattle.hls_derive.specs.declared.derivation.Derivation.{Derivation}
 
 -- how many conversions there are

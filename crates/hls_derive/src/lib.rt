@@ -2,7 +2,10 @@
 #![tactic(auto)]
 
 mod derivation;
+pub mod laws;
 mod reading;
+#[cfg(test)]
+mod tests;
 mod words;
 mod writing;
 

@@ -1,6 +1,4 @@
-use Rattle.std.proofs.Common.{◌≡◌, ◌++◌, ◌≤◌, ◌∙◌, sym, ap, subst, take, drop, length, Some, None}
-use Rattle.hls_guarantee.specs.Spelling.{spelling}
-use Rattle.hls_derive.specs.Reading.{Stands, place_of_space}
+use Rattle.std.proofs.Common.{◌∙◌, sym, ap, take, drop}
 use Rattle.hls_derive.proofs.Spaces.{place_within}
 use Rattle.hls_derive.proofs.Fronts.{cut_guarantee, cut_stands}
 use Rattle.hls_derive.proofs.reading.guarantee_of.Goals as goal

@@ -1,8 +1,7 @@
-use Rattle.std.proofs.Common.{◌≡◌, ◌+◌, ◌≤◌, List, [], length, Some, None, ap, arith, sym, ◌∙◌, true, false, eq-eqb}
+use Rattle.std.proofs.Common.{◌≡◌, ◌≤◌, [], length, Some, ap, arith, sym, ◌∙◌, true, false, eq-eqb}
 use Rattle.std.proofs.lemmas.Bool.{eqb-true}
 use Rattle.hls_derive.specs.declared.derivation.Derivation.{Derivation}
-use Rattle.hls_derive.specs.Derivation.{IsWithinGrammar, conversions}
-use Rattle.hls_derive.specs.DerivationText.{derivation_text}
+use Rattle.hls_derive.specs.Derivation.{conversions}
 use Rattle.hls_derive.proofs.Parses.{made, parts_of, ReadTwo, then_sched, read_all, all_same, few_read, within_grammar, spelled_whole}
 use Rattle.hls_derive.proofs.reading.read_derivation.Goals as goal
 use Rattle.hls_derive.proofs.reading.read_derivation.Goals.{then-not-is_empty-via-then-not-is_empty, then-not-is_empty-via-else-not-is_empty+then-len-gt-MOST_CONVERSIONS}

@@ -1,4 +1,4 @@
-use Rattle.hls_derive.proofs.Fronts.{no_step, step_reached}
+use Rattle.hls_derive.proofs.Fronts.{no_step}
 use Rattle.hls_derive.proofs.reading.step.Goals as goal
 
 pub returns-in_default : goal.returns-in_default

@@ -1,7 +1,4 @@
-use Rattle.std.proofs.Common.{◌≡◌, ◌++◌, length}
-use Rattle.hls_derive.specs.Derivation.{AreValid}
-use Rattle.hls_derive.specs.DerivationText.{steps_text}
-use Rattle.hls_derive.specs.Reading.{IsEnd}
+use Rattle.std.proofs.Common.{length}
 use Rattle.hls_derive.proofs.Parses.{SoFar}
 use Rattle.hls_derive.proofs.reading.steps.Given as goal
 
