@@ -1,5 +1,6 @@
 -- One guarantee, one conversion and one step through a scheduler stand at the front of a text.
-use Rattle.std.proofs.Common.{◌≡◌, ℕ, ◌+◌, ◌-◌, ◌<◌, ◌≤◌, ◌^◌, true, false, List, [], ◌∷◌, ◌++◌, refl, sym, ap, ap₂, ◌∙◌, arith, append_assoc, inl, inr, take, drop, length, ◌⊎◌}
+use Rattle.std.proofs.Common.{◌≡◌, ℕ, ◌+◌, ◌-◌, ◌<◌, ◌≤◌, ◌^◌, true, false, List, [], ◌∷◌, ◌++◌, refl}
+use Rattle.std.proofs.Common.{sym, ap, ap₂, ◌∙◌, arith, append_assoc, inl, inr, take, drop, length, ◌⊎◌}
 use Rattle.std.specs.Prelude.{◌==◌, nat_le, codes, decimal, Some, None, if◌then◌else◌}
 use Rattle.std.proofs.Math.Seq.{take-append_seam}
 use Rattle.std.proofs.lemmas.List.{take-append-drop}
@@ -15,14 +16,17 @@ use Rattle.hls_guarantee.specs.declared.rule.RuleName.{RuleName}
 use Rattle.hls_guarantee.specs.declared.rule.RuleName.TheVariants.{R1, R2, R3, R4, R5, R6, R7, R8, R9}
 use Rattle.hls_guarantee.specs.Limits.{IsReservation, IsValid}
 use Rattle.hls_guarantee.specs.Spelling.{fraction_text, with_fields, spelling}
-use Rattle.hls_guarantee.proofs.Spellings.{decimal-lacks, cases_whole, text_of_whole, text_of_ratio, fits_num, fits_den}
+use Rattle.hls_guarantee.proofs.Spellings.{decimal-lacks, cases_whole, text_of_whole, text_of_ratio}
+use Rattle.hls_guarantee.proofs.Spellings.{fits_num, fits_den}
 use Rattle.hls_guarantee.proofs.Injective.{spelling-same}
 use Rattle.hls_derive.specs.declared.derivation.Step.{Step}
 use Rattle.hls_derive.specs.declared.derivation.SchedStep.{SchedStep}
 use Rattle.hls_derive.specs.Derivation.{PortFits}
 use Rattle.hls_derive.specs.DerivationText.{rule_text, scheduler_text}
-use Rattle.hls_derive.specs.Reading.{IsEnd, place_of_space, spaces_of, Stands, StepStands, SchedStands, rule_at, port_of, scheduler_at}
-use Rattle.hls_derive.proofs.Spaces.{spaces, spaces-append, no_spaces, cut_same, place_behind, place_ends}
+use Rattle.hls_derive.specs.Reading.{IsEnd, place_of_space, spaces_of, Stands, StepStands, SchedStands}
+use Rattle.hls_derive.specs.Reading.{rule_at, port_of, scheduler_at}
+use Rattle.hls_derive.proofs.Spaces.{spaces, spaces-append, no_spaces, cut_same, place_behind}
+use Rattle.hls_derive.proofs.Spaces.{place_ends}
 
 -- ---- the spaces of a guarantee
 
@@ -146,6 +150,9 @@ same_reached g h rest behind valid ends valid_too ends_too same =
     (record { valid = valid; spelled = refl; ends = ends })
     (record { valid = valid_too; spelled = same; ends = ends_too })
 
+abbrev made_step : RuleName → Guarantee → Step
+made_step rule to = record { rule = rule; to = to }
+
 pub one_step : (text : List ℕ) (s t : Step) (rest behind : List ℕ) → StepStands text s rest
     → StepStands text t behind → (s ≡ t) × (rest ≡ behind)
 one_step text s t rest behind a b =
@@ -153,7 +160,7 @@ one_step text s t rest behind a b =
     let right : RuleName × List ℕ = (t.rule, spelling t.to ++ behind) in
     let both = in_pair left right (sym (step_rule text s rest a) ∙ step_rule text t behind b) in
     let to = same_reached s.to t.to rest behind a.valid a.ends b.valid b.ends both.1 in
-    let same : s ≡ t = ap₂ (λ (rule : RuleName) (to : Guarantee). let made : Step = record { rule = rule; to = to } in made) both.0 to.0 in (same, to.1)
+    let same : s ≡ t = ap₂ made_step both.0 to.0 in (same, to.1)
 
 -- ---- schedulers
 

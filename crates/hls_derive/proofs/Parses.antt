@@ -1,5 +1,6 @@
 -- Conversions one after the other, and whole derivations, are read in one way.
-use Rattle.std.proofs.Common.{◌≡◌, ℕ, zero, suc, ◌<◌, ◌≤◌, List, [], ◌∷◌, ◌++◌, length, refl, sym, ap, ap₂, ◌∙◌, arith, subst, append_assoc, append-nil, length-append}
+use Rattle.std.proofs.Common.{◌≡◌, ℕ, zero, suc, ◌<◌, ◌≤◌, List, [], ◌∷◌, ◌++◌, length, refl, sym, ap}
+use Rattle.std.proofs.Common.{ap₂, ◌∙◌, arith, subst, append_assoc, append-nil, length-append}
 use Rattle.std.specs.Prelude.{codes}
 use Rattle.std.proofs.lemmas.Grind.{flat_map-append}
 use Rattle.std.proofs.lemmas.List.Elements.{All-append}
@@ -10,7 +11,8 @@ use Rattle.hls_derive.specs.declared.derivation.Step.{Step}
 use Rattle.hls_derive.specs.declared.derivation.SchedStep.{SchedStep}
 use Rattle.hls_derive.specs.declared.derivation.Derivation.{Derivation}
 use Rattle.hls_derive.specs.Derivation.{conversions, AreValid, IsWithinGrammar}
-use Rattle.hls_derive.specs.DerivationText.{scheduler_text, step_text, sched_text, steps_text, derivation_text}
+use Rattle.hls_derive.specs.DerivationText.{scheduler_text, step_text, sched_text, steps_text}
+use Rattle.hls_derive.specs.DerivationText.{derivation_text}
 use Rattle.hls_derive.specs.Reading.{IsEnd, Stands, StepStands, SchedStands, StepsStand, rule_at}
 use Rattle.hls_derive.proofs.Fronts.{one_guarantee, one_step, one_sched, no_step, scheduler_no_rule}
 
@@ -211,11 +213,11 @@ all_same text d rest e read p =
     let third = one_sched read.scheduler d.sched e.sched read.last_steps p.last_steps read.sched
     (then_sched text d.from d.before read.scheduler e read.two p) in
     let moved = subst (λ l. StepsStand l e.after []) (sym third.1) p.after in
-    let fourth = one_list read.last_steps d.after e.after rest [] read.after moved in (
-      ap (λ g. made g d.before d.sched d.after) two.0 ∙ ap (λ l. made e.from l d.sched d.after) two.1
-          ∙ ap (λ s. made e.from e.before s d.after) third.0 ∙ ap (λ l. made e.from e.before e.sched l) fourth.0,
-      fourth.1,
-    )
+    let fourth = one_list read.last_steps d.after e.after rest [] read.after moved in
+    let front = ap (λ g. made g d.before d.sched d.after) two.0
+    ∙ ap (λ l. made e.from l d.sched d.after) two.1 in
+    let back = ap (λ s. made e.from e.before s d.after) third.0
+    ∙ ap (λ l. made e.from e.before e.sched l) fourth.0 in (front ∙ back, fourth.1)
 
 pub all_parts : (text : List ℕ) (d : Derivation) (rest : List ℕ) → ReadAll text d rest → rest ≡ []
     → Parts text d

@@ -1,6 +1,7 @@
 -- What stands at the front of a text, as the reader's private functions read it.
 -- DerivationText says which texts derivations have.
-use Rattle.std.specs.Prelude.{◌≡◌, ℕ, zero, suc, ◌-◌, ◌==◌, ◌&&◌, nat_le, List, [], ◌∷◌, ◌++◌, length, take, drop, codes}
+use Rattle.std.specs.Prelude.{◌≡◌, ℕ, zero, suc, ◌-◌, ◌==◌, ◌&&◌, nat_le, List, [], ◌∷◌, ◌++◌, length}
+use Rattle.std.specs.Prelude.{take, drop, codes}
 use Rattle.std.specs.Prelude.{Option, Some, None, if◌then◌else◌}
 use Rattle.std.specs.Str.{bytes_eq}
 use Rattle.hls_chron.specs.declared.plain.Kind.{Kind}
@@ -26,7 +27,8 @@ abbrev pub place_of_space : (before : ℕ) → List ℕ → ℕ
 place_of_space zero [] = 0
 place_of_space (suc n) [] = 0
 place_of_space zero (b ∷ bs) = if b == 32 then 0 else suc (place_of_space zero bs)
-place_of_space (suc n) (b ∷ bs) = if b == 32 then suc (place_of_space n bs) else suc (place_of_space (suc n) bs)
+place_of_space (suc n) (b ∷ bs) =
+    if b == 32 then suc (place_of_space n bs) else suc (place_of_space (suc n) bs)
 
 -- how many spaces stand in the text of a guarantee
 abbrev pub spaces_of : Guarantee → ℕ

@@ -96,7 +96,10 @@ pub fn read_derivation(alloc: Global, text: &[u8]) -> Result<Option<Derivation>,
         return Ok(None);
     };
     let (after, rest) = steps(alloc, rest)?;
-    if !rest.is_empty() || before.len() + after.len() > MOST_CONVERSIONS {
+    if !rest.is_empty() {
+        return Ok(None);
+    }
+    if before.len() + after.len() > MOST_CONVERSIONS {
         return Ok(None);
     }
     Ok(Some(Derivation {
