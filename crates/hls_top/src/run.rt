@@ -33,7 +33,8 @@ fn is_run(words: &[String]) -> bool
 fn report_on(alloc: Global, text: &[u8], kit: Kit) -> Result<Option<Vec<u8>>, AllocError>
     requires good { IsGood (λ b. seen (b.vtable, b.value)) kit }
     requires boxed { boxes_of Fp kit ≢ [] }
-    ensures { IfOk result (λ found. MatchOption found (IsNoEarlyText text.now) (λ report. IsReportOf text.now report.items)) }
+    ensures { IfOk result (λ found. MatchOption found (IsNoEarlyText text.now)
+        (λ report. IsReportOf text.now report.items)) }
 {
     let Some(scenario) = read_early(alloc, text)? else {
         return Ok(None);
@@ -74,8 +75,8 @@ fn run<S: Source, K: Sink>(alloc: Global, source: &mut S, sink: &mut K, kit: Kit
     requires boxed { boxes_of Fp kit ≢ [] }
     ensures ends { (words : List Text) → IsRun words → Ends (exchange S.left S.faults K.written K.faults
         words source.old source.new sink.old sink.new) result }
-    ensures orderly { (words : List Text) → IsRun words → IsOrderly (exchange S.left S.faults K.written K.faults
-        words source.old source.new sink.old sink.new) }
+    ensures orderly { (words : List Text) → IsRun words
+        → IsOrderly (exchange S.left S.faults K.written K.faults words source.old source.new sink.old sink.new) }
 {
     match read_all(alloc, source, LIMIT) {
         Ok(text) => answer(alloc, &text, sink, kit),
@@ -99,12 +100,12 @@ pub fn hls_run<S: Source, K: Sink>(
 ) -> Status
     requires good { IsGood (λ b. seen (b.vtable, b.value)) kit }
     requires boxed { boxes_of Fp kit ≢ [] }
-    ensures ends { Ends (exchange S.left S.faults K.written K.faults (map string_bytes words.now.items)
-        source.old source.new sink.old sink.new) result }
-    ensures orderly { IsOrderly (exchange S.left S.faults K.written K.faults (map string_bytes words.now.items)
-        source.old source.new sink.old sink.new) }
-    ensures answers { MustAnswer (exchange S.left S.faults K.written K.faults (map string_bytes words.now.items)
-        source.old source.new sink.old sink.new) result }
+    ensures ends { Ends (exchange S.left S.faults K.written K.faults
+        (map string_bytes words.now.items) source.old source.new sink.old sink.new) result }
+    ensures orderly { IsOrderly (exchange S.left S.faults K.written K.faults
+        (map string_bytes words.now.items) source.old source.new sink.old sink.new) }
+    ensures answers { MustAnswer (exchange S.left S.faults K.written K.faults
+        (map string_bytes words.now.items) source.old source.new sink.old sink.new) result }
 {
     if is_run(words) {
         run(alloc, source, sink, kit)

@@ -12,7 +12,8 @@ returns-then-is_run g c =
     let is : IsRun (map string_bytes c.args.words.now.items) =
     rw c.deref.ensures.value at (c.is_run.ensures.0 c.if-is_run.true) in
     let x : Exchange = exchange g.S.Source.left g.S.Source.faults g.K.Sink.written g.K.Sink.faults
-    (map string_bytes c.args.words.now.items) c.args.source.now c.run.new.source c.args.sink.now c.run.new.sink in
+    (map string_bytes c.args.words.now.items) c.args.source.now c.run.new.source c.args.sink.now
+    c.run.new.sink in
     let ends : Ends x c.run.result = c.run.ensures.ends _ is in
     record {
       ends = ends;
@@ -26,7 +27,8 @@ returns-else-is_run g c =
     let no : false ≡ true = rw c.if-is_run.false at (c.is_run.ensures.1 (rw c.deref.ensures.value is)) in
     cc in
     let x : Exchange = exchange g.S.Source.left g.S.Source.faults g.K.Sink.written g.K.Sink.faults
-    (map string_bytes c.args.words.now.items) c.args.source.now c.args.source.now c.args.sink.now c.say.new.sink in
+    (map string_bytes c.args.words.now.items) c.args.source.now c.args.source.now c.args.sink.now
+    c.say.new.sink in
     let ends : Ends x c.say.result = said x Usage c.say.result usage_line (
       other,
       refl,

@@ -1,0 +1,5 @@
+mod Appends
+mod Options
+mod Spaces
+mod Fronts
+mod Parses

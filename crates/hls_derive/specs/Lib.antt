@@ -1,0 +1,3 @@
+pub mod Derivation
+pub mod DerivationText
+pub mod Reading

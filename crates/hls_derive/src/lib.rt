@@ -1,0 +1,14 @@
+//! Derivations of guarantees, and their text.
+#![tactic(auto)]
+
+mod derivation;
+pub mod laws;
+mod reading;
+#[cfg(test)]
+mod tests;
+mod words;
+mod writing;
+
+pub use derivation::{Derivation, Place, SchedStep, Step};
+pub use reading::read_derivation;
+pub use writing::write_derivation;
