@@ -1,0 +1,121 @@
+//! Which command of a scenario is due.
+#![tactic(auto)]
+
+ghost use Rattle.std.specs.Prelude.{◌≡◌, ◌+◌, ◌<◌, drop, option_copied};
+ghost use Rattle.hls_clock.specs.Agenda.{due_command, first_tick_after};
+
+use hls_lang::{Command, Scenario};
+use std::marker::Model;
+
+/// How many commands of a scenario have their answers. It borrows nothing of the scenario, and no
+/// call takes memory. Contracts see an agenda as its place.
+#[derive(Debug, Drop)]
+pub struct Agenda {
+    place: u32,
+}
+
+impl Model for Agenda {
+    ghost use Rattle.std.specs.Prelude.{ℕ};
+
+    ghost Value = { ℕ };
+
+    ghost view = { λ agenda. agenda.place };
+}
+
+impl Agenda {
+    /// An agenda at the first item.
+    pub fn new() -> Agenda
+        ensures { result ≡ 0 }
+    {
+        Agenda { place: 0 }
+    }
+
+    /// The place in the items, from 0 on.
+    pub fn place(&self) -> u32
+        ensures { result ≡ self.now }
+    {
+        self.place
+    }
+
+    /// The command of the item at the place, where its tick is now. `None` exactly where no item
+    /// stands at the place, or its tick is another.
+    pub fn due<'a>(&self, scenario: &'a Scenario, now: u32) -> Option<&'a Command>
+        ensures { option_copied result ≡ due_command scenario.entry.now.items self.now now }
+    {
+        let item = scenario.items.items().get(self.place as usize)?;
+        if item.tick == now {
+            Some(&item.command)
+        } else {
+            None
+        }
+    }
+
+    /// Goes on to the next item. A command that met want of memory is due again, where the place
+    /// is raised only once it has its answer.
+    pub fn advance(&mut self)
+        requires { self.old < 65536 }
+        ensures { self.new ≡ self.old + 1 }
+    {
+        self.place += 1;
+    }
+
+    /// The tick of the first item, at the place or after it, whose tick is above `now`. `None`
+    /// exactly where there is none.
+    pub fn next_after(&self, scenario: &Scenario, now: u32) -> Option<u32>
+        ensures { result ≡ first_tick_after now (drop self.now scenario.now.items) }
+    {
+        scenario
+            .items
+            .items()
+            .iter()
+            .skip(self.place as usize)
+            .map(|item| item.tick)
+            .find(|tick| *tick > now)
+    }
+}
+
+#[cfg(test)]
+mod tests {
+    use super::*;
+    use hls_chron::{List, Name};
+    use hls_lang::Item;
+    use std::test::Fail;
+
+    #[test]
+    fn goes_through_the_items(rt: HostRuntime) -> Result<(), Fail> {
+        let Some(name) = Name::read(b"a") else {
+            assert!(rt; false);
+            return Ok(());
+        };
+        let first = Item {
+            tick: 1,
+            command: Command::End { name },
+        };
+        let second = Item {
+            tick: 1,
+            command: Command::Block { name },
+        };
+        let third = Item {
+            tick: 4,
+            command: Command::Unload { name },
+        };
+        let scenario = Scenario {
+            horizon: 9,
+            depth: None,
+            items: List::of(vec![in rt.alloc(); first, second, third]?),
+        };
+        let mut agenda = Agenda::new();
+        assert!(rt; agenda.due(&scenario, 0).is_none());
+        assert_eq!(rt; agenda.next_after(&scenario, 0), Some(1));
+        assert!(rt; matches!(agenda.due(&scenario, 1), Some(Command::End { .. })));
+        assert_eq!(rt; agenda.next_after(&scenario, 1), Some(4));
+        agenda.advance();
+        assert!(rt; matches!(agenda.due(&scenario, 1), Some(Command::Block { .. })));
+        agenda.advance();
+        assert!(rt; agenda.due(&scenario, 1).is_none());
+        assert_eq!(rt; agenda.place(), 2);
+        assert!(rt; matches!(agenda.due(&scenario, 4), Some(Command::Unload { .. })));
+        assert_eq!(rt; agenda.next_after(&scenario, 4), None);
+        Ok(())
+    }
+}

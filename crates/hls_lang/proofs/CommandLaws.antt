@@ -1,0 +1,488 @@
+-- Commands and items that are read are those of their lines, and those of a line are read.
+use Rattle.std.proofs.Common.{◌≡◌, ℕ, ◌^◌, ◌<◌, ◌≤◌, cond, List, [], ◌∷◌, ◌++◌}
+use Rattle.std.proofs.Common.{inl, inr, length, append-nil}
+use Rattle.std.proofs.Common.{refl, sym, ap, ◌∙◌, subst, lit<}
+use Rattle.std.specs.Prelude.{codes, Result, Ok, Option, Some, None}
+use Rattle.std.specs.Str.{bytes_eq}
+use Rattle.hls_text.specs.Lines.{Text}
+use Rattle.hls_chron.specs.Name.{IsName}
+use Rattle.hls_chron.specs.Ranges.{IsWithin}
+use Rattle.hls_chron.specs.declared.plain.Config.{Config}
+use Rattle.hls_chron.specs.declared.plain.Config.TheVariants as configs
+use Rattle.hls_lang.specs.declared.fault.Cause.{Cause}
+use Rattle.hls_lang.specs.declared.scenario.Perch.{Perch}
+use Rattle.hls_lang.specs.declared.scenario.Command.{Command}
+use Rattle.hls_lang.specs.declared.scenario.Command.TheVariants.{Load, Thread, End, Unload, Move, Wake, Block}
+use Rattle.hls_lang.specs.declared.scenario.Item.{Item}
+use Rattle.hls_lang.specs.Words.{◌>>=◌, token_at, no_more, word_at, name_at, number_at, tick_at}
+use Rattle.hls_lang.specs.Reading.{config_by, last_perch_at, ports_at, join_at, one_perch_at, load_by}
+use Rattle.hls_lang.specs.Reading.{load_at, thread_at, move_at, last_name_at, burst_at, wake_at}
+use Rattle.hls_lang.specs.Reading.{command_by, command_at, item_at}
+use Rattle.hls_lang.specs.Forms.{Form, the, number, config_forms, perch_forms, perches_forms, burst_forms}
+use Rattle.hls_lang.specs.Forms.{command_forms, item_forms}
+use Rattle.hls_lang.specs.Grammar.{IsPerch, IsLoad, IsBurst, IsCommand, IsLine}
+use Rattle.hls_lang.proofs.Binds.{bind_ok, bind_again, carried, ok_is, choice, same_bytes, bytes_same}
+use Rattle.hls_lang.proofs.Fronts.{Front, front_join, front_split, line_of_front, front_of_line}
+use Rattle.hls_lang.proofs.WordLaws.{none_left, word_is, word_next, name_front, name_next}
+use Rattle.hls_lang.proofs.WordLaws.{number_front, number_next, tick_front, tick_next}
+use Rattle.hls_lang.proofs.ConfigLaws.{IsPlain, config_front, config_next, last_perch_front, last_perch_next}
+use Rattle.hls_lang.proofs.PortLaws.{ports_front, ports_next}
+
+-- a command that is all of the tokens
+abbrev pub Whole : List Text → Command → Type 0
+Whole ts command = IsCommand command × Front (command_forms command) ts []
+
+token_is : (ts : List Text) (w : Text × List Text) → token_at ts ≡ Ok w → ts ≡ w.0 ∷ w.1
+token_is [] w e = absurd cc
+token_is (t ∷ ts) w e = carried (λ (q : Text × List Text). t ∷ ts ≡ q.0 ∷ q.1) (t, ts) w e refl
+
+-- ---- loads
+
+plain_load : (config : Config) (perch : Perch) → IsPlain config → IsPerch perch → IsLoad config (perch ∷ [])
+plain_load configs.Cpu perch plain is = absurd plain
+plain_load (configs.Join ports) perch plain is = absurd plain
+plain_load configs.Fp perch plain is = (plain, is)
+plain_load configs.Edf perch plain is = (plain, is)
+plain_load (configs.Sfq total most) perch plain is = (plain, is)
+plain_load (configs.Rr quantum) perch plain is = (plain, is)
+plain_load (configs.Wheel frame) perch plain is = (plain, is)
+
+-- what stands after the name of a load
+abbrev load_tail : Config → List Perch → List Form
+load_tail config perches = config_forms config ++ the (codes "on") ∷ perches_forms perches
+
+abbrev LoadFront : Text → List Text → Command → Type 0
+LoadFront name ts command = (config : Config) × (perches : List Perch) × (command ≡ Load name config perches)
+    × IsLoad config perches × Front (load_tail config perches) ts []
+
+join_front : (name t : Text) (ts : List Text) (command : Command) → t ≡ codes "join"
+    → join_at name ts ≡ Ok command
+    → LoadFront name (t ∷ ts) command
+unfolding join_at
+join_front name t ts command is e =
+    let a = bind_ok (word_at (codes "on") ts) (λ r. ports_at r >>= λ ports. Ok
+    (Load name (configs.Join (length ports)) ports)) command e in
+    let b = bind_ok (ports_at a.0) (λ ports. Ok (Load name (configs.Join (length ports)) ports)) command
+    a.2 in
+    let on = word_is (codes "on") ts a.0 a.1 in
+    let p = ports_front a.0 b.0 b.1 in (
+      configs.Join (length b.0),
+      b.0,
+      sym (ok_is (Load name (configs.Join (length b.0)) b.0) command b.2),
+      (refl, p.1, p.0),
+      (is, front_join (the (codes "on") ∷ []) (perches_forms b.0) ts a.0 [] on p.2),
+    )
+
+one_front : (name : Text) (config : Config) (ts mid : List Text) (command : Command) → IsPlain config
+    → Front (config_forms config) ts mid → one_perch_at name config mid ≡ Ok command
+    → LoadFront name ts command
+unfolding one_perch_at
+one_front name config ts mid command plain front e =
+    let a = bind_ok (word_at (codes "on") mid) (λ r. last_perch_at r >>= λ p. Ok
+    (Load name config (p ∷ []))) command e in
+    let b = bind_ok (last_perch_at a.0) (λ p. Ok (Load name config (p ∷ []))) command a.2 in
+    let on = word_is (codes "on") mid a.0 a.1 in
+    let p = last_perch_front a.0 b.0 b.1 in
+    let perches : Front (perches_forms (b.0 ∷ [])) a.0 [] =
+    subst (λ fs. Front fs a.0 []) (sym (append-nil (perch_forms b.0))) p.1 in (
+      config,
+      b.0 ∷ [],
+      sym (ok_is (Load name config (b.0 ∷ [])) command b.2),
+      plain_load config b.0 plain p.0,
+      front_join (config_forms config) (the (codes "on") ∷ perches_forms (b.0 ∷ [])) ts mid [] front
+          (front_join (the (codes "on") ∷ []) (perches_forms (b.0 ∷ [])) mid a.0 [] on perches),
+    )
+
+load_by_front : (name t : Text) (ts : List Text) (command : Command) → load_by name t ts ≡ Ok command
+    → LoadFront name (t ∷ ts) command
+unfolding load_by
+load_by_front name t ts command e = elim (choice (bytes_eq t (codes "join")) _ _ command e) [
+  | inl h ↦ join_front name t ts command (same_bytes t (codes "join") h.0) h.1
+  | inr e ↦
+      let a = bind_ok (config_by t ts) (λ c. one_perch_at name c.0 c.1) command e in
+      let h = config_front t ts a.0 a.1 in
+      one_front name a.0.0 (t ∷ ts) a.0.1 command h.0 h.1 a.2
+]
+
+load_whole : (l name : Text) (ts mid behind : List Text) (t : Text) (command : Command) (config : Config)
+    (perches : List Perch) → l ≡ codes "load" → IsName name → Front (the name ∷ []) ts mid → mid ≡ t ∷ behind
+    → command ≡ Load name config perches → IsLoad config perches
+    → Front (load_tail config perches) (t ∷ behind) []
+    → Whole (l ∷ ts) command
+load_whole l name ts mid behind t command config perches is named front cut made load tail =
+    let whole : Front (load_tail config perches) mid [] =
+    subst (λ (x : List Text). Front (load_tail config perches) x []) (sym cut) tail in
+    subst (Whole (l ∷ ts)) (sym made)
+    ((named, load), (is, front_join (the name ∷ []) (load_tail config perches) ts mid [] front whole))
+
+load_front : (l : Text) (ts : List Text) (command : Command) → l ≡ codes "load" → load_at ts ≡ Ok command
+    → Whole (l ∷ ts) command
+unfolding load_at
+load_front l ts command is e =
+    let a = bind_ok (name_at ts) (λ n. token_at n.1 >>= λ w. load_by n.0 w.0 w.1) command e in
+    let b = bind_ok (token_at a.0.1) (λ w. load_by a.0.0 w.0 w.1) command a.2 in
+    let name = name_front ts a.0 a.1 in
+    let load = load_by_front a.0.0 b.0.0 b.0.1 command b.2 in
+    load_whole l a.0.0 ts a.0.1 b.0.1 b.0.0 command load.0 load.1 is name.0 name.1
+    (token_is a.0.1 b.0 b.1) load.2
+    load.3 load.4
+
+-- ---- the other commands
+
+thread_front : (l : Text) (ts : List Text) (command : Command) → l ≡ codes "thread"
+    → thread_at ts ≡ Ok command
+    → Whole (l ∷ ts) command
+unfolding thread_at
+thread_front l ts command is e =
+    let a = bind_ok (name_at ts) (λ n. word_at (codes "on") n.1 >>= λ r. last_perch_at r >>= λ p. Ok
+    (Thread n.0 p)) command e in
+    let b = bind_ok (word_at (codes "on") a.0.1) (λ r. last_perch_at r >>= λ p. Ok (Thread a.0.0 p))
+    command a.2 in
+    let d = bind_ok (last_perch_at b.0) (λ p. Ok (Thread a.0.0 p)) command b.2 in
+    let name = name_front ts a.0 a.1 in
+    let p = last_perch_front b.0 d.0 d.1 in
+    carried (Whole (l ∷ ts)) (Thread a.0.0 d.0) command d.2 (
+      (name.0, p.0),
+      (
+        is,
+        front_join (the a.0.0 ∷ []) (the (codes "on") ∷ perch_forms d.0) ts a.0.1 [] name.1
+            (front_join (the (codes "on") ∷ []) (perch_forms d.0) a.0.1 b.0 []
+            (word_is (codes "on") a.0.1 b.0 b.1) p.1),
+      ),
+    )
+
+move_front : (l : Text) (ts : List Text) (command : Command) → l ≡ codes "move" → move_at ts ≡ Ok command
+    → Whole (l ∷ ts) command
+unfolding move_at
+move_front l ts command is e =
+    let a = bind_ok (name_at ts) (λ n. word_at (codes "to") n.1 >>= λ r. last_perch_at r >>= λ p. Ok
+    (Move n.0 p)) command e in
+    let b = bind_ok (word_at (codes "to") a.0.1) (λ r. last_perch_at r >>= λ p. Ok (Move a.0.0 p))
+    command a.2 in
+    let d = bind_ok (last_perch_at b.0) (λ p. Ok (Move a.0.0 p)) command b.2 in
+    let name = name_front ts a.0 a.1 in
+    let p = last_perch_front b.0 d.0 d.1 in
+    carried (Whole (l ∷ ts)) (Move a.0.0 d.0) command d.2 (
+      (name.0, p.0),
+      (
+        is,
+        front_join (the a.0.0 ∷ []) (the (codes "to") ∷ perch_forms d.0) ts a.0.1 [] name.1
+            (front_join (the (codes "to") ∷ []) (perch_forms d.0) a.0.1 b.0 []
+            (word_is (codes "to") a.0.1 b.0 b.1) p.1),
+      ),
+    )
+
+abbrev LastName : List Text → Text → Type 0
+LastName ts name = IsName name × Front (the name ∷ []) ts []
+
+last_name_front : (ts : List Text) (name : Text) → last_name_at ts ≡ Ok name → LastName ts name
+unfolding last_name_at
+last_name_front ts name e =
+    let a = bind_ok (name_at ts) (λ n. no_more n.1 >>= λ u. Ok n.0) name e in
+    let b = bind_ok (no_more a.0.1) (λ u. Ok a.0.0) name a.2 in
+    let h = name_front ts a.0 a.1 in
+    carried (LastName ts) a.0.0 name b.2
+    (h.0, subst (λ (r : List Text). Front (the a.0.0 ∷ []) ts r) (none_left a.0.1 b.0 b.1) h.1)
+
+-- a command of a name alone
+named_front : (make : Text → Command) (word l : Text) (ts : List Text) (command : Command)
+    → ((name : Text) → IsName name → IsCommand (make name))
+    → ((name : Text) → command_forms (make name) ≡ the word ∷ the name ∷ [])
+    → l ≡ word → (last_name_at ts >>= λ n. Ok (make n)) ≡ Ok command → Whole (l ∷ ts) command
+named_front make word l ts command within forms is e =
+    let a = bind_ok (last_name_at ts) (λ n. Ok (make n)) command e in
+    let h = last_name_front ts a.0 a.1 in
+    carried (Whole (l ∷ ts)) (make a.0) command a.2
+    (within a.0 h.0, subst (λ fs. Front fs (l ∷ ts) []) (sym (forms a.0)) (is, h.1))
+
+abbrev BurstFront : List Text → Option ℕ → Type 0
+BurstFront ts burst = IsBurst burst × Front (burst_forms burst) ts []
+
+burst_front : (ts : List Text) (burst : Option ℕ) → burst_at ts ≡ Ok burst → BurstFront ts burst
+unfolding burst_at
+burst_front [] burst e = carried (BurstFront []) None burst e (tt, refl)
+burst_front (t ∷ ts) burst e =
+    let a = bind_ok (word_at (codes "for") (t ∷ ts))
+    (λ r. number_at 1 100000 r >>= λ n. no_more n.1 >>= λ u. Ok (Some n.0)) burst e in
+    let b = bind_ok (number_at 1 100000 a.0) (λ n. no_more n.1 >>= λ u. Ok (Some n.0)) burst a.2 in
+    let d = bind_ok (no_more b.0.1) (λ u. Ok (Some b.0.0)) burst b.2 in
+    let h = number_front 1 100000 a.0 b.0 (lit< tt) b.1 in
+    let ends = subst (λ (r : List Text). Front (number b.0.0 ∷ []) a.0 r) (none_left b.0.1 d.0 d.1) h.2 in
+    carried (BurstFront (t ∷ ts)) (Some b.0.0) burst d.2 (
+      (h.0, h.1),
+      front_join (the (codes "for") ∷ []) (number b.0.0 ∷ []) (t ∷ ts) a.0 []
+          (word_is (codes "for") (t ∷ ts) a.0 a.1) ends,
+    )
+
+wake_front : (l : Text) (ts : List Text) (command : Command) → l ≡ codes "wake" → wake_at ts ≡ Ok command
+    → Whole (l ∷ ts) command
+unfolding wake_at
+wake_front l ts command is e =
+    let a = bind_ok (name_at ts) (λ n. burst_at n.1 >>= λ b. Ok (Wake n.0 b)) command e in
+    let b = bind_ok (burst_at a.0.1) (λ b. Ok (Wake a.0.0 b)) command a.2 in
+    let name = name_front ts a.0 a.1 in
+    let h = burst_front a.0.1 b.0 b.1 in
+    carried (Whole (l ∷ ts)) (Wake a.0.0 b.0) command b.2 (
+      (name.0, h.0),
+      (is, front_join (the a.0.0 ∷ []) (burst_forms b.0) ts a.0.1 [] name.1 h.1),
+    )
+
+command_by_front : (l : Text) (ts : List Text) (command : Command) → command_by l ts ≡ Ok command
+    → Whole (l ∷ ts) command
+unfolding command_by
+command_by_front l ts command e = elim (choice (bytes_eq l (codes "load")) _ _ command e) [
+  | inl h ↦ load_front l ts command (same_bytes l (codes "load") h.0) h.1
+  | inr e ↦ elim (choice (bytes_eq l (codes "thread")) _ _ command e) [
+    | inl h ↦ thread_front l ts command (same_bytes l (codes "thread") h.0) h.1
+    | inr e ↦ elim (choice (bytes_eq l (codes "end")) _ _ command e) [
+      | inl h ↦ named_front (λ n. End n) (codes "end") l ts command (λ n is. is) (λ n. refl)
+          (same_bytes l _ h.0) h.1
+      | inr e ↦ elim (choice (bytes_eq l (codes "unload")) _ _ command e) [
+        | inl h ↦ named_front (λ n. Unload n) (codes "unload") l ts command (λ n is. is) (λ n. refl)
+            (same_bytes l _ h.0) h.1
+        | inr e ↦ elim (choice (bytes_eq l (codes "move")) _ _ command e) [
+          | inl h ↦ move_front l ts command (same_bytes l (codes "move") h.0) h.1
+          | inr e ↦ elim (choice (bytes_eq l (codes "wake")) _ _ command e) [
+            | inl h ↦ wake_front l ts command (same_bytes l (codes "wake") h.0) h.1
+            | inr e ↦ elim (choice (bytes_eq l (codes "block")) _ _ command e) [
+              | inl h ↦ named_front (λ n. Block n) (codes "block") l ts command (λ n is. is) (λ n. refl)
+                  (same_bytes l _ h.0) h.1
+              | inr e ↦ absurd cc
+            ]
+          ]
+        ]
+      ]
+    ]
+  ]
+]
+
+command_front : (ts : List Text) (command : Command) → command_at ts ≡ Ok command → Whole ts command
+unfolding command_at
+command_front [] command e = absurd cc
+command_front (l ∷ ts) command e = command_by_front l ts command e
+
+-- ---- a command of a line is read
+
+join_next : (name : Text) (ports : ℕ) (perches : List Perch) (t : Text) (ts : List Text)
+    → IsLoad (configs.Join ports) perches → Front (load_tail (configs.Join ports) perches) (t ∷ ts) []
+    → load_by name t ts ≡ Ok (Load name (configs.Join ports) perches)
+unfolding load_by join_at
+join_next name ports perches t ts is a =
+    let on = front_split (the (codes "on") ∷ []) (perches_forms perches) ts [] a.1 in
+    let within : IsWithin 2 4 (length perches) = subst (IsWithin 2 4) is.0 is.1 in
+    ap (λ b. cond b (join_at name ts) (config_by t ts >>= λ c. one_perch_at name c.0 c.1))
+    (bytes_same t (codes "join") a.0)
+    ∙ bind_again (word_at (codes "on") ts) (λ r. ports_at r >>= λ qs. Ok
+    (Load name (configs.Join (length qs)) qs)) on.0
+    (Load name (configs.Join ports) perches) (word_next (codes "on") ts on.0 on.1)
+    (bind_again (ports_at on.0) (λ qs. Ok (Load name (configs.Join (length qs)) qs)) perches
+    (Load name (configs.Join ports) perches) (ports_next perches on.0 is.2 within on.2)
+    (ap (λ n. Ok (Load name (configs.Join n) perches)) (sym is.0)))
+
+one_next : (name : Text) (config : Config) (perch : Perch) (ts : List Text) → IsPerch perch
+    → Front (the (codes "on") ∷ perches_forms (perch ∷ [])) ts []
+    → one_perch_at name config ts ≡ Ok (Load name config (perch ∷ []))
+unfolding one_perch_at
+one_next name config perch ts is a =
+    let on = front_split (the (codes "on") ∷ []) (perches_forms (perch ∷ [])) ts [] a in
+    let front : Front (perch_forms perch) on.0 [] =
+    subst (λ fs. Front fs on.0 []) (append-nil (perch_forms perch)) on.2 in
+    bind_again (word_at (codes "on") ts) (λ r. last_perch_at r >>= λ p. Ok (Load name config (p ∷ []))) on.0
+    (Load name config (perch ∷ [])) (word_next (codes "on") ts on.0 on.1)
+    (ap (λ r. r >>= λ p. Ok (Load name config (p ∷ []))) (last_perch_next perch on.0 is front))
+
+plain_next : (name : Text) (config : Config) (perch : Perch) (ts : List Text) (t : Text) → IsPlain config
+    → IsPerch perch
+    → Front (load_tail config (perch ∷ [])) (t ∷ ts) []
+    → load_by name t ts ≡ Ok (Load name config (perch ∷ []))
+unfolding load_by
+plain_next name config perch ts t plain is a =
+    let s = front_split (config_forms config) (the (codes "on") ∷ perches_forms (perch ∷ [])) (t ∷ ts) [] a in
+    let c = config_next config t ts s.0 plain s.1 in
+    ap (λ b. cond b (join_at name ts) (config_by t ts >>= λ c. one_perch_at name c.0 c.1)) c.1
+    ∙ bind_again (config_by t ts) (λ c. one_perch_at name c.0 c.1) (config, s.0)
+    (Load name config (perch ∷ [])) c.0
+    (one_next name config perch s.0 is s.2)
+
+load_by_next : (name : Text) (config : Config) (perches : List Perch) (t : Text) (ts : List Text)
+    → IsLoad config perches → Front (load_tail config perches) (t ∷ ts) []
+    → load_by name t ts ≡ Ok (Load name config perches)
+load_by_next name configs.Cpu perches t ts is a = absurd is
+load_by_next name (configs.Join ports) perches t ts is a = join_next name ports perches t ts is a
+load_by_next name configs.Fp [] t ts is a = absurd is
+load_by_next name configs.Fp (p ∷ []) t ts is a = plain_next name configs.Fp p ts t is.0 is.1 a
+load_by_next name configs.Fp (p ∷ q ∷ ps) t ts is a = absurd is
+load_by_next name configs.Edf [] t ts is a = absurd is
+load_by_next name configs.Edf (p ∷ []) t ts is a = plain_next name configs.Edf p ts t is.0 is.1 a
+load_by_next name configs.Edf (p ∷ q ∷ ps) t ts is a = absurd is
+load_by_next name (configs.Sfq total most) [] t ts is a = absurd is
+load_by_next name (configs.Sfq total most) (p ∷ []) t ts is a = plain_next name (configs.Sfq total most)
+    p ts t is.0 is.1 a
+load_by_next name (configs.Sfq total most) (p ∷ q ∷ ps) t ts is a = absurd is
+load_by_next name (configs.Rr quantum) [] t ts is a = absurd is
+load_by_next name (configs.Rr quantum) (p ∷ []) t ts is a = plain_next name (configs.Rr quantum) p ts t
+    is.0 is.1 a
+load_by_next name (configs.Rr quantum) (p ∷ q ∷ ps) t ts is a = absurd is
+load_by_next name (configs.Wheel frame) [] t ts is a = absurd is
+load_by_next name (configs.Wheel frame) (p ∷ []) t ts is a = plain_next name (configs.Wheel frame) p ts t
+    is.0 is.1 a
+load_by_next name (configs.Wheel frame) (p ∷ q ∷ ps) t ts is a = absurd is
+
+-- the tail of a load is not empty
+tail_some : (name : Text) (config : Config) (perches : List Perch) (ts : List Text)
+    → IsLoad config perches → Front (load_tail config perches) ts []
+    → (token_at ts >>= λ w. load_by name w.0 w.1) ≡ Ok (Load name config perches)
+tail_some name config perches [] is a =
+    let s = front_split (config_forms config) (the (codes "on") ∷ perches_forms perches) [] [] a in
+    absurd (no_on config (perches_forms perches) s.0 s.1 s.2)
+  where
+    no_on : (config : Config) (fs : List Form) (mid : List Text) → Front (config_forms config) [] mid
+        → Front (the (codes "on") ∷ fs) mid [] → ⊥
+    no_on configs.Cpu fs mid a b = let c : Front (the (codes "on") ∷ fs) [] [] = subst
+        (λ (x : List Text). Front (the (codes "on") ∷ fs) x []) (sym a) b in c
+    no_on configs.Fp fs mid a b = a
+    no_on configs.Edf fs mid a b = a
+    no_on (configs.Sfq total most) fs mid a b = a
+    no_on (configs.Rr quantum) fs mid a b = a
+    no_on (configs.Wheel frame) fs mid a b = a
+    no_on (configs.Join ports) fs mid a b = a
+tail_some name config perches (t ∷ ts) is a = load_by_next name config perches t ts is a
+
+load_next : (name : Text) (config : Config) (perches : List Perch) (ts : List Text) → IsName name
+    → IsLoad config perches → Front (the name ∷ load_tail config perches) ts []
+    → load_at ts ≡ Ok (Load name config perches)
+unfolding load_at
+load_next name config perches ts named is a =
+    let n = front_split (the name ∷ []) (load_tail config perches) ts [] a in
+    bind_again (name_at ts) (λ m. token_at m.1 >>= λ w. load_by m.0 w.0 w.1) (name, n.0)
+    (Load name config perches)
+    (name_next ts name n.0 named n.1) (tail_some name config perches n.0 is n.2)
+
+thread_next : (name : Text) (perch : Perch) (ts : List Text) → IsName name → IsPerch perch
+    → Front (the name ∷ the (codes "on") ∷ perch_forms perch) ts [] → thread_at ts ≡ Ok (Thread name perch)
+unfolding thread_at
+thread_next name perch ts named is a =
+    let n = front_split (the name ∷ []) (the (codes "on") ∷ perch_forms perch) ts [] a in
+    let w = front_split (the (codes "on") ∷ []) (perch_forms perch) n.0 [] n.2 in
+    bind_again (name_at ts) (λ m. word_at (codes "on") m.1 >>= λ r. last_perch_at r >>= λ p. Ok
+    (Thread m.0 p)) (name, n.0)
+    (Thread name perch) (name_next ts name n.0 named n.1)
+    (bind_again (word_at (codes "on") n.0) (λ r. last_perch_at r >>= λ p. Ok (Thread name p)) w.0
+    (Thread name perch)
+    (word_next (codes "on") n.0 w.0 w.1)
+    (ap (λ r. r >>= λ p. Ok (Thread name p)) (last_perch_next perch w.0 is w.2)))
+
+move_next : (name : Text) (perch : Perch) (ts : List Text) → IsName name → IsPerch perch
+    → Front (the name ∷ the (codes "to") ∷ perch_forms perch) ts [] → move_at ts ≡ Ok (Move name perch)
+unfolding move_at
+move_next name perch ts named is a =
+    let n = front_split (the name ∷ []) (the (codes "to") ∷ perch_forms perch) ts [] a in
+    let w = front_split (the (codes "to") ∷ []) (perch_forms perch) n.0 [] n.2 in
+    bind_again (name_at ts) (λ m. word_at (codes "to") m.1 >>= λ r. last_perch_at r >>= λ p. Ok
+    (Move m.0 p)) (name, n.0)
+    (Move name perch) (name_next ts name n.0 named n.1)
+    (bind_again (word_at (codes "to") n.0) (λ r. last_perch_at r >>= λ p. Ok (Move name p)) w.0
+    (Move name perch)
+    (word_next (codes "to") n.0 w.0 w.1)
+    (ap (λ r. r >>= λ p. Ok (Move name p)) (last_perch_next perch w.0 is w.2)))
+
+last_name_next : (name : Text) (ts : List Text) → IsName name → Front (the name ∷ []) ts []
+    → last_name_at ts ≡ Ok name
+unfolding last_name_at
+last_name_next name ts named a =
+    bind_again (name_at ts) (λ n. no_more n.1 >>= λ u. Ok n.0) (name, []) name
+    (name_next ts name [] named a) refl
+
+burst_next : (burst : Option ℕ) (ts : List Text) → IsBurst burst → Front (burst_forms burst) ts []
+    → burst_at ts ≡ Ok burst
+unfolding burst_at
+burst_next None [] is a = refl
+burst_next None (t ∷ ts) is a = absurd cc
+burst_next (Some ticks) [] is a = absurd a
+burst_next (Some ticks) (t ∷ ts) is a =
+    bind_again (word_at (codes "for") (t ∷ ts)) (λ r. number_at 1 100000 r >>= λ n. no_more n.1 >>= λ u.
+    Ok (Some n.0)) ts
+    (Some ticks) (word_next (codes "for") (t ∷ ts) ts (a.0, refl))
+    (bind_again (number_at 1 100000 ts) (λ n. no_more n.1 >>= λ u. Ok (Some n.0)) (ticks, []) (Some ticks)
+    (number_next 1 100000 ts ticks [] (lit< tt) is.0 is.1 a.1) refl)
+
+wake_next : (name : Text) (burst : Option ℕ) (ts : List Text) → IsName name → IsBurst burst
+    → Front (the name ∷ burst_forms burst) ts [] → wake_at ts ≡ Ok (Wake name burst)
+unfolding wake_at
+wake_next name burst ts named is a =
+    let n = front_split (the name ∷ []) (burst_forms burst) ts [] a in
+    bind_again (name_at ts) (λ m. burst_at m.1 >>= λ b. Ok (Wake m.0 b)) (name, n.0) (Wake name burst)
+    (name_next ts name n.0 named n.1)
+    (ap (λ r. r >>= λ b. Ok (Wake name b)) (burst_next burst n.0 is n.2))
+
+command_next : (command : Command) (ts : List Text) → IsCommand command → Front (command_forms command) ts []
+    → command_at ts ≡ Ok command
+unfolding command_at command_by
+command_next (Load name config perches) [] is a = absurd a
+command_next (Load name config perches) (l ∷ ts) is a =
+    ap (λ w. command_by w ts) a.0 ∙ load_next name config perches ts is.0 is.1 a.1
+command_next (Thread name perch) [] is a = absurd a
+command_next (Thread name perch) (l ∷ ts) is a =
+    ap (λ w. command_by w ts) a.0 ∙ thread_next name perch ts is.0 is.1 a.1
+command_next (Move name perch) [] is a = absurd a
+command_next (Move name perch) (l ∷ ts) is a =
+    ap (λ w. command_by w ts) a.0 ∙ move_next name perch ts is.0 is.1 a.1
+command_next (End name) [] is a = absurd a
+command_next (End name) (l ∷ ts) is a =
+    ap (λ w. command_by w ts) a.0 ∙ ap (λ r. r >>= λ n. Ok (End n)) (last_name_next name ts is a.1)
+command_next (Unload name) [] is a = absurd a
+command_next (Unload name) (l ∷ ts) is a =
+    ap (λ w. command_by w ts) a.0 ∙ ap (λ r. r >>= λ n. Ok (Unload n)) (last_name_next name ts is a.1)
+command_next (Block name) [] is a = absurd a
+command_next (Block name) (l ∷ ts) is a =
+    ap (λ w. command_by w ts) a.0 ∙ ap (λ r. r >>= λ n. Ok (Block n)) (last_name_next name ts is a.1)
+command_next (Wake name burst) [] is a = absurd a
+command_next (Wake name burst) (l ∷ ts) is a =
+    ap (λ w. command_by w ts) a.0 ∙ wake_next name burst ts is.0 is.1 a.1
+
+-- ---- items
+
+abbrev pub ItemLine : (horizon last : ℕ) → List Text → Item → Type 0
+ItemLine horizon last ts item =
+    IsCommand item.command × (last ≤ item.tick) × (item.tick < horizon) × IsLine (item_forms item) ts
+
+i2 : ℕ → Command → Result Item Cause
+i2 tick command = Ok (record { tick = tick; command = command })
+
+i1 : ℕ × List Text → Result Item Cause
+i1 t = command_at t.1 >>= i2 t.0
+
+i0 : (horizon last : ℕ) → List Text → Result Item Cause
+i0 horizon last r = tick_at horizon last r >>= i1
+
+-- what is read of a line is an item
+pub item_is : (horizon last : ℕ) (ts : List Text) (item : Item) → horizon < 2 ^ 64
+    → item_at horizon last ts ≡ Ok item → ItemLine horizon last ts item
+unfolding item_at i0 i1 i2
+item_is horizon last ts item fits e =
+    let a = bind_ok (word_at (codes "at") ts) (i0 horizon last) item e in
+    let b = bind_ok (tick_at horizon last a.0) i1 item a.2 in
+    let d = bind_ok (command_at b.0.1) (i2 b.0.0) item b.2 in
+    let at = word_is (codes "at") ts a.0 a.1 in
+    let tick = tick_front horizon last a.0 b.0 fits b.1 in
+    let command = command_front b.0.1 d.0 d.1 in
+    let made : Item = record { tick = b.0.0; command = d.0 } in
+    let front = front_join (the (codes "at") ∷ []) (number b.0.0 ∷ command_forms d.0) ts a.0 [] at
+    (front_join (number b.0.0 ∷ []) (command_forms d.0) a.0 b.0.1 [] tick.2 command.1) in
+    carried (ItemLine horizon last ts) made item d.2
+    (command.0, tick.0, tick.1, line_of_front (item_forms made) ts front)
+
+-- an item is read
+pub item_next : (horizon last : ℕ) (ts : List Text) (item : Item) → horizon < 2 ^ 64
+    → ItemLine horizon last ts item → item_at horizon last ts ≡ Ok item
+unfolding item_at i0 i1 i2
+item_next horizon last ts item fits is =
+    let front = front_of_line (item_forms item) ts is.3 in
+    let at = front_split (the (codes "at") ∷ []) (number item.tick ∷ command_forms item.command) ts []
+    front in
+    let tick = front_split (number item.tick ∷ []) (command_forms item.command) at.0 [] at.2 in
+    bind_again (word_at (codes "at") ts) (i0 horizon last) at.0 item (word_next (codes "at") ts at.0 at.1)
+    (bind_again (tick_at horizon last at.0) i1 (item.tick, tick.0) item
+    (tick_next horizon last at.0 item.tick tick.0 fits is.1 is.2 tick.1)
+    (bind_again (command_at tick.0) (i2 item.tick) item.command item
+    (command_next item.command tick.0 is.0 tick.2) refl))

@@ -1,0 +1,13 @@
+pub mod Quotients
+pub mod LoopLaws
+pub mod Binds
+pub mod Fronts
+pub mod WordLaws
+pub mod FractionLaws
+pub mod SeatLaws
+pub mod ConfigLaws
+pub mod PortLaws
+pub mod CommandLaws
+pub mod HeadLaws
+pub mod ScenarioLaws
+pub mod FaultLaws

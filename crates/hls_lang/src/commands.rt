@@ -1,0 +1,196 @@
+// Commands and items.
+ghost use Rattle.std.specs.Prelude.{◌≡◌, ◌∷◌, [], IfOk};
+ghost use Rattle.hls_text.specs.Tokens.{tokens_of};
+ghost use Rattle.hls_lang.specs.Words.{Gives, Keeps};
+ghost use Rattle.hls_lang.specs.Reading.{join_at, one_perch_at, load_by, load_at, thread_at, move_at};
+ghost use Rattle.hls_lang.specs.Reading.{last_name_at};
+ghost use Rattle.hls_lang.specs.Reading.{burst_at, wake_at, command_by, command_at, item_at};
+
+use crate::line_error::LineError;
+use crate::ports::ports;
+use crate::seats::{config_after, last_perch};
+use crate::words::{end, name, number, tick, token, word};
+use crate::{Cause, Command, Item, Perch};
+use hls_chron::{Config, List, Name};
+use hls_text::next_token;
+use std::alloc::{AllocError, Global};
+
+/// The longest burst, in ticks.
+const MOST_BURST: u32 = 100_000;
+
+#[tactic(auto, unfolding(crate::specs::Reading::join_at))]
+fn join(alloc: Global, name: Name, line: &[u8]) -> Result<Command, LineError>
+    ensures { Keeps (λ command. command) result (join_at name (tokens_of line.now)) }
+{
+    let rest = word(line, b"on")?;
+    let perches = ports(alloc, rest)?;
+    let config = Config::Join {
+        ports: perches.len() as u8,
+    };
+    Ok(Command::Load {
+        name,
+        config,
+        perches: List::of(perches),
+    })
+}
+
+fn one_of(alloc: Global, perch: Perch) -> Result<Vec<Perch>, AllocError>
+    ensures { IfOk result (λ perches. perches.items ≡ perch ∷ []) }
+{
+    let perches = vec![in alloc; perch]?;
+    Ok(perches)
+}
+
+#[tactic(auto, unfolding(crate::specs::Reading::one_perch_at))]
+fn one_perch(alloc: Global, name: Name, config: Config, line: &[u8]) -> Result<Command, LineError>
+    ensures { Keeps (λ command. command) result (one_perch_at name config (tokens_of line.now)) }
+{
+    let rest = word(line, b"on")?;
+    let perch = last_perch(rest)?;
+    let perches = one_of(alloc, perch)?;
+    Ok(Command::Load {
+        name,
+        config,
+        perches: List::of(perches),
+    })
+}
+
+#[tactic(auto, unfolding(crate::specs::Reading::load_by))]
+fn load_after(alloc: Global, name: Name, word: &[u8], line: &[u8]) -> Result<Command, LineError>
+    ensures { Keeps (λ command. command) result (load_by name word.now (tokens_of line.now)) }
+{
+    if word == b"join".as_slice() {
+        return join(alloc, name, line);
+    }
+    let (config, rest) = config_after(word, line)?;
+    one_perch(alloc, name, config, rest)
+}
+
+#[tactic(auto, unfolding(crate::specs::Reading::load_at))]
+fn load(alloc: Global, line: &[u8]) -> Result<Command, LineError>
+    ensures { Keeps (λ command. command) result (load_at (tokens_of line.now)) }
+{
+    match name(line) {
+        Ok((name, rest)) => {
+            let (found, rest) = token(rest)?;
+            load_after(alloc, name, found, rest)
+        }
+        Err(cause) => Err(LineError::Fault(cause)),
+    }
+}
+
+#[tactic(auto, unfolding(crate::specs::Reading::thread_at))]
+fn thread(line: &[u8]) -> Result<Command, Cause>
+    ensures { Gives (λ command. command) result (thread_at (tokens_of line.now)) }
+{
+    match name(line) {
+        Ok((name, rest)) => {
+            let rest = word(rest, b"on")?;
+            let perch = last_perch(rest)?;
+            Ok(Command::Thread { name, perch })
+        }
+        Err(cause) => Err(cause),
+    }
+}
+
+#[tactic(auto, unfolding(crate::specs::Reading::move_at))]
+fn moving(line: &[u8]) -> Result<Command, Cause>
+    ensures { Gives (λ command. command) result (move_at (tokens_of line.now)) }
+{
+    match name(line) {
+        Ok((name, rest)) => {
+            let rest = word(rest, b"to")?;
+            let perch = last_perch(rest)?;
+            Ok(Command::Move { name, perch })
+        }
+        Err(cause) => Err(cause),
+    }
+}
+
+/// A name that ends the line.
+#[tactic(auto, unfolding(crate::specs::Reading::last_name_at))]
+fn last_name(line: &[u8]) -> Result<Name, Cause>
+    ensures { Gives (λ name. name) result (last_name_at (tokens_of line.now)) }
+{
+    match name(line) {
+        Ok((name, rest)) => {
+            end(rest)?;
+            Ok(name)
+        }
+        Err(cause) => Err(cause),
+    }
+}
+
+#[tactic(auto, unfolding(crate::specs::Reading::burst_at))]
+fn burst(line: &[u8]) -> Result<Option<u32>, Cause>
+    ensures { Gives (λ burst. burst) result (burst_at (tokens_of line.now)) }
+{
+    if next_token(line).is_none() {
+        return Ok(None);
+    }
+    let rest = word(line, b"for")?;
+    let (ticks, rest) = number(rest, 1, MOST_BURST)?;
+    end(rest)?;
+    Ok(Some(ticks))
+}
+
+#[tactic(auto, unfolding(crate::specs::Reading::wake_at))]
+fn wake(line: &[u8]) -> Result<Command, Cause>
+    ensures { Gives (λ command. command) result (wake_at (tokens_of line.now)) }
+{
+    match name(line) {
+        Ok((name, rest)) => {
+            let burst = burst(rest)?;
+            Ok(Command::Wake { name, burst })
+        }
+        Err(cause) => Err(cause),
+    }
+}
+
+#[tactic(auto, unfolding(crate::specs::Reading::command_by))]
+fn command_after(alloc: Global, word: &[u8], line: &[u8]) -> Result<Command, LineError>
+    ensures { Keeps (λ command. command) result (command_by word.now (tokens_of line.now)) }
+{
+    if word == b"load".as_slice() {
+        load(alloc, line)
+    } else if word == b"thread".as_slice() {
+        Ok(thread(line)?)
+    } else if word == b"end".as_slice() {
+        Ok(Command::End {
+            name: last_name(line)?,
+        })
+    } else if word == b"unload".as_slice() {
+        Ok(Command::Unload {
+            name: last_name(line)?,
+        })
+    } else if word == b"move".as_slice() {
+        Ok(moving(line)?)
+    } else if word == b"wake".as_slice() {
+        Ok(wake(line)?)
+    } else if word == b"block".as_slice() {
+        Ok(Command::Block {
+            name: last_name(line)?,
+        })
+    } else {
+        Err(LineError::Fault(Cause::Word))
+    }
+}
+
+#[tactic(auto, unfolding(crate::specs::Reading::command_at))]
+fn command(alloc: Global, line: &[u8]) -> Result<Command, LineError>
+    ensures { Keeps (λ command. command) result (command_at (tokens_of line.now)) }
+{
+    let (found, rest) = token(line)?;
+    command_after(alloc, found, rest)
+}
+
+/// An item, all of a line.
+#[tactic(auto, unfolding(crate::specs::Reading::item_at))]
+pub fn item(alloc: Global, line: &[u8], horizon: u32, last: u32) -> Result<Item, LineError>
+    ensures { Keeps (λ item. item) result (item_at horizon last (tokens_of line.now)) }
+{
+    let rest = word(line, b"at")?;
+    let (tick, rest) = tick(rest, horizon, last)?;
+    let command = command(alloc, rest)?;
+    Ok(Item { tick, command })
+}

@@ -1,0 +1,107 @@
+-- The canonical text stands for its scenario, and no two scenarios and no two commands have one.
+use Rattle.std.proofs.Common.{◌≡◌, List, [], ◌∷◌}
+use Rattle.std.proofs.Common.{refl, sym, ap, ◌∙◌, subst, arith}
+use Rattle.std.specs.Prelude.{codes, decimal, map, Result, Ok}
+use Rattle.hls_text.specs.Lines.{Text, lines_of, shown_of}
+use Rattle.hls_text.specs.Tokens.{tokens_of}
+use Rattle.hls_lang.specs.declared.fault.Cause.{Cause}
+use Rattle.hls_lang.specs.declared.scenario.Command.{Command}
+use Rattle.hls_lang.specs.declared.scenario.Item.{Item}
+use Rattle.hls_lang.specs.declared.scenario.Scenario.{Scenario}
+use Rattle.hls_lang.specs.Forms.{Form, canonical, joined, command_forms, command_text}
+use Rattle.hls_lang.specs.Forms.{scenario_lines, scenario_text}
+use Rattle.hls_lang.specs.Grammar.{IsCommand, IsScenario, IsLine, AreLines, token_lines, onto_lines}
+use Rattle.hls_lang.specs.Grammar.{AreScenarioLines, IsScenarioText}
+use Rattle.hls_lang.specs.Reading.{item_at}
+use Rattle.hls_lang.specs.ReadingLines.{Fault, scenario_of}
+use Rattle.hls_print.proofs.CanonicalLines.{AreWordLines, joined_tokens, joined_plain, shown_plain}
+use Rattle.hls_print.proofs.CanonicalLines.{text_lines, lines_clean}
+use Rattle.hls_print.proofs.CanonicalWords.{forms_words, canonical_line}
+use Rattle.hls_print.proofs.CanonicalWords.{lines_words, canonical_lines}
+use Rattle.hls_print.proofs.CanonicalForms.{command_printable, scenario_printable}
+use Rattle.hls_lang.proofs.CommandLaws.{item_next}
+use Rattle.hls_lang.proofs.ScenarioLaws.{lines_read}
+
+tokens_again : (lines : List (List Form)) → AreWordLines lines
+    → token_lines (map joined lines) ≡ map (map canonical) lines
+tokens_again [] are = refl
+tokens_again ([] ∷ lines) are = absurd are.0
+tokens_again ((form ∷ forms) ∷ lines) are =
+    let line : Text = joined (form ∷ forms) in
+    let tokens : tokens_of (shown_of line) ≡ map canonical (form ∷ forms) =
+    ap tokens_of (shown_plain line (joined_plain (form ∷ forms) are.0))
+    ∙ joined_tokens (form ∷ forms) are.0 in
+    ap (λ (ts : List Text). onto_lines ts (token_lines (map joined lines))) tokens
+    ∙ ap (λ (ls : List (List Text)). map canonical (form ∷ forms) ∷ ls) (tokens_again lines are.1)
+
+lines_stand : (s : Scenario) → IsScenario s → AreScenarioLines (map joined (scenario_lines s)) s
+lines_stand s is =
+    let lines : List (List Form) = scenario_lines s in
+    let printable = scenario_printable s is in
+    let words = lines_words lines printable in
+    record {
+      within = is;
+      clean = lines_clean lines words;
+      words = subst (AreLines lines) (sym (tokens_again lines words)) (canonical_lines lines printable);
+    }
+
+-- the canonical text is one of the scenario's texts
+pub canonical_stands : (s : Scenario) → IsScenario s → IsScenarioText (scenario_text s) s
+unfolding scenario_text
+canonical_stands s is =
+    let words = lines_words (scenario_lines s) (scenario_printable s is) in
+    subst (λ (ls : List Text). AreScenarioLines ls s) (sym (text_lines (scenario_lines s) words))
+    (lines_stand s is)
+
+-- a scenario's text is read as it
+pub text_read : (text : Text) (s : Scenario) → IsScenarioText text s → scenario_of text ≡ Ok s
+text_read text s is = lines_read (lines_of text) s is
+
+one_read : (r : Result Scenario Fault) (s t : Scenario) → r ≡ Ok s → r ≡ Ok t → s ≡ t
+one_read r s t a b = cc
+
+-- a text stands for one scenario
+pub text_of_one : (text : Text) (s t : Scenario) → IsScenarioText text s → IsScenarioText text t → s ≡ t
+text_of_one text s t a b = one_read (scenario_of text) s t (text_read text s a) (text_read text t b)
+
+-- no two scenarios have one canonical text
+pub canonical_of_one : (s t : Scenario) → IsScenario s → IsScenario t → scenario_text s ≡ scenario_text t
+    → s ≡ t
+canonical_of_one s t a b e =
+    let other = subst (λ (text : Text). IsScenarioText text t) (sym e) (canonical_stands t b) in
+    text_of_one (scenario_text s) s t (canonical_stands s a) other
+
+-- ---- commands
+
+-- the tokens of a command's canonical text stand for it
+pub command_stands : (command : Command) → IsCommand command
+    → IsLine (command_forms command) (tokens_of (command_text command))
+command_stands command is =
+    let printable = command_printable command is in
+    subst (IsLine (command_forms command)) (sym (joined_tokens (command_forms command) (forms_words
+    (command_forms command) printable)))
+    (canonical_line (command_forms command) printable)
+
+at_once : Command → Item
+at_once command = record { tick = 0; command = command }
+
+-- what is read of a command's tokens after a tick
+tokens_read : (command : Command) (ts : List Text) → IsCommand command → IsLine (command_forms command) ts
+    → item_at 1 0 (codes "at" ∷ decimal 0 ∷ ts) ≡ Ok (at_once command)
+unfolding at_once
+tokens_read command ts is line =
+    item_next 1 0 (codes "at" ∷ decimal 0 ∷ ts) (at_once command) (omega arith)
+    (is, omega arith, omega arith, (refl, (refl, line)))
+
+one_command : (r : Result Item Cause) (c d : Command) → r ≡ Ok (at_once c) → r ≡ Ok (at_once d) → c ≡ d
+unfolding at_once
+one_command r c d a b = let e : at_once c ≡ at_once d = cc in ap (λ (item : Item). item.command) e
+
+-- no two commands have one canonical text
+pub command_of_one : (c d : Command) → IsCommand c → IsCommand d → command_text c ≡ command_text d → c ≡ d
+command_of_one c d a b e =
+    let other = subst (λ (text : Text). IsLine (command_forms d) (tokens_of text)) (sym e)
+    (command_stands d b) in
+    let ts : List Text = tokens_of (command_text c) in
+    one_command (item_at 1 0 (codes "at" ∷ decimal 0 ∷ ts)) c d (tokens_read c ts a (command_stands c a))
+    (tokens_read d ts b other)

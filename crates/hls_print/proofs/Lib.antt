@@ -1,0 +1,5 @@
+pub mod CanonicalPrinting
+pub mod CanonicalLines
+pub mod CanonicalWords
+pub mod CanonicalForms
+pub mod CanonicalLaws
