@@ -1,0 +1,11 @@
+pub mod Ticks
+pub mod Slots
+pub mod Tenants
+pub mod Reservations
+pub mod Tags
+pub mod Turns
+pub mod Frames
+pub mod Asks
+pub mod Discipline
+pub mod Room
+pub mod Rankings
