@@ -4,6 +4,7 @@
 
 mod choice;
 mod frames;
+pub mod laws;
 mod reservations;
 mod room;
 mod rows;
