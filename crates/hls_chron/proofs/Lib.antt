@@ -1,3 +1,3 @@
 pub mod NameLemmas
 pub mod BookLaws
-pub mod DisciplineLaws
+pub mod CountLaws

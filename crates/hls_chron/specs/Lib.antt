@@ -3,8 +3,5 @@ pub mod NameInside
 pub mod Kinds
 pub mod Ledger
 pub mod Seats
-pub mod Asks
-pub mod Discipline
-pub mod Room
 pub mod Ranges
 pub mod Ticks

@@ -8,9 +8,10 @@ use Rattle.std.specs.Prelude.{min, if◌then◌else◌}
 use Rattle.std.proofs.lemmas.Bool.{cases_lt, cases_Bool}
 use Rattle.std.proofs.lemmas.List.{get_or-replicate, get_or_past, length-replicate}
 use Rattle.std.proofs.Math.Nat.{mod-eq_of_lt, add-mul-mod_self_right}
-use Rattle.hls_guarantee.specs.Service.{one_if, service, service_before, EveryPart}
+use Rattle.hls_chron.specs.Ticks.{one_if, count}
+use Rattle.hls_guarantee.specs.Service.{service_before, EveryPart}
 use Rattle.hls_guarantee.specs.Satisfaction.{IsReserved, InPiece}
-use Rattle.hls_guarantee.proofs.ServiceLemmas.{service-none, service-push, service-add}
+use Rattle.hls_chron.proofs.CountLaws.{count-none, count-push, count-add}
 use Rattle.hls_guarantee.proofs.Slides.{reserved-part, reserved-none, reserved-same}
 
 -- the ticks of the list in the piece that ends before tick m
@@ -18,31 +19,31 @@ abbrev pub ticks_of : (y len m : ℕ) → ℕ
 ticks_of y len m = min m len - (m - y)
 
 pub record Reserved (hard : Bool) (x y : ℕ) (f : ℕ → Bool) (len m : ℕ) : Type 0 where
-  pub is : IsReserved hard x y (ticks_of y len m) (service f (m - y) (ticks_of y len m))
+  pub is : IsReserved hard x y (ticks_of y len m) (count f (m - y) (ticks_of y len m))
 
 -- past the end none is served
-service-past : (f : ℕ → Bool) (len i n : ℕ) → ((t : ℕ) → len ≤ t → f t ≡ false) → len ≤ i → service f i n ≡ 0
-service-past f len i zero past le = service-none f i
-service-past f len i (suc n) past le =
-    let rest = service-past f len i n past le in
+count-past : (f : ℕ → Bool) (len i n : ℕ) → ((t : ℕ) → len ≤ t → f t ≡ false) → len ≤ i → count f i n ≡ 0
+count-past f len i zero past le = count-none f i
+count-past f len i (suc n) past le =
+    let rest = count-past f len i n past le in
     let here : one_if (f (i + n)) ≡ 0 = ap one_if (past (i + n) (omega arith)) in
-    service-push f i n ∙ omega arith
+    count-push f i n ∙ omega arith
 
 -- so the service before m is that of the list's ticks
-pub service-ticks : (f : ℕ → Bool) (y len m : ℕ) → ((t : ℕ) → len ≤ t → f t ≡ false) → m < len + y →
-    service_before f y m ≡ service f (m - y) (ticks_of y len m)
-service-ticks f y len m past near =
+pub count-ticks : (f : ℕ → Bool) (y len m : ℕ) → ((t : ℕ) → len ≤ t → f t ≡ false) → m < len + y →
+    service_before f y m ≡ count f (m - y) (ticks_of y len m)
+count-ticks f y len m past near =
     let a : ℕ = m - y in
     let n : ℕ = ticks_of y len m in
     let r : ℕ = min y m - n in
     let all : n + r ≡ min y m = omega arith in
-    let split : service f a (n + r) ≡ service f a n + service f (a + n) r = service-add f a n r in
-    let whole : service f a (n + r) ≡ service f a (min y m) = ap (λ (t : ℕ). service f a t) all in
-    let none : service f (a + n) r ≡ 0 = elim (cases_lt len m) [
-      | inl over ↦ service-past f len (a + n) r past (omega arith)
+    let split : count f a (n + r) ≡ count f a n + count f (a + n) r = count-add f a n r in
+    let whole : count f a (n + r) ≡ count f a (min y m) = ap (λ (t : ℕ). count f a t) all in
+    let none : count f (a + n) r ≡ 0 = elim (cases_lt len m) [
+      | inl over ↦ count-past f len (a + n) r past (omega arith)
       | inr in_list ↦
           let z : r ≡ 0 = omega arith in
-          ap (λ (t : ℕ). service f (a + n) t) z ∙ service-none f (a + n)
+          ap (λ (t : ℕ). count f (a + n) t) z ∙ count-none f (a + n)
     ] in
     omega arith
 
@@ -54,7 +55,7 @@ pub record IsBroken (hard : Bool) (x y : ℕ) (f : ℕ → Bool) (len r : ℕ) :
   pub fails : Reserved hard x y f len end → ⊥
 
 pub record Marked (hard : Bool) (x y : ℕ) (f : ℕ → Bool) (len k got : ℕ) (broken : List Bool) : Type 0 where
-  pub count : got ≡ service_before f y k
+  pub counted : got ≡ service_before f y k
   pub wide : y ≤ length broken
   pub kept : (m : ℕ) → 0 < m → m ≤ k → get_or broken (m % y) false ≡ false → Reserved hard x y f len m
   pub failed : (r : ℕ) → get_or broken r false ≡ true → IsBroken hard x y f len r
@@ -62,8 +63,8 @@ pub record Marked (hard : Bool) (x y : ℕ) (f : ℕ → Bool) (len k got : ℕ)
 pub marked_none : (hard : Bool) (x y : ℕ) (f : ℕ → Bool) (len : ℕ) (broken : List Bool) → y ≤ length broken →
     ((r : ℕ) → get_or broken r false ≡ false) → Marked hard x y f len 0 0 broken
 marked_none hard x y f len broken wide blank = record {
-  count =
-      let none = service-none f 0 in
+  counted =
+      let none = count-none f 0 in
       let start : 0 - y ≡ 0 = omega arith in
       let n : min y 0 ≡ 0 = omega arith in
       rw (start, n) (omega arith);
@@ -78,7 +79,7 @@ marked_kept : (hard : Bool) (x y : ℕ) (f : ℕ → Bool) (len k got before : �
     Marked hard x y f len k before broken →
     Marked hard x y f len (k + 1) got broken
 marked_kept hard x y f len k got before broken is r marked = record {
-  count = is;
+  counted = is;
   wide = marked.wide;
   kept = λ m some le free. elim (cases_lt k m) [
     | inl new ↦ (let e : k + 1 ≡ m = omega arith in subst (λ t. Reserved hard x y f len t) e r)
@@ -108,7 +109,7 @@ marked_lost : (hard : Bool) (x y : ℕ) (f : ℕ → Bool) (len k got before at 
 marked_lost hard x y f len k got before at broken phase small near is lost marked =
     let within : at < length broken = omega (arith, marked.wide) in
     record {
-      count = is;
+      counted = is;
       wide = (let e = length-set broken at true in omega (arith, marked.wide));
       kept = λ m some le free. elim (cases_lt k m) [
         | inl new ↦
@@ -146,18 +147,18 @@ pub reserved-is : (hard : Bool) (x y : ℕ) (f : ℕ → Bool) (len m n got : �
     ((t : ℕ) → len ≤ t → f t ≡ false) → m < len + y → n ≡ ticks_of y len m → got ≡ service_before f y m →
     IsReserved hard x y n got → Reserved hard x y f len m
 reserved-is hard x y f len m n got past near ticks is r = record {
-  is = reserved-same hard x y n _ got _ ticks (is ∙ service-ticks f y len m past near) r;
+  is = reserved-same hard x y n _ got _ ticks (is ∙ count-ticks f y len m past near) r;
 }
 
 pub is-reserved : (hard : Bool) (x y : ℕ) (f : ℕ → Bool) (len m n got : ℕ) →
     ((t : ℕ) → len ≤ t → f t ≡ false) → m < len + y → n ≡ ticks_of y len m → got ≡ service_before f y m →
     Reserved hard x y f len m → IsReserved hard x y n got
 is-reserved hard x y f len m n got past near ticks is r =
-    reserved-same hard x y _ n _ got (sym ticks) (sym (is ∙ service-ticks f y len m past near)) r.is
+    reserved-same hard x y _ n _ got (sym ticks) (sym (is ∙ count-ticks f y len m past near)) r.is
 
 -- at an offset without a mark every piece is reserved
 piece-part : (hard : Bool) (x y : ℕ) (f : ℕ → Bool) (len m i n : ℕ) → m < len + y → m ≤ i + y → i + n ≤ m →
-    i + n ≤ len → Reserved hard x y f len m → IsReserved hard x y n (service f i n)
+    i + n ≤ len → Reserved hard x y f len m → IsReserved hard x y n (count f i n)
 piece-part hard x y f len m i n near starts ends within r =
     reserved-part hard x y f (m - y) (ticks_of y len m) i n (omega arith) (omega arith) r.is
 

@@ -4,14 +4,15 @@ use Rattle.std.proofs.Common.{mul-le-mul_right}
 use Rattle.std.proofs.lemmas.Bool.{cases_lt}
 use Rattle.std.proofs.lemmas.Grind.{div_ceil_times}
 use Rattle.hls_guarantee.specs.declared.Guarantee.TheVariants.{Resb, Resc}
-use Rattle.hls_guarantee.specs.Service.{service, EveryPart}
+use Rattle.hls_chron.specs.Ticks.{count}
+use Rattle.hls_guarantee.specs.Service.{EveryPart}
 use Rattle.hls_guarantee.specs.Cap.{KeepsCap, processor_parts, parts_of}
-use Rattle.hls_guarantee.proofs.ServiceLemmas.{service-add}
+use Rattle.hls_chron.proofs.CountLaws.{count-add}
 
 -- of more than y ticks the first y get at most x; u of U parts are x of y ticks or more
 cap-by : (U x y u d : ℕ) (f : ℕ → Bool) (lo hi : ℕ) → x * U ≤ u * y →
     EveryPart (λ i n got. n ≤ y → got ≤ x) f lo hi → (i n : ℕ) → lo ≤ i → i + n ≤ hi → n ≤ suc d * y →
-    service f i n * U ≤ u * n + x * U
+    count f i n * U ≤ u * n + x * U
 cap-by U x y u zero f lo hi rate each i n from to near =
     omega (arith, mul-le-mul_right U (each i n from to (omega arith)))
 cap-by U x y u (suc d) f lo hi rate each i n from to near = elim (cases_lt y n) [
@@ -21,8 +22,8 @@ cap-by U x y u (suc d) f lo hi rate each i n from to near = elim (cases_lt y n) 
       let sum : n ≡ y + r = omega arith in
       let first = mul-le-mul_right U (each i y from (omega arith) (omega arith)) in
       let rest = cap-by U x y u d f lo hi rate each (i + y) r (omega arith) (omega arith) (omega arith) in
-      let split = ap (λ (k : ℕ). k * U) (service-add f i y r) in
-      let whole = ap (λ (k : ℕ). service f i k * U) sum in
+      let split = ap (λ (k : ℕ). k * U) (count-add f i y r) in
+      let whole = ap (λ (k : ℕ). count f i k * U) sum in
       let share = ap (λ (k : ℕ). u * k) sum in
       omega (arith, first, rest, rate, split, whole, share)
 ]

@@ -6,7 +6,7 @@ use Rattle.hls_guarantee.specs.declared.Guarantee.{Guarantee}
 use Rattle.hls_guarantee.specs.declared.Guarantee.TheVariants.{All, Null, Resb, Resc, Psbe}
 use Rattle.hls_guarantee.specs.declared.rule.RuleName.{RuleName}
 use Rattle.hls_guarantee.specs.declared.rule.RuleName.TheVariants.{R1, R2, R3, R4, R5, R6, R7, R8, R9}
-use Rattle.hls_guarantee.specs.Service.{service}
+use Rattle.hls_chron.specs.Ticks.{count}
 use Rattle.hls_guarantee.specs.Satisfaction.{Satisfies}
 use Rattle.hls_guarantee.specs.Cap.{KeepsCap}
 use Rattle.hls_guarantee.specs.Supply.{Supplies}
@@ -23,7 +23,7 @@ soft_windows : (hard : Bool) (x y : ℕ) (f : ℕ → Bool) (lo hi : ℕ) → Sa
     Satisfies (Resc false x y) f lo hi
 soft_windows hard x y f lo hi s = λ i n from to short.
     let reserved = s i n from to short in
-    soft x y n (service f i n) reserved.enough
+    soft x y n (count f i n) reserved.enough
 
 -- less time of the same blocks
 soft_blocks : (hard : Bool) (x y x' : ℕ) (f : ℕ → Bool) (lo hi : ℕ) → x' ≤ x →
@@ -33,7 +33,7 @@ soft_blocks hard x y x' f lo hi le s = (
   s.1,
   λ i n from to piece.
       let reserved = s.2 i n from to piece in
-      soft x' y n (service f i n) (omega (arith, reserved.enough)),
+      soft x' y n (count f i n) (omega (arith, reserved.enough)),
 )
 
 shorter_windows : (x y x' y' : ℕ) (f : ℕ → Bool) (lo hi : ℕ) → IsReservation x y → IsReservation x' y' →
@@ -72,7 +72,7 @@ blocks-few hard x y f lo hi valid s i j from up to =
 lower_share : (s d s' d' : Frac) (f : ℕ → Bool) (lo hi : ℕ) → IsValid (Psbe s d) →
     Leads R1 (Psbe s d) (Psbe s' d') → Satisfies (Psbe s d) f lo hi → Satisfies (Psbe s' d') f lo hi
 lower_share s d s' d' f lo hi valid leads share = λ i n from to.
-    share-less s.num s.den d.num d.den s'.num s'.den d'.num d'.den n (service f i n)
+    share-less s.num s.den d.num d.den s'.num s'.den d'.num d'.den n (count f i n)
     valid.some d.positive (omega (arith, leads.0)) (omega (arith, leads.1)) (share i n from to)
 
 all-share : (s d : Frac) (f : ℕ → Bool) (lo hi : ℕ) → s.num ≤ s.den → Satisfies All f lo hi →

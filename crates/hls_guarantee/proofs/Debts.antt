@@ -2,16 +2,17 @@
 use Rattle.std.proofs.Common.{◌≡◌, ℕ, zero, suc, ◌+◌, ◌-◌, ◌*◌, ◌<◌, ◌≤◌, Bool, ap, arith}
 use Rattle.std.proofs.Common.{inl, inr}
 use Rattle.std.proofs.lemmas.Bool.{cases_lt}
-use Rattle.hls_guarantee.specs.Service.{one_if, service, EveryPart}
-use Rattle.hls_guarantee.proofs.ServiceLemmas.{service-none, service-push}
+use Rattle.hls_chron.specs.Ticks.{one_if, count}
+use Rattle.hls_guarantee.specs.Service.{EveryPart}
+use Rattle.hls_chron.proofs.CountLaws.{count-none, count-push}
 
 -- some part that ends before tick j is owed d, and none more
 pub record Owed (rate whole : ℕ) (f : ℕ → Bool) (j d : ℕ) : Type 0 where
-  pub most : (i n : ℕ) → i + n ≡ j → rate * n ≤ whole * service f i n + d
+  pub most : (i n : ℕ) → i + n ≡ j → rate * n ≤ whole * count f i n + d
   pub from : ℕ
   pub ticks : ℕ
   pub ends : from + ticks ≡ j
-  pub met : rate * ticks ≡ whole * service f from ticks + d
+  pub met : rate * ticks ≡ whole * count f from ticks + d
 
 -- and no part before tick j is owed more than allowed
 pub record Debt (rate whole allowed : ℕ) (f : ℕ → Bool) (j d : ℕ) : Type 0 where
@@ -19,7 +20,7 @@ pub record Debt (rate whole allowed : ℕ) (f : ℕ → Bool) (j d : ℕ) : Type
   pub small : d ≤ allowed
   pub fine : EveryPart (λ i n got. rate * n ≤ whole * got + allowed) f 0 j
 
-nothing : (rate whole d : ℕ) (f : ℕ → Bool) (i : ℕ) → rate * 0 ≤ whole * service f i 0 + d
+nothing : (rate whole d : ℕ) (f : ℕ → Bool) (i : ℕ) → rate * 0 ≤ whole * count f i 0 + d
 nothing rate whole d f i = omega arith
 
 pub no_debt : (rate whole allowed : ℕ) (f : ℕ → Bool) → Debt rate whole allowed f 0 0
@@ -29,7 +30,7 @@ no_debt rate whole allowed f = record {
     from = 0;
     ticks = 0;
     ends = omega arith;
-    met = let none = ap (λ v. whole * v) (service-none f 0) in omega (arith, none);
+    met = let none = ap (λ v. whole * v) (count-none f 0) in omega (arith, none);
   };
   small = omega arith;
   fine = λ i n lo hi. let e : n ≡ 0 = omega arith in rw e (nothing rate whole allowed f i);
@@ -51,13 +52,13 @@ met_push rate whole d n got more v owes before is =
     omega (arith, push-mul rate n, before, owes, ap (λ (k : ℕ). whole * k) is)
 
 most_next : (rate whole : ℕ) (f : ℕ → Bool) (j d : ℕ) → Owed rate whole f j d → (i n : ℕ) → i + n ≡ j + 1 →
-    rate * n ≤ whole * service f i n + (d + rate - whole * one_if (f j))
+    rate * n ≤ whole * count f i n + (d + rate - whole * one_if (f j))
 most_next rate whole f j d o i zero end = nothing rate whole _ f i
 most_next rate whole f j d o i (suc n) end =
     let at : i + n ≡ j = omega arith in
     let v : one_if (f (i + n)) ≡ one_if (f j) = ap (λ (t : ℕ). one_if (f t)) at in
-    let push = service-push f i n in
-    most_push rate whole d n (service f i n) (service f i (suc n)) (one_if (f j)) (o.most i n at)
+    let push = count-push f i n in
+    most_push rate whole d n (count f i n) (count f i (suc n)) (one_if (f j)) (o.most i n at)
     (omega arith)
 
 pub owed_next : (rate whole : ℕ) (f : ℕ → Bool) (j d : ℕ) → Owed rate whole f j d →
@@ -71,8 +72,8 @@ owed_next rate whole f j d o = elim (cases_lt (d + rate) (whole * one_if (f j)))
     met =
         let e = o.ends in
         let v : one_if (f (o.from + o.ticks)) ≡ one_if (f j) = ap (λ (t : ℕ). one_if (f t)) e in
-        let push = service-push f o.from o.ticks in
-        met_push rate whole d o.ticks _ (service f o.from (suc o.ticks)) (one_if (f j)) owes o.met
+        let push = count-push f o.from o.ticks in
+        met_push rate whole d o.ticks _ (count f o.from (suc o.ticks)) (one_if (f j)) owes o.met
         (omega arith);
   }
   | inl paid ↦ record {
@@ -80,7 +81,7 @@ owed_next rate whole f j d o = elim (cases_lt (d + rate) (whole * one_if (f j)))
     from = j + 1;
     ticks = 0;
     ends = omega arith;
-    met = let none = ap (λ v. whole * v) (service-none f (j + 1)) in omega (arith, none, paid);
+    met = let none = ap (λ v. whole * v) (count-none f (j + 1)) in omega (arith, none, paid);
   }
 ]
 

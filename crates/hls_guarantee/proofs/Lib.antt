@@ -1,4 +1,3 @@
-pub mod ServiceLemmas
 pub mod Offsets
 pub mod Promises
 pub mod Windows

@@ -3,7 +3,7 @@ use Rattle.std.proofs.Common.{◌≡◌, ℕ, zero, suc, ◌+◌, ◌-◌, ◌*�
 use Rattle.std.specs.Prelude.{min}
 use Rattle.std.proofs.lemmas.Bool.{cases_lt}
 use Rattle.hls_guarantee.specs.declared.Guarantee.TheVariants.{Resb}
-use Rattle.hls_guarantee.specs.Service.{service}
+use Rattle.hls_chron.specs.Ticks.{count}
 use Rattle.hls_guarantee.specs.Satisfaction.{IsReserved, InPiece, Satisfies}
 use Rattle.hls_guarantee.specs.Pieces.{IsPiece, piece_start}
 use Rattle.hls_guarantee.proofs.Offsets.{cut_at, fewer}
@@ -30,7 +30,7 @@ start-back e y (suc k) i starts = omega arith
 
 -- each whole piece is a part of a piece
 pub pieces-whole : (hard : Bool) (x y : ℕ) (f : ℕ → Bool) (len : ℕ) → Satisfies (Resb hard x y) f 0 len →
-    (e : ℕ) × (e < y) × ((k i n : ℕ) → IsPiece e y len k i n → IsReserved hard x y n (service f i n))
+    (e : ℕ) × (e < y) × ((k i n : ℕ) → IsPiece e y len k i n → IsReserved hard x y n (count f i n))
 pieces-whole hard x y f len s = (
   s.0,
   s.1,
@@ -41,7 +41,7 @@ pieces-whole hard x y f len s = (
 
 -- and each part of a piece is a part of a whole one
 pub whole-pieces : (hard : Bool) (x y : ℕ) (f : ℕ → Bool) (len : ℕ) →
-    (e : ℕ) × (e < y) × ((k i n : ℕ) → IsPiece e y len k i n → IsReserved hard x y n (service f i n)) →
+    (e : ℕ) × (e < y) × ((k i n : ℕ) → IsPiece e y len k i n → IsReserved hard x y n (count f i n)) →
     Satisfies (Resb hard x y) f 0 len
 whole-pieces hard x y f len s = (
   s.0,
@@ -61,7 +61,7 @@ whole-pieces hard x y f len s = (
 -- pieces that are cut at c and every y ticks after it
 pub blocks_from : (hard : Bool) (x y c : ℕ) (f : ℕ → Bool) (lo hi : ℕ) → 0 < y → x ≤ y → c ≤ lo + y →
     ((k i n : ℕ) → lo ≤ i → i + n ≤ hi → c + k * y ≤ i + y → i + n ≤ c + k * y →
-    IsReserved hard x y n (service f i n)) → Satisfies (Resb hard x y) f lo hi
+    IsReserved hard x y n (count f i n)) → Satisfies (Resb hard x y) f lo hi
 blocks_from hard x y c f lo hi pos fits near each =
     let cut = cut_at y c pos in
     let e : ℕ = cut.offset in
@@ -77,7 +77,7 @@ blocks_from hard x y c f lo hi pos fits near each =
                 let short = fewer y p.cut q early in
                 let none : n ≡ 0 = omega arith in
                 let empty = reserved-none hard x y f i fits in
-                subst (λ m. IsReserved hard x y m (service f i m)) (sym none) empty
+                subst (λ m. IsReserved hard x y m (count f i m)) (sym none) empty
             | inr late ↦
                 let k : ℕ = p.cut - q in
                 let sum : k + q ≡ p.cut = omega arith in

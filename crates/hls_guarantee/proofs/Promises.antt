@@ -8,7 +8,7 @@ use Rattle.hls_guarantee.specs.Service.{EveryPart}
 use Rattle.hls_guarantee.specs.Satisfaction.{IsReserved, InPiece, HasShare, Satisfies, IsSoft}
 use Rattle.hls_guarantee.specs.Cap.{KeepsCap, processor_parts, parts_of}
 use Rattle.hls_guarantee.specs.Supply.{Supplies}
-use Rattle.hls_guarantee.proofs.ServiceLemmas.{service-agree, service-more}
+use Rattle.hls_chron.proofs.CountLaws.{count-agree, count-more}
 
 -- parts of a part
 pub every-part : (P : ℕ → ℕ → ℕ → Type 0) (f : ℕ → Bool) (lo hi i j : ℕ) → lo ≤ i → j ≤ hi →
@@ -41,7 +41,7 @@ Agree f h lo hi = (t : ℕ) → lo ≤ t → t < hi → f t ≡ h t
 pub every-agree : (P : ℕ → ℕ → ℕ → Type 0) (f h : ℕ → Bool) (lo hi : ℕ) → Agree f h lo hi →
     EveryPart P f lo hi → EveryPart P h lo hi
 every-agree P f h lo hi same each = λ i n a b.
-    let e = service-agree f h i n (λ t c d. same t (omega arith) (omega arith)) in
+    let e = count-agree f h i n (λ t c d. same t (omega arith) (omega arith)) in
     subst (P i n) e (each i n a b)
 
 pub satisfies-agree : (g : Guarantee) (f h : ℕ → Bool) (lo hi : ℕ) → Agree f h lo hi →
@@ -85,14 +85,14 @@ pub satisfies-more : (g : Guarantee) (f h : ℕ → Bool) (lo hi : ℕ) → IsSo
 satisfies-more All f h lo hi soft more s = λ t a b. more t (s t a b)
 satisfies-more Null f h lo hi soft more s = tt
 satisfies-more (Resc hard x y) f h lo hi soft more s = λ i n a b short.
-    reserved-more hard x y n _ _ soft (service-more f h i n more) (s i n a b short)
+    reserved-more hard x y n _ _ soft (count-more f h i n more) (s i n a b short)
 satisfies-more (Resb hard x y) f h lo hi soft more s = (
   s.0,
   s.1,
-  λ i n a b piece. reserved-more hard x y n _ _ soft (service-more f h i n more) (s.2 i n a b piece),
+  λ i n a b piece. reserved-more hard x y n _ _ soft (count-more f h i n more) (s.2 i n a b piece),
 )
 satisfies-more (Psbe s d) f h lo hi soft more share = λ i n a b.
-    share-more s d n _ _ (service-more f h i n more) (share i n a b)
+    share-more s d n _ _ (count-more f h i n more) (share i n a b)
 
 -- supply goes over to a later start and to schedules and asking that agree from there on
 pub supplies-agree : (g : Guarantee) (f h a b : ℕ → Bool) (lo hi from : ℕ) → lo ≤ from → Agree f h from hi →

@@ -3,10 +3,10 @@ use Rattle.std.proofs.Common.{◌≡◌, ℕ, zero, suc, ◌+◌, ◌*◌, ◌-�
 use Rattle.hls_frac.specs.declared.Frac.{Frac}
 use Rattle.hls_frac.specs.Frac.{IsQuotient}
 use Rattle.hls_guarantee.specs.declared.Guarantee.TheVariants.{All, Resb, Resc, Psbe}
-use Rattle.hls_guarantee.specs.Service.{one_if, service}
+use Rattle.hls_chron.specs.Ticks.{one_if, count}
 use Rattle.hls_guarantee.specs.Satisfaction.{IsReserved, InPiece, Satisfies}
 use Rattle.hls_guarantee.specs.Conversions.{IsError, Covers}
-use Rattle.hls_guarantee.proofs.ServiceLemmas.{service-none, service-push}
+use Rattle.hls_chron.proofs.CountLaws.{count-none, count-push}
 use Rattle.hls_guarantee.proofs.Missed.{balance, balance_to}
 use Rattle.hls_guarantee.proofs.Spans.{Spans, PieceSpans, longer}
 use Rattle.hls_guarantee.proofs.Shares.{HasFew}
@@ -39,7 +39,7 @@ pub spans-windows : (x y c z : ℕ) (f : ℕ → Bool) (lo hi : ℕ) → x ≤ y
     c + (y - z) ≤ y - x → Satisfies (Resc false x y) f lo hi
 spans-windows x y c z f lo hi le s wide few = λ i n from to short.
     let most = (longer c z y f lo hi s wide).few i (i + n) from (omega arith) to (omega arith) in
-    soft x y n (service f i n) (omega (arith, most, balance f i n))
+    soft x y n (count f i n) (omega (arith, most, balance f i n))
 
 -- windows are blocks that are cut before the first tick
 pub windows-blocks : (hard : Bool) (x y : ℕ) (f : ℕ → Bool) (lo hi : ℕ) → 1 ≤ x → x ≤ y →
@@ -74,25 +74,25 @@ few-share s d x y m f lo hi some le rate error few = λ i n from to.
     let sum : y ≡ c + x = omega arith in
     let most = by_missed x y c m i n _ _ _ sum (balance f i n) (few i (i + n) from (omega arith) to) in
     let over = error-quotient d m x y c sum error in
-    reserve-shares s.num s.den d.num d.den x y (m * c) n (service f i n) some rate over most
+    reserve-shares s.num s.den d.num d.den x y (m * c) n (count f i n) some rate over most
 
 -- where each tick is served, each part is
 pub all-served : (f : ℕ → Bool) (lo hi i n : ℕ) → Satisfies All f lo hi → lo ≤ i → i + n ≤ hi →
-    service f i n ≡ n
-all-served f lo hi i zero s from to = service-none f i
+    count f i n ≡ n
+all-served f lo hi i zero s from to = count-none f i
 all-served f lo hi i (suc n) s from to =
     let before = all-served f lo hi i n s from (omega arith) in
     let here : one_if (f (i + n)) ≡ 1 = ap one_if (s (i + n) (omega arith) (omega arith)) in
-    omega (arith, before, here, service-push f i n)
+    omega (arith, before, here, count-push f i n)
 
 pub all-windows : (x y : ℕ) (f : ℕ → Bool) (lo hi : ℕ) → x ≤ y → Satisfies All f lo hi →
     Satisfies (Resc false x y) f lo hi
 all-windows x y f lo hi le s = λ i n from to short.
-    soft x y n (service f i n) (omega (arith, all-served f lo hi i n s from to))
+    soft x y n (count f i n) (omega (arith, all-served f lo hi i n s from to))
 
 pub share-windows : (s d : Frac) (x y : ℕ) (f : ℕ → Bool) (lo hi : ℕ) → s.num ≤ s.den → Covers s d x y →
     Satisfies (Psbe s d) f lo hi → Satisfies (Resc false x y) f lo hi
 share-windows s d x y f lo hi one leads share = λ i n from to short.
-    soft x y n (service f i n)
-    (share-reserves s.num s.den d.num d.den x y n (service f i n) s.positive d.positive one
+    soft x y n (count f i n)
+    (share-reserves s.num s.den d.num d.den x y n (count f i n) s.positive d.positive one
     (omega (arith, leads)) short (share i n from to))

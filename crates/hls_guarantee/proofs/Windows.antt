@@ -4,10 +4,11 @@ use Rattle.std.proofs.Common.{ap, ◌∙◌, sym, subst, arith, get_or, length-a
 use Rattle.std.proofs.lemmas.List.{get_or_append_left, get_or-append-add}
 use Rattle.hls_guarantee.specs.declared.Guarantee.{Guarantee}
 use Rattle.hls_guarantee.specs.declared.Guarantee.TheVariants.{All, Null, Resb, Resc, Psbe}
-use Rattle.hls_guarantee.specs.Service.{service, EveryPart, schedule_of, ServesMore}
+use Rattle.hls_chron.specs.Ticks.{count}
+use Rattle.hls_guarantee.specs.Service.{EveryPart, schedule_of, ServesMore}
 use Rattle.hls_guarantee.specs.Satisfaction.{IsReserved, InPiece, HasShare, Satisfies, ListSatisfies, IsSoft}
 use Rattle.hls_guarantee.specs.Cap.{KeepsCap, ListKeepsCap, processor_parts, parts_of}
-use Rattle.hls_guarantee.proofs.ServiceLemmas.{service-shift}
+use Rattle.hls_chron.proofs.CountLaws.{count-shift}
 use Rattle.hls_guarantee.proofs.Offsets.{later_offset, earlier_offset, piece_later, piece_earlier}
 use Rattle.hls_guarantee.proofs.Promises.{satisfies-agree, satisfies-part, satisfies-more}
 use Rattle.hls_guarantee.proofs.Promises.{keeps_cap-agree, keeps_cap-part}
@@ -16,7 +17,7 @@ use Rattle.hls_guarantee.proofs.Promises.{keeps_cap-agree, keeps_cap-part}
 pub every-earlier : (P : ℕ → ℕ → Type 0) (f : ℕ → Bool) (k lo hi : ℕ) →
     EveryPart (λ i n got. P n got) f (lo + k) (hi + k) → EveryPart (λ i n got. P n got) (λ t. f (t + k)) lo hi
 every-earlier P f k lo hi each = λ i n a b.
-    subst (P n) (sym (service-shift f k i n)) (each (i + k) n (omega arith) (omega arith))
+    subst (P n) (sym (count-shift f k i n)) (each (i + k) n (omega arith) (omega arith))
 
 pub satisfies-earlier : (g : Guarantee) (f : ℕ → Bool) (k lo hi : ℕ) → Satisfies g f (lo + k) (hi + k) →
     Satisfies g (λ t. f (t + k)) lo hi
@@ -31,15 +32,15 @@ satisfies-earlier (Resb hard x y) f k lo hi s =
       λ i n a b piece.
           let there = piece_later s.0 offset.0 y k i n offset.1 piece in
           let reserved = s.2 (i + k) n (omega arith) (omega arith) there in
-          subst (IsReserved hard x y n) (sym (service-shift f k i n)) reserved,
+          subst (IsReserved hard x y n) (sym (count-shift f k i n)) reserved,
     )
 satisfies-earlier (Psbe s d) f k lo hi share = every-earlier (λ n got. HasShare s d n got) f k lo hi share
 
 -- and back
-back : (f : ℕ → Bool) (k i n : ℕ) → k ≤ i → service (λ t. f (t + k)) (i - k) n ≡ service f i n
+back : (f : ℕ → Bool) (k i n : ℕ) → k ≤ i → count (λ t. f (t + k)) (i - k) n ≡ count f i n
 back f k i n le =
     let e : i - k + k ≡ i = omega arith in
-    service-shift f k (i - k) n ∙ ap (λ (t : ℕ). service f t n) e
+    count-shift f k (i - k) n ∙ ap (λ (t : ℕ). count f t n) e
 
 pub every-later : (P : ℕ → ℕ → Type 0) (f : ℕ → Bool) (k lo hi : ℕ) →
     EveryPart (λ i n got. P n got) (λ t. f (t + k)) lo hi → EveryPart (λ i n got. P n got) f (lo + k) (hi + k)

@@ -1,19 +1,11 @@
--- The service that a schedule gives. A schedule is a test on ticks, true at those that are served.
-use Rattle.std.specs.Prelude.{◌≡◌, ℕ, zero, suc, ◌+◌, ◌-◌, ◌≤◌, min, Bool, true, false, List, length}
-use Rattle.std.specs.Prelude.{slice_index_or}
-
-abbrev pub one_if : Bool → ℕ
-one_if true = 1
-one_if false = 0
-
--- how many of the n ticks from i on are served
-unfoldable pub service : (served : ℕ → Bool) (i n : ℕ) → ℕ
-service served i zero = 0
-service served i (suc n) = service served i n + one_if (served (i + n))
+-- The service that a schedule gives, a count of ticks. A schedule is a test on ticks, true at those that
+-- are served.
+use Rattle.std.specs.Prelude.{◌≡◌, ℕ, ◌+◌, ◌-◌, ◌≤◌, min, Bool, true, false, List, length, slice_index_or}
+use Rattle.hls_chron.specs.Ticks.{count}
 
 -- P holds of every part of the ticks from lo on and before hi: of the n ticks from i on, and of their service
 abbrev pub EveryPart : (P : (i n got : ℕ) → Type 0) (served : ℕ → Bool) (lo hi : ℕ) → Type 0
-EveryPart P served lo hi = (i n : ℕ) → lo ≤ i → i + n ≤ hi → P i n (service served i n)
+EveryPart P served lo hi = (i n : ℕ) → lo ≤ i → i + n ≤ hi → P i n (count served i n)
 
 -- a list of served and unserved ticks as a schedule of the ticks from 0 on
 abbrev pub schedule_of : List Bool → ℕ → Bool
@@ -30,4 +22,4 @@ pub record ServesMore (less more : List Bool) : Type 0 where
 
 -- the service of the y ticks that end before tick k, or of as many as there are
 abbrev pub service_before : (served : ℕ → Bool) (y k : ℕ) → ℕ
-service_before served y k = service served (k - y) (min y k)
+service_before served y k = count served (k - y) (min y k)

@@ -19,7 +19,8 @@ ghost use Rattle.std.specs.Prelude.{
   slice_set,
   if◌then◌else◌,
 };
-ghost use Rattle.hls_guarantee.specs.Service.{one_if, schedule_of, service, service_before, EveryPartOf};
+ghost use Rattle.hls_chron.specs.Ticks.{one_if, count};
+ghost use Rattle.hls_guarantee.specs.Service.{schedule_of, service_before, EveryPartOf};
 ghost use Rattle.hls_guarantee.specs.Satisfaction.{IsReserved, InPiece, HasShare, ListSatisfies};
 ghost use Rattle.hls_guarantee.specs.Limits.{IsReservation, IsShare, IsValid};
 

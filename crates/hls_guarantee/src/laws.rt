@@ -14,7 +14,8 @@ ghost use Rattle.std.specs.Prelude.{
   length,
   true,
 };
-ghost use Rattle.hls_guarantee.specs.Service.{service, schedule_of, ServesMore};
+ghost use Rattle.hls_chron.specs.Ticks.{count};
+ghost use Rattle.hls_guarantee.specs.Service.{schedule_of, ServesMore};
 ghost use Rattle.hls_guarantee.specs.Satisfaction.{Satisfies, ListSatisfies, IsReserved, IsSoft};
 ghost use Rattle.hls_guarantee.specs.Pieces.{IsPiece};
 ghost use Rattle.hls_guarantee.specs.Cap.{KeepsCap, ListKeepsCap};
@@ -82,7 +83,7 @@ pub fn blocks_are_pieces(hard: bool, x: u32, y: u32)
     ensures { (list : List Bool) → ListSatisfies (Guarantee.Resb hard x y) list ↔
         ((e : ℕ) × (e < y) ×
         ((k i n : ℕ) → IsPiece e y (length list) k i n →
-        IsReserved hard x y n (service (schedule_of list) i n))) }
+        IsReserved hard x y n (count (schedule_of list) i n))) }
 {}
 
 /// A reservation of either kind has `1 <= x <= y <= 20000`.

@@ -7,23 +7,17 @@ use Rattle.hls_chron.specs.declared.book.Event.{Event}
 use Rattle.hls_chron.specs.declared.book.Event.TheVariants.{Seat, Leave, Settle}
 use Rattle.hls_chron.specs.declared.plain.Terms.{Terms}
 use Rattle.hls_chron.specs.declared.plain.Terms.TheVariants as terms
-use Rattle.hls_chron.specs.Ticks.{one_if, count}
+use Rattle.hls_chron.proofs.CountLaws.{count-agree}
 use Rattle.hls_kinds.specs.Frames.{free_below, owner_seated, owner_after, unowned}
 use Rattle.std.proofs.lemmas.List.Sums.{fold_more}
-
-count-same : (f g : ℕ → Bool) (n : ℕ) → ((k : ℕ) → k < n → f k ≡ g k) → count f 0 n ≡ count g 0 n
-unfolding count
-count-same f g zero same = refl
-count-same f g (suc n) same =
-    rw (zero-add n, same n (omega arith), count-same f g n (λ k lt. same k (omega (arith, lt)))) refl
 
 seated-same : (f g : ℕ → Option ℕ) (slot : ℕ) (terms : Terms) (p : ℕ) → ((q : ℕ) → q < p + 1 → f q ≡ g q)
     → owner_seated f slot terms p ≡ owner_seated g slot terms p
 seated-same f g slot (terms.Slots places) p same =
     rw (
       same p (omega arith),
-      count-same (λ q. is_none (f q)) (λ q. is_none (g q)) p
-          (λ q lt. ap is_none (same q (omega (arith, lt)))),
+      count-agree (λ q. is_none (f q)) (λ q. is_none (g q)) 0 p
+          (λ q _ lt. ap is_none (same q (omega (arith, lt)))),
     ) refl
 seated-same f g slot _ p same = same p (omega arith)
 

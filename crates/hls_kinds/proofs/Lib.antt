@@ -7,3 +7,4 @@ pub mod SlotLaws
 pub mod RankingLaws
 pub mod ChoiceLaws
 pub mod TenantLaws
+pub mod DisciplineLaws

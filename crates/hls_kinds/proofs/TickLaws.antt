@@ -3,16 +3,8 @@ use Rattle.std.proofs.Common.{◌≡◌, ℕ, zero, suc, ◌+◌, ◌<◌, ◌�
 use Rattle.std.proofs.Common.{zero-add}
 use Rattle.std.specs.Prelude.{Option, Some, None, if◌then◌else◌}
 use Rattle.hls_chron.specs.Ticks.{one_if, count}
+use Rattle.hls_chron.proofs.CountLaws.{count-le}
 use Rattle.hls_kinds.specs.Ticks.{last_of, next_or, after_last}
-
-one_if-le : (b : Bool) → one_if b ≤ 1
-one_if-le true = omega arith
-one_if-le false = omega arith
-
-pub count-le : (test : ℕ → Bool) (i n : ℕ) → count test i n ≤ n
-unfolding count
-count-le test i zero = omega arith
-count-le test i (suc n) = omega (arith, count-le test i n, one_if-le (test (i + n)))
 
 pub count-zero : (test : ℕ → Bool) (i : ℕ) → count test i 0 ≡ 0
 unfolding count

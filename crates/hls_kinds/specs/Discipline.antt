@@ -9,6 +9,7 @@ use Rattle.hls_kinds.specs.Reservations.{deadline_at}
 use Rattle.hls_kinds.specs.Tags.{start_tag}
 use Rattle.hls_kinds.specs.Turns.{turn_slot, turn_goes_on, turns_after}
 use Rattle.hls_kinds.specs.Frames.{owner_now}
+use Rattle.hls_kinds.specs.Shares.{KeepsShares}
 use Rattle.hls_kinds.specs.Asks.{asks, slot_asks, asks_in_budget, asks_softly}
 
 -- the slot asks, it has a priority number, and no slot that asks has a lesser one
@@ -47,9 +48,11 @@ Serves (Wheel frame) b mask slot = IsOwner (owner_now frame b) mask slot
 Serves (Join ports) b mask slot = IsSole mask slot
 Serves Cpu b mask slot = ⊥
 
--- in each tick in which a slot was served, the scheduler asked, and the slot was the one to serve
+-- In each tick in which a slot was served, the scheduler asked, and the slot was the one to serve. Fair
+-- queueing besides keeps the shares of its seats.
 pub record KeepsDiscipline (config : Config) (b : Ledger) : Type 0 where
   pub asked : (t slot : ℕ) → t < now_of b → (row_at b t).to ≡ Some slot
       → asks config (before t b) (row_at b t).mask ≡ true
   pub served : (t slot : ℕ) → t < now_of b → (row_at b t).to ≡ Some slot
       → Serves config (before t b) (row_at b t).mask slot
+  pub shares : KeepsShares config b

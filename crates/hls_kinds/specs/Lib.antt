@@ -6,6 +6,7 @@ pub mod Tags
 pub mod Turns
 pub mod Frames
 pub mod Asks
+pub mod Shares
 pub mod Discipline
 pub mod Room
 pub mod Rankings

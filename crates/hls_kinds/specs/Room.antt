@@ -1,6 +1,6 @@
 -- The room of a scheduler, by its configuration and its book: the slots that are free, and what the seats
 -- use up.
-use Rattle.std.specs.Prelude.{◌≡◌, ◌≢◌, ℕ, ◌<◌, Option, Some, None, if◌then◌else◌}
+use Rattle.std.specs.Prelude.{◌≡◌, ◌≢◌, ℕ, ◌-◌, ◌<◌, Option, Some, None, if◌then◌else◌}
 use Rattle.hls_chron.specs.declared.plain.Config.{Config}
 use Rattle.hls_chron.specs.declared.plain.Config.TheVariants as configs
 use Rattle.hls_chron.specs.declared.plain.Terms.{Terms}
@@ -11,7 +11,7 @@ use Rattle.hls_chron.specs.Ledger.{Ledger}
 use Rattle.hls_chron.specs.Seats.{terms_at, most_seats}
 use Rattle.hls_kinds.specs.Slots.{sum_below}
 use Rattle.hls_kinds.specs.Tenants.{tenant_at}
-use Rattle.hls_kinds.specs.Reservations.{parts, is_held}
+use Rattle.hls_kinds.specs.Reservations.{all_parts, parts, is_held}
 use Rattle.hls_kinds.specs.Frames.{owned_places}
 
 abbrev pub terms_left : Tenant → Option Terms
@@ -48,3 +48,22 @@ room_used configs.Edf b = sum_below (λ slot. parts_in (occupant_at configs.Edf 
 room_used (configs.Sfq total most) b = sum_below (λ slot. weight_in (terms_at b slot)) 32
 room_used (configs.Wheel frame) b = owned_places frame b
 room_used _ b = 0
+
+-- the room that there is, and what a seat on some terms asks of it
+abbrev pub room_total : Config → ℕ
+room_total configs.Edf = all_parts
+room_total (configs.Sfq total most) = total
+room_total (configs.Wheel frame) = frame
+room_total _ = 0
+
+abbrev pub room_asked : Config → Terms → ℕ
+room_asked configs.Edf (terms.Res hard x y) = parts x y
+room_asked (configs.Sfq total most) (terms.Weight weight) = weight
+room_asked (configs.Wheel frame) (terms.Slots places) = places
+room_asked _ _ = 0
+
+-- more is asked than is free
+pub record LacksRoom (config : Config) (b : Ledger) (terms : Terms) (free asked : ℕ) : Type 0 where
+  pub left : free ≡ room_total config - room_used config b
+  pub asks : asked ≡ room_asked config terms
+  pub lacks : free < asked

@@ -4,11 +4,11 @@ ghost use Rattle.hls_kinds.specs.Slots.{sum_below};
 ghost use Rattle.hls_chron.specs.Seats.{terms_at as seated_at};
 ghost use Rattle.hls_chron.specs.Ranges.{ConfigInRange};
 ghost use Rattle.hls_kinds.specs.Room.{terms_left as left_terms, occupant_at, parts_in, weight_in};
-ghost use Rattle.hls_kinds.specs.Room.{room_used as room_of};
+ghost use Rattle.hls_kinds.specs.Room.{room_used as room_of, room_total as total_of, room_asked as asked_of};
 
 use crate::Tenant;
 use crate::frames::owned_places;
-use crate::reservations::{is_held, parts};
+use crate::reservations::{ALL_PARTS, is_held, parts};
 use crate::tenant::{tenant_at, terms_at};
 use hls_chron::{Book, Config, Terms};
 
@@ -93,6 +93,30 @@ pub fn room_used(book: &Book, config: &Config) -> u128
         Config::Edf => parts_used(book),
         Config::Sfq { .. } => weight_used(book),
         Config::Wheel { frame } => u128::from(owned_places(book, frame)),
+        _ => 0,
+    }
+}
+
+/// The room that a scheduler has in all: parts, weight or places; 0 for a kind whose seats use up none.
+pub fn room_total(config: &Config) -> u128
+    ensures { result ≡ total_of config.now }
+{
+    match *config {
+        Config::Edf => ALL_PARTS,
+        Config::Sfq { total, .. } => u128::from(total),
+        Config::Wheel { frame } => u128::from(frame),
+        _ => 0,
+    }
+}
+
+/// What a seat on these terms asks of the room of a scheduler.
+pub fn room_asked(config: &Config, terms: &Terms) -> u128
+    ensures { result ≡ asked_of config.now terms.now }
+{
+    match (*config, *terms) {
+        (Config::Edf, Terms::Res { x, y, .. }) => parts(x, y),
+        (Config::Sfq { .. }, Terms::Weight(weight)) => u128::from(weight),
+        (Config::Wheel { .. }, Terms::Slots(places)) => u128::from(places),
         _ => 0,
     }
 }

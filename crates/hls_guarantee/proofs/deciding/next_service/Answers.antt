@@ -1,6 +1,6 @@
 use Rattle.std.proofs.Common.{arith}
 use Rattle.hls_guarantee.specs.Service.{schedule_of}
-use Rattle.hls_guarantee.proofs.ServiceLemmas.{one_if-le}
+use Rattle.hls_chron.proofs.CountLaws.{one_if-le}
 use Rattle.hls_guarantee.proofs.Slides.{before-le, slide_full, slide_front}
 use Rattle.hls_guarantee.proofs.deciding.next_service.Goals as goal
 
