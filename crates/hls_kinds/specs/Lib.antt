@@ -9,4 +9,5 @@ pub mod Asks
 pub mod Shares
 pub mod Discipline
 pub mod Room
+pub mod Fits
 pub mod Rankings

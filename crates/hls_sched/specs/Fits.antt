@@ -1,27 +1,22 @@
 -- Why a seat cannot be taken on some terms.
-use Rattle.std.specs.Prelude.{◌≡◌, ◌≢◌, ℕ, ◌≤◌, ◌<◌, ◌⊎◌, Option, Some, None}
+use Rattle.std.specs.Prelude.{◌≡◌, ◌≢◌, ℕ, ◌≤◌, ◌⊎◌, Option, Some, None}
 use Rattle.hls_chron.specs.declared.plain.Config.{Config}
-use Rattle.hls_chron.specs.declared.plain.Config.TheVariants as configs
 use Rattle.hls_chron.specs.declared.plain.Terms.{Terms}
-use Rattle.hls_chron.specs.declared.plain.Terms.TheVariants.{Prio, Weight, Slots}
+use Rattle.hls_chron.specs.declared.plain.Terms.TheVariants.{Prio}
 use Rattle.hls_chron.specs.Kinds.{kind_of, terms_kind}
 use Rattle.hls_chron.specs.Ledger.{Ledger}
-use Rattle.hls_chron.specs.Seats.{HasPriority, IsFull, most_seats}
+use Rattle.hls_chron.specs.Seats.{HasPriority, most_seats}
+use Rattle.hls_kinds.specs.Room.{IsFull, LacksRoom}
+use Rattle.hls_kinds.specs.Fits.{Exceeds}
 use Rattle.hls_sched.specs.declared.fault.SeatFault.{SeatFault}
 use Rattle.hls_sched.specs.declared.fault.SeatFault.TheVariants.{Unfit, PriorityTaken, Full, NoRoom}
 
--- more of the frame or of the total is asked than there is
-abbrev pub Exceeds : Config → Terms → Type 0
-Exceeds (configs.Sfq total most) (Weight weight) = total < weight
-Exceeds (configs.Wheel frame) (Slots places) = frame < places
-Exceeds _ _ = ⊥
-
--- the fault applies to a seat on these terms. The kinds that have room to use up are still to be written.
+-- the fault applies to a seat on these terms
 abbrev pub Applies : Config → Ledger → Terms → SeatFault → Type 0
 Applies config b terms Unfit = (terms_kind terms ≢ kind_of config) ⊎ Exceeds config terms
 Applies config b terms (PriorityTaken priority) = (terms ≡ Prio priority) × HasPriority b priority
 Applies config b terms (Full seats) = IsFull config b × (seats ≡ most_seats config)
-Applies config b terms (NoRoom free asked) = ⊥
+Applies config b terms (NoRoom free asked) = LacksRoom config b terms free asked
 
 -- the order in which faults are told
 abbrev pub fault_number : SeatFault → ℕ

@@ -10,7 +10,7 @@ use Rattle.hls_chron.specs.declared.plain.Config.{Config}
 use Rattle.hls_chron.specs.declared.plain.Config.TheVariants.{Cpu}
 use Rattle.hls_chron.specs.Kinds.{kind_of}
 use Rattle.hls_chron.specs.Ledger.{Ledger, with_row, with_mark}
-use Rattle.hls_chron.specs.Asks.{asks}
+use Rattle.hls_kinds.specs.Asks.{asks}
 
 -- the kind, the configuration if there is one yet, the book, the slots that ask, a bit each, and the port
 -- of the grant

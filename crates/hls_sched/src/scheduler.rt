@@ -3,9 +3,10 @@ ghost use Rattle.std.specs.Prelude.{◌≡◌, ◌≢◌, ℕ, ◌<◌, ◌≤�
 ghost use Rattle.std.specs.Prelude.{OnOk, OnErr, IsNone, IfSome};
 ghost use Rattle.hls_chron.specs.Kinds.{kind_of};
 ghost use Rattle.hls_chron.specs.Ranges.{ConfigInRange, TermsInRange};
-ghost use Rattle.hls_chron.specs.Seats.{terms_at, SlotAsks, IsFree, IsFull};
-ghost use Rattle.hls_chron.specs.Discipline.{Serves, KeepsDiscipline};
-ghost use Rattle.hls_chron.specs.Room.{room_used};
+ghost use Rattle.hls_chron.specs.Seats.{terms_at, SlotAsks};
+ghost use Rattle.hls_kinds.specs.Discipline.{Serves, KeepsDiscipline};
+ghost use Rattle.hls_kinds.specs.Room.{room_used, IsFree, IsFull};
+ghost use Rattle.hls_promise.specs.Promise.{KeepsPromise};
 ghost use Rattle.hls_sched.specs.Seen.{Seen, config_of, IsConfigured, IsSetUp, seen_asks};
 ghost use Rattle.hls_sched.specs.Seen.{requested, released, seated, left, settled, granted, revoked, turned};
 ghost use Rattle.hls_sched.specs.Fits.{IsAnswer};
@@ -141,12 +142,16 @@ pub trait Scheduler: Drop {
         requires configured { IsConfigured (seen self.now) }
         ensures { result ≡ room_used (config_of (seen self.now)) (seen self.now).book };
 
-    /// Tells a caller that the book keeps the discipline, and does nothing.
+    /// Tells a caller that the book keeps the discipline and its promise, and does nothing.
     fn vouch(&self)
         requires configured { IsConfigured (seen self.now) }
-        ensures { KeepsDiscipline (config_of (seen self.now)) (seen self.now).book }
+        ensures discipline { KeepsDiscipline (config_of (seen self.now)) (seen self.now).book }
+        ensures promise { KeepsPromise (config_of (seen self.now)) (seen self.now).book }
     {}
 
     /// Whatever was called, the book keeps the discipline of the configuration.
     ghost keeps: { (s : Self) → IsConfigured (seen s) → KeepsDiscipline (config_of (seen s)) (seen s).book };
+
+    /// And it keeps its promise: each seat gets what the scheduler lends it of what the scheduler is given.
+    ghost promises: { (s : Self) → IsConfigured (seen s) → KeepsPromise (config_of (seen s)) (seen s).book };
 }
