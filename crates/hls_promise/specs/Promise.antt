@@ -26,9 +26,8 @@ HasPorts config b = (t : ℕ) → is_some (row_at b t).to ≡ true → IsPort co
 -- Where a port has supplied g since the start or the last settling, and the step through the scheduler lends h
 -- of g to the terms of a seat, the seat has been supplied with h since then, or since its seating if that is
 -- later.
-abbrev pub KeepsPromise : Config → Ledger → Type 0
-KeepsPromise config b = HasPorts config b
-    → (slot since port : ℕ) (terms : Terms) (g h : Guarantee) → tenant_at b slot ≡ Sits terms since
-    → LendsThrough config terms port g h
-    → Supplies g (given b port) (asked_by config b) (settled_at b) (now_of b)
-    → Supplies h (served b slot) (asked b slot) since (now_of b)
+pub record KeepsPromise (config : Config) (b : Ledger) : Type 0 where
+  pub kept : HasPorts config b → (slot since port : ℕ) (terms : Terms) (g h : Guarantee)
+      → tenant_at b slot ≡ Sits terms since → LendsThrough config terms port g h
+      → Supplies g (given b port) (asked_by config b) (settled_at b) (now_of b)
+      → Supplies h (served b slot) (asked b slot) since (now_of b)
