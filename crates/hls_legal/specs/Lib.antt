@@ -1,0 +1,7 @@
+pub mod Ledgers
+pub mod Derived
+pub mod Hierarchy
+pub mod Steps
+pub mod Legal
+pub mod Linked
+pub mod Supplied

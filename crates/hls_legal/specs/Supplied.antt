@@ -1,0 +1,35 @@
+-- What holds of every stay of a legal run.
+use Rattle.std.specs.Prelude.{◌≡◌, ℕ, ◌≤◌, ◌<◌, List, [], ◌∷◌, Option, Some, None, true, slice_get, filter, nat_lt}
+use Rattle.std.specs.Prelude.{Bool}
+use Rattle.hls_guarantee.specs.Satisfaction.{Satisfies}
+use Rattle.hls_guarantee.specs.Cap.{KeepsCap}
+use Rattle.hls_legal.specs.Hierarchy.{start, Hierarchy, Stay, was_served, had_asked}
+use Rattle.hls_legal.specs.Steps.{Step, after, state}
+use Rattle.hls_legal.specs.Legal.{IsLegal}
+use Rattle.hls_legal.specs.Linked.{KeepsPromises}
+
+-- the books keep their promises after every step
+abbrev pub KeepsPromisesAlong : Hierarchy → List Step → Type 0
+KeepsPromisesAlong h [] = KeepsPromises h
+KeepsPromisesAlong h (step ∷ steps) = KeepsPromises h × KeepsPromisesAlong (after h step) steps
+
+-- the tick before which a stay ends: the present one where it is open
+abbrev pub end_of : (now : ℕ) → Option ℕ → ℕ
+end_of now None = now
+end_of now (Some until) = until
+
+-- the guarantee is met in every window of the stay, ticks in all of which the thread was ready, and its cap is
+-- kept over the whole stay
+pub record IsKept (h : Hierarchy) (stay : Stay) : Type 0 where
+  pub windows : (i j : ℕ) → stay.since ≤ i → j ≤ end_of h.now stay.until
+      → ((t : ℕ) → i ≤ t → t < j → had_asked h.past stay.thread t ≡ true)
+      → Satisfies stay.kept (was_served h.past stay.thread) i j
+  pub cap : KeepsCap stay.kept (was_served h.past stay.thread) stay.since (end_of h.now stay.until)
+
+-- each stay so far, open or closed, is kept
+abbrev pub KeepsStays : Hierarchy → Type 0
+KeepsStays h = (index : ℕ) (stay : Stay) → slice_get h.stays index ≡ Some stay → IsKept h stay
+
+-- the stays of at least one tick
+abbrev pub accounts : Hierarchy → List Stay
+accounts h = filter (λ (stay : Stay). nat_lt stay.since (end_of h.now stay.until)) h.stays
