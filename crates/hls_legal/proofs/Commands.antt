@@ -43,10 +43,10 @@ drop_owes h rank k empty = record {
 -- nobody sits on a thread, nor on a scheduler that may be unloaded
 pub thread_empty : (node : Option Node) → IsThread node → (slot : ℕ) → terms_at (book_of node) slot ≡ None
 unfolding terms_at
-thread_empty node t slot = rw t.there refl
+thread_empty any t slot = rw t.there refl
 
 pub unload_empty : (node : Option Node) → CanUnload node → (slot : ℕ) → terms_at (book_of node) slot ≡ None
-unload_empty node can slot = ap (λ n. terms_at (book_of n) slot) can.there ∙ can.empty slot
+unload_empty any can slot = ap (λ n. terms_at (book_of n) slot) can.there ∙ can.empty slot
 
 module _ (h : Hierarchy) (rank : ℕ → ℕ) (inv : Inv h rank) (k : ℕ) (new : Seat) (below : ℕ → Bool) (can : CanMove h k new below) where
   abbrev node : Option Node

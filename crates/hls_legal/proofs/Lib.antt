@@ -6,3 +6,7 @@ pub mod Takings
 pub mod Kept
 pub mod Effects
 pub mod Commands
+pub mod Rouses
+pub mod Walks
+pub mod Hops
+pub mod Elapses

@@ -1,5 +1,9 @@
 -- What several marks and a row change of what a book says.
 use Rattle.std.proofs.Common.{◌≡◌, ℕ, suc, ◌+◌, ◌-◌, ◌<◌, ◌≤◌, List, [], ◌∷◌, ◌++◌, length, Bool, refl, ap, sym, ◌∙◌, arith, fold, is_some, ◌==◌, ◌&&◌}
+use Rattle.std.specs.Prelude.{◌⊎◌}
+use Rattle.std.proofs.Common.{inl, inr, true}
+use Rattle.std.proofs.lemmas.Bool.{cases_lt, cases_eq, le-ltb}
+use Rattle.std.proofs.lemmas.List.{get_or_past}
 use Rattle.std.proofs.lemmas.List.Sums.{fold-append}
 use Rattle.std.proofs.Math.Seq.{take-append_seam}
 use Rattle.hls_chron.specs.declared.book.TickRow.{TickRow}
@@ -7,16 +11,16 @@ use Rattle.hls_chron.specs.declared.book.Mark.{Mark}
 use Rattle.hls_chron.specs.declared.book.Event.{Event}
 use Rattle.hls_chron.specs.declared.book.Event.TheVariants.{Seat, Leave, Settle}
 use Rattle.hls_chron.specs.declared.plain.Config.{Config}
-use Rattle.hls_chron.specs.Ledger.{Ledger, now_of, with_row, with_mark, row_at, before, IsDated}
+use Rattle.hls_chron.specs.Ledger.{Ledger, now_of, with_row, with_mark, row_at, before, no_row, IsDated}
 use Rattle.hls_chron.specs.Seats.{terms_after, terms_at, asked, served, is_slot}
-use Rattle.hls_chron.proofs.BookLaws.{terms_at-mark, now_of-row, row_at-mark, row_at-past, row_at-now, before-mark, before-row, before-now, dated-mark}
+use Rattle.hls_chron.proofs.BookLaws.{terms_at-mark, now_of-row, row_at-mark, row_at-past, row_at-now, before-mark, before-row, before-now, dated-mark, row_at-unwritten}
 use Rattle.hls_kinds.specs.declared.tenant.Tenant.{Tenant}
 use Rattle.hls_kinds.specs.declared.tenant.Tenant.TheVariants.{Vacant}
 use Rattle.hls_kinds.specs.Tenants.{tenant_after, tenant_at, settled_after, settled_at}
 use Rattle.hls_kinds.specs.Asks.{asks, slot_asks}
 use Rattle.hls_guarantee.specs.Steps.{IsPort}
 use Rattle.hls_promise.specs.Promise.{given, asked_by, HasPorts}
-use Rattle.hls_legal.specs.Ledgers.{with_marks}
+use Rattle.hls_legal.specs.Ledgers.{empty_book, with_marks}
 use Rattle.hls_legal.proofs.Rooms.{roomless, asks-room}
 
 -- marks leave the rows
@@ -139,3 +143,23 @@ settled_grows now from (Settle ∷ es) le = let rest = settled_grows now now es 
 -- ports
 pub ports-marks : (config : Config) (b : Ledger) (events : List Event) → HasPorts config b → HasPorts config (with_marks b events)
 ports-marks config b events has t = rw (row_at-marks b events t) (has t)
+
+-- there is no row from the present tick on
+pub row_at-late : (b : Ledger) (t : ℕ) → now_of b ≤ t → row_at b t ≡ no_row
+unfolding row_at
+row_at-late b t le =
+    let late : b.start ≤ t = omega arith in
+    rw (le-ltb t b.start late) (get_or_past b.rows (t - b.start) no_row (omega arith))
+
+ports_at : (config : Config) (b : Ledger) (row : TickRow) → HasPorts config b → (is_some row.to ≡ true → IsPort config row.port) → (t : ℕ) → (t < now_of b) ⊎ (now_of b ≤ t) → is_some (row_at (with_row b row) t).to ≡ true → IsPort config (row_at (with_row b row) t).port
+ports_at config b row has good t (inl past) = rw (row_at-past b row t past) (has t)
+ports_at config b row has good t (inr late) = elim (cases_eq t (now_of b)) [
+  | inl now ↦ rw (now, row_at-now b row) good
+  | inr ne ↦ rw (row_at-late (with_row b row) t (omega (arith, now_of-row b row))) (λ is. absurd (cc))
+]
+
+pub ports-row : (config : Config) (b : Ledger) (row : TickRow) → HasPorts config b → (is_some row.to ≡ true → IsPort config row.port) → HasPorts config (with_row b row)
+ports-row config b row has good t = ports_at config b row has good t (cases_lt t (now_of b))
+
+pub ports-empty : (config : Config) (now spare_ticks spare_marks : ℕ) → HasPorts config (empty_book now spare_ticks spare_marks)
+ports-empty config now spare_ticks spare_marks t = rw (row_at-unwritten (empty_book now spare_ticks spare_marks) t refl) (λ is. absurd (cc))
