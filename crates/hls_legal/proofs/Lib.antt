@@ -10,3 +10,5 @@ pub mod Rouses
 pub mod Walks
 pub mod Hops
 pub mod Elapses
+pub mod Moments
+pub mod Stays

@@ -6,6 +6,7 @@ use Rattle.hls_chron.specs.Seats.{asked, served}
 use Rattle.hls_kinds.specs.declared.tenant.Tenant.TheVariants.{Sits}
 use Rattle.hls_kinds.specs.Tenants.{tenant_at}
 use Rattle.hls_guarantee.specs.declared.Guarantee.TheVariants.{All}
+use Rattle.hls_guarantee.specs.Supply.{Supplies}
 use Rattle.hls_promise.specs.Promise.{HasPorts, KeepsPromise}
 use Rattle.hls_legal.specs.Derived.{Follows}
 use Rattle.hls_legal.specs.Hierarchy.{Hierarchy, Place, Processor, At, Seat, seat_of, book_of, config_of, haves_of}
@@ -61,3 +62,8 @@ pub record IsLinked (h : Hierarchy) (rank : ℕ → ℕ) : Type 0 where
 -- every book keeps its promise
 abbrev pub KeepsPromises : Hierarchy → Type 0
 KeepsPromises h = (k : ℕ) → KeepsPromise (config_at h k) (book_at h k)
+
+-- each port of a node was supplied, since its accounts run, with what is guaranteed for its seat
+abbrev pub IsSupplied : Hierarchy → Type 0
+IsSupplied h = (c port : ℕ) (seat : Seat) → seat_of (h.nodes c) port ≡ Some seat
+    → Supplies seat.kept (given_at h c port) (asking_at h c) (since_at h c) h.now

@@ -3,7 +3,7 @@ use Rattle.std.specs.Prelude.{◌≡◌, ℕ, ◌≤◌, ◌<◌, List, [], ◌�
 use Rattle.std.specs.Prelude.{Bool}
 use Rattle.hls_guarantee.specs.Satisfaction.{Satisfies}
 use Rattle.hls_guarantee.specs.Cap.{KeepsCap}
-use Rattle.hls_legal.specs.Hierarchy.{start, Hierarchy, Stay, was_served, had_asked}
+use Rattle.hls_legal.specs.Hierarchy.{start, Hierarchy, Tick, Stay, was_served, had_asked}
 use Rattle.hls_legal.specs.Steps.{Step, after, state}
 use Rattle.hls_legal.specs.Legal.{IsLegal}
 use Rattle.hls_legal.specs.Linked.{KeepsPromises}
@@ -18,13 +18,16 @@ abbrev pub end_of : (now : ℕ) → Option ℕ → ℕ
 end_of now None = now
 end_of now (Some until) = until
 
--- the guarantee is met in every window of the stay, ticks in all of which the thread was ready, and its cap is
--- kept over the whole stay
-pub record IsKept (h : Hierarchy) (stay : Stay) : Type 0 where
-  pub windows : (i j : ℕ) → stay.since ≤ i → j ≤ end_of h.now stay.until
-      → ((t : ℕ) → i ≤ t → t < j → had_asked h.past stay.thread t ≡ true)
-      → Satisfies stay.kept (was_served h.past stay.thread) i j
-  pub cap : KeepsCap stay.kept (was_served h.past stay.thread) stay.since (end_of h.now stay.until)
+-- Up to a tick the guarantee is met in every window of the stay, ticks in all of which the thread was ready, and
+-- its cap is kept over the whole stay.
+pub record IsKeptUntil (past : ℕ → Tick) (stay : Stay) (until : ℕ) : Type 0 where
+  pub windows : (i j : ℕ) → stay.since ≤ i → j ≤ until
+      → ((t : ℕ) → i ≤ t → t < j → had_asked past stay.thread t ≡ true)
+      → Satisfies stay.kept (was_served past stay.thread) i j
+  pub cap : KeepsCap stay.kept (was_served past stay.thread) stay.since until
+
+abbrev pub IsKept : Hierarchy → Stay → Type 0
+IsKept h stay = IsKeptUntil h.past stay (end_of h.now stay.until)
 
 -- each stay so far, open or closed, is kept
 abbrev pub KeepsStays : Hierarchy → Type 0
