@@ -12,3 +12,4 @@ pub mod Hops
 pub mod Elapses
 pub mod Moments
 pub mod Stays
+pub mod Runs

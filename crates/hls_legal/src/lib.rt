@@ -1,4 +1,4 @@
-//! What the book of a scheduler promises to its seats, in guarantees.
+//! Legal runs of a hierarchy of schedulers, and what every one of them gives its threads.
 #![tactic(auto)]
 
-
+pub mod laws;
