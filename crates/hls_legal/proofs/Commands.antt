@@ -1,14 +1,16 @@
 -- What each command owes.
-use Rattle.std.proofs.Common.{◌≡◌, ℕ, List, [], ◌∷◌, slice_get, Option, Some, None, Bool, false, refl, sym, ap, ◌∙◌, subst, arith}
-use Rattle.hls_chron.specs.declared.plain.Terms.{Terms}
+use Rattle.std.proofs.Common.{◌≡◌, ℕ, List, [], ◌∷◌, slice_get, Option, Some, None, Bool, false, refl, sym}
+use Rattle.std.proofs.Common.{ap, ◌∙◌, subst}
 use Rattle.hls_chron.specs.Seats.{terms_at}
-use Rattle.hls_kinds.specs.declared.tenant.Tenant.TheVariants.{Sits}
 use Rattle.hls_kinds.specs.Tenants.{tenant_at}
-use Rattle.hls_legal.specs.Hierarchy.{Hierarchy, Node, Loaded, Admitted, Place, Processor, At, Seat, seats_of, seat_of, book_of, since_of}
+use Rattle.hls_legal.specs.Hierarchy.{Hierarchy, Node, Place, Processor, At, Seat, seats_of, seat_of, book_of}
+use Rattle.hls_legal.specs.Hierarchy.{since_of}
 use Rattle.hls_legal.specs.Steps.{renewed, reseated, nobody}
-use Rattle.hls_legal.specs.Legal.{MayTakeEach, CanMove, CanUnload, MayTake, MayTakeAt, NotBelow, IsThread, scheduler_at}
+use Rattle.hls_legal.specs.Legal.{MayTakeEach, CanMove, CanUnload, MayTakeAt, NotBelow, IsThread}
+use Rattle.hls_legal.specs.Legal.{scheduler_at}
 use Rattle.hls_legal.specs.Linked.{book_at}
-use Rattle.hls_legal.proofs.Nodes.{IsCurrent, Grown, grown_reseated, seats-reseated, since-renewed, book-reseated, nobody_sits}
+use Rattle.hls_legal.proofs.Nodes.{IsCurrent, Grown, grown_reseated, seats-reseated, since-renewed}
+use Rattle.hls_legal.proofs.Nodes.{book-reseated, nobody_sits}
 use Rattle.hls_legal.proofs.Seatings.{lone_port}
 use Rattle.hls_legal.proofs.Takings.{may_sit, sits_terms}
 use Rattle.hls_legal.proofs.Kept.{Inv}
@@ -18,18 +20,27 @@ nowhere : (place : Place) → NotBelow nobody place
 nowhere Processor = tt
 nowhere (At p slot) = refl
 
-pub load_owes : (h : Hierarchy) (rank : ℕ → ℕ) (k : ℕ) (node : Node) → h.nodes k ≡ None → MayTakeEach h (seats_of (Some node)) → IsCurrent h.now (Some node) → since_of (Some node) ≡ h.now → Owed h rank k (Some node) nobody
+pub load_owes : (h : Hierarchy) (rank : ℕ → ℕ) (k : ℕ) (node : Node) → h.nodes k ≡ None
+    → MayTakeEach h (seats_of (Some node)) → IsCurrent h.now (Some node) → since_of (Some node) ≡ h.now
+    → Owed h rank k (Some node) nobody
 load_owes h rank k node unused can current starts = record {
   current = current;
   starts = λ port seat e. starts;
-  seats = λ port seat e. record { take = subst (λ (gone : List Seat). MayTakeAt h gone seat seat.place) (sym (ap seats_of unused)) (can.take port seat e).free; off = nowhere seat.place };
+  seats = λ port seat e. record {
+    take = subst (λ (gone : List Seat). MayTakeAt h gone seat seat.place) (sym (ap seats_of unused))
+        (can.take port seat e).free;
+    off = nowhere seat.place;
+  };
   apart = λ port other one two e f same. can.apart port other one two e f (ap scheduler_at same);
-  not_on_it = λ port seat slot e is. let m = may_sit h [] seat seat.place k slot is (can.take port seat e).free in let there = m.there in cc;
+  not_on_it = λ port seat slot e is. let m =
+      may_sit h [] seat seat.place k slot is (can.take port seat e).free in let there = m.there in cc;
   down = λ c port seat p slot e is on. cc;
-  riders = λ c port seat slot since e is sits. absurd (nobody_sits 0 0 0 slot since seat.terms (sym (ap (λ n. tenant_at (book_of n) slot) unused) ∙ sits));
+  riders = λ c port seat slot since e is sits. absurd
+      (nobody_sits 0 0 0 slot since seat.terms (sym (ap (λ n. tenant_at (book_of n) slot) unused) ∙ sits));
 }
 
-pub drop_owes : (h : Hierarchy) (rank : ℕ → ℕ) (k : ℕ) → ((slot : ℕ) → terms_at (book_at h k) slot ≡ None) → Owed h rank k None nobody
+pub drop_owes : (h : Hierarchy) (rank : ℕ → ℕ) (k : ℕ) → ((slot : ℕ) → terms_at (book_at h k) slot ≡ None)
+    → Owed h rank k None nobody
 drop_owes h rank k empty = record {
   current = tt;
   starts = λ port seat e. cc;
@@ -37,7 +48,8 @@ drop_owes h rank k empty = record {
   apart = λ port other one two e f same. cc;
   not_on_it = λ port seat slot e is. cc;
   down = λ c port seat p slot e is on. cc;
-  riders = λ c port seat slot since e is sits. absurd (let none = empty slot in let some = sits_terms (book_at h k) slot since seat.terms sits in cc);
+  riders = λ c port seat slot since e is sits. absurd
+      (let none = empty slot in let some = sits_terms (book_at h k) slot since seat.terms sits in cc);
 }
 
 -- nobody sits on a thread, nor on a scheduler that may be unloaded
@@ -48,7 +60,8 @@ thread_empty any t slot = rw t.there refl
 pub unload_empty : (node : Option Node) → CanUnload node → (slot : ℕ) → terms_at (book_of node) slot ≡ None
 unload_empty any can slot = ap (λ n. terms_at (book_of n) slot) can.there ∙ can.empty slot
 
-module _ (h : Hierarchy) (rank : ℕ → ℕ) (inv : Inv h rank) (k : ℕ) (new : Seat) (below : ℕ → Bool) (can : CanMove h k new below) where
+module _ (h : Hierarchy) (rank : ℕ → ℕ) (inv : Inv h rank) (k : ℕ) (new : Seat) (below : ℕ → Bool)
+    (can : CanMove h k new below) where
   abbrev node : Option Node
   node = reseated new (h.nodes k)
 
@@ -67,8 +80,10 @@ module _ (h : Hierarchy) (rank : ℕ → ℕ) (inv : Inv h rank) (k : ℕ) (new 
   pub move_owes : Owed h rank k (reseated new (h.nodes k)) below
   move_owes = record {
     current = grown.current;
-    starts = λ port seat e. ap (λ b. since_of (renewed b h.now node)) can.under.itself ∙ since-renewed h.now port node seat grown.current e;
-    seats = λ port seat e. subst (OwedSeat h k below) (is_new port seat e) (record { take = can.take.free; off = can.acyclic });
+    starts = λ port seat e. ap (λ b. since_of (renewed b h.now node)) can.under.itself
+        ∙ since-renewed h.now port node seat grown.current e;
+    seats = λ port seat e. subst (OwedSeat h k below) (is_new port seat e)
+        (record { take = can.take.free; off = can.acyclic });
     apart = λ port other one two e f same. is_first port one e ∙ sym (is_first other two f);
     not_on_it = λ port seat slot e is.
         let at_k : new.place ≡ At k slot = ap (λ (x : Seat). x.place) (is_new port seat e) ∙ is in

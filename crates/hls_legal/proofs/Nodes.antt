@@ -1,5 +1,6 @@
 -- What a command leaves of a node's accounts.
-use Rattle.std.proofs.Common.{◌≡◌, ◌≢◌, ℕ, ◌<◌, ◌≤◌, List, [], ◌∷◌, length, Option, Some, None, Bool, true, false, refl, sym, ap, ◌∙◌, arith, fold}
+use Rattle.std.proofs.Common.{◌≡◌, ◌≢◌, ℕ, ◌<◌, ◌≤◌, List, [], ◌∷◌, length, Option, Some, None, Bool, true}
+use Rattle.std.proofs.Common.{false, refl, ap, ◌∙◌, arith, fold}
 use Rattle.hls_chron.specs.declared.book.Event.{Event}
 use Rattle.hls_chron.specs.declared.book.Event.TheVariants.{Settle}
 use Rattle.hls_chron.specs.declared.plain.Terms.{Terms}
@@ -7,16 +8,19 @@ use Rattle.hls_chron.specs.declared.plain.Config.{Config}
 use Rattle.hls_chron.specs.declared.plain.Config.TheVariants as configs
 use Rattle.hls_chron.specs.declared.plain.Kind.TheVariants as kinds
 use Rattle.hls_chron.specs.Kinds.{kind_of}
-use Rattle.hls_chron.specs.Ledger.{Ledger, now_of, with_mark, IsDated}
-use Rattle.hls_chron.specs.Seats.{terms_at, asked, served}
+use Rattle.hls_chron.specs.Ledger.{now_of, IsDated}
+use Rattle.hls_chron.specs.Seats.{asked, served}
 use Rattle.hls_kinds.specs.declared.tenant.Tenant.TheVariants.{Sits}
 use Rattle.hls_kinds.specs.Tenants.{tenant_after, tenant_at, settled_at}
 use Rattle.hls_promise.specs.Promise.{HasPorts}
-use Rattle.hls_legal.specs.Ledgers.{empty_book, with_marks}
-use Rattle.hls_legal.specs.Hierarchy.{Node, Loaded, Admitted, Scheduler, Tick, Wake, Place, Seat, seats_of, seat_of, book_of, config_of, since_of, asking_of, given_of}
+use Rattle.hls_legal.specs.Ledgers.{empty_book}
+use Rattle.hls_legal.specs.Hierarchy.{Node, Loaded, Admitted, Scheduler, Tick, Wake, Place, Seat, seats_of}
+use Rattle.hls_legal.specs.Hierarchy.{seat_of, book_of, config_of, since_of, asking_of, given_of}
 use Rattle.hls_legal.specs.Steps.{marked, renewed, reseated, roused}
 use Rattle.hls_legal.specs.Legal.{port_count, MayMoveTo}
-use Rattle.hls_legal.proofs.Marks.{now_of-marks, tenant_at-marks, settled_at-marks, asked_by-marks, asked-marks, served-marks, given-marks, settled_grows, dated-marks, ports-marks}
+use Rattle.hls_legal.proofs.Marks.{now_of-marks, tenant_at-marks, settled_at-marks, asked_by-marks}
+use Rattle.hls_legal.proofs.Marks.{asked-marks, served-marks, given-marks, settled_grows, dated-marks}
+use Rattle.hls_legal.proofs.Marks.{ports-marks}
 
 -- a scheduler whose book is up to the present tick, with a seat for each port
 pub record IsUpTo (now : ℕ) (s : Scheduler) : Type 0 where
@@ -42,10 +46,23 @@ pub record Grown (now : ℕ) (past : ℕ → Tick) (k : ℕ) (old new : Option N
   pub since : since_of old ≤ since_of new
   pub current : IsCurrent now new
 
-pub grown_same : (now : ℕ) (past : ℕ → Tick) (k : ℕ) (node : Option Node) → IsCurrent now node → Grown now past k node node
-grown_same now past k any c = record { config = refl; clock = refl; asked = λ slot t. refl; served = λ slot t. refl; asking = λ t lt. refl; given = λ port t. refl; since = omega arith; current = c }
+pub grown_same : (now : ℕ) (past : ℕ → Tick) (k : ℕ) (node : Option Node) → IsCurrent now node
+    → Grown now past k node node
+grown_same now past k any c =
+    record {
+      config = refl;
+      clock = refl;
+      asked = λ slot t. refl;
+      served = λ slot t. refl;
+      asking =
+          λ t lt. refl;
+      given = λ port t. refl;
+      since = omega arith;
+      current = c;
+    }
 
-pub grown_then : (now : ℕ) (past : ℕ → Tick) (k : ℕ) (a b c : Option Node) → Grown now past k a b → Grown now past k b c → Grown now past k a c
+pub grown_then : (now : ℕ) (past : ℕ → Tick) (k : ℕ) (a b c : Option Node) → Grown now past k a b
+    → Grown now past k b c → Grown now past k a c
 grown_then now past k a b c f g = record {
   config = g.config ∙ f.config;
   clock = g.clock ∙ f.clock;
@@ -57,9 +74,11 @@ grown_then now past k a b c f g = record {
   current = g.current;
 }
 
-grown_marks : (now : ℕ) (past : ℕ → Tick) (k : ℕ) (s : Scheduler) (events : List Event) → IsUpTo now s → Grown now past k (Some (Loaded s)) (marked events (Some (Loaded s)))
+grown_marks : (now : ℕ) (past : ℕ → Tick) (k : ℕ) (s : Scheduler) (events : List Event) → IsUpTo now s
+    → Grown now past k (Some (Loaded s)) (marked events (Some (Loaded s)))
 grown_marks now past k s events c =
-    let later = settled_grows (now_of s.book) (settled_at s.book) events (omega (arith, c.clock, c.settled)) in
+    let later = settled_grows (now_of s.book) (settled_at s.book) events (omega (arith, c.clock, c.settled))
+    in
     record {
       config = refl;
       clock = now_of-marks s.book events;
@@ -77,16 +96,29 @@ grown_marks now past k s events c =
       };
     }
 
-pub grown_marked : (now : ℕ) (past : ℕ → Tick) (k : ℕ) (events : List Event) (node : Option Node) → IsCurrent now node → Grown now past k node (marked events node)
+pub grown_marked : (now : ℕ) (past : ℕ → Tick) (k : ℕ) (events : List Event) (node : Option Node)
+    → IsCurrent now node → Grown now past k node (marked events node)
 grown_marked now past k events None c = grown_same now past k None c
 grown_marked now past k events (Some (Loaded s)) c = grown_marks now past k s events c
 grown_marked now past k events (Some (Admitted t)) c = grown_same now past k (Some (Admitted t)) c
 
-pub grown_renewed : (now : ℕ) (past : ℕ → Tick) (k : ℕ) (b : Bool) (node : Option Node) → IsCurrent now node → Grown now past k node (renewed b now node)
+pub grown_renewed : (now : ℕ) (past : ℕ → Tick) (k : ℕ) (b : Bool) (node : Option Node) → IsCurrent now node
+    → Grown now past k node (renewed b now node)
 grown_renewed now past k false any c = grown_same now past k any c
 grown_renewed now past k true None c = grown_same now past k None c
 grown_renewed now past k true (Some (Loaded s)) c = grown_marks now past k s (Settle ∷ []) c
-grown_renewed now past k true (Some (Admitted t)) c = record { config = refl; clock = refl; asked = λ slot t. refl; served = λ slot t. refl; asking = λ t lt. refl; given = λ port t. refl; since = c; current = omega arith }
+grown_renewed now past k true (Some (Admitted t)) c =
+    record {
+      config = refl;
+      clock = refl;
+      asked = λ slot t. refl;
+      served = λ slot t. refl;
+      asking =
+          λ t lt. refl;
+      given = λ port t. refl;
+      since = c;
+      current = omega arith;
+    }
 
 one_port : (config : Config) → kind_of config ≢ kinds.Join → 1 ≡ port_count config
 one_port configs.Cpu ne = refl
@@ -97,15 +129,58 @@ one_port (configs.Rr quantum) ne = refl
 one_port (configs.Wheel frame) ne = refl
 one_port (configs.Join ports) ne = absurd (ne refl)
 
-pub grown_reseated : (now : ℕ) (past : ℕ → Tick) (k : ℕ) (seat : Seat) (place : Place) (node : Option Node) → MayMoveTo place node → IsCurrent now node → Grown now past k node (reseated seat node)
+pub grown_reseated : (now : ℕ) (past : ℕ → Tick) (k : ℕ) (seat : Seat) (place : Place) (node : Option Node)
+    → MayMoveTo place node → IsCurrent now node → Grown now past k node (reseated seat node)
 grown_reseated now past k seat place None may c = absurd may
-grown_reseated now past k seat place (Some (Loaded s)) may c = record { config = refl; clock = refl; asked = λ slot t. refl; served = λ slot t. refl; asking = λ t lt. refl; given = λ port t. refl; since = omega arith; current = record { clock = c.clock; dated = c.dated; settled = c.settled; seats = one_port s.config may; ports = c.ports } }
-grown_reseated now past k seat place (Some (Admitted t)) may c = record { config = refl; clock = refl; asked = λ slot t. refl; served = λ slot t. refl; asking = λ t lt. refl; given = λ port t. refl; since = omega arith; current = c }
+grown_reseated now past k seat place (Some (Loaded s)) may c =
+    record {
+      config = refl;
+      clock = refl;
+      asked = λ slot t. refl;
+      served = λ slot t. refl;
+      asking =
+          λ t lt. refl;
+      given = λ port t. refl;
+      since = omega arith;
+      current =
+          record {
+            clock = c.clock;
+            dated = c.dated;
+            settled = c.settled;
+            seats = one_port s.config may;
+            ports =
+                c.ports;
+          };
+    }
+grown_reseated now past k seat place (Some (Admitted t)) may c =
+    record {
+      config = refl;
+      clock = refl;
+      asked = λ slot t. refl;
+      served = λ slot t. refl;
+      asking =
+          λ t lt. refl;
+      given = λ port t. refl;
+      since = omega arith;
+      current = c;
+    }
 
-pub grown_roused : (now : ℕ) (past : ℕ → Tick) (k : ℕ) (how : Wake) (node : Option Node) → IsCurrent now node → Grown now past k node (roused how node)
+pub grown_roused : (now : ℕ) (past : ℕ → Tick) (k : ℕ) (how : Wake) (node : Option Node) → IsCurrent now node
+    → Grown now past k node (roused how node)
 grown_roused now past k how None c = grown_same now past k None c
 grown_roused now past k how (Some (Loaded s)) c = grown_same now past k (Some (Loaded s)) c
-grown_roused now past k how (Some (Admitted t)) c = record { config = refl; clock = refl; asked = λ slot t. refl; served = λ slot t. refl; asking = λ t lt. refl; given = λ port t. refl; since = omega arith; current = c }
+grown_roused now past k how (Some (Admitted t)) c =
+    record {
+      config = refl;
+      clock = refl;
+      asked = λ slot t. refl;
+      served = λ slot t. refl;
+      asking =
+          λ t lt. refl;
+      given = λ port t. refl;
+      since = omega arith;
+      current = c;
+    }
 
 -- the seats of a node
 pub seats-marked : (events : List Event) (node : Option Node) → seats_of (marked events node) ≡ seats_of node
@@ -124,7 +199,8 @@ seats-roused how None = refl
 seats-roused how (Some (Loaded s)) = refl
 seats-roused how (Some (Admitted t)) = refl
 
-pub seats-reseated : (seat : Seat) (place : Place) (node : Option Node) → MayMoveTo place node → seats_of (reseated seat node) ≡ seat ∷ []
+pub seats-reseated : (seat : Seat) (place : Place) (node : Option Node) → MayMoveTo place node
+    → seats_of (reseated seat node) ≡ seat ∷ []
 seats-reseated seat place None may = absurd may
 seats-reseated seat place (Some (Loaded s)) may = refl
 seats-reseated seat place (Some (Admitted t)) may = refl
@@ -141,22 +217,30 @@ book-roused how (Some (Loaded s)) = refl
 book-roused how (Some (Admitted t)) = refl
 
 -- nobody sits in an empty book
-pub nobody_sits : (now spare_ticks spare_marks slot since : ℕ) (terms : Terms) → tenant_at (empty_book now spare_ticks spare_marks) slot ≡ Sits terms since → ⊥
+pub nobody_sits : (now spare_ticks spare_marks slot since : ℕ) (terms : Terms)
+    → tenant_at (empty_book now spare_ticks spare_marks) slot ≡ Sits terms since → ⊥
 unfolding tenant_at
 nobody_sits now spare_ticks spare_marks slot since terms e = cc
 
-pub tenant-marked : (events : List Event) (node : Option Node) (slot since : ℕ) (terms : Terms) → tenant_at (book_of node) slot ≡ Sits terms since → tenant_at (book_of (marked events node)) slot ≡ fold (tenant_after slot (now_of (book_of node))) (tenant_at (book_of node) slot) events
+pub tenant-marked : (events : List Event) (node : Option Node) (slot since : ℕ) (terms : Terms)
+    → tenant_at (book_of node) slot ≡ Sits terms since
+    → tenant_at (book_of (marked events node)) slot ≡ fold (tenant_after slot (now_of (book_of node)))
+    (tenant_at (book_of node) slot) events
 tenant-marked events None slot since terms e = absurd (nobody_sits 0 0 0 slot since terms e)
 tenant-marked events (Some (Loaded s)) slot since terms e = tenant_at-marks s.book slot events
 tenant-marked events (Some (Admitted t)) slot since terms e = absurd (nobody_sits 0 0 0 slot since terms e)
 
 -- settling, and new stays
-pub since-renewed : (now port : ℕ) (node : Option Node) (seat : Seat) → IsCurrent now node → seat_of node port ≡ Some seat → since_of (renewed true now node) ≡ now
+pub since-renewed : (now port : ℕ) (node : Option Node) (seat : Seat) → IsCurrent now node
+    → seat_of node port ≡ Some seat → since_of (renewed true now node) ≡ now
 since-renewed now port None seat c e = cc
 since-renewed now port (Some (Loaded s)) seat c e = settled_at-marks s.book (Settle ∷ []) ∙ c.clock
 since-renewed now port (Some (Admitted t)) seat c e = refl
 
-pub tenant-renewed : (now : ℕ) (node : Option Node) (slot since : ℕ) (terms : Terms) → IsCurrent now node → tenant_at (book_of node) slot ≡ Sits terms since → tenant_at (book_of (renewed true now node)) slot ≡ Sits terms now
+pub tenant-renewed : (now : ℕ) (node : Option Node) (slot since : ℕ) (terms : Terms) → IsCurrent now node
+    → tenant_at (book_of node) slot ≡ Sits terms since
+    → tenant_at (book_of (renewed true now node)) slot ≡ Sits terms now
 tenant-renewed now None slot since terms c e = absurd (nobody_sits 0 0 0 slot since terms e)
-tenant-renewed now (Some (Loaded s)) slot since terms c e = tenant_at-marks s.book slot (Settle ∷ []) ∙ ap (λ x. tenant_after slot (now_of s.book) x Settle) e ∙ ap (λ n. Sits terms n) c.clock
+tenant-renewed now (Some (Loaded s)) slot since terms c e = tenant_at-marks s.book slot (Settle ∷ [])
+    ∙ ap (λ x. tenant_after slot (now_of s.book) x Settle) e ∙ ap (λ n. Sits terms n) c.clock
 tenant-renewed now (Some (Admitted t)) slot since terms c e = absurd (nobody_sits 0 0 0 slot since terms e)

@@ -1,5 +1,5 @@
 -- What a scheduler asks and serves does not go by the room that its book has for more.
-use Rattle.std.proofs.Common.{◌≡◌, ℕ, zero, suc, ◌+◌, refl, sym, ap, subst}
+use Rattle.std.proofs.Common.{◌≡◌, ℕ, zero, suc, ◌+◌, refl, sym, subst}
 use Rattle.hls_chron.specs.declared.plain.Config.{Config}
 use Rattle.hls_chron.specs.declared.plain.Config.TheVariants.{Cpu, Fp, Edf, Sfq, Rr, Wheel, Join}
 use Rattle.hls_chron.specs.Ledger.{Ledger, now_of, row_at, before}
@@ -34,20 +34,24 @@ tags-room b (suc n) = λ i t slot. start_by b (tags-room b n i) t slot
 tag-room : (b : Ledger) (t : ℕ) → start_tag (roomless b) t ≡ start_tag b t
 tag-room b t = λ i slot. tags-room b (t + 1) i t slot
 
-least-room : (b : Ledger) (mask slot : ℕ) → HasLeastPriority b mask slot → HasLeastPriority (roomless b) mask slot
+least-room : (b : Ledger) (mask slot : ℕ) → HasLeastPriority b mask slot
+    → HasLeastPriority (roomless b) mask slot
 unfolding terms_at
 least-room b mask slot least = record { asks = least.asks; seated = least.seated; least = least.least }
 
-turn-room : (quantum : ℕ) (b : Ledger) (mask slot : ℕ) → TakesTurn quantum b mask slot → TakesTurn quantum (roomless b) mask slot
+turn-room : (quantum : ℕ) (b : Ledger) (mask slot : ℕ) → TakesTurn quantum b mask slot
+    → TakesTurn quantum (roomless b) mask slot
 unfolding asked served row_at settled_at left_at
 turn-room quantum b mask slot turn = record { goes_on = turn.goes_on; passes = turn.passes }
 
-pub serves-room : (config : Config) (b : Ledger) (mask slot : ℕ) → Serves config b mask slot → Serves config (roomless b) mask slot
+pub serves-room : (config : Config) (b : Ledger) (mask slot : ℕ) → Serves config b mask slot
+    → Serves config (roomless b) mask slot
 unfolding asked served row_at claim_at tenant_at owner_at
 serves-room Cpu b mask slot serves = serves
 serves-room Fp b mask slot serves = least-room b mask slot serves
 serves-room Edf b mask slot serves = serves
-serves-room (Sfq total most) b mask slot serves = subst (λ (key : ℕ → ℕ). IsFirst 32 (slot_asks mask) key slot) (sym (tag-room b (now_of b))) serves
+serves-room (Sfq total most) b mask slot serves =
+    subst (λ (key : ℕ → ℕ). IsFirst 32 (slot_asks mask) key slot) (sym (tag-room b (now_of b))) serves
 serves-room (Rr quantum) b mask slot serves = turn-room quantum b mask slot serves
 serves-room (Wheel frame) b mask slot serves = serves
 serves-room (Join ports) b mask slot serves = serves

@@ -1,14 +1,14 @@
 -- Over whole runs.
-use Rattle.std.proofs.Common.{◌≡◌, ℕ, ◌+◌, ◌≤◌, List, [], ◌∷◌, Option, Some, None, refl, arith, add-zero, length}
+use Rattle.std.proofs.Common.{◌≡◌, ℕ, List, [], ◌∷◌, Some, None, refl, arith, add-zero, length}
 use Rattle.hls_chron.specs.declared.plain.Config.{Config}
-use Rattle.hls_chron.specs.Ledger.{now_of, IsDated}
 use Rattle.hls_chron.proofs.BookLaws.{dated-unmarked}
 use Rattle.hls_kinds.specs.Tenants.{settled_at}
 use Rattle.hls_legal.specs.Ledgers.{empty_book}
-use Rattle.hls_legal.specs.Hierarchy.{Hierarchy, Seat, Node, Loaded, Admitted, start, since_of}
-use Rattle.hls_legal.specs.Steps.{Step, Refuse, Load, Admit, End, Unload, Move, Rouse, Block, Elapse, Hop, nobody, loaded, admitted, wake_by, reseated, after, state}
+use Rattle.hls_legal.specs.Hierarchy.{Hierarchy, Seat, Loaded, Admitted, start}
+use Rattle.hls_legal.specs.Steps.{Step, Refuse, Load, Admit, End, Unload, Move, Rouse, Block, Elapse, nobody}
+use Rattle.hls_legal.specs.Steps.{loaded, admitted, reseated, after, state}
 use Rattle.hls_legal.specs.Legal.{Can, IsLegal, port_count}
-use Rattle.hls_legal.specs.Linked.{KeepsPromises, IsLinked}
+use Rattle.hls_legal.specs.Linked.{KeepsPromises}
 use Rattle.hls_legal.specs.Supplied.{KeepsPromisesAlong, KeepsStays}
 use Rattle.hls_legal.proofs.Marks.{ports-empty}
 use Rattle.hls_legal.proofs.Nodes.{IsUpTo}
@@ -29,7 +29,9 @@ settled_empty : (now spare_ticks spare_marks : ℕ) → settled_at (empty_book n
 unfolding settled_at
 settled_empty now spare_ticks spare_marks = refl
 
-pub load_current : (now : ℕ) (name : List ℕ) (config : Config) (spare_ticks spare_marks : ℕ) (seats : List Seat) → length seats ≡ port_count config → IsUpTo now (loaded now name config spare_ticks spare_marks seats)
+pub load_current : (now : ℕ) (name : List ℕ) (config : Config) (spare_ticks spare_marks : ℕ)
+    (seats : List Seat) → length seats ≡ port_count config
+    → IsUpTo now (loaded now name config spare_ticks spare_marks seats)
 load_current now name config spare_ticks spare_marks seats count = record {
   clock = add-zero now;
   dated = dated-unmarked (empty_book now spare_ticks spare_marks) refl;
@@ -41,7 +43,8 @@ load_current now name config spare_ticks spare_marks seats count = record {
 -- what a command owes, by the kind of step
 abbrev pub EffectOwed : (h : Hierarchy) → (ℕ → ℕ) → Step → Type 0
 EffectOwed h rank Refuse = Unit {0}
-EffectOwed h rank (Load k name config spare_ticks spare_marks seats) = Owed h rank k (Some (Loaded (loaded h.now name config spare_ticks spare_marks seats))) nobody
+EffectOwed h rank (Load k name config spare_ticks spare_marks seats) =
+    Owed h rank k (Some (Loaded (loaded h.now name config spare_ticks spare_marks seats))) nobody
 EffectOwed h rank (Admit k name seat) = Owed h rank k (Some (Admitted (admitted h.now name seat))) nobody
 EffectOwed h rank (End k) = Owed h rank k None nobody
 EffectOwed h rank (Unload k) = Owed h rank k None nobody
@@ -50,10 +53,15 @@ EffectOwed h rank (Rouse k burst) = Unit {0}
 EffectOwed h rank (Block k) = Unit {0}
 EffectOwed h rank (Elapse asking masks path) = Unit {0}
 
-pub step_owes : (h : Hierarchy) (rank : ℕ → ℕ) (step : Step) → Inv h rank → Can h step → EffectOwed h rank step
+pub step_owes : (h : Hierarchy) (rank : ℕ → ℕ) (step : Step) → Inv h rank → Can h step
+    → EffectOwed h rank step
 step_owes h rank Refuse inv can = tt
-step_owes h rank (Load k name config spare_ticks spare_marks seats) inv can = load_owes h rank k (Loaded (loaded h.now name config spare_ticks spare_marks seats)) can.0.new.unused can.0.places (load_current h.now name config spare_ticks spare_marks seats can.0.ports) (settled_empty h.now spare_ticks spare_marks)
-step_owes h rank (Admit k name seat) inv can = load_owes h rank k (Admitted (admitted h.now name seat)) can.0.new.unused can.0.places (omega arith) refl
+step_owes h rank (Load k name config spare_ticks spare_marks seats) inv can =
+    load_owes h rank k (Loaded (loaded h.now name config spare_ticks spare_marks seats)) can.0.new.unused
+    can.0.places (load_current h.now name config spare_ticks spare_marks seats can.0.ports)
+    (settled_empty h.now spare_ticks spare_marks)
+step_owes h rank (Admit k name seat) inv can = load_owes h rank k (Admitted (admitted h.now name seat))
+    can.0.new.unused can.0.places (omega arith) refl
 step_owes h rank (End k) inv can = drop_owes h rank k (thread_empty (h.nodes k) can)
 step_owes h rank (Unload k) inv can = drop_owes h rank k (unload_empty (h.nodes k) can)
 step_owes h rank (Move k seat below) inv can = move_owes h rank inv k seat below can.0
@@ -63,23 +71,57 @@ step_owes h rank (Elapse asking masks path) inv can = tt
 
 pub step_keeps : (h : Hierarchy) (step : Step) → Kept h → Can h step → Kept (after h step)
 step_keeps h Refuse k can = k
-step_keeps h (Load c name config spare_ticks spare_marks seats) k can = record { rank = _; inv = effect_inv h k.rank k.inv c _ nobody (step_owes h k.rank (Load c name config spare_ticks spare_marks seats) k.inv can) }
-step_keeps h (Admit c name seat) k can = record { rank = _; inv = effect_inv h k.rank k.inv c _ nobody (step_owes h k.rank (Admit c name seat) k.inv can) }
-step_keeps h (End c) k can = record { rank = _; inv = effect_inv h k.rank k.inv c None nobody (step_owes h k.rank (End c) k.inv can) }
-step_keeps h (Unload c) k can = record { rank = _; inv = effect_inv h k.rank k.inv c None nobody (step_owes h k.rank (Unload c) k.inv can) }
-step_keeps h (Move c seat below) k can = record { rank = _; inv = effect_inv h k.rank k.inv c _ below (step_owes h k.rank (Move c seat below) k.inv can) }
+step_keeps h (Load c name config spare_ticks spare_marks seats) k can =
+    record {
+      rank = _;
+      inv =
+          effect_inv h k.rank k.inv c _ nobody
+          (step_owes h k.rank (Load c name config spare_ticks spare_marks seats) k.inv can);
+    }
+step_keeps h (Admit c name seat) k can =
+    record {
+      rank = _;
+      inv =
+          effect_inv h k.rank k.inv c _ nobody (step_owes h k.rank (Admit c name seat) k.inv can);
+    }
+step_keeps h (End c) k can =
+    record { rank = _; inv = effect_inv h k.rank k.inv c None nobody (step_owes h k.rank (End c) k.inv can) }
+step_keeps h (Unload c) k can =
+    record {
+      rank = _;
+      inv = effect_inv h k.rank k.inv c None nobody (step_owes h k.rank (Unload c) k.inv can);
+    }
+step_keeps h (Move c seat below) k can =
+    record {
+      rank = _;
+      inv =
+          effect_inv h k.rank k.inv c _ below (step_owes h k.rank (Move c seat below) k.inv can);
+    }
 step_keeps h (Rouse c burst) k can = record { rank = k.rank; inv = roused_inv h k.rank k.inv c _ }
 step_keeps h (Block c) k can = record { rank = k.rank; inv = roused_inv h k.rank k.inv c _ }
-step_keeps h (Elapse asking masks path) k can = record { rank = k.rank; inv = elapsed_inv h k.rank k.inv asking masks path can.0 can.1 }
+step_keeps h (Elapse asking masks path) k can =
+    record { rank = k.rank; inv = elapsed_inv h k.rank k.inv asking masks path can.0 can.1 }
 
 -- the stays
-step_stays : (h : Hierarchy) (step : Step) → Kept h → KeepsPromises h → Can h step → Each (Stands h) h.stays → Each (Stands (after h step)) (after h step).stays
+step_stays : (h : Hierarchy) (step : Step) → Kept h → KeepsPromises h → Can h step → Each (Stands h) h.stays
+    → Each (Stands (after h step)) (after h step).stays
 step_stays h Refuse k promises can each = each
-step_stays h (Load c name config spare_ticks spare_marks seats) k promises can each = effect_stays h k.rank c _ nobody (step_owes h k.rank (Load c name config spare_ticks spare_marks seats) k.inv can) (supplied h k.rank (linked h k.rank k.inv) promises) each
-step_stays h (Admit c name seat) k promises can each = effect_stays h k.rank c _ nobody (step_owes h k.rank (Admit c name seat) k.inv can) (supplied h k.rank (linked h k.rank k.inv) promises) each
-step_stays h (End c) k promises can each = effect_stays h k.rank c None nobody (step_owes h k.rank (End c) k.inv can) (supplied h k.rank (linked h k.rank k.inv) promises) each
-step_stays h (Unload c) k promises can each = effect_stays h k.rank c None nobody (step_owes h k.rank (Unload c) k.inv can) (supplied h k.rank (linked h k.rank k.inv) promises) each
-step_stays h (Move c seat below) k promises can each = effect_stays h k.rank c _ below (step_owes h k.rank (Move c seat below) k.inv can) (supplied h k.rank (linked h k.rank k.inv) promises) each
+step_stays h (Load c name config spare_ticks spare_marks seats) k promises can each =
+    effect_stays h k.rank c _ nobody
+    (step_owes h k.rank (Load c name config spare_ticks spare_marks seats) k.inv can)
+    (supplied h k.rank (linked h k.rank k.inv) promises) each
+step_stays h (Admit c name seat) k promises can each =
+    effect_stays h k.rank c _ nobody (step_owes h k.rank (Admit c name seat) k.inv can)
+    (supplied h k.rank (linked h k.rank k.inv) promises) each
+step_stays h (End c) k promises can each =
+    effect_stays h k.rank c None nobody (step_owes h k.rank (End c) k.inv can)
+    (supplied h k.rank (linked h k.rank k.inv) promises) each
+step_stays h (Unload c) k promises can each =
+    effect_stays h k.rank c None nobody (step_owes h k.rank (Unload c) k.inv can)
+    (supplied h k.rank (linked h k.rank k.inv) promises) each
+step_stays h (Move c seat below) k promises can each =
+    effect_stays h k.rank c _ below (step_owes h k.rank (Move c seat below) k.inv can)
+    (supplied h k.rank (linked h k.rank k.inv) promises) each
 step_stays h (Rouse c burst) k promises can each = roused_stays h c _ each
 step_stays h (Block c) k promises can each = roused_stays h c _ each
 step_stays h (Elapse asking masks path) k promises can each = elapsed_stays h asking masks path each
@@ -88,9 +130,12 @@ pub run_keeps : (steps : List Step) (h : Hierarchy) → Kept h → IsLegal h ste
 run_keeps [] h k legal = k
 run_keeps (step ∷ steps) h k legal = run_keeps steps (after h step) (step_keeps h step k legal.0) legal.1
 
-pub run_stays : (steps : List Step) (h : Hierarchy) → Kept h → IsLegal h steps → KeepsPromisesAlong h steps → Each (Stands h) h.stays → KeepsStays (state h steps)
+pub run_stays : (steps : List Step) (h : Hierarchy) → Kept h → IsLegal h steps → KeepsPromisesAlong h steps
+    → Each (Stands h) h.stays → KeepsStays (state h steps)
 run_stays [] h k legal promises each = stays_kept h (supplied h k.rank (linked h k.rank k.inv) promises) each
-run_stays (step ∷ steps) h k legal promises each = run_stays steps (after h step) (step_keeps h step k legal.0) legal.1 promises.1 (step_stays h step k promises.0 legal.0 each)
+run_stays (step ∷ steps) h k legal promises each =
+    run_stays steps (after h step) (step_keeps h step k legal.0) legal.1 promises.1
+    (step_stays h step k promises.0 legal.0 each)
 
 pub start_kept : Kept start
 start_kept = record {

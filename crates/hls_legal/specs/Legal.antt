@@ -1,6 +1,7 @@
--- When a step may be taken. All conditions of a command look at the hierarchy as it stands, with a mover still in
+-- When a step may be taken. All conditions of a command look at the hierarchy as it stands, with a mover
+-- still in
 -- its old seat.
-use Rattle.std.specs.Prelude.{◌≡◌, ◌≢◌, ◌⊎◌, ℕ, ◌+◌, ◌<◌, ◌≤◌, List, [], ◌∷◌, length, Option, Some, None}
+use Rattle.std.specs.Prelude.{◌≡◌, ◌≢◌, ◌⊎◌, ℕ, ◌+◌, ◌≤◌, List, [], ◌∷◌, length, Option, Some, None}
 use Rattle.std.specs.Prelude.{Bool, true, false, slice_get}
 use Rattle.hls_chron.specs.declared.plain.Config.{Config}
 use Rattle.hls_chron.specs.declared.plain.Config.TheVariants as configs
@@ -18,9 +19,10 @@ use Rattle.hls_guarantee.specs.Limits.{IsNarrow}
 use Rattle.hls_legal.specs.Ledgers.{with_marks}
 use Rattle.hls_legal.specs.Derived.{Follows}
 use Rattle.hls_legal.specs.Hierarchy.{Hierarchy, Place, Processor, At, Seat, Scheduler, Thread, Node, Loaded}
-use Rattle.hls_legal.specs.Hierarchy.{Admitted, Tick, is_ready, was_served, name_of, seats_of, seat_of, haves_of}
+use Rattle.hls_legal.specs.Hierarchy.{Admitted, is_ready, was_served, name_of, seats_of, seat_of, haves_of}
 use Rattle.hls_legal.specs.Hierarchy.{book_of, config_of}
-use Rattle.hls_legal.specs.Steps.{Step, Refuse, Load, Admit, End, Unload, Move, Rouse, Block, Elapse, Hop, Path}
+use Rattle.hls_legal.specs.Steps.{Step, Refuse, Load, Admit, End, Unload, Move, Rouse, Block, Elapse, Hop}
+use Rattle.hls_legal.specs.Steps.{Path}
 use Rattle.hls_legal.specs.Steps.{leavings, reseated, after}
 
 -- a scheduler sits under another, or under the processor where there is none
@@ -49,7 +51,8 @@ abbrev pub fair_queues : Hierarchy → List ℕ → ℕ
 fair_queues h [] = 0
 fair_queues h (k ∷ chain) = fair_queue (config_of (h.nodes k)) + fair_queues h chain
 
--- at most 64 schedulers and 256 threads, no level above 8, and at most four fair queueing schedulers on a path
+-- at most 64 schedulers and 256 threads, no level above 8, and at most four fair queueing schedulers on a
+-- path
 pub record IsWithinLimits (h : Hierarchy) : Type 0 where
   pub schedulers : length h.schedulers ≤ 64
   pub threads : length h.threads ≤ 256
@@ -61,7 +64,8 @@ pub record SeatInRange (seat : Seat) : Type 0 where
   pub terms : TermsInRange seat.terms
   pub kept : IsNarrow seat.kept
 
--- The seat may be taken at slot of scheduler p, where these seats are left before: p is loaded, the terms fit, a
+-- The seat may be taken at slot of scheduler p, where these seats are left before: p is loaded, the terms
+-- fit, a
 -- slot is free and this one is the least that is free when those seats are left, and the guarantee follows.
 pub record MaySit (h : Hierarchy) (left : List Seat) (seat : Seat) (p slot : ℕ) : Type 0 where
   pub scheduler : Scheduler
@@ -94,7 +98,8 @@ pub record IsNew (h : Hierarchy) (k : ℕ) (name : List ℕ) : Type 0 where
 -- each seat may be taken, and they are on different schedulers
 pub record MayTakeEach (h : Hierarchy) (seats : List Seat) : Type 0 where
   pub take : (port : ℕ) (seat : Seat) → slice_get seats port ≡ Some seat → MayTake h [] seat
-  pub apart : (port other : ℕ) (one two : Seat) → slice_get seats port ≡ Some one → slice_get seats other ≡ Some two
+  pub apart : (port other : ℕ) (one two : Seat) → slice_get seats port ≡ Some one
+      → slice_get seats other ≡ Some two
       → scheduler_at one.place ≡ scheduler_at two.place → port ≡ other
 
 -- how many ports a scheduler has
@@ -102,12 +107,13 @@ abbrev pub port_count : Config → ℕ
 port_count (configs.Join ports) = ports
 port_count _ = 1
 
-pub record CanLoad (h : Hierarchy) (k : ℕ) (name : List ℕ) (config : Config) (seats : List Seat) : Type 0 where
-  pub new : IsNew h k name
-  pub kind : kind_of config ≢ kinds.Cpu
-  pub in_range : ConfigInRange config
-  pub ports : length seats ≡ port_count config
-  pub places : MayTakeEach h seats
+pub record CanLoad (h : Hierarchy) (k : ℕ) (name : List ℕ) (config : Config) (seats : List Seat) : Type 0
+  where
+    pub new : IsNew h k name
+    pub kind : kind_of config ≢ kinds.Cpu
+    pub in_range : ConfigInRange config
+    pub ports : length seats ≡ port_count config
+    pub places : MayTakeEach h seats
 
 pub record CanAdmit (h : Hierarchy) (k : ℕ) (name : List ℕ) (seat : Seat) : Type 0 where
   pub new : IsNew h k name
@@ -127,7 +133,8 @@ pub record CanUnload (node : Option Node) : Type 0 where
 -- a test tells which nodes are the named one or below it
 pub record IsBelow (h : Hierarchy) (k : ℕ) (below : ℕ → Bool) : Type 0 where
   pub itself : below k ≡ true
-  pub down : (c port : ℕ) (seat : Seat) (p slot : ℕ) → seat_of (h.nodes c) port ≡ Some seat → seat.place ≡ At p slot
+  pub down : (c port : ℕ) (seat : Seat) (p slot : ℕ) → seat_of (h.nodes c) port ≡ Some seat
+      → seat.place ≡ At p slot
       → below p ≡ true → below c ≡ true
   pub up : (c : ℕ) → below c ≡ true → (c ≡ k) ⊎ ((port : ℕ) × (seat : Seat) × (p : ℕ) × (slot : ℕ)
       × (seat_of (h.nodes c) port ≡ Some seat) × (seat.place ≡ At p slot) × (below p ≡ true))
@@ -161,7 +168,8 @@ asks_now h k mask (Some (Admitted t)) = is_ready (was_served h.past k) h.now t.w
 -- which nodes ask at present, and which slots of each scheduler: each where who sits there asks
 pub record IsAsking (h : Hierarchy) (asking : ℕ → Bool) (masks : ℕ → ℕ) : Type 0 where
   pub nodes : (k : ℕ) → asking k ≡ asks_now h k (masks k) (h.nodes k)
-  pub seats : (c port : ℕ) (seat : Seat) (p slot : ℕ) → seat_of (h.nodes c) port ≡ Some seat → seat.place ≡ At p slot
+  pub seats : (c port : ℕ) (seat : Seat) (p slot : ℕ) → seat_of (h.nodes c) port ≡ Some seat
+      → seat.place ≡ At p slot
       → slot_asks (masks p) slot ≡ asking c
   pub free : (p slot : ℕ) → terms_at (book_of (h.nodes p)) slot ≡ None → slot_asks (masks p) slot ≡ false
 
@@ -201,7 +209,8 @@ MayRun h asking masks (Some path) =
 abbrev pub Can : Hierarchy → Step → Type 0
 Can h Refuse = Unit {0}
 Can h (Load k name config spare_ticks spare_marks ports) =
-    CanLoad h k name config ports × IsWithinLimits (after h (Load k name config spare_ticks spare_marks ports))
+    CanLoad h k name config ports
+    × IsWithinLimits (after h (Load k name config spare_ticks spare_marks ports))
 Can h (Admit k name seat) = CanAdmit h k name seat × IsWithinLimits (after h (Admit k name seat))
 Can h (End k) = IsThread (h.nodes k)
 Can h (Unload k) = CanUnload (h.nodes k)

@@ -1,5 +1,5 @@
 -- What ties the books of a hierarchy to each other.
-use Rattle.std.specs.Prelude.{◌≡◌, ℕ, ◌+◌, ◌≤◌, ◌<◌, [], ◌∷◌, Some}
+use Rattle.std.specs.Prelude.{◌≡◌, ℕ, ◌≤◌, ◌<◌, [], ◌∷◌, Some}
 use Rattle.hls_chron.specs.declared.plain.Config.TheVariants as configs
 use Rattle.hls_chron.specs.Ledger.{now_of}
 use Rattle.hls_chron.specs.Seats.{asked, served}
@@ -9,13 +9,15 @@ use Rattle.hls_guarantee.specs.declared.Guarantee.TheVariants.{All}
 use Rattle.hls_guarantee.specs.Supply.{Supplies}
 use Rattle.hls_promise.specs.Promise.{HasPorts, KeepsPromise}
 use Rattle.hls_legal.specs.Derived.{Follows}
-use Rattle.hls_legal.specs.Hierarchy.{Hierarchy, Place, Processor, At, Seat, seat_of, book_of, config_of, haves_of}
+use Rattle.hls_legal.specs.Hierarchy.{Hierarchy, Place, Processor, At, Seat, seat_of, book_of, config_of}
+use Rattle.hls_legal.specs.Hierarchy.{haves_of}
 use Rattle.hls_legal.specs.Hierarchy.{since_of, asking_of, given_of}
 use Rattle.std.specs.Prelude.{Bool}
 use Rattle.hls_chron.specs.declared.plain.Config.{Config}
 use Rattle.hls_chron.specs.Ledger.{Ledger}
 
--- the book and the configuration of node k, what it counts since when, and in which ticks it asked and was given
+-- the book and the configuration of node k, what it counts since when, and in which ticks it asked and was
+-- given
 -- the tick through a port
 abbrev pub book_at : Hierarchy → (k : ℕ) → Ledger
 book_at h k = book_of (h.nodes k)
@@ -56,7 +58,8 @@ SitsAt h rank c port seat (At p slot) = Attends h rank c port seat p slot
 
 -- every seat, and every book was given the processor through ports that its scheduler has
 pub record IsLinked (h : Hierarchy) (rank : ℕ → ℕ) : Type 0 where
-  pub sits : (c port : ℕ) (seat : Seat) → seat_of (h.nodes c) port ≡ Some seat → SitsAt h rank c port seat seat.place
+  pub sits : (c port : ℕ) (seat : Seat) → seat_of (h.nodes c) port ≡ Some seat
+      → SitsAt h rank c port seat seat.place
   pub ports : (k : ℕ) → HasPorts (config_at h k) (book_at h k)
 
 -- every book keeps its promise

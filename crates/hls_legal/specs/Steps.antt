@@ -6,10 +6,11 @@ use Rattle.hls_chron.specs.declared.book.Event.{Event}
 use Rattle.hls_chron.specs.declared.book.Event.TheVariants as events
 use Rattle.hls_chron.specs.declared.plain.Config.{Config}
 use Rattle.hls_chron.specs.declared.plain.Terms.{Terms}
-use Rattle.hls_chron.specs.Ledger.{Ledger, with_row, with_mark}
+use Rattle.hls_chron.specs.Ledger.{with_row, with_mark}
 use Rattle.hls_legal.specs.Ledgers.{empty_book, with_marks}
 use Rattle.hls_legal.specs.Hierarchy.{Place, Processor, At, Seat, Wake, Asleep, Awake, Awake_for}
-use Rattle.hls_legal.specs.Hierarchy.{Scheduler, Thread, Node, Loaded, Admitted, Sitter, Stay, Hierarchy, seats_of}
+use Rattle.hls_legal.specs.Hierarchy.{Scheduler, Thread, Node, Loaded, Admitted, Sitter, Stay, Hierarchy}
+use Rattle.hls_legal.specs.Hierarchy.{seats_of}
 
 -- a hop of a path: the scheduler, the port by which the path comes, and the slot by which it goes on
 pub record Hop : Type 0 where
@@ -22,12 +23,15 @@ pub record Path : Type 0 where
   pub hops : List Hop
   pub thread : ℕ
 
--- A load tells the room that the new book begins with. A move tells which nodes are the moved one or below it. A
--- tick that elapses tells which nodes ask, which slots of each scheduler ask, a bit each, and the path if it is
+-- A load tells the room that the new book begins with. A move tells which nodes are the moved one or below
+-- it. A
+-- tick that elapses tells which nodes ask, which slots of each scheduler ask, a bit each, and the path if it
+-- is
 -- not idle.
 pub data Step : Type 0 where
   Refuse : Step
-  Load : (node : ℕ) → (name : List ℕ) → (config : Config) → (spare_ticks spare_marks : ℕ) → (ports : List Seat)
+  Load : (node : ℕ) → (name : List ℕ) → (config : Config) → (spare_ticks spare_marks : ℕ)
+      → (ports : List Seat)
       → Step
   Admit : (node : ℕ) → (name : List ℕ) → (seat : Seat) → Step
   End : (node : ℕ) → Step
@@ -133,11 +137,13 @@ opened now nodes begins [] = []
 opened now nodes begins (k ∷ threads) =
     (if begins k then stay_of now k (nodes k) else []) ++ opened now nodes begins threads
 
--- The effect of a command on node k. The seats of k are left, those of what it becomes are taken, and then the
+-- The effect of a command on node k. The seats of k are left, those of what it becomes are taken, and then
+-- the
 -- accounts of all that is below begin anew.
 abbrev pub nodes_after : Hierarchy → (k : ℕ) → Option Node → (below : ℕ → Bool) → ℕ → Option Node
 nodes_after h k node below c = renewed (below c) h.now
-    (if c == k then node else marked (leavings (seats_of (h.nodes k)) c ++ seatings (seats_of node) c) (h.nodes c))
+    (if c == k then node else marked (leavings (seats_of (h.nodes k)) c ++ seatings (seats_of node) c)
+    (h.nodes c))
 
 abbrev pub effect : Hierarchy → (k : ℕ) → Option Node → (below : ℕ → Bool) → Hierarchy
 effect h k node below =
@@ -192,7 +198,8 @@ elapsed h asking masks path = record h {
   past = λ t. if t == h.now then record { asking = asking; to = thread_of path } else h.past t;
 }
 
-abbrev pub loaded : (now : ℕ) → (name : List ℕ) → Config → (spare_ticks spare_marks : ℕ) → List Seat → Scheduler
+abbrev pub loaded : (now : ℕ) → (name : List ℕ) → Config → (spare_ticks spare_marks : ℕ) → List Seat
+    → Scheduler
 loaded now name config spare_ticks spare_marks ports = record {
   name = name;
   config = config;

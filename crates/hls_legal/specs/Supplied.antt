@@ -1,11 +1,10 @@
 -- What holds of every stay of a legal run.
-use Rattle.std.specs.Prelude.{◌≡◌, ℕ, ◌≤◌, ◌<◌, List, [], ◌∷◌, Option, Some, None, true, slice_get, filter, nat_lt}
-use Rattle.std.specs.Prelude.{Bool}
+use Rattle.std.specs.Prelude.{◌≡◌, ℕ, ◌≤◌, ◌<◌, List, [], ◌∷◌, Option, Some, None, true, slice_get, filter}
+use Rattle.std.specs.Prelude.{nat_lt}
 use Rattle.hls_guarantee.specs.Satisfaction.{Satisfies}
 use Rattle.hls_guarantee.specs.Cap.{KeepsCap}
-use Rattle.hls_legal.specs.Hierarchy.{start, Hierarchy, Tick, Stay, was_served, had_asked}
-use Rattle.hls_legal.specs.Steps.{Step, after, state}
-use Rattle.hls_legal.specs.Legal.{IsLegal}
+use Rattle.hls_legal.specs.Hierarchy.{Hierarchy, Tick, Stay, was_served, had_asked}
+use Rattle.hls_legal.specs.Steps.{Step, after}
 use Rattle.hls_legal.specs.Linked.{KeepsPromises}
 
 -- the books keep their promises after every step
@@ -18,7 +17,8 @@ abbrev pub end_of : (now : ℕ) → Option ℕ → ℕ
 end_of now None = now
 end_of now (Some until) = until
 
--- Up to a tick the guarantee is met in every window of the stay, ticks in all of which the thread was ready, and
+-- Up to a tick the guarantee is met in every window of the stay, ticks in all of which the thread was ready,
+-- and
 -- its cap is kept over the whole stay.
 pub record IsKeptUntil (past : ℕ → Tick) (stay : Stay) (until : ℕ) : Type 0 where
   pub windows : (i j : ℕ) → stay.since ≤ i → j ≤ until
