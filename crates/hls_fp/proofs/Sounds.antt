@@ -9,13 +9,14 @@ use Rattle.hls_chron.specs.declared.book.Event.TheVariants.{Seat, Leave, Settle}
 use Rattle.hls_chron.specs.declared.plain.Terms.TheVariants.{Prio}
 use Rattle.hls_chron.specs.declared.plain.Config.TheVariants.{Fp}
 use Rattle.hls_chron.specs.Ledger.{Ledger, now_of, before, with_row, with_mark}
-use Rattle.hls_chron.specs.Seats.{SlotAsks, terms_at, priority_at}
-use Rattle.hls_chron.specs.Asks.{some_slot_asks}
-use Rattle.hls_chron.specs.Discipline.{HasLeastPriority}
+use Rattle.hls_chron.specs.Seats.{SlotAsks, terms_at, priority_at, HasPriority}
+use Rattle.hls_kinds.specs.Asks.{some_slot_asks}
+use Rattle.hls_kinds.specs.Discipline.{HasLeastPriority}
 use Rattle.hls_chron.proofs.BookLaws.{terms_at-mark, terms_at-row, terms_at-same, terms_at-unmarked}
-use Rattle.hls_chron.proofs.BookLaws.{before-now, dated-mark, dated-row, dated-unmarked}
-use Rattle.hls_chron.proofs.DisciplineLaws.{discipline-mark, discipline-row}
-use Rattle.hls_chron.proofs.DisciplineLaws.{discipline-unwritten}
+use Rattle.hls_chron.proofs.BookLaws.{before-now}
+use Rattle.hls_kinds.proofs.DisciplineLaws.{discipline-mark, discipline-row, discipline-unwritten}
+use Rattle.hls_promise.proofs.AdmissionLaws.{admission-mark, admission-row, admission-unwritten}
+use Rattle.hls_kinds.specs.Fits.{Fits}
 use Rattle.hls_sched.specs.Seen.{with_slot, without_slot, tick_row}
 use Rattle.hls_fp.specs.Choice.{choice_of}
 use Rattle.hls_fp.specs.Sound.{IsSound}
@@ -41,7 +42,7 @@ sound_empty b rows marks = record {
   numbered = λ slot is. terms_at-unmarked b slot marks;
   within = λ slot taken. absurd (taken (terms_at-unmarked b slot marks));
   seated = λ slot asks. absurd (silent_zero slot asks);
-  dated = dated-unmarked b marks;
+  admission = admission-unwritten Fp b rows marks;
   discipline = discipline-unwritten Fp b rows;
 }
 
@@ -52,7 +53,7 @@ sound_request b mask priorities slot s taken = record {
   matches = s.matches;
   numbered = s.numbered;
   within = s.within;
-  dated = s.dated;
+  admission = s.admission;
   discipline = s.discipline;
   seated = λ k asks. elim (cases_eq k slot) [
     | inl same ↦ (let P : ℕ → Type 0 = λ n. terms_at b n ≢ None in subst P (sym same) taken)
@@ -67,7 +68,7 @@ sound_release b mask priorities slot s = record {
   matches = s.matches;
   numbered = s.numbered;
   within = s.within;
-  dated = s.dated;
+  admission = s.admission;
   discipline = s.discipline;
   seated = λ k asks. s.seated k (asks_without mask slot k asks);
 }
@@ -79,7 +80,7 @@ sound_settle b mask priorities s = record {
   numbered = λ slot is. rw terms_at-mark (s.numbered slot (rw terms_at-mark at is));
   within = λ slot taken. s.within slot (rw terms_at-mark at taken);
   seated = λ slot asks. rw terms_at-mark (s.seated slot asks);
-  dated = dated-mark b Settle s.dated;
+  admission = admission-mark Fp b Settle tt s.admission;
   discipline = discipline-mark Fp b Settle s.discipline;
 }
 
@@ -155,15 +156,16 @@ sound_row b mask priorities grant fits s =
       numbered = λ slot is. rw terms_at-row (s.numbered slot (rw terms_at-row at is));
       within = λ slot taken. s.within slot (rw terms_at-row at taken);
       seated = λ slot asks. rw terms_at-row (s.seated slot asks);
-      dated = dated-row b row s.dated;
+      admission = admission-row Fp b row (λ slot asks. s.seated slot
+          (rw (row_mask mask grant (choice_of priorities mask)) at asks)) s.admission;
       discipline = discipline-row Fp b row s.discipline (λ slot is.
           let serves = sound_serves b mask priorities slot fits s
           (row_serves mask grant (choice_of priorities mask) slot is) in
           rw (row_mask mask grant (choice_of priorities mask)) (record {
             asked = some_if_asks mask slot serves.asks;
             served = serves-same (before (now_of b) (with_row b row)) b mask slot
-                (before-now b row s.dated) serves;
-          }));
+                (before-now b row s.admission.dated) serves;
+          })) tt;
     }
 
 -- a seat that is taken
@@ -177,10 +179,19 @@ seated_other : (b : Ledger) (slot k priority : ℕ) → slot ≢ k
 seated_other b slot k priority other = terms_at-mark b (Seat slot (Prio priority)) k
     ∙ if_other slot k (Some (Prio priority)) (terms_at b k) other
 
+has_room : (b : Ledger) (priority : ℕ) → ¬ HasPriority b priority → Fits Fp b (Prio priority)
+has_room b priority alone = record {
+  of_kind = refl;
+  within = λ exceeds. exceeds;
+  apart = λ other same has. alone (let P : ℕ → Type 0 = λ n. HasPriority b n in
+      let e : other ≡ priority = cc in subst P e has);
+  room = λ free asked lacks. omega (arith, lacks.asks, lacks.lacks);
+}
+
 pub sound_seat : (b : Ledger) (mask : ℕ) (priorities : List (Option ℕ)) (slot priority : ℕ) → slot < 32
-    → length priorities ≡ 32 → IsSound b mask priorities
+    → length priorities ≡ 32 → ¬ HasPriority b priority → IsSound b mask priorities
     → IsSound (with_mark b (Seat slot (Prio priority))) mask (slice_set priorities slot (Some priority))
-sound_seat b mask priorities slot priority lt len s = record {
+sound_seat b mask priorities slot priority lt len alone s = record {
   matches = λ k within. elim (cases_eq slot k) [
     | inl same ↦ rw (seated_same b slot k priority same, ← same)
         (get_or-set_same priorities slot (Some priority) None (omega (arith, len)))
@@ -202,7 +213,7 @@ sound_seat b mask priorities slot priority lt len s = record {
     | inl same ↦ rw (seated_same b slot k priority same) (λ none. absurd cc)
     | inr other ↦ rw (seated_other b slot k priority other) (s.seated k asks)
   ];
-  dated = dated-mark b (Seat slot (Prio priority)) s.dated;
+  admission = admission-mark Fp b (Seat slot (Prio priority)) (lt, has_room b priority alone) s.admission;
   discipline = discipline-mark Fp b (Seat slot (Prio priority)) s.discipline;
 }
 
@@ -238,6 +249,6 @@ sound_leave b mask priorities slot lt len s = record {
         silent_without mask slot lt (subst P (sym same) asks))
     | inr other ↦ rw (left_other b slot k other) (s.seated k (asks_without mask slot k asks))
   ];
-  dated = dated-mark b (Leave slot) s.dated;
+  admission = admission-mark Fp b (Leave slot) tt s.admission;
   discipline = discipline-mark Fp b (Leave slot) s.discipline;
 }

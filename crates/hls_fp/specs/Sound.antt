@@ -3,9 +3,12 @@ use Rattle.std.specs.Prelude.{◌≡◌, ◌≢◌, ℕ, ◌<◌, List, Option, 
 use Rattle.std.specs.Prelude.{if◌then◌else◌, slice_index_or, refl}
 use Rattle.hls_chron.specs.declared.plain.Kind.TheVariants.{Fp as FpKind}
 use Rattle.hls_chron.specs.declared.plain.Config.TheVariants.{Fp}
-use Rattle.hls_chron.specs.Ledger.{Ledger, IsDated}
+use Rattle.hls_chron.specs.Ledger.{Ledger}
 use Rattle.hls_chron.specs.Seats.{SlotAsks, terms_at, priority_at}
-use Rattle.hls_chron.specs.Discipline.{KeepsDiscipline}
+use Rattle.hls_kinds.specs.Discipline.{KeepsDiscipline}
+use Rattle.hls_promise.specs.Admission.{KeepsAdmission}
+use Rattle.hls_promise.specs.Promise.{KeepsPromise}
+use Rattle.hls_promise.proofs.PromiseLaws.{fixed_priority_keeps}
 use Rattle.hls_sched.specs.Seen.{Seen, IsConfigured, config_of}
 
 abbrev pub fp_seen : Bool → Ledger → ℕ → Option ℕ → Seen
@@ -25,7 +28,7 @@ pub record IsSound (b : Ledger) (mask : ℕ) (priorities : List (Option ℕ)) : 
   pub within : (slot : ℕ) → terms_at b slot ≢ None → slot < 32
   -- only seats ask
   pub seated : (slot : ℕ) → SlotAsks mask slot → terms_at b slot ≢ None
-  pub dated : IsDated b
+  pub admission : KeepsAdmission Fp b
   pub discipline : KeepsDiscipline Fp b
 
 -- a box that is set up keeps the discipline
@@ -34,3 +37,10 @@ pub keeps_discipline : (configured : Bool) (b : Ledger) (mask : ℕ) (grant : Op
     → KeepsDiscipline (config_of (fp_seen configured b mask grant)) b
 keeps_discipline true b mask grant kept is = kept
 keeps_discipline false b mask grant kept is = absurd (is refl)
+
+-- and so its promise
+pub keeps_promise : (configured : Bool) (b : Ledger) (mask : ℕ) (grant : Option ℕ) → KeepsAdmission Fp b
+    → KeepsDiscipline Fp b → IsConfigured (fp_seen configured b mask grant)
+    → KeepsPromise (config_of (fp_seen configured b mask grant)) b
+keeps_promise true b mask grant kept discipline is = fixed_priority_keeps b kept discipline
+keeps_promise false b mask grant kept discipline is = absurd (is refl)

@@ -1,6 +1,6 @@
 // A box of fixed priority.
 ghost use Rattle.hls_fp.specs.Choice.{choice_of};
-ghost use Rattle.hls_fp.specs.Sound.{fp_seen, IsSound, keeps_discipline};
+ghost use Rattle.hls_fp.specs.Sound.{fp_seen, IsSound, keeps_discipline, keeps_promise};
 ghost use Rattle.hls_sched.specs.Seen.{IsBlank};
 
 use crate::slots::{Priorities, SEATS, best_slot, bit, find_priority, first_free, row};
@@ -44,6 +44,9 @@ impl Scheduler for Fp {
 
     ghost keeps = { λ s configured.
         keeps_discipline s.configured s.book s.mask s.grant s.sound.discipline configured };
+
+    ghost promises = { λ s configured. keeps_promise s.configured s.book s.mask s.grant s.sound.admission
+        s.sound.discipline configured };
 
     fn kind(&self) -> Kind {
         Kind::Fp

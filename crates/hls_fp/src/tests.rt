@@ -1,15 +1,17 @@
 // What no clause says of a box of fixed priority: that its calls can succeed, and one run by hand.
 ghost use Rattle.std.specs.Prelude.{◌≡◌, ◌≢◌, ◌+◌, ◌<◌, ◌≤◌, None, true, false};
 ghost use Rattle.hls_chron.specs.declared.plain.Kind.{Kind};
-ghost use Rattle.hls_chron.specs.Seats.{SlotAsks, terms_after, terms_at};
+ghost use Rattle.hls_chron.specs.Seats.{SlotAsks, terms_at as seated_at};
 ghost use Rattle.hls_chron.specs.declared.plain.Terms.TheVariants.{Prio};
 ghost use Rattle.hls_sched.specs.Seen.{IsBlank, IsConfigured, seated};
 
 use super::*;
 use crate::slots::bit;
 use hls_chron::{Book, Config, Event, Kind, Mark, Terms, TickRow};
+use hls_guarantee::{Guarantee, holds};
+use hls_kinds::{Tenant, discipline_choice, tenant_at, terms_at};
 use hls_sched::{Kit, Scheduler, SeatFault};
-use std::alloc::AllocError;
+use std::alloc::{AllocError, Global};
 use std::process::Abort;
 use std::test::Fail;
 
@@ -34,60 +36,12 @@ enum Step {
     Tick(Option<u8>),
 }
 
-fn terms_then(slot: u32, taken: Option<Terms>, event: Event) -> Option<Terms>
-    ensures { result ≡ terms_after slot taken event }
-{
-    match event {
-        Event::Seat { slot: at, terms } if at as u32 == slot => Some(terms),
-        Event::Leave { slot: at } if at as u32 == slot => None,
-        _ => taken,
-    }
-}
-
-/// The terms of the seat at a slot, by the marks of a book.
-#[tactic(auto, unfolding(hls_chron::specs::Seats::terms_at))]
-fn terms_of(book: &Book, slot: u32) -> Option<Terms>
-    ensures { result ≡ terms_at book.now slot }
-{
-    book.marks()
-        .iter()
-        .fold(None, |taken, mark| terms_then(slot, taken, mark.event))
-}
-
 fn is_asking(mask: u32, slot: u32) -> bool
     requires { slot < 32 }
     ensures asking { result ≡ true → SlotAsks mask slot }
     ensures silent { result ≢ true → ¬ SlotAsks mask slot }
 {
     (mask >> slot) & 1 == 1
-}
-
-fn is_before(one: Option<Terms>, other: Option<Terms>) -> bool {
-    match (one, other) {
-        (Some(Terms::Prio(one)), Some(Terms::Prio(other))) => one < other,
-        _ => false,
-    }
-}
-
-/// Whether a slot asks, and none that asks has a lesser priority number.
-fn is_least(book: &Book, mask: u32, slot: u32) -> bool
-    requires { slot < 32 }
-{
-    for other in 0..32 {
-        if is_asking(mask, other) && is_before(terms_of(book, other), terms_of(book, slot)) {
-            return false;
-        }
-    }
-    is_asking(mask, slot)
-}
-
-fn slot_to_serve(book: &Book, mask: u32) -> Option<u32> {
-    for slot in 0..32 {
-        if is_least(book, mask, slot) {
-            return Some(slot);
-        }
-    }
-    None
 }
 
 /// Compares the choice with the definition, and lets a tick pass, granted through a port where
@@ -102,7 +56,8 @@ fn pass_tick(scheduler: &mut dyn Scheduler, mask: u32, port: Option<u8>, rt: &im
     ensures ticks { (seen scheduler.old).book.spare_ticks ≡ (seen scheduler.new).book.spare_ticks + 1 }
     ensures marks { (seen scheduler.new).book.spare_marks ≡ (seen scheduler.old).book.spare_marks }
 {
-    let slot = slot_to_serve(scheduler.book(), mask);
+    assert!(rt; scheduler.book().now() < 1_000_000);
+    let slot = discipline_choice(scheduler.book(), &Config::Fp, mask);
     assert_eq!(rt; scheduler.choice(), slot);
     assert_eq!(rt; scheduler.asks(), slot.is_some());
     match port {
@@ -139,12 +94,12 @@ fn check_refusal(scheduler: &dyn Scheduler, priority: u32, rt: &impl Abort)
 /// Checks that a slot is taken, and whether it asks.
 fn check_slot(book: &Book, mask: u32, slot: u32, asks: bool, rt: &impl Abort)
     ensures within { slot < 32 }
-    ensures taken { terms_at book.now slot ≢ None }
+    ensures taken { seated_at book.now slot ≢ None }
     ensures asking { asks ≡ true → SlotAsks mask slot }
     ensures silent { asks ≡ false → ¬ SlotAsks mask slot }
 {
     assert!(rt; slot < 32);
-    assert!(rt; terms_of(book, slot).is_some());
+    assert!(rt; terms_at(book, slot).is_some());
     assert!(rt; is_asking(mask, slot) == asks);
 }
 
@@ -260,6 +215,183 @@ fn drive(
 {
     take_all(&mut *scheduler, steps, rt)?;
     Ok(scheduler)
+}
+
+/// The next of a fixed series of numbers below a bound.
+fn draw(series: &mut u32, bound: u32) -> u32
+    requires { 0 < bound }
+    ensures { result < bound }
+{
+    *series = series.wrapping_mul(1_103_515_245).wrapping_add(12_345);
+    (*series >> 16) % bound
+}
+
+/// A step for a slot that has a seat, by whether it asks: mostly it begins or ends to ask.
+fn step_of_seat(drawn: u32, slot: u32, asks: bool) -> Step {
+    match (drawn, asks) {
+        (0, true) => Step::Leave(slot),
+        (_, true) => Step::Release(slot),
+        (_, false) => Step::Request(slot),
+    }
+}
+
+/// A step that the box can take in its present state, drawn from a series.
+fn draw_step(scheduler: &dyn Scheduler, mask: u32, series: &mut u32) -> Step
+    requires { IsConfigured (seen scheduler.now) }
+{
+    let slot = draw(series, 5);
+    let drawn = draw(series, 12);
+    match drawn {
+        0..=5 => Step::Tick(if draw(series, 4) == 0 { None } else { Some(0) }),
+        6 => {
+            if draw(series, 6) == 0 {
+                Step::Settle
+            } else {
+                Step::Tick(None)
+            }
+        }
+        7 | 8 => draw_seat(scheduler, draw(series, 4)),
+        _ if terms_at(scheduler.book(), slot).is_some() => {
+            step_of_seat(draw(series, 8), slot, is_asking(mask, slot))
+        }
+        _ => Step::Tick(Some(0)),
+    }
+}
+
+/// A seat of a priority number where it fits, else a tick.
+fn draw_seat(scheduler: &dyn Scheduler, priority: u32) -> Step
+    requires configured { IsConfigured (seen scheduler.now) }
+    requires priority { priority ≤ 31 }
+{
+    if scheduler.fits(&Terms::Prio(priority)).is_some() {
+        return Step::Tick(Some(0));
+    }
+    match scheduler.free_slot() {
+        Some(slot) => Step::Seat(priority, slot),
+        None => Step::Tick(Some(0)),
+    }
+}
+
+/// What the scheduler was given and what a seat was served in one run of ticks in which it asked.
+#[derive(Drop)]
+struct AskingRun {
+    given: Vec<bool>,
+    served: Vec<bool>,
+}
+
+/// Checks that what holds of the ticks that were given holds of those that the seat was served.
+fn check_run(run: &AskingRun, rt: &impl Abort) {
+    let guarantees = [
+        Guarantee::All,
+        Guarantee::Null,
+        Guarantee::Resb {
+            hard: true,
+            x: 1,
+            y: 2,
+        },
+        Guarantee::Resb {
+            hard: false,
+            x: 2,
+            y: 5,
+        },
+        Guarantee::Resc {
+            hard: true,
+            x: 2,
+            y: 3,
+        },
+        Guarantee::Resc {
+            hard: false,
+            x: 1,
+            y: 4,
+        },
+    ];
+    assert!(rt; run.given.len() <= 1_000_000 && run.served.len() <= 1_000_000);
+    for g in &guarantees {
+        assert!(rt; hls_guarantee::valid(g));
+        if holds(g, &run.given) {
+            assert!(rt; holds(g, &run.served), "{g:?}");
+        }
+    }
+}
+
+/// Checks every run of ticks since its seating, or since the last settling, in which a slot asked.
+fn check_promise(
+    alloc: Global,
+    book: &Book,
+    slot: u32,
+    since: u32,
+    rt: &impl Abort,
+) -> Result<(), AllocError>
+    requires { slot < 32 }
+{
+    let mut run = AskingRun {
+        given: Vec::new(alloc),
+        served: Vec::new(alloc),
+    };
+    let mut tick = START;
+    for row in book.rows() {
+        if since <= tick && is_asking(row.mask, slot) {
+            run.given.push(row.to.is_some())?;
+            run.served.push(row.to == Some(slot as u8))?;
+        } else {
+            check_run(&run, rt);
+            run.given.clear();
+            run.served.clear();
+        }
+        tick = tick.saturating_add(1);
+    }
+    check_run(&run, rt);
+    Ok(())
+}
+
+/// Checks the promise to each seat of priority number 0.
+fn check_promises(alloc: Global, book: &Book, rt: &impl Abort) -> Result<(), AllocError> {
+    for slot in 0..32 {
+        if let Tenant::Sits {
+            terms: Terms::Prio(0),
+            since,
+        } = tenant_at(book, slot)
+        {
+            check_promise(alloc, book, slot, since, rt)?;
+        }
+    }
+    Ok(())
+}
+
+/// Sets a box up and takes so many drawn steps, and checks the promises after every few.
+fn take_drawn(
+    alloc: Global,
+    scheduler: &mut dyn Scheduler,
+    steps: u32,
+    series: &mut u32,
+    rt: &impl Abort,
+) -> Result<(), AllocError>
+    requires { IsBlank Kind.Fp (seen scheduler.old) }
+{
+    scheduler.setup(&Config::Fp, START, 1000, 1000)?;
+    let mut known = Known {
+        mask: 0,
+        ticks: 1000 - START,
+        marks: 2000,
+    };
+    for taken in 0..steps {
+        let step = draw_step(scheduler, known.mask, series);
+        known = take(scheduler, known, step, rt);
+        if taken % 8 == 0 {
+            check_promises(alloc, scheduler.book(), rt)?;
+        }
+    }
+    Ok(())
+}
+
+#[test]
+fn keeps_its_promise_in_drawn_calls(rt: HostRuntime) -> Result<(), Fail> {
+    let mut series = 7;
+    for _ in 0..4 {
+        let mut fp = Fp::blank(rt.alloc());
+        take_drawn(rt.alloc(), &mut fp, 400, &mut series, &rt)?;
+    }
+    Ok(())
 }
 
 fn row(mask: u32, to: Option<u8>, port: u8) -> TickRow {

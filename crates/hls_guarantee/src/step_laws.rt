@@ -23,6 +23,14 @@ pub fn other_terms_lend_nothing(config: Config, terms: Terms, g: Guarantee, h: G
     ensures { (port : ℕ) → LendsThrough config terms port g h → h ≡ Guarantee.Null }
 {}
 
+/// Below fixed priority the seat of priority number 0 alone is lent more than nothing, and it is lent what the
+/// scheduler has.
+pub fn first_priority_has_it_all(priority: u32, g: Guarantee, h: Guarantee)
+    requires { h ≢ Guarantee.Null }
+    ensures { (port : ℕ) → LendsThrough Config.Fp (Terms.Prio priority) port g h →
+        ((priority ≡ 0) × (h ≡ g)) }
+{}
+
 /// A turn in a round is promised nothing.
 pub fn turns_lend_nothing(quantum: u32, terms: Terms, g: Guarantee, h: Guarantee)
     ensures { (port : ℕ) → LendsThrough (Config.Rr quantum) terms port g h → h ≡ Guarantee.Null }

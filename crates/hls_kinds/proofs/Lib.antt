@@ -8,3 +8,4 @@ pub mod RankingLaws
 pub mod ChoiceLaws
 pub mod TenantLaws
 pub mod DisciplineLaws
+pub mod MarkLaws

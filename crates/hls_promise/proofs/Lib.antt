@@ -1,0 +1,2 @@
+pub mod AdmissionLaws
+pub mod PromiseLaws

@@ -10,7 +10,7 @@ use Rattle.std.proofs.lemmas.Option.{slice_get_within, slice_get-map, slice_get-
 use Rattle.hls_chron.specs.declared.plain.Config.TheVariants.{Fp}
 use Rattle.hls_chron.specs.Ledger.{Ledger, now_of, row_at, before}
 use Rattle.hls_chron.specs.Seats.{SlotAsks}
-use Rattle.hls_chron.specs.Discipline.{KeepsDiscipline}
+use Rattle.hls_kinds.specs.Discipline.{KeepsDiscipline}
 use Rattle.hls_chron.proofs.BookLaws.{terms_at-unmarked, now_of-row}
 use Rattle.hls_sched.specs.Seen.{Seen, IsSetUp, config_of}
 use Rattle.hls_sched.proofs.Masks.{silent_zero}

@@ -11,7 +11,7 @@ use Rattle.hls_chron.specs.declared.book.TickRow.{TickRow}
 use Rattle.hls_chron.specs.declared.plain.Config.TheVariants.{Fp}
 use Rattle.hls_chron.specs.Ledger.{Ledger, now_of, row_at, before, with_row}
 use Rattle.hls_chron.specs.Seats.{SlotAsks}
-use Rattle.hls_chron.specs.Asks.{asks, some_slot_asks}
+use Rattle.hls_kinds.specs.Asks.{asks, some_slot_asks}
 use Rattle.hls_chron.proofs.BookLaws.{terms_at-row, now_of-row, row_at-past, row_at-now}
 use Rattle.hls_sched.specs.Seen.{Seen, tick_row, seen_asks, config_of}
 use Rattle.hls_top.specs.declared.early.Item.{Item}

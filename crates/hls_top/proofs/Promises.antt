@@ -16,8 +16,8 @@ use Rattle.hls_chron.specs.declared.plain.Terms.{Terms}
 use Rattle.hls_chron.specs.declared.plain.Terms.TheVariants.{Prio}
 use Rattle.hls_chron.specs.Ledger.{Ledger, now_of, row_at, before}
 use Rattle.hls_chron.specs.Seats.{SlotAsks, terms_after, terms_at, priority_at, priority_in}
-use Rattle.hls_chron.specs.Asks.{some_slot_asks}
-use Rattle.hls_chron.specs.Discipline.{HasLeastPriority}
+use Rattle.hls_kinds.specs.Asks.{some_slot_asks}
+use Rattle.hls_kinds.specs.Discipline.{HasLeastPriority}
 use Rattle.hls_top.specs.declared.early.Promise.{Promise}
 use Rattle.hls_top.specs.declared.early.Promise.TheVariants.{All, Null}
 use Rattle.hls_top.specs.declared.early.Command.{Command}

@@ -13,7 +13,8 @@ use Rattle.hls_chron.specs.declared.plain.Terms.{Terms}
 use Rattle.hls_chron.specs.declared.plain.Terms.TheVariants.{Prio}
 use Rattle.hls_chron.specs.declared.plain.Config.TheVariants.{Fp}
 use Rattle.hls_chron.specs.Ledger.{Ledger}
-use Rattle.hls_chron.specs.Seats.{terms_at, priority_at, priority_in, HasPriority, IsFree, IsFull}
+use Rattle.hls_chron.specs.Seats.{terms_at, priority_at, priority_in, HasPriority}
+use Rattle.hls_kinds.specs.Room.{IsFree, IsFull}
 use Rattle.hls_sched.specs.Seen.{Seen, config_of}
 use Rattle.hls_sched.specs.Fits.{Applies, IsFirst, IsAnswer}
 use Rattle.hls_sched.specs.declared.fault.SeatFault.{SeatFault}
@@ -39,10 +40,9 @@ map_none None is = refl
 map_none (Some thread) is = absurd cc
 
 -- the least free slot is the next one
-pub next_slot : (threads : List Thread) (root : Seen) (slot : ℕ) → IsSeated threads root
-    → IsFree (config_of root) root.book slot
-    → slot ≡ length threads
-next_slot threads root slot s free =
+next_free : (threads : List Thread) (root : Seen) (slot : ℕ) → IsSeated threads root
+    → IsFree Fp root.book slot → slot ≡ length threads
+next_free threads root slot s free =
     let none : slice_get threads slot ≡ None = map_none (slice_get threads slot) (sym (s.seats slot)
     ∙ free.free) in
     let past : length threads ≤ slot = slice_get-none threads slot none in
@@ -53,6 +53,11 @@ next_slot threads root slot s free =
       | inr ge ↦ ge
     ] in
     omega arith
+
+pub next_slot : (threads : List Thread) (root : Seen) (slot : ℕ) → IsSeated threads root
+    → IsFree (config_of root) root.book slot → slot ≡ length threads
+next_slot threads root slot s free =
+    next_free threads root slot s (subst (λ config. IsFree config root.book slot) (config_fp threads root s) free)
 
 -- where terms fit, a slot is free
 pub not_full : (threads : List Thread) (root : Seen) (terms : Terms) → IsSeated threads root
@@ -174,7 +179,8 @@ answer_fault root threads seen name priority promise (Full seats) s free first =
     ) in omega (arith, le)) in
     let ge = many_of_full threads seen s first.applies.0 in
     rw (free, alone, length_all threads, many (length threads) ge, first.applies.1) refl
-answer_fault root threads seen name priority promise (NoRoom room asked) s free first = absurd first.applies
+answer_fault root threads seen name priority promise (NoRoom room asked) s free first =
+    absurd (omega (arith, first.applies.asks, first.applies.lacks))
 
 -- what a scheduler told of terms, at its configuration
 pub fits_fp : (threads : List Thread) (root : Seen) (terms : Terms) → IsSeated threads root

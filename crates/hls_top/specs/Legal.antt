@@ -9,8 +9,8 @@ use Rattle.hls_chron.specs.declared.book.Event.TheVariants.{Seat}
 use Rattle.hls_chron.specs.Ticks.{count}
 use Rattle.hls_chron.specs.Ledger.{Ledger, row_at, before}
 use Rattle.hls_chron.specs.Seats.{SlotAsks, asked, served}
-use Rattle.hls_chron.specs.Asks.{asks}
-use Rattle.hls_chron.specs.Discipline.{KeepsDiscipline}
+use Rattle.hls_kinds.specs.Asks.{asks}
+use Rattle.hls_kinds.specs.Discipline.{KeepsDiscipline}
 use Rattle.hls_top.specs.declared.early.Promise.TheVariants.{All}
 use Rattle.hls_top.specs.declared.early.Scenario.{Scenario}
 use Rattle.hls_top.specs.declared.report.Run.{Run}

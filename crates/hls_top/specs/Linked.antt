@@ -7,7 +7,7 @@ use Rattle.hls_chron.specs.declared.plain.Terms.{Terms}
 use Rattle.hls_chron.specs.declared.plain.Terms.TheVariants.{Prio}
 use Rattle.hls_chron.specs.Ledger.{Ledger, now_of, row_at, before}
 use Rattle.hls_chron.specs.Seats.{SlotAsks, terms_at}
-use Rattle.hls_chron.specs.Asks.{asks}
+use Rattle.hls_kinds.specs.Asks.{asks}
 use Rattle.hls_sched.specs.Seen.{Seen}
 use Rattle.hls_top.specs.declared.early.Item.{Item}
 use Rattle.hls_top.specs.declared.early.Scenario.{Scenario}

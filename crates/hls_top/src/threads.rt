@@ -3,7 +3,8 @@ ghost use Rattle.std.specs.Prelude.{◌≡◌, ◌≢◌, ℕ, ◌<◌, ◌≤�
 ghost use Rattle.std.specs.Prelude.{false, slice_get, slice_set, vec_capacity, position, ◌||◌};
 ghost use Rattle.std.specs.Str.{bytes_eq};
 ghost use Rattle.hls_chron.specs.declared.plain.Config.TheVariants.{Fp};
-ghost use Rattle.hls_chron.specs.Seats.{SlotAsks, terms_at, IsFree};
+ghost use Rattle.hls_chron.specs.Seats.{SlotAsks, terms_at};
+ghost use Rattle.hls_kinds.specs.Room.{IsFree};
 ghost use Rattle.hls_sched.specs.Seen.{Seen, seated, config_of, IsConfigured};
 ghost use Rattle.hls_sched.specs.Fits.{IsAnswer, IsFirst};
 ghost use Rattle.hls_top.specs.Progress.{seated_all};

@@ -1,6 +1,6 @@
 use Rattle.std.proofs.Common.{subst}
 use Rattle.hls_chron.specs.declared.plain.Config.{Config}
-use Rattle.hls_chron.specs.Discipline.{KeepsDiscipline}
+use Rattle.hls_kinds.specs.Discipline.{KeepsDiscipline}
 use Rattle.hls_top.proofs.Endings.{linked_start, since_below, legal_if_ok, discipline_fp}
 use Rattle.hls_top.proofs.carry_out.carry_out_on.Goals as goal
 
@@ -20,5 +20,5 @@ returns g c =
     let run = c.run_scenario.ensures in
     let threads = c.run_scenario.new.progress.threads.items in
     legal_if_ok c.args.scenario c.run_scenario.new.progress _ c.report_of.result run.linked run.done run.ended
-    (discipline_fp threads _ run.linked.seated c.vouch.ensures)
+    (discipline_fp threads _ run.linked.seated c.vouch.ensures.0)
     (rw c.book.ensures at c.report_of.ensures)
