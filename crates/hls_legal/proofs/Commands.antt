@@ -12,7 +12,8 @@ use Rattle.hls_legal.specs.Linked.{book_at}
 use Rattle.hls_legal.proofs.Nodes.{IsCurrent, Grown, grown_reseated, seats-reseated, since-renewed}
 use Rattle.hls_legal.proofs.Nodes.{book-reseated, nobody_sits}
 use Rattle.hls_legal.proofs.Seatings.{lone_port}
-use Rattle.hls_legal.proofs.Takings.{may_sit, sits_terms}
+use Rattle.hls_legal.proofs.Takings.{may_sit}
+use Rattle.hls_kinds.proofs.MarkLaws.{sits_on}
 use Rattle.hls_legal.proofs.Kept.{Inv}
 use Rattle.hls_legal.proofs.Effects.{Owed, OwedSeat}
 
@@ -49,7 +50,7 @@ drop_owes h rank k empty = record {
   not_on_it = λ port seat slot e is. cc;
   down = λ c port seat p slot e is on. cc;
   riders = λ c port seat slot since e is sits. absurd
-      (let none = empty slot in let some = sits_terms (book_at h k) slot since seat.terms sits in cc);
+      (let none = empty slot in let some = sits_on (book_at h k) slot since seat.terms sits in cc);
 }
 
 -- nobody sits on a thread, nor on a scheduler that may be unloaded

@@ -16,8 +16,9 @@ use Rattle.hls_legal.specs.Hierarchy.{is_just}
 use Rattle.hls_legal.specs.Steps.{Hop, Path, hop_at, hops_of, thread_of, row_by, ticked, elapsed}
 use Rattle.hls_legal.specs.Legal.{asks_now, IsAsking, MayRun, root_asks}
 use Rattle.hls_legal.specs.Linked.{asking_at, given_at, book_at, config_at, SitsAt}
-use Rattle.hls_legal.proofs.Marks.{tenant_at-row, settled_at-row, asked-row, served-row, given-row}
-use Rattle.hls_legal.proofs.Marks.{asked_by-row, asked-now, served-now, given-now, asked_by-now, ports-row}
+use Rattle.hls_kinds.proofs.MarkLaws.{tenant_at-row, settled_at-row}
+use Rattle.hls_legal.proofs.Marks.{asked-row, served-row, given-row, asked_by-row, asked-now, served-now}
+use Rattle.hls_legal.proofs.Marks.{given-now, asked_by-now, ports-row}
 use Rattle.hls_legal.proofs.Nodes.{IsCurrent, nobody_sits}
 use Rattle.hls_legal.proofs.Kept.{Inv, follows_along, at_same, at_other}
 use Rattle.hls_legal.proofs.Walks.{slot_by, given_by, passes, comes, linked_tick, root_comes}

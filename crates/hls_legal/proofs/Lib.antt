@@ -13,3 +13,6 @@ pub mod Elapses
 pub mod Moments
 pub mod Stays
 pub mod Runs
+pub mod Rules
+pub mod Admissions
+pub mod Orders

@@ -18,6 +18,8 @@ use Rattle.hls_chron.proofs.BookLaws.{terms_at-mark, now_of-row, row_at-mark, ro
 use Rattle.hls_chron.proofs.BookLaws.{before-mark, before-row, before-now, dated-mark, row_at-unwritten}
 use Rattle.hls_kinds.specs.declared.tenant.Tenant.TheVariants.{Vacant}
 use Rattle.hls_kinds.specs.Tenants.{tenant_after, tenant_at, settled_after, settled_at}
+use Rattle.hls_kinds.proofs.MarkLaws.{tenant_at-mark, settled_at-mark}
+use Rattle.hls_promise.proofs.PromiseLaws.{row_at-later}
 use Rattle.hls_kinds.specs.Asks.{asks, slot_asks}
 use Rattle.hls_guarantee.specs.Steps.{IsPort}
 use Rattle.hls_promise.specs.Promise.{given, asked_by, HasPorts}
@@ -49,39 +51,17 @@ terms_at-marks b slot [] = refl
 terms_at-marks b slot (e ∷ es) = terms_at-marks (with_mark b e) slot es
     ∙ ap (λ x. fold (terms_after slot) x es) (terms_at-mark b e slot)
 
-pub tenant_at-mark : (b : Ledger) (event : Event) (slot : ℕ)
-    → tenant_at (with_mark b event) slot ≡ tenant_after slot (now_of b) (tenant_at b slot) event
-unfolding tenant_at
-tenant_at-mark b event slot = fold-append (λ tenant (m : Mark). tenant_after slot m.tick tenant m.event)
-    Vacant b.marks (record { tick = now_of b; event = event } ∷ [])
-
 pub tenant_at-marks : (b : Ledger) (slot : ℕ) (events : List Event)
     → tenant_at (with_marks b events) slot ≡ fold (tenant_after slot (now_of b)) (tenant_at b slot) events
 tenant_at-marks b slot [] = refl
 tenant_at-marks b slot (e ∷ es) = tenant_at-marks (with_mark b e) slot es
     ∙ ap (λ x. fold (tenant_after slot (now_of b)) x es) (tenant_at-mark b e slot)
 
-pub settled_at-mark : (b : Ledger) (event : Event)
-    → settled_at (with_mark b event) ≡ settled_after (now_of b) (settled_at b) event
-unfolding settled_at
-settled_at-mark b event = fold-append (λ last (m : Mark). settled_after m.tick last m.event) b.start b.marks
-    (record { tick = now_of b; event = event } ∷ [])
-
 pub settled_at-marks : (b : Ledger) (events : List Event)
     → settled_at (with_marks b events) ≡ fold (settled_after (now_of b)) (settled_at b) events
 settled_at-marks b [] = refl
 settled_at-marks b (e ∷ es) = settled_at-marks (with_mark b e) es
     ∙ ap (λ x. fold (settled_after (now_of b)) x es) (settled_at-mark b e)
-
--- a row leaves the marks
-pub tenant_at-row : (b : Ledger) (row : TickRow) (slot : ℕ)
-    → tenant_at (with_row b row) slot ≡ tenant_at b slot
-unfolding tenant_at
-tenant_at-row b row slot = refl
-
-pub settled_at-row : (b : Ledger) (row : TickRow) → settled_at (with_row b row) ≡ settled_at b
-unfolding settled_at
-settled_at-row b row = refl
 
 -- the book before its last row
 pub before-last : (b : Ledger) (row : TickRow) → IsDated b → before (now_of b) (with_row b row) ≡ roomless b
@@ -174,20 +154,13 @@ pub ports-marks : (config : Config) (b : Ledger) (events : List Event) → HasPo
     → HasPorts config (with_marks b events)
 ports-marks config b events has t = rw (row_at-marks b events t) (has t)
 
--- there is no row from the present tick on
-pub row_at-late : (b : Ledger) (t : ℕ) → now_of b ≤ t → row_at b t ≡ no_row
-unfolding row_at
-row_at-late b t le =
-    let late : b.start ≤ t = omega arith in
-    rw (le-ltb t b.start late) (get_or_past b.rows (t - b.start) no_row (omega arith))
-
 ports_at : (config : Config) (b : Ledger) (row : TickRow) → HasPorts config b
     → (is_some row.to ≡ true → IsPort config row.port) → (t : ℕ) → (t < now_of b) ⊎ (now_of b ≤ t)
     → is_some (row_at (with_row b row) t).to ≡ true → IsPort config (row_at (with_row b row) t).port
 ports_at config b row has good t (inl past) = rw (row_at-past b row t past) (has t)
 ports_at config b row has good t (inr late) = elim (cases_eq t (now_of b)) [
   | inl now ↦ rw (now, row_at-now b row) good
-  | inr ne ↦ rw (row_at-late (with_row b row) t (omega (arith, now_of-row b row))) (λ is. absurd (cc))
+  | inr ne ↦ rw (row_at-later (with_row b row) t (omega (arith, now_of-row b row))) (λ is. absurd (cc))
 ]
 
 pub ports-row : (config : Config) (b : Ledger) (row : TickRow) → HasPorts config b

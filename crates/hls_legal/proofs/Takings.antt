@@ -10,7 +10,7 @@ use Rattle.hls_kinds.specs.declared.tenant.Tenant.TheVariants.{Sits}
 use Rattle.hls_kinds.specs.Tenants.{tenant_at}
 use Rattle.hls_kinds.specs.Reservations.{is_held}
 use Rattle.hls_kinds.specs.Room.{occupant_at}
-use Rattle.hls_kinds.proofs.TenantLaws.{seated_in, seated-terms}
+use Rattle.hls_kinds.proofs.MarkLaws.{sits_on}
 use Rattle.hls_legal.specs.Ledgers.{with_marks}
 use Rattle.hls_legal.specs.Hierarchy.{Hierarchy, Place, Processor, At, Seat, book_of}
 use Rattle.hls_legal.specs.Steps.{leavings, root_with, root_without, is_processor}
@@ -75,21 +75,17 @@ root_stays (seat ∷ seats) root off =
     ] (off 0 seat refl)
 
 -- a seat takes up its slot
-pub sits_terms : (b : Ledger) (slot since : ℕ) (terms : Terms) → tenant_at b slot ≡ Sits terms since
-    → terms_at b slot ≡ Some terms
-sits_terms b slot since terms e = sym (seated-terms b slot) ∙ ap seated_in e
-
 occupied : (config : Config) (b : Ledger) (slot since : ℕ) (terms : Terms)
     → tenant_at b slot ≡ Sits terms since → occupant_at config b slot ≢ None
 unfolding is_held
-occupied configs.Edf b slot since terms e none = let has = sits_terms b slot since terms e in let no =
+occupied configs.Edf b slot since terms e none = let has = sits_on b slot since terms e in let no =
     rw (e, has) at none in cc
-occupied configs.Cpu b slot since terms e none = let has = sits_terms b slot since terms e in cc
-occupied configs.Fp b slot since terms e none = let has = sits_terms b slot since terms e in cc
-occupied (configs.Sfq total most) b slot since terms e none = let has = sits_terms b slot since terms e in cc
-occupied (configs.Rr quantum) b slot since terms e none = let has = sits_terms b slot since terms e in cc
-occupied (configs.Wheel frame) b slot since terms e none = let has = sits_terms b slot since terms e in cc
-occupied (configs.Join ports) b slot since terms e none = let has = sits_terms b slot since terms e in cc
+occupied configs.Cpu b slot since terms e none = let has = sits_on b slot since terms e in cc
+occupied configs.Fp b slot since terms e none = let has = sits_on b slot since terms e in cc
+occupied (configs.Sfq total most) b slot since terms e none = let has = sits_on b slot since terms e in cc
+occupied (configs.Rr quantum) b slot since terms e none = let has = sits_on b slot since terms e in cc
+occupied (configs.Wheel frame) b slot since terms e none = let has = sits_on b slot since terms e in cc
+occupied (configs.Join ports) b slot since terms e none = let has = sits_on b slot since terms e in cc
 
 -- and it is not free for another, unless it is left
 pub taken_not_free : (h : Hierarchy) (left : List Seat) (seat : Seat) (p slot since : ℕ) (terms : Terms)

@@ -5,3 +5,4 @@ pub mod Steps
 pub mod Legal
 pub mod Linked
 pub mod Supplied
+pub mod Orderly
