@@ -16,3 +16,4 @@ pub mod Runs
 pub mod Rules
 pub mod Admissions
 pub mod Orders
+pub mod Promises

@@ -1,0 +1,10 @@
+use Rattle.hls_legal.specs.Hierarchy.{start}
+use Rattle.hls_legal.specs.Orderly.{KeepsByRule}
+use Rattle.hls_legal.proofs.Orders.{start_due}
+use Rattle.hls_legal.proofs.Promises.{promises_along}
+use Rattle.hls_legal.proofs.Runs.{run_stays, start_kept}
+use Rattle.hls_legal.proofs.laws.legal_runs_by_rule_keep_every_stay.Goals as goal
+
+pub returns : goal.returns
+returns c = λ steps legal only.
+    run_stays steps start start_kept legal (promises_along steps start start_kept (start_due KeepsByRule) legal only) tt

@@ -1,0 +1,13 @@
+use Rattle.hls_legal.specs.Hierarchy.{start}
+use Rattle.hls_legal.specs.Steps.{state}
+use Rattle.hls_legal.proofs.Orders.{start_due}
+use Rattle.hls_legal.proofs.Promises.{Any, loads_any, run_due, node_orderly}
+use Rattle.hls_legal.proofs.Runs.{run_keeps, start_kept}
+use Rattle.hls_legal.proofs.laws.legal_runs_keep_books_orderly.Goals as goal
+
+pub returns : goal.returns
+returns c = λ steps legal k.
+    let h = state start steps in
+    let kept = run_keeps steps start start_kept legal in
+    node_orderly Any h.now (h.nodes k) (kept.inv.current k)
+    (run_due Any steps start start_kept legal (loads_any steps) (start_due Any) k)
