@@ -1,5 +1,6 @@
 -- What the marks of a command leave of the admission of seats.
-use Rattle.std.proofs.Common.{◌≡◌, ◌≢◌, ℕ, zero, suc, ◌<◌, List, [], ◌∷◌, ◌++◌, slice_get, Option, Some, None, true, false, ◌==◌, cond, refl, sym, ap, ◌∙◌, arith, fold, inl, inr}
+use Rattle.std.proofs.Common.{◌≡◌, ◌≢◌, ℕ, zero, suc, ◌<◌, List, [], ◌∷◌, ◌++◌, slice_get, Option, Some, None}
+use Rattle.std.proofs.Common.{true, false, ◌==◌, cond, refl, sym, ap, ◌∙◌, arith, fold, inl, inr}
 use Rattle.std.proofs.lemmas.Bool.{cases_eq, eq-eqb, ne_eqb}
 use Rattle.std.proofs.lemmas.List.Sums.{fold-append}
 use Rattle.hls_chron.specs.declared.book.Event.{Event}
@@ -22,66 +23,98 @@ stood-marks : (b : Ledger) (es : List Event) → HasStood b → HasStood (with_m
 stood-marks b [] stood = stood
 stood-marks b (e ∷ es) stood = stood-marks (with_mark b e) es (stood-mark b e stood)
 
-pub admission-marks : (config : Config) (b : Ledger) (es : List Event) → HasSeats config (with_marks b es) → KeepsAdmission config b → KeepsAdmission config (with_marks b es)
+pub admission-marks : (config : Config) (b : Ledger) (es : List Event) → HasSeats config (with_marks b es)
+    → KeepsAdmission config b → KeepsAdmission config (with_marks b es)
 admission-marks config b es seats kept = record {
   dated = dated-marks b es kept.dated;
   seats = seats;
   stood = stood-marks b es kept.stood;
-  had = λ t lt. let early : t < _ = omega (arith, lt, now_of-marks b es) in rw (before-marks b es t early) (kept.had t early);
-  seated = λ t slot lt. let early : t < _ = omega (arith, lt, now_of-marks b es) in rw (row_at-marks b es t, before-marks b es t early) (kept.seated t slot early);
+  had = λ t lt. let early : t < _ = omega (arith, lt, now_of-marks b es) in
+      rw (before-marks b es t early) (kept.had t early);
+  seated = λ t slot lt. let early : t < _ = omega (arith, lt, now_of-marks b es) in
+      rw (row_at-marks b es t, before-marks b es t early) (kept.seated t slot early);
 }
 
 -- a book with no other seats than another has seats as are to be if that has
 abbrev pub IsLess : (x y : Option Terms) → Type 0
 IsLess x y = (terms : Terms) → x ≡ Some terms → y ≡ Some terms
 
-priority_less : (x y : Option Terms) (priority : ℕ) → IsLess x y → priority_in x ≡ Some priority → priority_in y ≡ Some priority
+priority_less : (x y : Option Terms) (priority : ℕ) → IsLess x y → priority_in x ≡ Some priority
+    → priority_in y ≡ Some priority
 priority_less None y priority less is = absurd (cc)
 priority_less (Some terms) y priority less is = ap priority_in (less terms refl) ∙ is
 
-seats_less : (config : Config) (a b : Ledger) → ((slot : ℕ) → IsLess (terms_at a slot) (terms_at b slot)) → HasSeats config b → HasSeats config a
+seats_less : (config : Config) (a b : Ledger) → ((slot : ℕ) → IsLess (terms_at a slot) (terms_at b slot))
+    → HasSeats config b → HasSeats config a
 seats_less config a b less had = record {
   within = λ slot terms is. had.within slot terms (less slot terms is);
   of_kind = λ slot terms is. had.of_kind slot terms (less slot terms is);
-  apart = λ slot other priority one two. had.apart slot other priority (priority_less (terms_at a slot) (terms_at b slot) priority (less slot) one) (priority_less (terms_at a other) (terms_at b other) priority (less other) two);
+  apart = λ slot other priority one two. had.apart slot other priority
+      (priority_less (terms_at a slot) (terms_at b slot) priority (less slot) one)
+      (priority_less (terms_at a other) (terms_at b other) priority (less other) two);
 }
 
-left_less : (k slot : ℕ) (place : Place) (x : Option Terms) → IsLess (fold (terms_after slot) x (leaving_at k place)) x
+left_less : (k slot : ℕ) (place : Place) (x : Option Terms)
+    → IsLess (fold (terms_after slot) x (leaving_at k place)) x
 left_less k slot Processor x terms e = e
 left_less k slot (At p s) x terms e = elim (cases_eq p k) [
   | inr ne ↦ rw (ne_eqb p k ne) at e
-  | inl is ↦ elim (cases_eq s slot) [ inl a ↦ (let none = rw (eq-eqb p k is, eq-eqb s slot a) at e in cc) | inr a ↦ rw (eq-eqb p k is, ne_eqb s slot a) at e ]
+  | inl is ↦ elim (cases_eq s slot) [
+    | inl a ↦ (let none = rw (eq-eqb p k is, eq-eqb s slot a) at e in cc)
+    | inr a ↦
+        rw (eq-eqb p k is, ne_eqb s slot a) at e
+  ]
 ]
 
-pub leave_less : (seats : List Seat) (k slot : ℕ) (x : Option Terms) → IsLess (fold (terms_after slot) x (leavings seats k)) x
+pub leave_less : (seats : List Seat) (k slot : ℕ) (x : Option Terms)
+    → IsLess (fold (terms_after slot) x (leavings seats k)) x
 leave_less [] k slot x terms e = e
-leave_less (seat ∷ seats) k slot x terms e = left_less k slot seat.place x terms (leave_less seats k slot (fold (terms_after slot) x (leaving_at k seat.place)) terms (sym (fold-append (terms_after slot) x (leaving_at k seat.place) (leavings seats k)) ∙ e))
+leave_less (seat ∷ seats) k slot x terms e =
+    left_less k slot seat.place x terms
+    (leave_less seats k slot (fold (terms_after slot) x (leaving_at k seat.place)) terms
+    (sym (fold-append (terms_after slot) x (leaving_at k seat.place) (leavings seats k)) ∙ e))
 
-after_less : (slot : ℕ) (x y : Option Terms) (at : ℕ) (new : Terms) → IsLess x y → IsLess (terms_after slot x (events.Seat at new)) (terms_after slot y (events.Seat at new))
-after_less slot x y at new less terms = elim (at == slot) as (λ b. cond b (Some new) x ≡ Some terms → cond b (Some new) y ≡ Some terms) [ true ↦ λ e. e | false ↦ λ e. less terms e ]
+after_less : (slot : ℕ) (x y : Option Terms) (at : ℕ) (new : Terms) → IsLess x y
+    → IsLess (terms_after slot x (events.Seat at new)) (terms_after slot y (events.Seat at new))
+after_less slot x y at new less terms =
+    elim (at == slot) as (λ b. cond b (Some new) x ≡ Some terms → cond b (Some new) y ≡ Some terms)
+    [ true ↦ λ e. e | false ↦ λ e. less terms e ]
 
 -- at most one of these seats is at a scheduler
 abbrev pub OneEach : List Seat → Type 0
-OneEach seats = (port other : ℕ) (one two : Seat) → slice_get seats port ≡ Some one → slice_get seats other ≡ Some two → scheduler_at one.place ≡ scheduler_at two.place → port ≡ other
+OneEach seats = (port other : ℕ) (one two : Seat) → slice_get seats port ≡ Some one
+    → slice_get seats other ≡ Some two → scheduler_at one.place ≡ scheduler_at two.place → port ≡ other
 
 pub data SeatsOn (seats : List Seat) (k : ℕ) : Type 0 where
   Nowhere : (none : seatings seats k ≡ []) → SeatsOn seats k
-  Once : (port : ℕ) (seat : Seat) (slot : ℕ) (is : slice_get seats port ≡ Some seat) (there : seat.place ≡ At k slot) (one : seatings seats k ≡ events.Seat slot seat.terms ∷ []) → SeatsOn seats k
+  Once : (port : ℕ) (seat : Seat) (slot : ℕ) (is : slice_get seats port ≡ Some seat)
+      (there : seat.place ≡ At k slot) (one : seatings seats k ≡ events.Seat slot seat.terms ∷ [])
+      → SeatsOn seats k
 
-none_seated : (k : ℕ) (terms : Terms) (place : Place) → scheduler_at place ≢ Some k → seating_at k terms place ≡ []
+none_seated : (k : ℕ) (terms : Terms) (place : Place) → scheduler_at place ≢ Some k
+    → seating_at k terms place ≡ []
 none_seated k terms Processor ne = refl
-none_seated k terms (At p slot) ne = let off : p ≢ k = λ e. ne (ap (λ x. Some x) e) in rw (ne_eqb p k off) refl
+none_seated k terms (At p slot) ne = let off : p ≢ k = λ e. ne (ap (λ x. Some x) e) in
+    rw (ne_eqb p k off) refl
 
-no_seatings : (seats : List Seat) (k : ℕ) → ((port : ℕ) (seat : Seat) → slice_get seats port ≡ Some seat → scheduler_at seat.place ≢ Some k) → seatings seats k ≡ []
+no_seatings : (seats : List Seat) (k : ℕ)
+    → ((port : ℕ) (seat : Seat) → slice_get seats port ≡ Some seat → scheduler_at seat.place ≢ Some k)
+    → seatings seats k ≡ []
 no_seatings [] k off = refl
-no_seatings (seat ∷ seats) k off = rw (none_seated k seat.terms seat.place (off 0 seat refl)) (no_seatings seats k (λ port other e. off (suc port) other e))
+no_seatings (seat ∷ seats) k off = rw (none_seated k seat.terms seat.place (off 0 seat refl))
+    (no_seatings seats k (λ port other e. off (suc port) other e))
 
-seat_once : (k : ℕ) (seat : Seat) (seats : List Seat) (slot : ℕ) → seat.place ≡ At k slot → seatings seats k ≡ [] → SeatsOn (seat ∷ seats) k
-seat_once k seat seats slot e none = Once 0 seat slot refl e (ap (λ place. seating_at k seat.terms place ++ seatings seats k) e ∙ rw (none, eq-eqb k k refl) refl)
+seat_once : (k : ℕ) (seat : Seat) (seats : List Seat) (slot : ℕ) → seat.place ≡ At k slot
+    → seatings seats k ≡ [] → SeatsOn (seat ∷ seats) k
+seat_once k seat seats slot e none =
+    Once 0 seat slot refl e
+    (ap (λ place. seating_at k seat.terms place ++ seatings seats k) e ∙ rw (none, eq-eqb k k refl) refl)
 
-seat_later : (k : ℕ) (seat : Seat) (seats : List Seat) → scheduler_at seat.place ≢ Some k → SeatsOn seats k → SeatsOn (seat ∷ seats) k
+seat_later : (k : ℕ) (seat : Seat) (seats : List Seat) → scheduler_at seat.place ≢ Some k → SeatsOn seats k
+    → SeatsOn (seat ∷ seats) k
 seat_later k seat seats ne (Nowhere none) = Nowhere (rw (none_seated k seat.terms seat.place ne) none)
-seat_later k seat seats ne (Once port other slot is there one) = Once (suc port) other slot is there (rw (none_seated k seat.terms seat.place ne) one)
+seat_later k seat seats ne (Once port other slot is there one) =
+    Once (suc port) other slot is there (rw (none_seated k seat.terms seat.place ne) one)
 
 -- where a place is, relative to a scheduler
 data IsAt (place : Place) (k : ℕ) : Type 0 where
@@ -90,27 +123,48 @@ data IsAt (place : Place) (k : ℕ) : Type 0 where
 
 is_at : (place : Place) (k : ℕ) → IsAt place k
 is_at Processor k = Away (λ e. cc)
-is_at (At p slot) k = elim (cases_eq p k) [ inl e ↦ Here slot (ap (λ x. At x slot) e) | inr ne ↦ Away (λ e. ne (cc)) ]
+is_at (At p slot) k =
+    elim (cases_eq p k) [ inl e ↦ Here slot (ap (λ x. At x slot) e) | inr ne ↦ Away (λ e. ne (cc)) ]
 
 pub seats_on : (seats : List Seat) (k : ℕ) → OneEach seats → SeatsOn seats k
 seats_on [] k one = Nowhere refl
 seats_on (seat ∷ seats) k one = elim (is_at seat.place k) [
-  | Away away ↦ seat_later k seat seats away (seats_on seats k (λ port other a c e f same. let s : suc port ≡ suc other = one (suc port) (suc other) a c e f same in omega arith))
+  | Away away ↦
+      seat_later k seat seats away
+      (seats_on seats k
+      (λ port other a c e f same. let s : suc port ≡ suc other = one (suc port) (suc other) a c e f same in
+      omega arith))
   | Here slot here ↦ seat_once k seat seats slot here (no_seatings seats k (λ port other f g.
-      let same : zero ≡ suc port = one 0 (suc port) seat other refl f (ap scheduler_at here ∙ sym g) in omega arith))
+      let same : zero ≡ suc port = one 0 (suc port) seat other refl f (ap scheduler_at here ∙ sym g) in
+      omega arith))
 ]
 
 -- the seats of a book after a command's marks
 module _ (config : Config) (b : Ledger) (gone taken : List Seat) (k : ℕ) (had : HasSeats config b) where
-  terms_after_all : (slot : ℕ) → terms_at (with_marks b (leavings gone k ++ seatings taken k)) slot ≡ fold (terms_after slot) (fold (terms_after slot) (terms_at b slot) (leavings gone k)) (seatings taken k)
-  terms_after_all slot = terms_at-marks b slot (leavings gone k ++ seatings taken k) ∙ fold-append (terms_after slot) (terms_at b slot) (leavings gone k) (seatings taken k)
+  terms_after_all : (slot : ℕ)
+      → terms_at (with_marks b (leavings gone k ++ seatings taken k)) slot ≡ fold (terms_after slot)
+      (fold (terms_after slot) (terms_at b slot) (leavings gone k)) (seatings taken k)
+  terms_after_all slot = terms_at-marks b slot (leavings gone k ++ seatings taken k)
+      ∙ fold-append (terms_after slot) (terms_at b slot) (leavings gone k) (seatings taken k)
 
-  pub seats_after : SeatsOn taken k → ((port : ℕ) (seat : Seat) (slot : ℕ) → slice_get taken port ≡ Some seat → seat.place ≡ At k slot → (slot < most_seats config) × Fits config b seat.terms) → HasSeats config (with_marks b (leavings gone k ++ seatings taken k))
-  seats_after (Nowhere none) may = seats_less config (with_marks b (leavings gone k ++ seatings taken k)) b (λ slot terms e.
-      leave_less gone k slot (terms_at b slot) terms (sym (terms_after_all slot ∙ ap (λ es. fold (terms_after slot) (fold (terms_after slot) (terms_at b slot) (leavings gone k)) es) none) ∙ e)) had
+  pub seats_after : SeatsOn taken k
+      → ((port : ℕ) (seat : Seat) (slot : ℕ) → slice_get taken port ≡ Some seat → seat.place ≡ At k slot
+      → (slot < most_seats config) × Fits config b seat.terms)
+      → HasSeats config (with_marks b (leavings gone k ++ seatings taken k))
+  seats_after (Nowhere none) may = seats_less config (with_marks b (leavings gone k ++ seatings taken k)) b
+      (λ slot terms e.
+      leave_less gone k slot (terms_at b slot) terms
+      (sym (terms_after_all slot
+      ∙ ap (λ es. fold (terms_after slot) (fold (terms_after slot) (terms_at b slot) (leavings gone k))
+      es) none) ∙ e)) had
   seats_after (Once port seat at is there one) may =
       let mark = events.Seat at seat.terms in
       let added = seats-mark config b mark (may port seat at is there) had in
-      seats_less config (with_marks b (leavings gone k ++ seatings taken k)) (with_mark b mark) (λ slot terms e.
-      terms_at-mark b mark slot ∙ after_less slot (fold (terms_after slot) (terms_at b slot) (leavings gone k)) (terms_at b slot) at seat.terms (leave_less gone k slot (terms_at b slot)) terms
-      (sym (terms_after_all slot ∙ ap (λ es. fold (terms_after slot) (fold (terms_after slot) (terms_at b slot) (leavings gone k)) es) one) ∙ e)) added
+      seats_less config (with_marks b (leavings gone k ++ seatings taken k)) (with_mark b mark)
+      (λ slot terms e.
+      terms_at-mark b mark slot
+      ∙ after_less slot (fold (terms_after slot) (terms_at b slot) (leavings gone k)) (terms_at b slot) at
+      seat.terms (leave_less gone k slot (terms_at b slot)) terms
+      (sym (terms_after_all slot
+      ∙ ap (λ es. fold (terms_after slot) (fold (terms_after slot) (terms_at b slot) (leavings gone k))
+      es) one) ∙ e)) added

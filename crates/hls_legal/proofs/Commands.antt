@@ -14,7 +14,7 @@ use Rattle.hls_legal.proofs.Nodes.{book-reseated, nobody_sits}
 use Rattle.hls_legal.proofs.Seatings.{lone_port}
 use Rattle.hls_legal.proofs.Takings.{may_sit}
 use Rattle.hls_kinds.proofs.MarkLaws.{sits_on}
-use Rattle.hls_legal.proofs.Kept.{Inv}
+use Rattle.hls_legal.proofs.Kept.{IsSound}
 use Rattle.hls_legal.proofs.Effects.{Owed, OwedSeat}
 
 nowhere : (place : Place) → NotBelow nobody place
@@ -61,7 +61,7 @@ thread_empty any t slot = rw t.there refl
 pub unload_empty : (node : Option Node) → CanUnload node → (slot : ℕ) → terms_at (book_of node) slot ≡ None
 unload_empty any can slot = ap (λ n. terms_at (book_of n) slot) can.there ∙ can.empty slot
 
-module _ (h : Hierarchy) (rank : ℕ → ℕ) (inv : Inv h rank) (k : ℕ) (new : Seat) (below : ℕ → Bool)
+module _ (h : Hierarchy) (rank : ℕ → ℕ) (sound : IsSound h rank) (k : ℕ) (new : Seat) (below : ℕ → Bool)
     (can : CanMove h k new below) where
   abbrev node : Option Node
   node = reseated new (h.nodes k)
@@ -70,7 +70,7 @@ module _ (h : Hierarchy) (rank : ℕ → ℕ) (inv : Inv h rank) (k : ℕ) (new 
   seats = seats-reseated new new.place (h.nodes k) can.sort
 
   grown : Grown h.now h.past k (h.nodes k) node
-  grown = grown_reseated h.now h.past k new new.place (h.nodes k) can.sort (inv.current k)
+  grown = grown_reseated h.now h.past k new new.place (h.nodes k) can.sort (sound.current k)
 
   is_new : (port : ℕ) (seat : Seat) → seat_of node port ≡ Some seat → new ≡ seat
   is_new port seat e = (lone_port new seat port (sym (ap (λ xs. slice_get xs port) seats) ∙ e)).same
@@ -90,7 +90,8 @@ module _ (h : Hierarchy) (rank : ℕ → ℕ) (inv : Inv h rank) (k : ℕ) (new 
         let at_k : new.place ≡ At k slot = ap (λ (x : Seat). x.place) (is_new port seat e) ∙ is in
         let off : below k ≡ false = subst (NotBelow below) at_k can.acyclic in
         let on = can.under.itself in cc;
-    down = can.under.down;
+    down = λ c port seat p slot e is on. can.under.down c p
+        (record { port = port; seat = seat; slot = slot; sits = e; at_place = is }) on;
     riders = λ c port seat slot since e is sits. record {
       grown = grown;
       book = book-reseated new (h.nodes k);

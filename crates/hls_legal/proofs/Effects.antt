@@ -19,7 +19,8 @@ use Rattle.hls_legal.proofs.Nodes.{seats-marked, seats-renewed, since-renewed, t
 use Rattle.hls_legal.proofs.Seatings.{Elsewhere, Apart, seatings_off, seatings_here, leavings_off}
 use Rattle.hls_legal.proofs.Takings.{above, above_each, root_takes, root_keeps, root_stays, taken_not_free}
 use Rattle.hls_legal.proofs.Takings.{may_sit, may_root}
-use Rattle.hls_legal.proofs.Kept.{Alone, Inv, follows_along, sits_kept, sits_fresh, reigns_kept, reigns_fresh}
+use Rattle.hls_legal.proofs.Kept.{Alone, IsSound, follows_along, sits_kept, sits_fresh, reigns_kept}
+use Rattle.hls_legal.proofs.Kept.{reigns_fresh}
 use Rattle.hls_legal.proofs.Kept.{at_same, at_other}
 
 -- a seat of the new node may be taken, and is not below it
@@ -56,7 +57,8 @@ pub record HadBy (h : Hierarchy) (node : Option Node) (slot latest : ℕ) (seat 
   pub sits : tenant_at (book_of node) slot ≡ Sits seat.terms from
   pub in_time : from ≤ latest
 
-module _ (h : Hierarchy) (rank : ℕ → ℕ) (inv : Inv h rank) (k : ℕ) (node : Option Node) (below : ℕ → Bool)
+module _ (h : Hierarchy) (rank : ℕ → ℕ) (sound : IsSound h rank) (k : ℕ) (node : Option Node)
+    (below : ℕ → Bool)
     (owed : Owed h rank k node below) where
   abbrev gone : List Seat
   gone = seats_of (h.nodes k)
@@ -89,7 +91,7 @@ module _ (h : Hierarchy) (rank : ℕ → ℕ) (inv : Inv h rank) (k : ℕ) (node
   inner_current c = elim (cases_eq c k) [
     | inl e ↦ subst (IsCurrent h.now) (sym (same c e)) owed.current
     | inr ne ↦ subst (IsCurrent h.now) (sym (other c ne))
-        (grown_marked h.now h.past c (events c) (h.nodes c) (inv.current c)).current
+        (grown_marked h.now h.past c (events c) (h.nodes c) (sound.current c)).current
   ]
 
   settle : (c : ℕ) → Grown h.now h.past c (inner c) (nodes c)
@@ -98,7 +100,7 @@ module _ (h : Hierarchy) (rank : ℕ → ℕ) (inv : Inv h rank) (k : ℕ) (node
   grown : (c : ℕ) → c ≢ k → Grown h.now h.past c (h.nodes c) (nodes c)
   grown c ne = grown_then h.now h.past c (h.nodes c) (inner c) (nodes c)
       (subst (Grown h.now h.past c (h.nodes c)) (sym (other c ne))
-      (grown_marked h.now h.past c (events c) (h.nodes c) (inv.current c))) (settle c)
+      (grown_marked h.now h.past c (events c) (h.nodes c) (sound.current c))) (settle c)
 
   new_seats : (c : ℕ) → c ≡ k → seats_of (nodes c) ≡ taken
   new_seats c is = seats-renewed (below c) h.now (inner c) ∙ ap seats_of (same c is)
@@ -119,7 +121,7 @@ module _ (h : Hierarchy) (rank : ℕ → ℕ) (inv : Inv h rank) (k : ℕ) (node
   not_gone : (c port q : ℕ) (seat two : Seat) (place : Place) → c ≢ k → seat_of (h.nodes c) port ≡ Some seat
       → seat.place ≡ place → slice_get gone q ≡ Some two → two.place ≢ place
   not_gone c port q seat two place ne e is f at_place =
-      ne (inv.alone c k port q seat two e f (is ∙ sym at_place)).node
+      ne (sound.alone c k port q seat two e f (is ∙ sym at_place)).node
 
   not_taken : (c port q : ℕ) (seat two : Seat) (place : Place) → c ≢ k → seat_of (h.nodes c) port ≡ Some seat
       → seat.place ≡ place → SitsAt h rank c port seat place → slice_get taken q ≡ Some two
@@ -141,14 +143,15 @@ module _ (h : Hierarchy) (rank : ℕ → ℕ) (inv : Inv h rank) (k : ℕ) (node
             owed.apart port q one two (new_seat c port one a e) (new_seat d q two b f) same_place;
       }
       | inr b ↦ let g = old_seat d q two b f in
-          absurd (not_taken d q port two one two.place b g refl (inv.sits d q two g) (new_seat c port one a e)
+          absurd (not_taken d q port two one two.place b g refl (sound.sits d q two g)
+          (new_seat c port one a e)
           same_place)
     ]
     | inr a ↦ let g = old_seat c port one a e in elim (cases_eq d k) [
       | inl b ↦ absurd
-          (not_taken c port q one two one.place a g refl (inv.sits c port one g) (new_seat d q two b f)
+          (not_taken c port q one two one.place a g refl (sound.sits c port one g) (new_seat d q two b f)
           (sym same_place))
-      | inr b ↦ inv.alone c d port q one two g (old_seat d q two b f) same_place
+      | inr b ↦ sound.alone c d port q one two g (old_seat d q two b f) same_place
     ]
   ]
 
@@ -262,7 +265,7 @@ module _ (h : Hierarchy) (rank : ℕ → ℕ) (inv : Inv h rank) (k : ℕ) (node
       let s = m.scheduler in
       let there : nodes p ≡ marked (events p) (Some (Loaded s)) = ap (λ x. renewed x h.now (inner p)) off
       ∙ other p parent ∙ ap (marked (events p)) m.there in
-      let is_now : IsUpTo h.now s = subst (IsCurrent h.now) m.there (inv.current p) in
+      let is_now : IsUpTo h.now s = subst (IsCurrent h.now) m.there (sound.current p) in
       let now = now_of s.book in
       let was = tenant_at s.book slot in
       let sits : tenant_at (book_of (nodes p)) slot ≡ Sits seat.terms now =
@@ -283,14 +286,14 @@ module _ (h : Hierarchy) (rank : ℕ → ℕ) (inv : Inv h rank) (k : ℕ) (node
       (follows_along s.config (config_of (nodes p)) seat.terms (h.nodes p) (nodes p) seat.kept
       (ap config_of there) (old_seats p parent) m.derived)
 
-  pub effect_inv : Inv (effect h k node below) rank_after
-  effect_inv = record {
+  pub effect_sound : IsSound (effect h k node below) rank_after
+  effect_sound = record {
     current = λ c. (settle c).current;
     sits = λ c port seat e. elim (cases_eq c k) [
       | inl is ↦ let f = new_seat c port seat is e in let m = owed.seats port seat f in
           new_sits c port seat seat.place is f refl m.take m.off
       | inr ne ↦ let f = old_seat c port seat ne e in
-          old_sits c port seat seat.place ne f refl (inv.sits c port seat f)
+          old_sits c port seat seat.place ne f refl (sound.sits c port seat f)
     ];
     alone = alone;
   }

@@ -20,7 +20,7 @@ use Rattle.hls_kinds.proofs.MarkLaws.{tenant_at-row, settled_at-row}
 use Rattle.hls_legal.proofs.Marks.{asked-row, served-row, given-row, asked_by-row, asked-now, served-now}
 use Rattle.hls_legal.proofs.Marks.{given-now, asked_by-now, ports-row}
 use Rattle.hls_legal.proofs.Nodes.{IsCurrent, nobody_sits}
-use Rattle.hls_legal.proofs.Kept.{Inv, follows_along, at_same, at_other}
+use Rattle.hls_legal.proofs.Kept.{IsSound, follows_along, at_same, at_other}
 use Rattle.hls_legal.proofs.Walks.{slot_by, given_by, passes, comes, linked_tick, root_comes}
 use Rattle.hls_legal.proofs.Hops.{row_port}
 
@@ -113,7 +113,7 @@ comes_idle c port None = refl
 comes_idle c port (Some (Loaded s)) = refl
 comes_idle c port (Some (Admitted x)) = refl
 
-module _ (h : Hierarchy) (rank : ℕ → ℕ) (inv : Inv h rank) (asking : ℕ → Bool) (masks : ℕ → ℕ)
+module _ (h : Hierarchy) (rank : ℕ → ℕ) (sound : IsSound h rank) (asking : ℕ → Bool) (masks : ℕ → ℕ)
     (path : Option Path) (asks_so : IsAsking h asking masks) (may : MayRun h asking masks path) where
   abbrev made : Hierarchy
   made = elapsed h asking masks path
@@ -183,7 +183,8 @@ module _ (h : Hierarchy) (rank : ℕ → ℕ) (inv : Inv h rank) (asking : ℕ �
       → seat_of (h.nodes c) port ≡ Some seat → seat.place ≡ At p slot → rank p < rank c
       → passes (hops_of some) p slot ≡ comes (hops_of some) (thread_of some) c (h.nodes c) port
   link None m c port seat p slot e is lt = sym (comes_idle c port (h.nodes c))
-  link (Some w) m c port seat p slot e is lt = linked_tick h rank inv masks w.hops w.thread c port seat p slot
+  link (Some w) m c port seat p slot e is lt = linked_tick h rank sound masks w.hops w.thread c port seat p
+      slot
       m.1 e is lt
 
   root_link : (some : Option Path) → MayRun h asking masks some → (c port : ℕ) (seat : Seat)
@@ -192,7 +193,7 @@ module _ (h : Hierarchy) (rank : ℕ → ℕ) (inv : Inv h rank) (asking : ℕ �
   root_link None m c port seat e is r = sym (ap (λ o. root_asks o asking) r) ∙ m
       ∙ sym (comes_idle c port (h.nodes c))
   root_link (Some w) m c port seat e is r = sym (ap (λ o. root_asks o asking) r) ∙ m.0
-      ∙ sym (root_comes h rank inv masks w.hops w.thread c port seat m.1 e is)
+      ∙ sym (root_comes h rank sound masks w.hops w.thread c port seat m.1 e is)
 
   was : (c port : ℕ) (seat : Seat) → seat_of (made.nodes c) port ≡ Some seat
       → seat_of (h.nodes c) port ≡ Some seat
@@ -204,19 +205,19 @@ module _ (h : Hierarchy) (rank : ℕ → ℕ) (inv : Inv h rank) (asking : ℕ �
 
   -- the accounts of c tell the same of earlier ticks, and of this one what was chosen
   asking_old : (c t : ℕ) → t < h.now → asking_at made c t ≡ asking_at h c t
-  asking_old c t early = asking-before c (h.nodes c) t (inv.current c) early
+  asking_old c t early = asking-before c (h.nodes c) t (sound.current c) early
 
   given_old : (c port t : ℕ) → t < h.now → given_at made c port t ≡ given_at h c port t
-  given_old c port t early = given-before c port (h.nodes c) t (inv.current c) early
+  given_old c port t early = given-before c port (h.nodes c) t (sound.current c) early
 
   asking_new : (c t : ℕ) → t ≡ h.now → asking_at made c t ≡ asking c
   asking_new c t now = ap (λ x. asking_at made c x) now
-      ∙ asking-this c (h.nodes c) (inv.current c) (asks_so.nodes c)
+      ∙ asking-this c (h.nodes c) (sound.current c) (asks_so.nodes c)
 
   given_new : (c port t : ℕ) → t ≡ h.now
       → given_at made c port t ≡ comes (hops_of path) (thread_of path) c (h.nodes c) port
   given_new c port t now = ap (λ x. given_at made c port x) now
-      ∙ given-this c port (h.nodes c) (inv.current c)
+      ∙ given-this c port (h.nodes c) (sound.current c)
 
   sits_at : (c port : ℕ) (seat : Seat) (place : Place) → seat_of (h.nodes c) port ≡ Some seat
       → seat.place ≡ place → SitsAt h rank c port seat place → SitsAt made rank c port seat place
@@ -233,35 +234,35 @@ module _ (h : Hierarchy) (rank : ℕ → ℕ) (inv : Inv h rank) (asking : ℕ �
   }
   sits_at c port seat (At p slot) e is s = record {
     below = s.below;
-    now = clock-ticked h.now (masks p) (hop p) (h.nodes p) slot s.from seat.terms (inv.current p) s.sits;
+    now = clock-ticked h.now (masks p) (hop p) (h.nodes p) slot s.from seat.terms (sound.current p) s.sits;
     from = s.from;
     sits = tenant-ticked (masks p) (hop p) (h.nodes p) slot ∙ s.sits;
     since = omega (arith, s.since, since-ticked (masks c) (hop c) (h.nodes c));
     asks = λ t a b. elim (now_or_before t b) [
-      | inl early ↦ asked-before h.now (masks p) (hop p) (h.nodes p) slot t (inv.current p) early
+      | inl early ↦ asked-before h.now (masks p) (hop p) (h.nodes p) slot t (sound.current p) early
           ∙ s.asks t (omega (arith, since-ticked (masks c) (hop c) (h.nodes c))) early
           ∙ sym (asking_old c t early)
       | inr now ↦ ap (λ x. asked (book_at made p) slot x) now
-          ∙ asked-this h.now (masks p) (hop p) (h.nodes p) slot s.from seat.terms (inv.current p) s.sits
+          ∙ asked-this h.now (masks p) (hop p) (h.nodes p) slot s.from seat.terms (sound.current p) s.sits
           ∙ asks_so.seats c port seat p slot e is ∙ sym (asking_new c t now)
     ];
     gives = λ t a b. elim (now_or_before t b) [
-      | inl early ↦ served-before h.now (masks p) (hop p) (h.nodes p) slot t (inv.current p) early
+      | inl early ↦ served-before h.now (masks p) (hop p) (h.nodes p) slot t (sound.current p) early
           ∙ s.gives t (omega (arith, since-ticked (masks c) (hop c) (h.nodes c))) early
           ∙ sym (given_old c port t early)
       | inr now ↦ ap (λ x. served (book_at made p) slot x) now
-          ∙ served-this h.now (masks p) (hop p) (h.nodes p) slot s.from seat.terms (inv.current p) s.sits
+          ∙ served-this h.now (masks p) (hop p) (h.nodes p) slot s.from seat.terms (sound.current p) s.sits
           ∙ link path may c port seat p slot e is s.below ∙ sym (given_new c port t now)
     ];
     derived = follows_along (config_at h p) (config_at made p) seat.terms (h.nodes p) (made.nodes p) seat.kept
         (config-ticked (masks p) (hop p) (h.nodes p)) (seats-ticked (masks p) (hop p) (h.nodes p)) s.derived;
   }
 
-  pub elapsed_inv : Inv (elapsed h asking masks path) rank
-  elapsed_inv = record {
-    current = λ c. current-ticked c (h.nodes c) refl (inv.current c);
+  pub elapsed_sound : IsSound (elapsed h asking masks path) rank
+  elapsed_sound = record {
+    current = λ c. current-ticked c (h.nodes c) refl (sound.current c);
     sits = λ c port seat e. let f = was c port seat e in
-        sits_at c port seat seat.place f refl (inv.sits c port seat f);
-    alone = λ c d port q one two e f same_place. inv.alone c d port q one two (was c port one e)
+        sits_at c port seat seat.place f refl (sound.sits c port seat f);
+    alone = λ c d port q one two e f same_place. sound.alone c d port q one two (was c port one e)
         (was d q two f) same_place;
   }

@@ -25,7 +25,7 @@ abbrev pub Alone : (ℕ → Option Node) → Type 0
 Alone nodes = (c d port other : ℕ) (one two : Seat) → seat_of (nodes c) port ≡ Some one
     → seat_of (nodes d) other ≡ Some two → one.place ≡ two.place → IsSeat c d port other
 
-pub record Inv (h : Hierarchy) (rank : ℕ → ℕ) : Type 0 where
+pub record IsSound (h : Hierarchy) (rank : ℕ → ℕ) : Type 0 where
   pub current : (k : ℕ) → IsCurrent h.now (h.nodes k)
   pub sits : (c port : ℕ) (seat : Seat) → seat_of (h.nodes c) port ≡ Some seat
       → SitsAt h rank c port seat seat.place

@@ -17,3 +17,4 @@ pub mod Rules
 pub mod Admissions
 pub mod Orders
 pub mod Promises
+pub mod Readings

@@ -3,20 +3,16 @@ use Rattle.std.proofs.Common.{◌≡◌, ℕ, ◌-◌, ◌<◌, ◌≤◌, List,
 use Rattle.std.proofs.Common.{is_some, ◌==◌, ◌&&◌}
 use Rattle.std.specs.Prelude.{◌⊎◌}
 use Rattle.std.proofs.Common.{inl, inr, true}
-use Rattle.std.proofs.lemmas.Bool.{cases_lt, cases_eq, le-ltb}
-use Rattle.std.proofs.lemmas.List.{get_or_past}
-use Rattle.std.proofs.lemmas.List.Sums.{fold-append}
+use Rattle.std.proofs.lemmas.Bool.{cases_lt, cases_eq}
 use Rattle.std.proofs.Math.Seq.{take-append_seam}
 use Rattle.hls_chron.specs.declared.book.TickRow.{TickRow}
-use Rattle.hls_chron.specs.declared.book.Mark.{Mark}
 use Rattle.hls_chron.specs.declared.book.Event.{Event}
 use Rattle.hls_chron.specs.declared.book.Event.TheVariants.{Seat, Leave, Settle}
 use Rattle.hls_chron.specs.declared.plain.Config.{Config}
-use Rattle.hls_chron.specs.Ledger.{Ledger, now_of, with_row, with_mark, row_at, before, no_row, IsDated}
+use Rattle.hls_chron.specs.Ledger.{Ledger, now_of, with_row, with_mark, row_at, before, IsDated}
 use Rattle.hls_chron.specs.Seats.{terms_after, terms_at, asked, served, is_slot}
 use Rattle.hls_chron.proofs.BookLaws.{terms_at-mark, now_of-row, row_at-mark, row_at-past, row_at-now}
 use Rattle.hls_chron.proofs.BookLaws.{before-mark, before-row, before-now, dated-mark, row_at-unwritten}
-use Rattle.hls_kinds.specs.declared.tenant.Tenant.TheVariants.{Vacant}
 use Rattle.hls_kinds.specs.Tenants.{tenant_after, tenant_at, settled_after, settled_at}
 use Rattle.hls_kinds.proofs.MarkLaws.{tenant_at-mark, settled_at-mark}
 use Rattle.hls_promise.proofs.PromiseLaws.{row_at-later}

@@ -24,7 +24,7 @@ use Rattle.hls_legal.specs.Linked.{since_at, asking_at, given_at, book_at, confi
 use Rattle.hls_legal.specs.Linked.{IsLinked, KeepsPromises, IsSupplied}
 use Rattle.hls_legal.proofs.Marks.{ports-empty}
 use Rattle.hls_legal.proofs.Nodes.{IsCurrent, nobody_sits}
-use Rattle.hls_legal.proofs.Kept.{Inv}
+use Rattle.hls_legal.proofs.Kept.{IsSound}
 
 -- what is given wherever it is asked for is all
 all_given : (f a : ℕ → Bool) (lo hi : ℕ) → Agree a f lo hi → Supplies All f a lo hi
@@ -145,5 +145,5 @@ has_ports now None c = ports-empty configs.Cpu 0 0 0
 has_ports now (Some (Loaded s)) c = c.ports
 has_ports now (Some (Admitted t)) c = ports-empty configs.Cpu 0 0 0
 
-pub linked : (h : Hierarchy) (rank : ℕ → ℕ) → Inv h rank → IsLinked h rank
-linked h rank inv = record { sits = inv.sits; ports = λ k. has_ports h.now (h.nodes k) (inv.current k) }
+pub linked : (h : Hierarchy) (rank : ℕ → ℕ) → IsSound h rank → IsLinked h rank
+linked h rank sound = record { sits = sound.sits; ports = λ k. has_ports h.now (h.nodes k) (sound.current k) }

@@ -7,9 +7,9 @@ use Rattle.hls_legal.specs.Hierarchy.{book_of}
 use Rattle.hls_legal.specs.Steps.{roused, with_wake}
 use Rattle.hls_legal.specs.Linked.{config_at, SitsAt}
 use Rattle.hls_legal.proofs.Nodes.{Grown, grown_same, grown_roused, seats-roused, book-roused}
-use Rattle.hls_legal.proofs.Kept.{Inv, follows_along, sits_kept, reigns_kept}
+use Rattle.hls_legal.proofs.Kept.{IsSound, follows_along, sits_kept, reigns_kept}
 
-module _ (h : Hierarchy) (rank : ℕ → ℕ) (inv : Inv h rank) (k : ℕ) (how : Wake) where
+module _ (h : Hierarchy) (rank : ℕ → ℕ) (sound : IsSound h rank) (k : ℕ) (how : Wake) where
   abbrev made : Hierarchy
   made = with_wake h k how
 
@@ -19,9 +19,9 @@ module _ (h : Hierarchy) (rank : ℕ → ℕ) (inv : Inv h rank) (k : ℕ) (how 
   grown : (c : ℕ) → Grown h.now h.past c (h.nodes c) (nodes c)
   grown c = elim
       (c == k) as (λ b. Grown h.now h.past c (h.nodes c) (cond b (roused how (h.nodes c)) (h.nodes c))) [
-        | true ↦ grown_roused h.now h.past c how (h.nodes c) (inv.current c)
+        | true ↦ grown_roused h.now h.past c how (h.nodes c) (sound.current c)
         | false ↦
-            grown_same h.now h.past c (h.nodes c) (inv.current c)
+            grown_same h.now h.past c (h.nodes c) (sound.current c)
       ]
 
   seats_same : (c : ℕ) → seats_of (nodes c) ≡ seats_of (h.nodes c)
@@ -46,10 +46,10 @@ module _ (h : Hierarchy) (rank : ℕ → ℕ) (inv : Inv h rank) (k : ℕ) (how 
       (follows_along (config_at h p) (config_at h p) seat.terms (h.nodes p) (nodes p) seat.kept refl
       (seats_same p) s.derived)
 
-  pub roused_inv : Inv (with_wake h k how) rank
-  roused_inv = record {
+  pub roused_sound : IsSound (with_wake h k how) rank
+  roused_sound = record {
     current = λ c. (grown c).current;
-    sits = λ c port seat e. sits_at c port seat seat.place (inv.sits c port seat (was c port seat e));
-    alone = λ c d port q one two e f same_place. inv.alone c d port q one two (was c port one e)
+    sits = λ c port seat e. sits_at c port seat seat.place (sound.sits c port seat (was c port seat e));
+    alone = λ c d port q one two e f same_place. sound.alone c d port q one two (was c port one e)
         (was d q two f) same_place;
   }

@@ -12,18 +12,18 @@ use Rattle.hls_legal.specs.Linked.{KeepsPromises}
 use Rattle.hls_legal.specs.Supplied.{KeepsPromisesAlong, KeepsStays}
 use Rattle.hls_legal.proofs.Marks.{ports-empty}
 use Rattle.hls_legal.proofs.Nodes.{IsUpTo}
-use Rattle.hls_legal.proofs.Kept.{Inv}
-use Rattle.hls_legal.proofs.Effects.{Owed, effect_inv}
+use Rattle.hls_legal.proofs.Kept.{IsSound}
+use Rattle.hls_legal.proofs.Effects.{Owed, effect_sound}
 use Rattle.hls_legal.proofs.Commands.{load_owes, drop_owes, move_owes, thread_empty, unload_empty}
-use Rattle.hls_legal.proofs.Rouses.{roused_inv}
-use Rattle.hls_legal.proofs.Elapses.{elapsed_inv}
+use Rattle.hls_legal.proofs.Rouses.{roused_sound}
+use Rattle.hls_legal.proofs.Elapses.{elapsed_sound}
 use Rattle.hls_legal.proofs.Moments.{linked, supplied}
 use Rattle.hls_legal.proofs.Stays.{Each, Stands, stays_kept, effect_stays, roused_stays, elapsed_stays}
 
 -- what is kept, with some ranks
 pub record Kept (h : Hierarchy) : Type 0 where
   pub rank : ℕ → ℕ
-  pub inv : Inv h rank
+  pub sound : IsSound h rank
 
 settled_empty : (now spare_ticks spare_marks : ℕ) → settled_at (empty_book now spare_ticks spare_marks) ≡ now
 unfolding settled_at
@@ -53,54 +53,58 @@ EffectOwed h rank (Rouse k burst) = Unit {0}
 EffectOwed h rank (Block k) = Unit {0}
 EffectOwed h rank (Elapse asking masks path) = Unit {0}
 
-pub step_owes : (h : Hierarchy) (rank : ℕ → ℕ) (step : Step) → Inv h rank → Can h step
+pub step_owes : (h : Hierarchy) (rank : ℕ → ℕ) (step : Step) → IsSound h rank → Can h step
     → EffectOwed h rank step
-step_owes h rank Refuse inv can = tt
-step_owes h rank (Load k name config spare_ticks spare_marks seats) inv can =
+step_owes h rank Refuse sound can = tt
+step_owes h rank (Load k name config spare_ticks spare_marks seats) sound can =
     load_owes h rank k (Loaded (loaded h.now name config spare_ticks spare_marks seats)) can.0.new.unused
     can.0.places (load_current h.now name config spare_ticks spare_marks seats can.0.ports)
     (settled_empty h.now spare_ticks spare_marks)
-step_owes h rank (Admit k name seat) inv can = load_owes h rank k (Admitted (admitted h.now name seat))
-    can.0.new.unused can.0.places (omega arith) refl
-step_owes h rank (End k) inv can = drop_owes h rank k (thread_empty (h.nodes k) can)
-step_owes h rank (Unload k) inv can = drop_owes h rank k (unload_empty (h.nodes k) can)
-step_owes h rank (Move k seat below) inv can = move_owes h rank inv k seat below can.0
-step_owes h rank (Rouse k burst) inv can = tt
-step_owes h rank (Block k) inv can = tt
-step_owes h rank (Elapse asking masks path) inv can = tt
+step_owes h rank (Admit k name seat) sound can = load_owes h rank k (Admitted (admitted h.now name seat))
+    can.new.unused can.places (omega arith) refl
+step_owes h rank (End k) sound can = drop_owes h rank k (thread_empty (h.nodes k) can)
+step_owes h rank (Unload k) sound can = drop_owes h rank k (unload_empty (h.nodes k) can)
+step_owes h rank (Move k seat below) sound can = move_owes h rank sound k seat below can.0
+step_owes h rank (Rouse k burst) sound can = tt
+step_owes h rank (Block k) sound can = tt
+step_owes h rank (Elapse asking masks path) sound can = tt
 
 pub step_keeps : (h : Hierarchy) (step : Step) → Kept h → Can h step → Kept (after h step)
 step_keeps h Refuse k can = k
 step_keeps h (Load c name config spare_ticks spare_marks seats) k can =
     record {
       rank = _;
-      inv =
-          effect_inv h k.rank k.inv c _ nobody
-          (step_owes h k.rank (Load c name config spare_ticks spare_marks seats) k.inv can);
+      sound =
+          effect_sound h k.rank k.sound c _ nobody
+          (step_owes h k.rank (Load c name config spare_ticks spare_marks seats) k.sound can);
     }
 step_keeps h (Admit c name seat) k can =
     record {
       rank = _;
-      inv =
-          effect_inv h k.rank k.inv c _ nobody (step_owes h k.rank (Admit c name seat) k.inv can);
+      sound =
+          effect_sound h k.rank k.sound c _ nobody (step_owes h k.rank (Admit c name seat) k.sound can);
     }
 step_keeps h (End c) k can =
-    record { rank = _; inv = effect_inv h k.rank k.inv c None nobody (step_owes h k.rank (End c) k.inv can) }
+    record {
+      rank = _;
+      sound =
+          effect_sound h k.rank k.sound c None nobody (step_owes h k.rank (End c) k.sound can);
+    }
 step_keeps h (Unload c) k can =
     record {
       rank = _;
-      inv = effect_inv h k.rank k.inv c None nobody (step_owes h k.rank (Unload c) k.inv can);
+      sound = effect_sound h k.rank k.sound c None nobody (step_owes h k.rank (Unload c) k.sound can);
     }
 step_keeps h (Move c seat below) k can =
     record {
       rank = _;
-      inv =
-          effect_inv h k.rank k.inv c _ below (step_owes h k.rank (Move c seat below) k.inv can);
+      sound =
+          effect_sound h k.rank k.sound c _ below (step_owes h k.rank (Move c seat below) k.sound can);
     }
-step_keeps h (Rouse c burst) k can = record { rank = k.rank; inv = roused_inv h k.rank k.inv c _ }
-step_keeps h (Block c) k can = record { rank = k.rank; inv = roused_inv h k.rank k.inv c _ }
+step_keeps h (Rouse c burst) k can = record { rank = k.rank; sound = roused_sound h k.rank k.sound c _ }
+step_keeps h (Block c) k can = record { rank = k.rank; sound = roused_sound h k.rank k.sound c _ }
 step_keeps h (Elapse asking masks path) k can =
-    record { rank = k.rank; inv = elapsed_inv h k.rank k.inv asking masks path can.0 can.1 }
+    record { rank = k.rank; sound = elapsed_sound h k.rank k.sound asking masks path can.0 can.1 }
 
 -- the stays
 step_stays : (h : Hierarchy) (step : Step) → Kept h → KeepsPromises h → Can h step → Each (Stands h) h.stays
@@ -108,20 +112,20 @@ step_stays : (h : Hierarchy) (step : Step) → Kept h → KeepsPromises h → Ca
 step_stays h Refuse k promises can each = each
 step_stays h (Load c name config spare_ticks spare_marks seats) k promises can each =
     effect_stays h k.rank c _ nobody
-    (step_owes h k.rank (Load c name config spare_ticks spare_marks seats) k.inv can)
-    (supplied h k.rank (linked h k.rank k.inv) promises) each
+    (step_owes h k.rank (Load c name config spare_ticks spare_marks seats) k.sound can)
+    (supplied h k.rank (linked h k.rank k.sound) promises) each
 step_stays h (Admit c name seat) k promises can each =
-    effect_stays h k.rank c _ nobody (step_owes h k.rank (Admit c name seat) k.inv can)
-    (supplied h k.rank (linked h k.rank k.inv) promises) each
+    effect_stays h k.rank c _ nobody (step_owes h k.rank (Admit c name seat) k.sound can)
+    (supplied h k.rank (linked h k.rank k.sound) promises) each
 step_stays h (End c) k promises can each =
-    effect_stays h k.rank c None nobody (step_owes h k.rank (End c) k.inv can)
-    (supplied h k.rank (linked h k.rank k.inv) promises) each
+    effect_stays h k.rank c None nobody (step_owes h k.rank (End c) k.sound can)
+    (supplied h k.rank (linked h k.rank k.sound) promises) each
 step_stays h (Unload c) k promises can each =
-    effect_stays h k.rank c None nobody (step_owes h k.rank (Unload c) k.inv can)
-    (supplied h k.rank (linked h k.rank k.inv) promises) each
+    effect_stays h k.rank c None nobody (step_owes h k.rank (Unload c) k.sound can)
+    (supplied h k.rank (linked h k.rank k.sound) promises) each
 step_stays h (Move c seat below) k promises can each =
-    effect_stays h k.rank c _ below (step_owes h k.rank (Move c seat below) k.inv can)
-    (supplied h k.rank (linked h k.rank k.inv) promises) each
+    effect_stays h k.rank c _ below (step_owes h k.rank (Move c seat below) k.sound can)
+    (supplied h k.rank (linked h k.rank k.sound) promises) each
 step_stays h (Rouse c burst) k promises can each = roused_stays h c _ each
 step_stays h (Block c) k promises can each = roused_stays h c _ each
 step_stays h (Elapse asking masks path) k promises can each = elapsed_stays h asking masks path each
@@ -132,7 +136,8 @@ run_keeps (step ∷ steps) h k legal = run_keeps steps (after h step) (step_keep
 
 pub run_stays : (steps : List Step) (h : Hierarchy) → Kept h → IsLegal h steps → KeepsPromisesAlong h steps
     → Each (Stands h) h.stays → KeepsStays (state h steps)
-run_stays [] h k legal promises each = stays_kept h (supplied h k.rank (linked h k.rank k.inv) promises) each
+run_stays [] h k legal promises each = stays_kept h (supplied h k.rank (linked h k.rank k.sound) promises)
+    each
 run_stays (step ∷ steps) h k legal promises each =
     run_stays steps (after h step) (step_keeps h step k legal.0) legal.1 promises.1
     (step_stays h step k promises.0 legal.0 each)
@@ -140,7 +145,7 @@ run_stays (step ∷ steps) h k legal promises each =
 pub start_kept : Kept start
 start_kept = record {
   rank = λ k. 0;
-  inv = record {
+  sound = record {
     current = λ k. tt;
     sits = λ c port seat e. absurd (cc);
     alone = λ c d port q one two e. absurd (cc);

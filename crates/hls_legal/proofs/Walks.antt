@@ -9,7 +9,7 @@ use Rattle.hls_legal.specs.Steps.{Hop, hop_at}
 use Rattle.hls_legal.specs.Legal.{Walk, Enters, Ends}
 use Rattle.hls_legal.specs.Linked.{Attends, SitsAt}
 use Rattle.hls_legal.proofs.Seatings.{lone_port}
-use Rattle.hls_legal.proofs.Kept.{IsSeat, Inv, at_same, at_other}
+use Rattle.hls_legal.proofs.Kept.{IsSeat, IsSound, at_same, at_other}
 
 abbrev pub slot_by : Option Hop → Option ℕ
 slot_by None = None
@@ -59,7 +59,7 @@ bool_iff true b f g = sym (f refl)
 bool_iff false true f g = g refl
 bool_iff false false f g = refl
 
-module _ (h : Hierarchy) (rank : ℕ → ℕ) (inv : Inv h rank) (masks : ℕ → ℕ) where
+module _ (h : Hierarchy) (rank : ℕ → ℕ) (sound : IsSound h rank) (masks : ℕ → ℕ) where
   enters_seat : (place : Place) (hop : Hop) (e : Enters h masks place hop)
       → seat_of (h.nodes hop.node) hop.port ≡ Some e.seat
   enters_seat place hop e = ap (λ n. seat_of n hop.port) e.there ∙ e.port
@@ -72,7 +72,7 @@ module _ (h : Hierarchy) (rank : ℕ → ℕ) (inv : Inv h rank) (masks : ℕ �
   enters_rank : (q s : ℕ) (hop : Hop) → Enters h masks (At q s) hop → rank q < rank hop.node
   enters_rank q s hop e = let sits : Attends h rank hop.node hop.port e.seat q s =
       subst (SitsAt h rank hop.node hop.port e.seat) e.at_place
-      (inv.sits hop.node hop.port e.seat (enters_seat (At q s) hop e)) in sits.below
+      (sound.sits hop.node hop.port e.seat (enters_seat (At q s) hop e)) in sits.below
 
   walk_rank : (hops : List Hop) (thread q s p slot : ℕ) → Walk h masks (At q s) hops thread
       → passes hops p slot ≡ true → rank q < rank p
@@ -92,12 +92,12 @@ module _ (h : Hierarchy) (rank : ℕ → ℕ) (inv : Inv h rank) (masks : ℕ �
       → comes hops (Some thread) c (h.nodes c) port ≡ true
   next [] thread c port seat place w e is =
       let one : IsSeat thread c 0 port =
-      inv.alone thread c 0 port w.thread.seat seat (ends_seat place thread w) e (w.at_place ∙ sym is) in
+      sound.alone thread c 0 port w.thread.seat seat (ends_seat place thread w) e (w.at_place ∙ sym is) in
       ap (λ n. comes [] (Some thread) c n port) (ap h.nodes (sym one.node) ∙ w.there)
       ∙ eq-eqb thread c one.node
   next (hop ∷ hops) thread c port seat place w e is =
       let one : IsSeat hop.node c hop.port port =
-      inv.alone hop.node c hop.port port w.0.seat seat (enters_seat place hop w.0) e
+      sound.alone hop.node c hop.port port w.0.seat seat (enters_seat place hop w.0) e
       (w.0.at_place ∙ sym is) in
       comes_here hop hops (Some thread) c (h.nodes c) w.0.scheduler port one.node
       (ap h.nodes (sym one.node) ∙ w.0.there) ∙ eq-eqb hop.port port one.port_same

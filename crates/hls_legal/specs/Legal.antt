@@ -1,7 +1,7 @@
 -- When a step may be taken. All conditions of a command look at the hierarchy as it stands, with a mover
 -- still in
 -- its old seat.
-use Rattle.std.specs.Prelude.{◌≡◌, ◌≢◌, ◌⊎◌, ℕ, ◌+◌, ◌≤◌, List, [], ◌∷◌, length, Option, Some, None}
+use Rattle.std.specs.Prelude.{◌<◌, ◌≡◌, ◌≢◌, ◌⊎◌, ℕ, ◌+◌, ◌≤◌, List, [], ◌∷◌, length, Option, Some, None}
 use Rattle.std.specs.Prelude.{Bool, true, false, slice_get}
 use Rattle.hls_chron.specs.declared.plain.Config.{Config}
 use Rattle.hls_chron.specs.declared.plain.Config.TheVariants as configs
@@ -51,11 +51,8 @@ abbrev pub fair_queues : Hierarchy → List ℕ → ℕ
 fair_queues h [] = 0
 fair_queues h (k ∷ chain) = fair_queue (config_of (h.nodes k)) + fair_queues h chain
 
--- at most 64 schedulers and 256 threads, no level above 8, and at most four fair queueing schedulers on a
--- path
-pub record IsWithinLimits (h : Hierarchy) : Type 0 where
-  pub schedulers : length h.schedulers ≤ 64
-  pub threads : length h.threads ≤ 256
+-- no level above 8, and at most four fair queueing schedulers on a path
+pub record IsShallow (h : Hierarchy) : Type 0 where
   pub levels : (chain : List ℕ) → IsChain h None chain → length chain ≤ 8
   pub shares : (chain : List ℕ) → IsChain h None chain → fair_queues h chain ≤ 4
 
@@ -117,6 +114,7 @@ pub record CanLoad (h : Hierarchy) (k : ℕ) (name : List ℕ) (config : Config)
 
 pub record CanAdmit (h : Hierarchy) (k : ℕ) (name : List ℕ) (seat : Seat) : Type 0 where
   pub new : IsNew h k name
+  pub few : length h.threads < 256
   pub place : seat.place ≢ Processor
   pub places : MayTakeEach h (seat ∷ [])
 
@@ -130,14 +128,19 @@ pub record CanUnload (node : Option Node) : Type 0 where
   pub there : node ≡ Some (Loaded scheduler)
   pub empty : (slot : ℕ) → terms_at scheduler.book slot ≡ None
 
--- a test tells which nodes are the named one or below it
+-- a port of c sits at p
+pub record SitsOn (h : Hierarchy) (c p : ℕ) : Type 0 where
+  pub port : ℕ
+  pub seat : Seat
+  pub slot : ℕ
+  pub sits : seat_of (h.nodes c) port ≡ Some seat
+  pub at_place : seat.place ≡ At p slot
+
+-- a test tells which nodes are k or below it
 pub record IsBelow (h : Hierarchy) (k : ℕ) (below : ℕ → Bool) : Type 0 where
   pub itself : below k ≡ true
-  pub down : (c port : ℕ) (seat : Seat) (p slot : ℕ) → seat_of (h.nodes c) port ≡ Some seat
-      → seat.place ≡ At p slot
-      → below p ≡ true → below c ≡ true
-  pub up : (c : ℕ) → below c ≡ true → (c ≡ k) ⊎ ((port : ℕ) × (seat : Seat) × (p : ℕ) × (slot : ℕ)
-      × (seat_of (h.nodes c) port ≡ Some seat) × (seat.place ≡ At p slot) × (below p ≡ true))
+  pub down : (c p : ℕ) → SitsOn h c p → below p ≡ true → below c ≡ true
+  pub up : (c : ℕ) → below c ≡ true → (c ≡ k) ⊎ ((p : ℕ) × SitsOn h c p × (below p ≡ true))
 
 abbrev pub NotBelow : (below : ℕ → Bool) → Place → Type 0
 NotBelow below Processor = Unit {0}
@@ -209,12 +212,11 @@ MayRun h asking masks (Some path) =
 abbrev pub Can : Hierarchy → Step → Type 0
 Can h Refuse = Unit {0}
 Can h (Load k name config spare_ticks spare_marks ports) =
-    CanLoad h k name config ports
-    × IsWithinLimits (after h (Load k name config spare_ticks spare_marks ports))
-Can h (Admit k name seat) = CanAdmit h k name seat × IsWithinLimits (after h (Admit k name seat))
+    CanLoad h k name config ports × IsShallow (after h (Load k name config spare_ticks spare_marks ports))
+Can h (Admit k name seat) = CanAdmit h k name seat
 Can h (End k) = IsThread (h.nodes k)
 Can h (Unload k) = CanUnload (h.nodes k)
-Can h (Move k seat below) = CanMove h k seat below × IsWithinLimits (after h (Move k seat below))
+Can h (Move k seat below) = CanMove h k seat below × IsShallow (after h (Move k seat below))
 Can h (Rouse k burst) = IsThread (h.nodes k)
 Can h (Block k) = IsThread (h.nodes k)
 Can h (Elapse asking masks path) = IsAsking h asking masks × MayRun h asking masks path

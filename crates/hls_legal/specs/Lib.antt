@@ -6,3 +6,4 @@ pub mod Legal
 pub mod Linked
 pub mod Supplied
 pub mod Orderly
+pub mod Readings

@@ -1,15 +1,17 @@
 //! What holds of legal runs: each function's contract is a law, and its body does nothing.
 
-ghost use Rattle.std.specs.Prelude.{◌≢◌, List, ℕ};
+ghost use Rattle.std.specs.Prelude.{◌≡◌, ◌≢◌, ℕ, List, Some, None, Bool, true, false};
 ghost use Rattle.hls_chron.specs.Kinds.{kind_of};
 ghost use Rattle.hls_chron.specs.Ledger.{Ledger};
+ghost use Rattle.hls_chron.specs.Seats.{asked, served};
 ghost use Rattle.hls_kinds.specs.Discipline.{KeepsDiscipline};
-ghost use Rattle.hls_legal.specs.Hierarchy.{Hierarchy, start};
-ghost use Rattle.hls_legal.specs.Steps.{Step, state};
-ghost use Rattle.hls_legal.specs.Legal.{IsLegal};
+ghost use Rattle.hls_legal.specs.Hierarchy.{Hierarchy, Seat, start, was_served, had_asked};
+ghost use Rattle.hls_legal.specs.Steps.{Path, Step, Move, Block, Elapse, after, state};
+ghost use Rattle.hls_legal.specs.Legal.{asks_now, Can, IsLegal};
 ghost use Rattle.hls_legal.specs.Linked.{config_at, book_at, IsLinked, KeepsPromises, IsSupplied};
-ghost use Rattle.hls_legal.specs.Orderly.{IsOrderly, LoadsOnly, KeepsByRule};
 ghost use Rattle.hls_legal.specs.Supplied.{KeepsPromisesAlong, KeepsStays};
+ghost use Rattle.hls_legal.specs.Orderly.{IsOrderly, LoadsOnly, KeepsByRule};
+ghost use Rattle.hls_legal.specs.Readings.{Renews, LetSleep};
 
 use hls_chron::{Config, Kind};
 
@@ -49,4 +51,39 @@ pub fn legal_runs_keep_books_orderly()
 pub fn orderly_books_keep_discipline(config: Config)
     requires { kind_of config ≢ Kind.Sfq }
     ensures { (b : Ledger) → IsOrderly config b → KeepsDiscipline config b }
+{}
+
+/// Each tick of a legal run that served a thread served one that was ready.
+pub fn legal_runs_run_ready_threads()
+    ensures { (steps : List Step) → IsLegal start steps → (thread t : ℕ) →
+        was_served (state start steps).past thread t ≡ true →
+        had_asked (state start steps).past thread t ≡ true }
+{}
+
+/// A thread that was blocked does not run before it is woken again, also not in the tick of its block.
+pub fn blocked_threads_do_not_run()
+    ensures { (h : Hierarchy) (k : ℕ) (steps : List Step) (asking : ℕ → Bool) (masks : ℕ → ℕ) (path : Path) →
+        LetSleep k steps → Can (state (after h (Block k)) steps) (Elapse asking masks (Some path)) →
+        path.thread ≢ k }
+{}
+
+/// A tick is idle only where there is no root or it does not ask.
+pub fn idle_ticks_find_no_asking_root()
+    ensures { (h : Hierarchy) (asking : ℕ → Bool) (masks : ℕ → ℕ) → Can h (Elapse asking masks None) →
+        (root : ℕ) → h.root ≡ Some root → asks_now h root (masks root) (h.nodes root) ≡ false }
+{}
+
+/// No row of a legal run serves a slot that does not ask.
+pub fn legal_runs_serve_slots_that_ask()
+    ensures { (steps : List Step) → IsLegal start steps → (k slot t : ℕ) →
+        served (book_at (state start steps) k) slot t ≡ true →
+        asked (book_at (state start steps) k) slot t ≡ true }
+{}
+
+/// A move begins anew the accounts of the moved node and of all that is below it, and of no other: schedulers
+/// are settled, and threads have new stays.
+pub fn moves_renew_what_is_below()
+    ensures { (steps : List Step) → IsLegal start steps → (k : ℕ) (seat : Seat) (below : ℕ → Bool) →
+        Can (state start steps) (Move k seat below) →
+        Renews (state start steps) k (after (state start steps) (Move k seat below)) }
 {}

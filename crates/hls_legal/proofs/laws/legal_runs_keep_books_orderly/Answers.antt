@@ -9,5 +9,5 @@ pub returns : goal.returns
 returns c = λ steps legal k.
     let h = state start steps in
     let kept = run_keeps steps start start_kept legal in
-    node_orderly Any h.now (h.nodes k) (kept.inv.current k)
+    node_orderly Any h.now (h.nodes k) (kept.sound.current k)
     (run_due Any steps start start_kept legal (loads_any steps) (start_due Any) k)

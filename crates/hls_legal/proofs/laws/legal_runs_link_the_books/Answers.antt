@@ -6,4 +6,4 @@ use Rattle.hls_legal.proofs.laws.legal_runs_link_the_books.Goals as goal
 
 pub returns : goal.returns
 returns c = λ steps legal.
-    let k = run_keeps steps start start_kept legal in (k.rank, linked (state start steps) k.rank k.inv)
+    let k = run_keeps steps start start_kept legal in (k.rank, linked (state start steps) k.rank k.sound)
