@@ -18,3 +18,5 @@ pub mod Admissions
 pub mod Orders
 pub mod Promises
 pub mod Readings
+pub mod Absent
+pub mod Example

@@ -107,6 +107,7 @@ port_count _ = 1
 pub record CanLoad (h : Hierarchy) (k : ℕ) (name : List ℕ) (config : Config) (seats : List Seat) : Type 0
   where
     pub new : IsNew h k name
+    pub few : length h.schedulers < 64
     pub kind : kind_of config ≢ kinds.Cpu
     pub in_range : ConfigInRange config
     pub ports : length seats ≡ port_count config

@@ -7,3 +7,4 @@ pub mod Linked
 pub mod Supplied
 pub mod Orderly
 pub mod Readings
+pub mod Example

@@ -7,4 +7,5 @@ use Rattle.hls_legal.proofs.laws.legal_runs_by_rule_keep_every_stay.Goals as goa
 
 pub returns : goal.returns
 returns c = λ steps legal only.
-    run_stays steps start start_kept legal (promises_along steps start start_kept (start_due KeepsByRule) legal only) tt
+    run_stays steps start start_kept legal
+    (promises_along steps start start_kept (start_due KeepsByRule) legal only) tt

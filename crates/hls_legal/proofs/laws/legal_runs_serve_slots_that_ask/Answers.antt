@@ -12,4 +12,5 @@ returns c = λ steps legal k slot t.
     let h = state start steps in
     let kept = run_keeps steps start start_kept legal in
     let due = run_due Any steps start start_kept legal (loads_any steps) (start_due Any) k in
-    served_asks (config_at h k) (book_at h k) (node_orderly Any h.now (h.nodes k) (kept.sound.current k) due) slot t
+    served_asks (config_at h k) (book_at h k) (node_orderly Any h.now (h.nodes k) (kept.sound.current k) due)
+    slot t
