@@ -20,3 +20,4 @@ pub mod Promises
 pub mod Readings
 pub mod Absent
 pub mod Example
+pub mod Sitters

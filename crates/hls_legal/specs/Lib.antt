@@ -8,3 +8,4 @@ pub mod Supplied
 pub mod Orderly
 pub mod Readings
 pub mod Example
+pub mod Alike
