@@ -21,3 +21,5 @@ pub mod Readings
 pub mod Absent
 pub mod Example
 pub mod Sitters
+pub mod Unique
+pub mod Determined

@@ -219,13 +219,14 @@ pub start_ran : RanReady start
 start_ran t k e = cc
 
 -- what is below
-under_below : (h : Hierarchy) (k : ℕ) (below : ℕ → Bool) → IsBelow h k below → (count c : ℕ)
+pub under_below : (h : Hierarchy) (k : ℕ) (below : ℕ → Bool) → IsBelow h k below → (count c : ℕ)
     → IsUnderBy h k count c → below c ≡ true
 under_below h k below is zero c under = ap below under ∙ is.itself
 under_below h k below is (suc count) c under =
     is.down c under.0 under.1 (under_below h k below is count under.0 under.2)
 
-below_rank : (h : Hierarchy) (rank : ℕ → ℕ) → IsSound h rank → (k : ℕ) (below : ℕ → Bool) → IsBelow h k below
+pub below_rank : (h : Hierarchy) (rank : ℕ → ℕ) → IsSound h rank → (k : ℕ) (below : ℕ → Bool)
+    → IsBelow h k below
     → (n c : ℕ) → rank c < n → below c ≡ true → IsUnder h k c
 below_rank h rank sound k below is zero c lt on = absurd (omega arith)
 below_rank h rank sound k below is (suc n) c lt on = elim (is.up c on) [

@@ -1,5 +1,5 @@
 -- Steps that are the same command with the same outcome, whatever slots, masks and paths go with them.
-use Rattle.std.specs.Prelude.{◌≡◌, ℕ, List, [], ◌∷◌}
+use Rattle.std.specs.Prelude.{◌≡◌, List, [], ◌∷◌}
 use Rattle.hls_legal.specs.Hierarchy.{Seat}
 use Rattle.hls_legal.specs.Steps.{Step, Refuse, Load, Admit, End, Unload, Move, Rouse, Block, Elapse}
 use Rattle.hls_legal.specs.Legal.{scheduler_at}

@@ -12,6 +12,7 @@ ghost use Rattle.hls_legal.specs.Linked.{config_at, book_at, IsLinked, KeepsProm
 ghost use Rattle.hls_legal.specs.Supplied.{KeepsPromisesAlong, KeepsStays};
 ghost use Rattle.hls_legal.specs.Orderly.{IsOrderly, LoadsOnly, KeepsByRule};
 ghost use Rattle.hls_legal.specs.Readings.{Renews, LetSleep};
+ghost use Rattle.hls_legal.specs.Alike.{AreAlike};
 
 use hls_chron::{Config, Kind};
 
@@ -86,4 +87,13 @@ pub fn moves_renew_what_is_below()
     ensures { (steps : List Step) → IsLegal start steps → (k : ℕ) (seat : Seat) (below : ℕ → Bool) →
         Can (state start steps) (Move k seat below) →
         Renews (state start steps) k (after (state start steps) (Move k seat below)) }
+{}
+
+/// A legal run is a function of its commands, of which of them are refused, and of what is guaranteed: two legal
+/// runs that agree on these take the same slots, ask and serve alike in each tick, and lead to the same hierarchy.
+pub fn legal_runs_are_determined()
+    ensures steps { (steps others : List Step) → IsLegal start steps → IsLegal start others →
+        AreAlike steps others → steps ≡ others }
+    ensures state { (steps others : List Step) → IsLegal start steps → IsLegal start others →
+        AreAlike steps others → state start steps ≡ state start others }
 {}
