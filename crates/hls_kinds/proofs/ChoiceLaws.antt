@@ -1,7 +1,7 @@
 -- From the first of a ranking to the slot that a scheduler is to serve.
-use Rattle.std.proofs.Common.{◌≡◌, ℕ, ◌+◌, ◌<◌, ◌≤◌, ◌^◌, Bool, true, false, arith, refl, sym, ap, inl, inr}
+use Rattle.std.proofs.Common.{◌≡◌, ℕ, ◌<◌, ◌^◌, Bool, true, false, arith, refl, sym, ap, inl, inr}
 use Rattle.std.proofs.Common.{◌∙◌}
-use Rattle.std.specs.Prelude.{◌≢◌, Option, Some, None, is_some, IfSome, ◌&&◌, ◌||◌, ◌==◌}
+use Rattle.std.specs.Prelude.{◌≢◌, Option, Some, None, is_some, IfSome, ◌&&◌, ◌||◌}
 use Rattle.std.specs.Int.{bit_at}
 use Rattle.std.proofs.lemmas.Bool.{cases_lt, eqb-true, eq-eqb}
 use Rattle.std.proofs.lemmas.Nat.Bits.{bit_at_above}
@@ -13,7 +13,7 @@ use Rattle.hls_kinds.specs.Asks.{slot_asks, asks_in_budget, asks_softly}
 use Rattle.hls_kinds.specs.Reservations.{deadline_at}
 use Rattle.hls_kinds.specs.Discipline.{HasLeastPriority, may_go}
 use Rattle.hls_kinds.specs.Rankings.{takes_part, key_of, number_or}
-use Rattle.hls_kinds.proofs.SlotLaws.{any_below-none, any_below-or, first-none}
+use Rattle.hls_kinds.proofs.SlotLaws.{any_below-none, any_below-or}
 
 pub then_some : (r : Option ℕ) (P Q : ℕ → Type 0) → IfSome r P → ((slot : ℕ) → P slot → Q slot) → IfSome r Q
 then_some None P Q has gives = has

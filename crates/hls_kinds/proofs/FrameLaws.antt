@@ -1,14 +1,14 @@
 -- The owners of the places of a frame go by the owners of these places alone.
-use Rattle.std.proofs.Common.{◌≡◌, ℕ, zero, suc, ◌+◌, ◌<◌, List, length, Bool, arith, refl, ap, fold, take}
-use Rattle.std.proofs.Common.{get_or, sym, ◌∙◌, zero-add}
-use Rattle.std.specs.Prelude.{Option, Some, None, is_none}
+use Rattle.std.proofs.Common.{◌≡◌, ℕ, ◌+◌, ◌<◌, List, length, arith, refl, ap, fold, take}
+use Rattle.std.proofs.Common.{get_or}
+use Rattle.std.specs.Prelude.{Option, is_none}
 use Rattle.hls_chron.specs.declared.book.Mark.{Mark}
 use Rattle.hls_chron.specs.declared.book.Event.{Event}
 use Rattle.hls_chron.specs.declared.book.Event.TheVariants.{Seat, Leave, Settle}
 use Rattle.hls_chron.specs.declared.plain.Terms.{Terms}
 use Rattle.hls_chron.specs.declared.plain.Terms.TheVariants as terms
 use Rattle.hls_chron.proofs.CountLaws.{count-agree}
-use Rattle.hls_kinds.specs.Frames.{free_below, owner_seated, owner_after, unowned}
+use Rattle.hls_kinds.specs.Frames.{owner_seated, owner_after, unowned}
 use Rattle.std.proofs.lemmas.List.Sums.{fold_more}
 
 seated-same : (f g : ℕ → Option ℕ) (slot : ℕ) (terms : Terms) (p : ℕ) → ((q : ℕ) → q < p + 1 → f q ≡ g q)

@@ -1,16 +1,14 @@
 -- What a mark and a row change of who sits where, and of the last settling.
 use Rattle.std.proofs.Common.{◌≡◌, ℕ, [], ◌∷◌, refl, ap, sym, ◌∙◌, fold}
-use Rattle.std.specs.Prelude.{Option, Some, None}
+use Rattle.std.specs.Prelude.{Some}
 use Rattle.std.proofs.lemmas.List.Sums.{fold-append}
 use Rattle.hls_chron.specs.declared.book.TickRow.{TickRow}
 use Rattle.hls_chron.specs.declared.book.Mark.{Mark}
 use Rattle.hls_chron.specs.declared.book.Event.{Event}
-use Rattle.hls_chron.specs.declared.book.Event.TheVariants.{Seat, Leave, Settle}
 use Rattle.hls_chron.specs.declared.plain.Terms.{Terms}
 use Rattle.hls_chron.specs.Ledger.{Ledger, now_of, with_row, with_mark}
 use Rattle.hls_chron.specs.Seats.{terms_at}
-use Rattle.hls_kinds.specs.declared.tenant.Tenant.{Tenant}
-use Rattle.hls_kinds.specs.declared.tenant.Tenant.TheVariants.{Vacant, Sits, Left}
+use Rattle.hls_kinds.specs.declared.tenant.Tenant.TheVariants.{Vacant, Sits}
 use Rattle.hls_kinds.specs.Tenants.{tenant_after, tenant_at, settled_after, settled_at}
 use Rattle.hls_kinds.proofs.TenantLaws.{seated_in, seated-terms}
 

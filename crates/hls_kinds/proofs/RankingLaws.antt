@@ -1,5 +1,5 @@
 -- The best slot of a ranking, one slot more at a time.
-use Rattle.std.proofs.Common.{◌≡◌, ℕ, ◌+◌, ◌<◌, ◌≤◌, Bool, true, false, arith, refl, sym, ap, inl, inr, ◌∙◌}
+use Rattle.std.proofs.Common.{◌≡◌, ℕ, ◌+◌, Bool, true, false, arith, refl, sym, ◌∙◌}
 use Rattle.std.specs.Prelude.{Option, Some, None, is_some, nat_le, if◌then◌else◌}
 use Rattle.std.proofs.lemmas.Bool.{leb-true, leb-false}
 use Rattle.hls_kinds.specs.declared.choice.Ranked.{Ranked}

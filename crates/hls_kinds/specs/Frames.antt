@@ -1,5 +1,5 @@
 -- The owners of the places of a wheel's frame, recomputed from the marks.
-use Rattle.std.specs.Prelude.{ℕ, ◌%◌, Bool, ◌&&◌, ◌==◌, nat_lt, Option, Some, None, is_none, is_some}
+use Rattle.std.specs.Prelude.{ℕ, ◌%◌, ◌&&◌, nat_lt, Option, Some, None, is_none, is_some}
 use Rattle.std.specs.Prelude.{if◌then◌else◌, fold, List, slice_index_or}
 use Rattle.hls_chron.specs.declared.book.Mark.{Mark}
 use Rattle.hls_chron.specs.declared.book.Event.{Event}

@@ -3,7 +3,7 @@ use Rattle.std.specs.Prelude.{ℕ, zero, suc, ◌+◌, ◌*◌, ◌-◌, ◌/◌
 use Rattle.std.specs.Prelude.{nat_lt, nat_le, Option, Some, None, is_none, if◌then◌else◌}
 use Rattle.hls_chron.specs.declared.plain.Terms.TheVariants as terms
 use Rattle.hls_kinds.specs.declared.tenant.Tenant.{Tenant}
-use Rattle.hls_kinds.specs.declared.tenant.Tenant.TheVariants.{Vacant, Sits, Left}
+use Rattle.hls_kinds.specs.declared.tenant.Tenant.TheVariants.{Sits, Left}
 use Rattle.hls_kinds.specs.declared.reservations.Reservation.{Reservation}
 use Rattle.hls_kinds.specs.declared.reservations.Claim.{Claim}
 use Rattle.hls_chron.specs.Ledger.{Ledger, now_of}

@@ -6,7 +6,7 @@ use Rattle.hls_chron.specs.declared.plain.Config.TheVariants as configs
 use Rattle.hls_chron.specs.declared.plain.Terms.{Terms}
 use Rattle.hls_chron.specs.declared.plain.Terms.TheVariants as terms
 use Rattle.hls_kinds.specs.declared.tenant.Tenant.{Tenant}
-use Rattle.hls_kinds.specs.declared.tenant.Tenant.TheVariants.{Vacant, Sits, Left}
+use Rattle.hls_kinds.specs.declared.tenant.Tenant.TheVariants.{Left}
 use Rattle.hls_chron.specs.Ledger.{Ledger}
 use Rattle.hls_chron.specs.Seats.{terms_at, most_seats}
 use Rattle.hls_kinds.specs.Slots.{sum_below}

@@ -1,6 +1,6 @@
 -- The turns of round robin, recomputed from the book.
-use Rattle.std.specs.Prelude.{◌≡◌, ℕ, ◌+◌, ◌-◌, ◌%◌, Bool, true, not, ◌&&◌, ◌||◌, ◌==◌, Option, Some, None}
-use Rattle.std.specs.Prelude.{is_some, if◌then◌else◌}
+use Rattle.std.specs.Prelude.{ℕ, ◌+◌, ◌-◌, ◌%◌, Bool, not, ◌&&◌, ◌||◌, ◌==◌, Option, Some, None}
+use Rattle.std.specs.Prelude.{is_some}
 use Rattle.std.specs.Int.{bit_at}
 use Rattle.hls_chron.specs.Ledger.{Ledger, now_of, row_at}
 use Rattle.hls_chron.specs.Seats.{asked, served}

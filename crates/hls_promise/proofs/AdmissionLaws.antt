@@ -11,13 +11,13 @@ use Rattle.hls_chron.specs.declared.plain.Terms.{Terms}
 use Rattle.hls_chron.specs.declared.plain.Terms.TheVariants.{Prio}
 use Rattle.hls_chron.specs.Kinds.{kind_of, terms_kind}
 use Rattle.hls_chron.specs.Ledger.{Ledger, now_of, with_row, with_mark, row_at, before, IsDated}
-use Rattle.hls_chron.specs.Seats.{SlotAsks, most_seats, terms_after, terms_at, priority_in, priority_at, HasPriority}
-use Rattle.hls_chron.proofs.BookLaws.{terms_at-mark, terms_at-row, terms_at-same, terms_at-unmarked, now_of-row}
+use Rattle.hls_chron.specs.Seats.{SlotAsks, most_seats, terms_at, priority_in, priority_at}
+use Rattle.hls_chron.proofs.BookLaws.{terms_at-mark, terms_at-same, terms_at-unmarked, now_of-row}
 use Rattle.hls_chron.proofs.BookLaws.{row_at-mark, row_at-past, row_at-now, before-mark, before-row, before-now}
 use Rattle.hls_chron.proofs.BookLaws.{row_at-unwritten, dated-mark, dated-row, dated-unmarked}
 use Rattle.hls_kinds.specs.declared.tenant.Tenant.{Tenant}
 use Rattle.hls_kinds.specs.declared.tenant.Tenant.TheVariants.{Vacant, Sits, Left}
-use Rattle.hls_kinds.specs.Tenants.{tenant_after, after_leaving, after_settling, tenant_at, settled_after, settled_at}
+use Rattle.hls_kinds.specs.Tenants.{after_leaving, after_settling, tenant_at, settled_at}
 use Rattle.hls_kinds.specs.Fits.{Fits}
 use Rattle.hls_kinds.proofs.MarkLaws.{tenant_at-mark, tenant_at-row, tenant_at-unmarked, settled_at-mark}
 use Rattle.hls_kinds.proofs.MarkLaws.{settled_at-row, settled_at-unmarked, sits_on}
@@ -167,21 +167,21 @@ pub sat_before : (b : Ledger) (event : Event) (slot since : ℕ) (terms : Terms)
 sat_before b (Seat at new) slot since terms is = elim (cases_eq at slot) [
   | inl same ↦
       let set : tenant_at (with_mark b (Seat at new)) slot ≡ Sits new (now_of b) =
-          tenant_at-mark b (Seat at new) slot ∙ rw (eq-eqb at slot same) refl in
+      tenant_at-mark b (Seat at new) slot ∙ rw (eq-eqb at slot same) refl in
       Since (let e : now_of b ≡ since = cc in sym e)
   | inr other ↦
       let kept : tenant_at (with_mark b (Seat at new)) slot ≡ tenant_at b slot =
-          tenant_at-mark b (Seat at new) slot ∙ rw (ne_eqb at slot other) refl in
+      tenant_at-mark b (Seat at new) slot ∙ rw (ne_eqb at slot other) refl in
       Before (sym kept ∙ is)
 ]
 sat_before b (Leave at) slot since terms is = elim (cases_eq at slot) [
   | inl same ↦
       let left : tenant_at (with_mark b (Leave at)) slot ≡ after_leaving (now_of b) (tenant_at b slot) =
-          tenant_at-mark b (Leave at) slot ∙ rw (eq-eqb at slot same) refl in
+      tenant_at-mark b (Leave at) slot ∙ rw (eq-eqb at slot same) refl in
       absurd (sits_left (tenant_at b slot) (now_of b) since terms (sym left ∙ is))
   | inr other ↦
       let kept : tenant_at (with_mark b (Leave at)) slot ≡ tenant_at b slot =
-          tenant_at-mark b (Leave at) slot ∙ rw (ne_eqb at slot other) refl in
+      tenant_at-mark b (Leave at) slot ∙ rw (ne_eqb at slot other) refl in
       Before (sym kept ∙ is)
 ]
 sat_before b Settle slot since terms is =
@@ -238,7 +238,7 @@ stood_now b row slot since t terms dated stood sits le lt = elim (cases_lt t (no
       let here : now_of b ≡ t = omega (arith, now_of-row b row, lt, late) in
       let P : ℕ → Type 0 = λ t. terms_at (before t (with_row b row)) slot ≡ Some terms in
       subst P here (terms_at-same (before (now_of b) (with_row b row)) b slot (before-now b row dated)
-          ∙ sits_on b slot since terms sits)
+      ∙ sits_on b slot since terms sits)
 ]
 
 pub stood-row : (b : Ledger) (row : TickRow) → IsDated b → HasStood b → HasStood (with_row b row)
@@ -260,7 +260,7 @@ had_now config b row kept t lt = elim (cases_lt t (now_of b)) [
       let here : now_of b ≡ t = omega (arith, now_of-row b row, lt, late) in
       let P : ℕ → Type 0 = λ t. HasSeats config (before t (with_row b row)) in
       subst P here (seats-same config (before (now_of b) (with_row b row)) b (before-now b row kept.dated)
-          kept.seats)
+      kept.seats)
 ]
 
 seated_now : (config : Config) (b : Ledger) (row : TickRow) → KeepsAdmission config b
@@ -272,7 +272,7 @@ seated_now config b row kept only t slot lt = elim (cases_lt t (now_of b)) [
   | inr late ↦
       let here : now_of b ≡ t = omega (arith, now_of-row b row, lt, late) in
       let P : ℕ → Type 0 = λ t. SlotAsks (row_at (with_row b row) t).mask slot
-          → terms_at (before t (with_row b row)) slot ≢ None in
+      → terms_at (before t (with_row b row)) slot ≢ None in
       let same = terms_at-same (before (now_of b) (with_row b row)) b slot (before-now b row kept.dated) in
       subst P here (rw (row_at-now b row) (λ asks none. only slot asks (sym same ∙ none)))
 ]

@@ -1,5 +1,5 @@
 -- Fixed priority and joins keep their promises.
-use Rattle.std.proofs.Common.{◌≡◌, ◌≢◌, ℕ, ◌+◌, ◌-◌, ◌*◌, ◌<◌, ◌≤◌, Some, None, Bool, true, false, refl, sym, ap, ◌∙◌}
+use Rattle.std.proofs.Common.{◌≡◌, ℕ, ◌+◌, ◌-◌, ◌*◌, ◌<◌, ◌≤◌, Some, None, Bool, true, false, refl, sym, ap, ◌∙◌}
 use Rattle.std.proofs.Common.{arith, inl, inr, subst}
 use Rattle.std.specs.Prelude.{Option, ◌==◌, ◌&&◌, is_some}
 use Rattle.std.proofs.lemmas.Bool.{cases_lt, cases_eq, eq-eqb, eqb-true, le-ltb}
@@ -7,18 +7,17 @@ use Rattle.std.proofs.lemmas.Bool.Decides.{nat_tests}
 use Rattle.std.proofs.lemmas.Nat.Bits.{bit_at-zero}
 use Rattle.std.proofs.lemmas.List.{get_or_past}
 use Rattle.std.proofs.Math.Nat.{mul-le-mul_right}
-use Rattle.hls_chron.specs.declared.plain.Config.{Config}
 use Rattle.hls_chron.specs.declared.plain.Config.TheVariants as configs
 use Rattle.hls_chron.specs.declared.plain.Terms.{Terms}
 use Rattle.hls_chron.specs.declared.plain.Terms.TheVariants as terms
 use Rattle.hls_chron.specs.Ledger.{Ledger, no_row, now_of, row_at, before}
-use Rattle.hls_chron.specs.Seats.{SlotAsks, asked, is_slot, served, terms_at, priority_in, priority_at}
+use Rattle.hls_chron.specs.Seats.{SlotAsks, asked, is_slot, served, priority_in, priority_at}
 use Rattle.hls_chron.specs.Ticks.{count}
 use Rattle.hls_chron.proofs.CountLaws.{count-more}
 use Rattle.hls_kinds.specs.declared.tenant.Tenant.TheVariants.{Sits}
 use Rattle.hls_kinds.specs.Tenants.{tenant_at, settled_at}
 use Rattle.hls_kinds.specs.Asks.{some_slot_asks}
-use Rattle.hls_kinds.specs.Discipline.{HasLeastPriority, Serves, KeepsDiscipline}
+use Rattle.hls_kinds.specs.Discipline.{HasLeastPriority, KeepsDiscipline}
 use Rattle.hls_kinds.proofs.MarkLaws.{sits_on}
 use Rattle.hls_guarantee.specs.declared.Guarantee.{Guarantee}
 use Rattle.hls_guarantee.specs.declared.Guarantee.TheVariants.{All, Null, Resb, Resc, Psbe}
@@ -26,10 +25,10 @@ use Rattle.hls_guarantee.specs.Service.{EveryPart}
 use Rattle.hls_guarantee.specs.Satisfaction.{IsSoft}
 use Rattle.hls_guarantee.specs.Cap.{KeepsCap, processor_parts, parts_of}
 use Rattle.hls_guarantee.specs.Supply.{Supplies}
-use Rattle.hls_guarantee.specs.Steps.{LendsThrough, LendsByTerms}
+use Rattle.hls_guarantee.specs.Steps.{LendsByTerms}
 use Rattle.hls_guarantee.proofs.Promises.{satisfies-agree, satisfies-more, keeps_cap-part}
 use Rattle.hls_promise.specs.Promise.{given, asked_by, HasPorts, KeepsPromise}
-use Rattle.hls_promise.specs.Admission.{HasSeats, HasStood, KeepsAdmission}
+use Rattle.hls_promise.specs.Admission.{KeepsAdmission}
 
 -- less service keeps a cap
 pub every-less : (P : ℕ → ℕ → ℕ → Type 0) (f h : ℕ → Bool) (lo hi : ℕ) → ((t : ℕ) → h t ≡ true → f t ≡ true)
@@ -145,7 +144,7 @@ module _ (b : Ledger) (kept : KeepsAdmission configs.Fp b) (discipline : KeepsDi
   is_first slot since at t sits from lt asks to =
       let serves : HasLeastPriority (before t b) (row_at b t).mask at = discipline.served t at lt to in
       let mine : priority_at (before t b) slot ≡ Some 0 =
-          ap priority_in (kept.stood.stood slot since t (terms.Prio 0) sits from lt) in
+      ap priority_in (kept.stood.stood slot since t (terms.Prio 0) sits from lt) in
       elim (priority_at (before t b) at) as (λ p. priority_at (before t b) at ≡ p → at ≡ slot) [
         | None ↦ λ none. absurd (serves.seated none)
         | Some p ↦ λ is.
@@ -188,7 +187,7 @@ first_lends : (b : Ledger) → KeepsAdmission configs.Fp b → KeepsDiscipline c
     → Supplies h (served b slot) (asked b slot) since (now_of b)
 first_lends b kept discipline ports slot since (terms.Prio priority) g h sits lends supplied =
     let first : tenant_at b slot ≡ Sits (terms.Prio 0) since =
-        sits ∙ ap (λ n. Sits (terms.Prio n) since) lends.0 in
+    sits ∙ ap (λ n. Sits (terms.Prio n) since) lends.0 in
     rw lends.1 (first_supplied b kept discipline ports slot since g first supplied)
 first_lends b kept discipline ports slot since _ g h sits lends supplied = absurd lends
 

@@ -1,12 +1,11 @@
 -- The threads and the answers after one more command.
-use Rattle.std.proofs.Common.{◌≡◌, ◌≢◌, ℕ, zero, suc, ◌+◌, ◌<◌, ◌≤◌, List, [], ◌∷◌, ◌++◌, length, take}
-use Rattle.std.proofs.Common.{Option, Some, None, refl, arith, sym, ◌∙◌, ap, inl, inr, length-append}
+use Rattle.std.proofs.Common.{◌≡◌, ℕ, zero, suc, ◌+◌, ◌≤◌, List, [], ◌∷◌, ◌++◌, length, take}
+use Rattle.std.proofs.Common.{Some, refl, arith, sym, ◌∙◌, ap}
 use Rattle.std.proofs.Common.{append_assoc, append-nil, drop, add-one}
-use Rattle.std.specs.Prelude.{slice_get, ◌⊎◌}
+use Rattle.std.specs.Prelude.{slice_get}
 use Rattle.std.proofs.lemmas.List.{take-append-drop}
 use Rattle.std.proofs.lemmas.Option.{slice_get_within}
 use Rattle.hls_chron.specs.declared.plain.Terms.TheVariants.{Prio}
-use Rattle.hls_chron.specs.declared.book.Mark.{Mark}
 use Rattle.hls_chron.specs.declared.book.Event.TheVariants.{Seat}
 use Rattle.hls_top.specs.declared.early.Command.{Command}
 use Rattle.hls_top.specs.declared.early.Command.TheVariants.{Thread as ThreadCommand, Wake, Block}
@@ -15,10 +14,9 @@ use Rattle.hls_top.specs.declared.early.Scenario.{Scenario}
 use Rattle.hls_top.specs.declared.report.Answer.{Answer}
 use Rattle.hls_top.specs.declared.report.Answer.TheVariants.{Done, Refused}
 use Rattle.hls_top.specs.EarlyText.{Text}
-use Rattle.hls_top.specs.Threads.{Seated, answer_to, admitted_by, threads_by, threads_after, admitted_from}
+use Rattle.hls_top.specs.Threads.{Seated, answer_to, threads_by, threads_after, admitted_from}
 use Rattle.hls_top.specs.Threads.{answers_from, admitted, answers}
 use Rattle.hls_top.specs.Legal.{seat_marks}
-use Rattle.hls_top.proofs.Lists.{slice_get-append-left}
 
 -- ---- one command more
 

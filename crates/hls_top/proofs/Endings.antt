@@ -1,14 +1,14 @@
 -- How a scenario begins and how it ends, and that its report is legal.
-use Rattle.std.proofs.Common.{◌≡◌, ◌≢◌, ℕ, zero, suc, ◌+◌, ◌-◌, ◌*◌, ◌<◌, ◌≤◌, List, [], ◌∷◌, ◌++◌, length}
-use Rattle.std.proofs.Common.{take, Option, Some, None, Bool, true, false, refl, arith, sym, ◌∙◌, ap, subst}
+use Rattle.std.proofs.Common.{◌≡◌, ℕ, zero, suc, ◌+◌, ◌<◌, ◌≤◌, List, [], ◌∷◌, ◌++◌, length}
+use Rattle.std.proofs.Common.{take, Option, Some, None, refl, arith, sym, ◌∙◌, ap, subst}
 use Rattle.std.proofs.Common.{inl, inr, get_or, append-nil}
-use Rattle.std.specs.Prelude.{slice_get, ◌⊎◌, ◌↔◌, map, vec_capacity, IfOk, Result, Ok, Err}
-use Rattle.std.specs.Option.{option_map, option_and_then}
+use Rattle.std.specs.Prelude.{slice_get, IfOk, Result, Ok, Err}
+use Rattle.std.specs.Option.{option_map}
 use Rattle.std.specs.List.{All}
 use Rattle.std.proofs.lemmas.Bool.{cases_lt}
-use Rattle.std.proofs.lemmas.Option.{slice_get_within, slice_get-map, slice_get-get_or}
+use Rattle.std.proofs.lemmas.Option.{slice_get-map, slice_get-get_or}
 use Rattle.hls_chron.specs.declared.plain.Config.TheVariants.{Fp}
-use Rattle.hls_chron.specs.Ledger.{Ledger, now_of, row_at, before}
+use Rattle.hls_chron.specs.Ledger.{Ledger, now_of, row_at}
 use Rattle.hls_chron.specs.Seats.{SlotAsks}
 use Rattle.hls_kinds.specs.Discipline.{KeepsDiscipline}
 use Rattle.hls_chron.proofs.BookLaws.{terms_at-unmarked, now_of-row}
@@ -23,16 +23,16 @@ use Rattle.hls_top.specs.declared.report.Answer.TheVariants.{Done, Refused}
 use Rattle.hls_top.specs.declared.report.Report.{Report}
 use Rattle.hls_top.specs.declared.progress.Thread.{Thread}
 use Rattle.hls_top.specs.declared.progress.Progress.{Progress}
-use Rattle.hls_top.specs.EarlyText.{Text, FitItems, IsEarly}
+use Rattle.hls_top.specs.EarlyText.{Text, FitItems}
 use Rattle.hls_top.specs.Progress.{seated_of, seated_all}
 use Rattle.hls_top.specs.Threads.{Seated, answer_to, threads_by, threads_after, admitted_from, answers_from}
 use Rattle.hls_top.specs.Threads.{admitted, answers}
 use Rattle.hls_top.specs.Schedule.{ran_at}
 use Rattle.hls_top.specs.Legal.{HasReady, name_in, seat_marks, accounts_of, IsLegal}
-use Rattle.hls_top.specs.Reporting.{running, TellsOf}
+use Rattle.hls_top.specs.Reporting.{TellsOf}
 use Rattle.hls_top.specs.Linked.{IsSeated, IsLinked, terms_of}
 use Rattle.hls_top.specs.Changes.{Ticks, IsNewProgress}
-use Rattle.hls_top.proofs.Lists.{slice_get-append-left, slice_get-append-seam, slice_get-some}
+use Rattle.hls_top.proofs.Lists.{slice_get-some}
 use Rattle.hls_top.proofs.Seating.{config_fp}
 use Rattle.hls_top.proofs.Nexts.{below_horizon}
 

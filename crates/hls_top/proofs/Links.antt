@@ -1,37 +1,36 @@
 -- The next command leaves the root scheduler, the threads and the text linked.
 use Rattle.std.proofs.Common.{◌≡◌, ◌≢◌, ℕ, zero, suc, ◌+◌, ◌<◌, ◌≤◌, List, [], ◌∷◌, ◌++◌, length, take}
-use Rattle.std.proofs.Common.{Option, Some, None, Bool, true, false, refl, arith, sym, ◌∙◌, ap, subst, inl}
-use Rattle.std.proofs.Common.{inr, length-append, append-nil}
-use Rattle.std.specs.Prelude.{slice_get, slice_set, ◌⊎◌, ◌↔◌, map, vec_len, vec_capacity, ◌||◌}
+use Rattle.std.proofs.Common.{Some, None, Bool, true, false, refl, arith, sym, ◌∙◌, ap, subst, inl}
+use Rattle.std.proofs.Common.{inr, append-nil}
+use Rattle.std.specs.Prelude.{slice_get, slice_set, ◌⊎◌, ◌↔◌, ◌||◌}
 use Rattle.std.specs.Str.{bytes_eq}
-use Rattle.std.proofs.lemmas.Bool.{cases_lt, cases_eq}
-use Rattle.std.proofs.lemmas.Option.{slice_get_within, slice_get-map}
+use Rattle.std.proofs.lemmas.Bool.{cases_eq}
+use Rattle.std.proofs.lemmas.Option.{slice_get_within}
 use Rattle.std.proofs.lemmas.Slice.Eq.{bytes_eq-Decides}
 use Rattle.hls_chron.specs.declared.book.Event.TheVariants.{Seat}
-use Rattle.hls_chron.specs.Ledger.{Ledger, now_of, row_at, with_mark}
-use Rattle.hls_sched.specs.Seen.{Seen, seated}
+use Rattle.hls_chron.specs.Ledger.{now_of}
+use Rattle.hls_sched.specs.Seen.{Seen}
 use Rattle.hls_top.specs.declared.early.Promise.{Promise}
 use Rattle.hls_top.specs.declared.early.Command.{Command}
 use Rattle.hls_top.specs.declared.early.Command.TheVariants.{Thread as ThreadCommand, Wake, Block}
 use Rattle.hls_top.specs.declared.early.Item.{Item}
 use Rattle.hls_top.specs.declared.early.Scenario.{Scenario}
 use Rattle.hls_top.specs.declared.report.Refusal.{Refusal}
-use Rattle.hls_top.specs.declared.report.Answer.{Answer}
 use Rattle.hls_top.specs.declared.report.Answer.TheVariants.{Done, Refused}
 use Rattle.hls_top.specs.declared.progress.Thread.{Thread}
 use Rattle.hls_top.specs.declared.progress.Progress.{Progress}
 use Rattle.hls_top.specs.EarlyText.{Text}
 use Rattle.hls_top.specs.Progress.{seated_of, seated_all}
-use Rattle.hls_top.specs.Threads.{Seated, is_named, has_name, answer_to, threads_by, admitted, answers}
+use Rattle.hls_top.specs.Threads.{Seated, is_named, has_name, answer_to, threads_by, admitted}
 use Rattle.hls_top.specs.Ready.{IsReadyAfter}
 use Rattle.hls_top.specs.Legal.{seat_marks}
-use Rattle.hls_top.specs.Linked.{IsSeated, HasRoom, IsCarriedOut, IsInTime, HasPassed, HasOwnNames}
+use Rattle.hls_top.specs.Linked.{IsSeated, HasOwnNames}
 use Rattle.hls_top.specs.Linked.{IsLinked, terms_of}
-use Rattle.hls_top.specs.Changes.{call_of, with_awake, LeavesAll, Admits, Rouses, RousesNamed, Does}
+use Rattle.hls_top.specs.Changes.{call_of, with_awake, RousesNamed, Does}
 use Rattle.hls_top.proofs.Lists.{list_any-at, list_any-map, slice_get-set-same, slice_get-set-other}
 use Rattle.hls_top.proofs.Seating.{length_all, answer_named}
 use Rattle.hls_top.proofs.Moves.{place_cases}
-use Rattle.hls_top.proofs.Admissions.{take_next, take_length, admitted_next, answers_next, seat_marks-snoc}
+use Rattle.hls_top.proofs.Admissions.{take_next, take_length, admitted_next, seat_marks-snoc}
 use Rattle.hls_top.proofs.Readiness.{still_ready, was_ready, ready_woken, not_ready_blocked, not_ready_new}
 
 -- what is known after one command more, of the threads and of the root scheduler

@@ -4,7 +4,6 @@ use Rattle.std.proofs.Common.{Option, Some, None, Bool, true, false, refl, arith
 use Rattle.std.specs.Prelude.{slice_get, slice_set, ◌||◌, map, position}
 use Rattle.std.specs.List.{list_any, position_from}
 use Rattle.std.proofs.lemmas.Iterator.Adapters.{position_from-zero}
-use Rattle.std.specs.Option.{option_map}
 
 pub slice_get-append-left : {X : Type 0} (xs ys : List X) (k : ℕ) → k < length xs
     → slice_get (xs ++ ys) k ≡ slice_get xs k

@@ -1,20 +1,18 @@
 -- What commands leave of the seats and of who asks.
-use Rattle.std.proofs.Common.{◌≡◌, ◌≢◌, ℕ, zero, suc, ◌^◌, ◌+◌, ◌<◌, ◌≤◌, List, [], ◌∷◌, ◌++◌, length}
+use Rattle.std.proofs.Common.{◌≡◌, ◌≢◌, ℕ, zero, suc, ◌<◌, ◌≤◌, List, [], ◌∷◌, ◌++◌, length}
 use Rattle.std.proofs.Common.{Option, Some, None, Bool, true, false, refl, arith, sym, ◌∙◌, ap, subst, inl}
-use Rattle.std.proofs.Common.{inr, length-append, get_or}
+use Rattle.std.proofs.Common.{inr, length-append}
 use Rattle.std.specs.Prelude.{slice_get, slice_set, ◌==◌, ◌↔◌, ◌⊎◌, if◌then◌else◌, position, is_some}
 use Rattle.std.specs.Option.{option_map}
 use mathlib.Core.Bool.{beq}
 use Rattle.std.proofs.lemmas.Bool.{cases_lt, cases_eq}
 use Rattle.std.proofs.lemmas.Bool.Decides.{nat_tests}
-use Rattle.std.proofs.lemmas.Option.{slice_get_past, slice_get_within, slice_get-get_or}
+use Rattle.std.proofs.lemmas.Option.{slice_get_past, slice_get_within}
 use Rattle.std.proofs.Math.ListN.{length-set}
 use Rattle.std.proofs.lemmas.Slice.Eq.{bytes_eq-Decides}
 use Rattle.hls_chron.specs.declared.plain.Terms.{Terms}
-use Rattle.hls_chron.specs.declared.plain.Terms.TheVariants.{Prio}
 use Rattle.hls_chron.specs.declared.book.Event.TheVariants.{Seat}
-use Rattle.hls_chron.specs.Ledger.{Ledger}
-use Rattle.hls_chron.specs.Seats.{SlotAsks, terms_at, terms_after}
+use Rattle.hls_chron.specs.Seats.{SlotAsks, terms_at}
 use Rattle.hls_chron.proofs.BookLaws.{terms_at-mark}
 use Rattle.hls_sched.specs.Seen.{Seen, seated, with_slot, without_slot}
 use Rattle.hls_sched.proofs.Masks.{asks_with, asks_without, silent_without, still_asks_with}
@@ -28,7 +26,7 @@ use Rattle.hls_top.specs.Progress.{seated_of, seated_all}
 use Rattle.hls_top.specs.Threads.{is_named, has_name, answer_to}
 use Rattle.hls_top.specs.Changes.{is_thread_named, call_of, with_awake, told, Names, Admits, Rouses}
 use Rattle.hls_top.proofs.Lists.{slice_get-append-left, slice_get-append-seam, slice_get-some}
-use Rattle.hls_top.proofs.Lists.{slice_get-none, slice_get-set-same, slice_get-set-other, list_any-map}
+use Rattle.hls_top.proofs.Lists.{slice_get-set-same, slice_get-set-other, list_any-map}
 use Rattle.hls_top.proofs.Lists.{list_any-at, position_none, position_found}
 
 if_here : {X : Type 0} (n k : ℕ) → n ≡ k → (x y : X) → (if n == k then x else y) ≡ x

@@ -1,16 +1,13 @@
 -- The step from one command to the next, whatever it is.
-use Rattle.std.proofs.Common.{◌≡◌, ◌≢◌, ℕ, zero, suc, ◌+◌, ◌<◌, ◌≤◌, List, [], ◌∷◌, ◌++◌, length, take}
-use Rattle.std.proofs.Common.{Option, Some, None, Bool, true, false, refl, arith, sym, ◌∙◌, ap, subst, inl}
+use Rattle.std.proofs.Common.{◌≡◌, ℕ, zero, suc, ◌+◌, ◌<◌, ◌≤◌, List, [], ◌∷◌, ◌++◌, length, take}
+use Rattle.std.proofs.Common.{Some, true, false, refl, arith, sym, ◌∙◌, ap, subst, inl}
 use Rattle.std.proofs.Common.{inr, get_or}
-use Rattle.std.specs.Prelude.{slice_get, ◌⊎◌, ◌↔◌, vec_len, vec_capacity}
+use Rattle.std.specs.Prelude.{slice_get, vec_len, vec_capacity}
 use Rattle.std.proofs.lemmas.Bool.{cases_lt}
 use Rattle.std.proofs.lemmas.Option.{slice_get_within, slice_get_read}
-use Rattle.hls_chron.specs.declared.plain.Config.TheVariants.{Fp}
-use Rattle.hls_chron.specs.Ledger.{Ledger, now_of, row_at}
+use Rattle.hls_chron.specs.Ledger.{Ledger, now_of}
 use Rattle.hls_chron.proofs.BookLaws.{row_at-same}
 use Rattle.hls_sched.specs.Seen.{Seen}
-use Rattle.hls_top.specs.declared.early.Promise.{Promise}
-use Rattle.hls_top.specs.declared.early.Promise.TheVariants.{All, Null}
 use Rattle.hls_top.specs.declared.early.Command.{Command}
 use Rattle.hls_top.specs.declared.early.Command.TheVariants.{Thread as ThreadCommand, Wake, Block}
 use Rattle.hls_top.specs.declared.early.Item.{Item}
@@ -23,7 +20,7 @@ use Rattle.hls_top.specs.declared.progress.Progress.{Progress}
 use Rattle.hls_top.specs.EarlyText.{Text, FitsCommand, FitItems}
 use Rattle.hls_top.specs.Progress.{seated_all}
 use Rattle.hls_top.specs.Threads.{answer_to, answers}
-use Rattle.hls_top.specs.Linked.{HasRoom, IsCarriedOut, IsInTime, HasPassed, IsLinked, IsDue}
+use Rattle.hls_top.specs.Linked.{IsLinked, IsDue}
 use Rattle.hls_top.specs.Changes.{LeavesAll, Does}
 use Rattle.hls_top.proofs.Admissions.{answers_next, answers_length}
 use Rattle.hls_top.proofs.Links.{Carried, carried_left, carried_admit, carried_rouse}

@@ -11,11 +11,11 @@ use Rattle.hls_top.specs.declared.report.Report.{Report}
 use Rattle.hls_top.specs.EarlyText.{Text, IsEarlyText}
 use Rattle.hls_top.specs.Words.{IsRun}
 use Rattle.hls_top.specs.Exchange.{Exchange, limit, IsFaultless, IsOrderly}
-use Rattle.hls_top.specs.Ends.{Ends, IsOutput, IsAnswer, Reads, Writes, Stops, IsNoEarlyText, IsTooLong}
+use Rattle.hls_top.specs.Ends.{Ends, IsOutput, IsAnswer, Reads, Writes, IsNoEarlyText, IsTooLong}
 use Rattle.hls_top.specs.Ends.{IsReportOf, MustAnswer}
 use Rattle.hls_top.specs.Legal.{IsLegal}
 use Rattle.hls_top.specs.ReportText.{report_text}
-use Rattle.hls_top.specs.Says.{Shown, Says, SaysAll, SaysPart, SaysAnswer, SaysNothing, IsSteady}
+use Rattle.hls_top.specs.Says.{Shown, Says, SaysAnswer, SaysNothing, IsSteady}
 use Rattle.hls_top.proofs.Promises.{runs_ready, keeps_promises}
 
 -- what is shown of the sink

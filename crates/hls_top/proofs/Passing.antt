@@ -1,29 +1,27 @@
 -- One tick more leaves the root scheduler, the threads and the text linked.
-use Rattle.std.proofs.Common.{◌≡◌, ◌≢◌, ℕ, zero, suc, ◌+◌, ◌-◌, ◌<◌, ◌≤◌, List, [], ◌∷◌, ◌++◌, length, take}
-use Rattle.std.proofs.Common.{Option, Some, None, Bool, true, false, refl, arith, sym, ◌∙◌, ap, subst, inl}
-use Rattle.std.proofs.Common.{inr, length-append, nat_le, filter}
-use Rattle.std.specs.Prelude.{slice_get, ◌⊎◌, ◌↔◌, map}
+use Rattle.std.proofs.Common.{◌≡◌, ℕ, zero, suc, ◌+◌, ◌-◌, ◌<◌, ◌≤◌, List, [], ◌∷◌, ◌++◌, length, take}
+use Rattle.std.proofs.Common.{Option, Some, None, true, false, refl, arith, sym, ◌∙◌, ap, subst, inl}
+use Rattle.std.proofs.Common.{inr, nat_le, filter}
+use Rattle.std.specs.Prelude.{slice_get}
 use Rattle.std.specs.Option.{option_map}
 use Rattle.std.proofs.lemmas.Bool.{cases_lt}
 use Rattle.std.proofs.lemmas.Bool.Decides.{nat_tests}
 use Rattle.std.proofs.lemmas.Option.{slice_get_within, slice_get-map}
-use Rattle.hls_chron.specs.declared.book.TickRow.{TickRow}
 use Rattle.hls_chron.specs.declared.plain.Config.TheVariants.{Fp}
-use Rattle.hls_chron.specs.Ledger.{Ledger, now_of, row_at, before, with_row}
-use Rattle.hls_chron.specs.Seats.{SlotAsks}
-use Rattle.hls_kinds.specs.Asks.{asks, some_slot_asks}
+use Rattle.hls_chron.specs.Ledger.{now_of, with_row}
+use Rattle.hls_kinds.specs.Asks.{some_slot_asks}
 use Rattle.hls_chron.proofs.BookLaws.{terms_at-row, now_of-row, row_at-past, row_at-now}
-use Rattle.hls_sched.specs.Seen.{Seen, tick_row, seen_asks, config_of}
+use Rattle.hls_sched.specs.Seen.{Seen, tick_row, seen_asks}
 use Rattle.hls_top.specs.declared.early.Item.{Item}
 use Rattle.hls_top.specs.declared.early.Scenario.{Scenario}
 use Rattle.hls_top.specs.declared.progress.Thread.{Thread}
 use Rattle.hls_top.specs.declared.progress.Progress.{Progress}
 use Rattle.hls_top.specs.EarlyText.{FitItems}
-use Rattle.hls_top.specs.Progress.{seated_of, seated_all}
+use Rattle.hls_top.specs.Progress.{seated_of}
 use Rattle.hls_top.specs.Threads.{Seated, admitted}
 use Rattle.hls_top.specs.Ready.{IsReadyAfter, items_to}
 use Rattle.hls_top.specs.Legal.{HasReady}
-use Rattle.hls_top.specs.Linked.{IsSeated, HasAwake, IsInTime, IsLinked, NoneDue}
+use Rattle.hls_top.specs.Linked.{HasAwake, IsLinked, NoneDue}
 use Rattle.hls_top.specs.Changes.{Ticks}
 use Rattle.hls_top.proofs.Lists.{slice_get-append-left, slice_get-some, slice_get-append-right}
 use Rattle.hls_top.proofs.Admissions.{take_length, admitted_first}

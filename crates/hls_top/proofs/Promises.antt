@@ -6,15 +6,13 @@ use Rattle.std.specs.Prelude.{slice_get, ◌⊎◌, ◌==◌, if◌then◌else�
 use Rattle.std.specs.Int.{bit_at}
 use Rattle.std.specs.Option.{option_map}
 use Rattle.std.proofs.Math.Seq.{take-length}
-use Rattle.std.proofs.lemmas.Bool.{cases_eq}
 use Rattle.std.proofs.lemmas.Bool.Decides.{nat_tests}
 use Rattle.std.proofs.lemmas.Nat.Bits.{bit_at-zero}
 use Rattle.hls_chron.specs.declared.book.Mark.{Mark}
 use Rattle.hls_chron.specs.declared.book.Event.TheVariants.{Seat}
-use Rattle.hls_chron.specs.declared.plain.Config.TheVariants.{Fp}
 use Rattle.hls_chron.specs.declared.plain.Terms.{Terms}
 use Rattle.hls_chron.specs.declared.plain.Terms.TheVariants.{Prio}
-use Rattle.hls_chron.specs.Ledger.{Ledger, now_of, row_at, before}
+use Rattle.hls_chron.specs.Ledger.{Ledger, row_at, before}
 use Rattle.hls_chron.specs.Seats.{SlotAsks, terms_after, terms_at, priority_at, priority_in}
 use Rattle.hls_kinds.specs.Asks.{some_slot_asks}
 use Rattle.hls_kinds.specs.Discipline.{HasLeastPriority}
@@ -31,7 +29,7 @@ use Rattle.hls_top.specs.declared.report.Report.{Report}
 use Rattle.hls_top.specs.EarlyText.{Text, FitsCommand, IsEarly}
 use Rattle.hls_top.specs.Threads.{Seated, has_priority, answer_to, threads_by, threads_after, admitted_from}
 use Rattle.hls_top.specs.Threads.{admitted}
-use Rattle.hls_top.specs.Ready.{command_at, items_to, IsReady}
+use Rattle.hls_top.specs.Ready.{items_to, IsReady}
 use Rattle.hls_top.specs.Schedule.{ran_at}
 use Rattle.hls_top.specs.Legal.{seat_marks, name_in, HasReady, IsLegal, RunsReady, KeepsPromises}
 use Rattle.hls_top.proofs.Lists.{slice_get-some, list_any-at}

@@ -1,14 +1,13 @@
 -- Who is ready after one more command.
 use Rattle.std.proofs.Common.{◌≡◌, ◌≢◌, ℕ, ◌+◌, ◌<◌, ◌≤◌, List, [], ◌∷◌, ◌++◌, length, Option, Some, None}
-use Rattle.std.proofs.Common.{refl, arith, sym, ◌∙◌, ap, inl, inr, length-append}
-use Rattle.std.specs.Prelude.{slice_get, ◌⊎◌, ◌↔◌}
+use Rattle.std.proofs.Common.{arith, sym, ◌∙◌, ap, inl, inr, length-append}
+use Rattle.std.specs.Prelude.{◌⊎◌}
 use Rattle.std.specs.Option.{option_map}
 use Rattle.std.proofs.lemmas.Bool.{cases_lt, cases_eq}
 use Rattle.std.proofs.lemmas.Option.{slice_get_past}
 use Rattle.hls_top.specs.declared.early.Command.{Command}
 use Rattle.hls_top.specs.declared.early.Command.TheVariants.{Wake, Block}
 use Rattle.hls_top.specs.declared.early.Item.{Item}
-use Rattle.hls_top.specs.EarlyText.{Text}
 use Rattle.hls_top.specs.Threads.{Seated}
 use Rattle.hls_top.specs.Ready.{command_at, IsReadyAfter}
 use Rattle.hls_top.proofs.Lists.{slice_get-append-left, slice_get-append-seam}

@@ -1,22 +1,19 @@
 -- The seats of the root scheduler, and the threads in them.
-use Rattle.std.proofs.Common.{◌≡◌, ◌≢◌, ℕ, suc, ◌^◌, ◌+◌, ◌<◌, ◌≤◌, List, [], ◌∷◌, ◌++◌, length, Option}
+use Rattle.std.proofs.Common.{◌≡◌, ℕ, suc, ◌<◌, ◌≤◌, List, [], ◌∷◌, length, Option}
 use Rattle.std.proofs.Common.{Some, None, Bool, true, false, refl, arith, sym, ◌∙◌, ap, subst, inl, inr}
-use Rattle.std.proofs.Common.{length-append}
-use Rattle.std.specs.Prelude.{slice_get, slice_set, ◌==◌, ◌||◌, ◌↔◌, map, nat_le, if◌then◌else◌}
+use Rattle.std.specs.Prelude.{slice_get, ◌==◌, ◌||◌, nat_le}
 use Rattle.std.specs.Str.{bytes_eq}
-use Rattle.std.specs.List.{list_any}
 use Rattle.std.specs.Option.{option_map}
-use Rattle.std.proofs.lemmas.Bool.{cases_lt, cases_eq}
+use Rattle.std.proofs.lemmas.Bool.{cases_lt}
 use Rattle.std.proofs.lemmas.Bool.Decides.{nat_tests}
-use Rattle.std.proofs.lemmas.Option.{slice_get_past, slice_get_within}
+use Rattle.std.proofs.lemmas.Option.{slice_get_past}
 use Rattle.hls_chron.specs.declared.plain.Terms.{Terms}
 use Rattle.hls_chron.specs.declared.plain.Terms.TheVariants.{Prio}
 use Rattle.hls_chron.specs.declared.plain.Config.TheVariants.{Fp}
-use Rattle.hls_chron.specs.Ledger.{Ledger}
-use Rattle.hls_chron.specs.Seats.{terms_at, priority_at, priority_in, HasPriority}
+use Rattle.hls_chron.specs.Seats.{priority_in, HasPriority}
 use Rattle.hls_kinds.specs.Room.{IsFree, IsFull}
 use Rattle.hls_sched.specs.Seen.{Seen, config_of}
-use Rattle.hls_sched.specs.Fits.{Applies, IsFirst, IsAnswer}
+use Rattle.hls_sched.specs.Fits.{IsFirst, IsAnswer}
 use Rattle.hls_sched.specs.declared.fault.SeatFault.{SeatFault}
 use Rattle.hls_sched.specs.declared.fault.SeatFault.TheVariants.{Unfit, PriorityTaken, Full, NoRoom}
 use Rattle.hls_top.specs.declared.early.Promise.{Promise}
@@ -29,7 +26,7 @@ use Rattle.hls_top.specs.Progress.{seated_of, seated_all}
 use Rattle.hls_top.specs.Threads.{Seated, has_name, has_priority, answer_to}
 use Rattle.hls_top.specs.Linked.{IsSeated, terms_of}
 use Rattle.hls_top.specs.Changes.{refusal_for}
-use Rattle.hls_top.proofs.Lists.{slice_get-some, slice_get-none, list_any-at, Passes, passes_of_any}
+use Rattle.hls_top.proofs.Lists.{slice_get-some, slice_get-none, list_any-at, passes_of_any}
 use Rattle.hls_top.proofs.Lists.{list_any-map}
 
 pub config_fp : (threads : List Thread) (root : Seen) → IsSeated threads root → config_of root ≡ Fp

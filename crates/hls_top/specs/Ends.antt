@@ -1,5 +1,5 @@
 -- How a run ends: each status with its cause, and what was written.
-use Rattle.std.specs.Prelude.{◌≡◌, ◌⊎◌, ℕ, ◌+◌, ◌≤◌, ◌<◌, [], ◌∷◌, ◌++◌, codes, length, Some, IfSome}
+use Rattle.std.specs.Prelude.{◌≡◌, ◌⊎◌, ◌+◌, ◌≤◌, ◌<◌, [], ◌∷◌, ◌++◌, codes, length, Some, IfSome}
 use Rattle.std.specs.Io.KnownBytes.{Appends}
 use Rattle.hls_io.specs.Bytes.{IsWhole, TakesFirst, AppendsPart}
 use Rattle.hls_io.specs.Faults.{Rose}

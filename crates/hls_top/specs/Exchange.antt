@@ -1,5 +1,5 @@
 -- What a run of the program is given, and what it leaves.
-use Rattle.std.specs.Prelude.{ℕ, ◌+◌, ◌≡◌, ◌≤◌, List, Option, String, map, string_bytes}
+use Rattle.std.specs.Prelude.{ℕ, ◌+◌, ◌≡◌, ◌≤◌, List, Option}
 use Rattle.hls_io.specs.Bytes.{TellsAlike, TakesAtMost}
 use Rattle.hls_io.specs.Faults.{Rose}
 use Rattle.hls_top.specs.EarlyText.{Text}

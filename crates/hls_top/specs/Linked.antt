@@ -1,6 +1,6 @@
 -- How the root scheduler and the threads hang together, while a scenario is carried out.
-use Rattle.std.specs.Prelude.{◌≡◌, ◌≢◌, ℕ, ◌+◌, ◌*◌, ◌<◌, ◌≤◌, ◌↔◌, List, length, Option, Some, None, true}
-use Rattle.std.specs.Prelude.{false, slice_get, take, vec_len, vec_capacity}
+use Rattle.std.specs.Prelude.{◌≡◌, ℕ, ◌+◌, ◌<◌, ◌≤◌, ◌↔◌, List, length, Some, None, true}
+use Rattle.std.specs.Prelude.{false, slice_get, take, vec_capacity}
 use Rattle.std.specs.Option.{option_map}
 use Rattle.hls_chron.specs.declared.plain.Config.TheVariants.{Fp}
 use Rattle.hls_chron.specs.declared.plain.Terms.{Terms}

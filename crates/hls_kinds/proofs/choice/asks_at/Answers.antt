@@ -1,4 +1,4 @@
-use Rattle.std.proofs.Common.{◌∙◌, sym}
+use Rattle.std.proofs.Common.{◌∙◌}
 use Rattle.hls_kinds.specs.Asks.{asks_in_budget, asks_softly}
 use Rattle.hls_kinds.proofs.ChoiceLaws.{asks-first, asks-second}
 use Rattle.hls_kinds.proofs.choice.asks_at.Goals as goal

@@ -1,6 +1,6 @@
-use Rattle.std.proofs.Common.{◌≡◌, ℕ, arith, refl, sym, ◌∙◌, ap, None}
+use Rattle.std.proofs.Common.{◌∙◌, ap, None}
 use Rattle.std.proofs.lemmas.List.{get_or-replicate, take_all}
-use Rattle.hls_kinds.specs.Frames.{owner_at, owner_in, owner_after}
+use Rattle.hls_kinds.specs.Frames.{owner_at, owner_in}
 use Rattle.hls_kinds.proofs.FrameLaws.{owners-more, owners_after}
 use Rattle.hls_kinds.proofs.frames.owners.Goals as goal
 

@@ -1,4 +1,4 @@
-use Rattle.std.proofs.Common.{◌≡◌, not, is_some}
+use Rattle.std.proofs.Common.{◌≡◌}
 use Rattle.hls_chron.specs.Seats.{served}
 use Rattle.hls_kinds.specs.Ticks.{last_of}
 use Rattle.hls_kinds.proofs.rows.last_served.Given as goal

@@ -1,4 +1,4 @@
-use Rattle.std.proofs.Common.{◌≡◌, not, is_some}
+use Rattle.std.proofs.Common.{◌≡◌, not}
 use Rattle.hls_chron.specs.Seats.{asked}
 use Rattle.hls_kinds.specs.Ticks.{last_of}
 use Rattle.hls_kinds.proofs.rows.last_silent.Given as goal

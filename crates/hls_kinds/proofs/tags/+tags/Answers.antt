@@ -1,5 +1,5 @@
 use Rattle.std.proofs.Common.{arith, sym, ◌-◌, ap, ◌∙◌}
-use Rattle.hls_kinds.specs.Tags.{start_tags, start_of}
+use Rattle.hls_kinds.specs.Tags.{start_tags}
 use Rattle.hls_chron.specs.Seats.{served}
 use Rattle.hls_chron.specs.Ticks.{count}
 use Rattle.hls_kinds.proofs.TagLaws.{start_tags-zero, start_tags-more, start_of-parts}

@@ -1,8 +1,3 @@
-use Rattle.std.proofs.Common.{List, ◌∙◌, ap, sym}
-use Rattle.hls_top.specs.declared.early.Command.{Command}
-use Rattle.hls_top.specs.declared.progress.Thread.{Thread}
-use Rattle.hls_top.specs.Progress.{seated_all}
-use Rattle.hls_top.specs.Threads.{answer_to}
 use Rattle.hls_top.proofs.carry_out.answer.Goals as goal
 
 pub returns-in-Wake-clause-answer : goal.returns-in-Wake-clause-answer

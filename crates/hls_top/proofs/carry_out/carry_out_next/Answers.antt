@@ -1,8 +1,5 @@
-use Rattle.std.proofs.Common.{◌≡◌, ℕ, ◌<◌, ◌≤◌, ◌∙◌, Some, refl, sym, ap, arith, length}
-use Rattle.std.specs.Prelude.{slice_get, vec_len}
-use Rattle.std.proofs.lemmas.Option.{slice_get_within, slice_get_read}
-use Rattle.hls_top.specs.declared.early.Item.{Item}
-use Rattle.hls_top.specs.declared.report.Answer.{Answer}
+use Rattle.std.proofs.Common.{arith}
+use Rattle.std.proofs.lemmas.Option.{slice_get_within}
 use Rattle.hls_top.proofs.Nexts.{item_read, same_tick, next_fits, carried_next, linked_next, answers_room}
 use Rattle.hls_top.proofs.carry_out.carry_out_next.Goals as goal
 

@@ -1,6 +1,3 @@
-use Rattle.std.proofs.Common.{subst}
-use Rattle.hls_chron.specs.declared.plain.Config.{Config}
-use Rattle.hls_kinds.specs.Discipline.{KeepsDiscipline}
 use Rattle.hls_top.proofs.Endings.{linked_start, since_below, legal_if_ok, discipline_fp}
 use Rattle.hls_top.proofs.carry_out.carry_out_on.Goals as goal
 

@@ -1,5 +1,4 @@
-use Rattle.std.proofs.Common.{◌<◌, ◌∙◌, ap, ℕ, ◌+◌, arith, ◌≡◌}
-use Rattle.hls_chron.specs.Ledger.{now_of}
+use Rattle.std.proofs.Common.{◌∙◌, ap, ℕ, ◌+◌, arith}
 use Rattle.hls_top.proofs.Passing.{linked_tick}
 use Rattle.hls_top.proofs.Endings.{now_ticked, all_done, still_to_come}
 use Rattle.hls_top.proofs.carry_out.run_scenario.Goals as goal

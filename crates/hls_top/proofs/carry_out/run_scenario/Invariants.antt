@@ -1,4 +1,4 @@
-use Rattle.std.proofs.Common.{◌≡◌, ◌≤◌}
+use Rattle.std.proofs.Common.{◌≡◌}
 use Rattle.hls_chron.specs.Ledger.{now_of}
 use Rattle.hls_top.specs.Linked.{IsLinked}
 use Rattle.hls_top.proofs.carry_out.run_scenario.Given as goal

@@ -1,4 +1,4 @@
-use Rattle.std.proofs.Common.{◌≡◌, refl, Bool, map, string_bytes}
+use Rattle.std.proofs.Common.{◌≡◌, refl, map, string_bytes}
 use Rattle.std.specs.Prelude.{true, false}
 use Rattle.hls_io.specs.declared.status.Status.TheVariants.{Usage}
 use Rattle.hls_top.specs.Exchange.{Exchange, exchange}

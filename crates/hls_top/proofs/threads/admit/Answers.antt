@@ -1,4 +1,4 @@
-use Rattle.std.proofs.Common.{refl, sym, ◌∙◌, ap}
+use Rattle.std.proofs.Common.{sym, ◌∙◌, ap}
 use Rattle.hls_top.specs.Linked.{terms_of}
 use Rattle.hls_top.specs.declared.report.Refusal.{Refusal}
 use Rattle.hls_top.specs.declared.report.Answer.TheVariants.{Refused}

@@ -1,5 +1,3 @@
-use Rattle.std.proofs.Common.{refl, sym, ◌∙◌, ap, ◌≡◌, true, false, get_or, Some}
-use Rattle.std.specs.Prelude.{slice_get}
 use Rattle.std.proofs.lemmas.Option.{slice_get-get_or}
 use Rattle.hls_top.proofs.Moves.{taken_slot, silent_slot, asking_slot, rouses_same, rouses_told, same_truth}
 use Rattle.hls_top.proofs.Moves.{other_truth, not_false_truth}
