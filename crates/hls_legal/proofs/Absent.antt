@@ -52,7 +52,8 @@ absent_step h c (Block k) makes none =
     [ true ↦ ap (roused Asleep) none | false ↦ none ]
 absent_step h c (Elapse asking masks path) makes none = ap (ticked (masks c) (hop_at (hops_of path) c)) none
 
--- Where ranks rise along the seats of schedulers, and none is above the top, chains are no longer than that.
+-- Where ranks rise along the seats of schedulers, and none is above the top, chains are no longer than
+-- that.
 abbrev pub Rises : (h : Hierarchy) → (rank : ℕ → ℕ) → Option ℕ → (c : ℕ) → Type 0
 Rises h rank None c = Unit {0}
 Rises h rank (Some p) c = rank p < rank c

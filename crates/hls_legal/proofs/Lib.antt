@@ -23,3 +23,4 @@ pub mod Example
 pub mod Sitters
 pub mod Unique
 pub mod Determined
+pub mod Goes

@@ -4,7 +4,6 @@ use Rattle.hls_chron.specs.declared.plain.Config.{Config}
 use Rattle.hls_chron.specs.declared.plain.Config.TheVariants as configs
 use Rattle.hls_chron.specs.Ledger.{Ledger}
 use Rattle.hls_promise.specs.Promise.{KeepsPromise}
-use Rattle.hls_promise.specs.Admission.{KeepsAdmission}
 use Rattle.hls_promise.proofs.AdmissionLaws.{admission-unwritten}
 use Rattle.hls_promise.proofs.PromiseLaws.{fixed_priority_keeps, join_keeps, round_robin_keeps}
 use Rattle.hls_legal.specs.Ledgers.{empty_book}
@@ -13,7 +12,7 @@ use Rattle.hls_legal.specs.Steps.{Step, after, state}
 use Rattle.hls_legal.specs.Legal.{IsLegal}
 use Rattle.hls_legal.specs.Linked.{KeepsPromises}
 use Rattle.hls_legal.specs.Supplied.{KeepsPromisesAlong}
-use Rattle.hls_legal.specs.Orderly.{KeepsRule, IsOrderly, LoadsOnly, KeepsByRule}
+use Rattle.hls_legal.specs.Orderly.{IsOrderly, LoadsOnly, KeepsByRule}
 use Rattle.hls_legal.proofs.Marks.{ports-empty}
 use Rattle.hls_legal.proofs.Nodes.{IsCurrent, nobody_sits}
 use Rattle.hls_legal.proofs.Rules.{rule-unwritten, rule_is_discipline}
@@ -52,17 +51,17 @@ node_orderly P now (Some (Loaded s)) c due =
 node_orderly P now (Some (Admitted t)) c due = empty_orderly
 
 -- promises
-promised : (config : Config) (b : Ledger) → KeepsByRule config → KeepsAdmission config b → KeepsRule config b
+pub promised_by_rule : (config : Config) (b : Ledger) → KeepsByRule config → IsOrderly config b
     → KeepsPromise config b
-promised configs.Fp b by kept rule =
-    fixed_priority_keeps b kept (rule_is_discipline configs.Fp b (λ e. cc) rule)
-promised (configs.Rr quantum) b by kept rule = round_robin_keeps quantum b
-promised (configs.Join ports) b by kept rule =
-    join_keeps ports b kept (rule_is_discipline (configs.Join ports) b (λ e. cc) rule)
-promised configs.Cpu b by kept rule = absurd by
-promised configs.Edf b by kept rule = absurd by
-promised (configs.Sfq total most) b by kept rule = absurd by
-promised (configs.Wheel frame) b by kept rule = absurd by
+promised_by_rule configs.Fp b by orderly =
+    fixed_priority_keeps b orderly.admission (rule_is_discipline configs.Fp b (λ e. cc) orderly.rule)
+promised_by_rule (configs.Rr quantum) b by orderly = round_robin_keeps quantum b
+promised_by_rule (configs.Join ports) b by orderly =
+    join_keeps ports b orderly.admission (rule_is_discipline (configs.Join ports) b (λ e. cc) orderly.rule)
+promised_by_rule configs.Cpu b by orderly = absurd by
+promised_by_rule configs.Edf b by orderly = absurd by
+promised_by_rule (configs.Sfq total most) b by orderly = absurd by
+promised_by_rule (configs.Wheel frame) b by orderly = absurd by
 
 nothing_promised : KeepsPromise configs.Cpu (empty_book 0 0 0)
 nothing_promised =
@@ -71,20 +70,25 @@ nothing_promised =
           (nobody_sits 0 0 0 slot since terms sits);
     }
 
-node_promised : (node : Option Node) → IsDueNode KeepsByRule node
-    → KeepsPromise (config_of node) (book_of node)
-node_promised None due = nothing_promised
-node_promised (Some (Loaded s)) due = promised s.config s.book due.kind due.admission due.rule
-node_promised (Some (Admitted t)) due = nothing_promised
+-- Where orderly books of these configurations keep their promises, so do all books along a run that
+-- loads no others.
+module _ (P : Config → Type 0)
+    (keeps : (config : Config) (b : Ledger) → P config → IsOrderly config b → KeepsPromise config b) where
+  node_promised : (now : ℕ) (node : Option Node) → IsCurrent now node → IsDueNode P node
+      → KeepsPromise (config_of node) (book_of node)
+  node_promised now None c due = nothing_promised
+  node_promised now (Some (Loaded s)) c due =
+      keeps s.config s.book due.kind (record { admission = due.admission; rule = due.rule; ports = c.ports })
+  node_promised now (Some (Admitted t)) c due = nothing_promised
 
-all_promised : (h : Hierarchy) → AllDue KeepsByRule h → KeepsPromises h
-all_promised h due = λ k. node_promised (h.nodes k) (due k)
+  all_promised : (h : Hierarchy) → Kept h → AllDue P h → KeepsPromises h
+  all_promised h k due = λ c. node_promised h.now (h.nodes c) (k.sound.current c) (due c)
 
-pub promises_along : (steps : List Step) (h : Hierarchy) → Kept h → AllDue KeepsByRule h → IsLegal h steps
-    → LoadsOnly KeepsByRule steps → KeepsPromisesAlong h steps
-promises_along [] h k due legal only = all_promised h due
-promises_along (step ∷ steps) h k due legal only = (
-  all_promised h due,
-  promises_along steps (after h step) (step_keeps h step k legal.0)
-      (step_due KeepsByRule h k.rank step k.sound legal.0 only.0 due) legal.1 only.1,
-)
+  pub promises_along : (steps : List Step) (h : Hierarchy) → Kept h → AllDue P h → IsLegal h steps
+      → LoadsOnly P steps → KeepsPromisesAlong h steps
+  promises_along [] h k due legal only = all_promised h k due
+  promises_along (step ∷ steps) h k due legal only = (
+    all_promised h k due,
+    promises_along steps (after h step) (step_keeps h step k legal.0)
+        (step_due P h k.rank step k.sound legal.0 only.0 due) legal.1 only.1,
+  )

@@ -1,4 +1,5 @@
--- What a step chooses is determined: the slot to serve, the path, who asks, what is below, and the free slot.
+-- What a step chooses is determined: the slot to serve, the path, who asks, what is below, and the free
+-- slot.
 use Rattle.std.proofs.Common.{◌≡◌, ℕ, zero, suc, inl, inr, ◌+◌, ◌^◌, ◌<◌, ◌≤◌, max, List, [], ◌∷◌, Option}
 use Rattle.std.proofs.Common.{Some, None, Bool, refl, sym, ap, ◌∙◌, subst, arith}
 use Rattle.std.specs.Int.{bit_at}

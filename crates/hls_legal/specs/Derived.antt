@@ -12,8 +12,7 @@ Yields g h = (served asks : ℕ → Bool) (lo hi : ℕ) → Supplies g served as
     → Supplies h served asks lo hi
 
 -- What the guarantee of one port yields is lent to a seat on these terms, and what is lent yields the
--- guarantee
--- that is wanted for the seat.
+-- guarantee that is wanted for the seat.
 pub record Follows (config : Config) (terms : Terms) (haves : List Guarantee) (want : Guarantee) : Type 0
   where
     pub port : ℕ

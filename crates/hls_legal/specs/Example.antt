@@ -1,7 +1,6 @@
--- A run of three ticks over two levels, with a move. The desk is at the processor, and the player's first
--- seat is
--- on the media scheduler below it. The player is woken for two ticks, and keeps what is left of them over its
--- move to the desk.
+-- A run of three ticks over two levels, with a move. The desk is at the processor, and the player's
+-- first seat is on the media scheduler below it. The player is woken for two ticks, and keeps what is
+-- left of them over its move to the desk.
 use Rattle.std.specs.Prelude.{ℕ, ◌==◌, ◌||◌, List, [], ◌∷◌, Option, Some, None, Bool, false, if◌then◌else◌}
 use Rattle.std.specs.Prelude.{codes}
 use Rattle.hls_chron.specs.declared.plain.Config.TheVariants.{Fp}

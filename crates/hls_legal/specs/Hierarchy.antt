@@ -66,10 +66,9 @@ pub record Stay : Type 0 where
   pub since : ℕ
   pub until : Option ℕ
 
--- The nodes by their numbers, the scheduler at the processor, and the ticks that have passed. The lists have
--- the
--- oldest first: schedulers by load, threads by admission, seats by their taking, and all stays by their
--- opening.
+-- The nodes by their numbers, the scheduler at the processor, and the ticks that have passed. The lists
+-- have the oldest first: schedulers by load, threads by admission, seats by their taking, and all stays
+-- by their opening.
 pub record Hierarchy : Type 0 where
   pub now : ℕ
   pub nodes : ℕ → Option Node

@@ -1,6 +1,5 @@
--- When a step may be taken. All conditions of a command look at the hierarchy as it stands, with a mover
--- still in
--- its old seat.
+-- When a step may be taken. All conditions of a command look at the hierarchy as it stands, with a
+-- mover still in its old seat.
 use Rattle.std.specs.Prelude.{◌<◌, ◌≡◌, ◌≢◌, ◌⊎◌, ℕ, ◌+◌, ◌≤◌, List, [], ◌∷◌, length, Option, Some, None}
 use Rattle.std.specs.Prelude.{Bool, true, false, slice_get}
 use Rattle.hls_chron.specs.declared.plain.Config.{Config}
@@ -61,9 +60,9 @@ pub record SeatInRange (seat : Seat) : Type 0 where
   pub terms : TermsInRange seat.terms
   pub kept : IsNarrow seat.kept
 
--- The seat may be taken at slot of scheduler p, where these seats are left before: p is loaded, the terms
--- fit, a
--- slot is free and this one is the least that is free when those seats are left, and the guarantee follows.
+-- The seat may be taken at slot of scheduler p, where these seats are left before: p is loaded, the
+-- terms fit, a slot is free and this one is the least that is free when those seats are left, and the
+-- guarantee follows.
 pub record MaySit (h : Hierarchy) (left : List Seat) (seat : Seat) (p slot : ℕ) : Type 0 where
   pub scheduler : Scheduler
   pub there : h.nodes p ≡ Some (Loaded scheduler)
@@ -177,7 +176,8 @@ pub record IsAsking (h : Hierarchy) (asking : ℕ → Bool) (masks : ℕ → ℕ
       → slot_asks (masks p) slot ≡ asking c
   pub free : (p slot : ℕ) → terms_at (book_of (h.nodes p)) slot ≡ None → slot_asks (masks p) slot ≡ false
 
--- a path comes from a place to a scheduler, by a port that sits there, and goes on through the slot to serve
+-- a path comes from a place to a scheduler, by a port that sits there, and goes on through the slot to
+-- serve
 pub record Enters (h : Hierarchy) (masks : ℕ → ℕ) (place : Place) (hop : Hop) : Type 0 where
   pub scheduler : Scheduler
   pub seat : Seat

@@ -16,9 +16,8 @@ use Rattle.std.specs.Prelude.{Bool}
 use Rattle.hls_chron.specs.declared.plain.Config.{Config}
 use Rattle.hls_chron.specs.Ledger.{Ledger}
 
--- the book and the configuration of node k, what it counts since when, and in which ticks it asked and was
--- given
--- the tick through a port
+-- the book and the configuration of node k, what it counts since when, and in which ticks it asked and
+-- was given the tick through a port
 abbrev pub book_at : Hierarchy → (k : ℕ) → Ledger
 book_at h k = book_of (h.nodes k)
 
@@ -34,8 +33,8 @@ asking_at h k t = asking_of h.past k (h.nodes k) t
 abbrev pub given_at : Hierarchy → (k port : ℕ) → ℕ → Bool
 given_at h k port t = given_of h.past k (h.nodes k) port t
 
--- A port of c sits at a slot of p. The book of p has the seat, since no later than the accounts of c run, and
--- tells the same of it as those. Ranks rise along seats.
+-- A port of c sits at a slot of p. The book of p has the seat, since no later than the accounts of c
+-- run, and tells the same of it as those. Ranks rise along seats.
 pub record Attends (h : Hierarchy) (rank : ℕ → ℕ) (c port : ℕ) (seat : Seat) (p slot : ℕ) : Type 0 where
   pub below : rank p < rank c
   pub now : now_of (book_at h p) ≡ h.now

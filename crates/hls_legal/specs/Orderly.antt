@@ -16,8 +16,8 @@ pub record KeepsRule (config : Config) (b : Ledger) : Type 0 where
   pub served : (t slot : ℕ) → t < now_of b → (row_at b t).to ≡ Some slot
       → Serves config (before t b) (row_at b t).mask slot
 
--- its seats were admitted as they are to be, it serves by its rule, and it has the ports that it was granted
--- by
+-- its seats were admitted as they are to be, it serves by its rule, and it has the ports that it was
+-- granted by
 pub record IsOrderly (config : Config) (b : Ledger) : Type 0 where
   pub admission : KeepsAdmission config b
   pub rule : KeepsRule config b

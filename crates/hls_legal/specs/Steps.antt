@@ -1,4 +1,5 @@
--- One step of a hierarchy, and what it makes of it. A step has with it what was chosen and what was found.
+-- One step of a hierarchy, and what it makes of it. A step has with it what was chosen and what was
+-- found.
 use Rattle.std.specs.Prelude.{ℕ, ◌+◌, List, [], ◌∷◌, ◌++◌, Option, Some, None, Bool, true, false, not}
 use Rattle.std.specs.Prelude.{if◌then◌else◌, ◌==◌, ◌||◌, map, filter}
 use Rattle.hls_chron.specs.declared.book.TickRow.{TickRow}
@@ -23,11 +24,9 @@ pub record Path : Type 0 where
   pub hops : List Hop
   pub thread : ℕ
 
--- A load tells the room that the new book begins with. A move tells which nodes are the moved one or below
--- it. A
--- tick that elapses tells which nodes ask, which slots of each scheduler ask, a bit each, and the path if it
--- is
--- not idle.
+-- A load tells the room that the new book begins with. A move tells which nodes are the moved one or
+-- below it. A tick that elapses tells which nodes ask, which slots of each scheduler ask, a bit each,
+-- and the path if it is not idle.
 pub data Step : Type 0 where
   Refuse : Step
   Load : (node : ℕ) → (name : List ℕ) → (config : Config) → (spare_ticks spare_marks : ℕ)
@@ -137,9 +136,8 @@ opened now nodes begins [] = []
 opened now nodes begins (k ∷ threads) =
     (if begins k then stay_of now k (nodes k) else []) ++ opened now nodes begins threads
 
--- The effect of a command on node k. The seats of k are left, those of what it becomes are taken, and then
--- the
--- accounts of all that is below begin anew.
+-- The effect of a command on node k. The seats of k are left, those of what it becomes are taken, and
+-- then the accounts of all that is below begin anew.
 abbrev pub nodes_after : Hierarchy → (k : ℕ) → Option Node → (below : ℕ → Bool) → ℕ → Option Node
 nodes_after h k node below c = renewed (below c) h.now
     (if c == k then node else marked (leavings (seats_of (h.nodes k)) c ++ seatings (seats_of node) c)

@@ -1,6 +1,8 @@
 -- What holds of every stay of a legal run.
-use Rattle.std.specs.Prelude.{◌≡◌, ℕ, ◌≤◌, ◌<◌, List, [], ◌∷◌, Option, Some, None, true, slice_get, filter}
+use Rattle.std.specs.Prelude.{◌-◌, ◌≡◌, ℕ, ◌≤◌, ◌<◌, List, [], ◌∷◌, Option, Some, None, true, slice_get}
+use Rattle.std.specs.Prelude.{filter}
 use Rattle.std.specs.Prelude.{nat_lt}
+use Rattle.hls_chron.specs.Ticks.{count}
 use Rattle.hls_guarantee.specs.Satisfaction.{Satisfies}
 use Rattle.hls_guarantee.specs.Cap.{KeepsCap}
 use Rattle.hls_legal.specs.Hierarchy.{Hierarchy, Tick, Stay, was_served, had_asked}
@@ -17,9 +19,8 @@ abbrev pub end_of : (now : ℕ) → Option ℕ → ℕ
 end_of now None = now
 end_of now (Some until) = until
 
--- Up to a tick the guarantee is met in every window of the stay, ticks in all of which the thread was ready,
--- and
--- its cap is kept over the whole stay.
+-- Up to a tick the guarantee is met in every window of the stay, ticks in all of which the thread was
+-- ready, and its cap is kept over the whole stay.
 pub record IsKeptUntil (past : ℕ → Tick) (stay : Stay) (until : ℕ) : Type 0 where
   pub windows : (i j : ℕ) → stay.since ≤ i → j ≤ until
       → ((t : ℕ) → i ≤ t → t < j → had_asked past stay.thread t ≡ true)
@@ -36,3 +37,10 @@ KeepsStays h = (index : ℕ) (stay : Stay) → slice_get h.stays index ≡ Some 
 -- the stays of at least one tick
 abbrev pub accounts : Hierarchy → List Stay
 accounts h = filter (λ (stay : Stay). nat_lt stay.since (end_of h.now stay.until)) h.stays
+
+-- the ticks of a stay in which its thread was ready, and those in which it was served
+abbrev pub ready_ticks : Hierarchy → Stay → ℕ
+ready_ticks h stay = count (had_asked h.past stay.thread) stay.since (end_of h.now stay.until - stay.since)
+
+abbrev pub served_ticks : Hierarchy → Stay → ℕ
+served_ticks h stay = count (was_served h.past stay.thread) stay.since (end_of h.now stay.until - stay.since)

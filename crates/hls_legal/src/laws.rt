@@ -1,6 +1,6 @@
 //! What holds of legal runs: each function's contract is a law, and its body does nothing.
 
-ghost use Rattle.std.specs.Prelude.{◌≡◌, ◌≢◌, ℕ, List, Some, None, Bool, true, false};
+ghost use Rattle.std.specs.Prelude.{◌≡◌, ◌≢◌, ◌++◌, ◌∷◌, [], ℕ, List, Some, None, Bool, true, false};
 ghost use Rattle.hls_chron.specs.Kinds.{kind_of};
 ghost use Rattle.hls_chron.specs.Ledger.{Ledger};
 ghost use Rattle.hls_chron.specs.Seats.{asked, served};
@@ -21,6 +21,17 @@ use hls_chron::{Config, Kind};
 pub fn legal_runs_keep_every_stay()
     ensures { (steps : List Step) → IsLegal start steps → KeepsPromisesAlong start steps →
         KeepsStays (state start steps) }
+{}
+
+/// A legal run goes on by any step that may be taken where it leads.
+pub fn legal_runs_go_on()
+    ensures legal { (steps : List Step) (step : Step) → IsLegal start steps → Can (state start steps) step →
+        IsLegal start (steps ++ step ∷ []) }
+    ensures leads { (steps : List Step) (step : Step) →
+        state start (steps ++ step ∷ []) ≡ after (state start steps) step }
+    ensures promises { (steps : List Step) (step : Step) → KeepsPromisesAlong start steps →
+        KeepsPromises (after (state start steps) step) →
+        KeepsPromisesAlong start (steps ++ step ∷ []) }
 {}
 
 /// The books that a legal run leaves are linked: a seat asks where its child asks and is served where that is
