@@ -24,3 +24,4 @@ pub mod Sitters
 pub mod Unique
 pub mod Determined
 pub mod Goes
+pub mod Lists

@@ -18,7 +18,8 @@ use Rattle.hls_legal.proofs.Commands.{load_owes, drop_owes, move_owes, thread_em
 use Rattle.hls_legal.proofs.Rouses.{roused_sound}
 use Rattle.hls_legal.proofs.Elapses.{elapsed_sound}
 use Rattle.hls_legal.proofs.Moments.{linked, supplied}
-use Rattle.hls_legal.proofs.Stays.{Each, Stands, stays_kept, effect_stays, roused_stays, elapsed_stays}
+use Rattle.std.specs.List.{AllByRecursion}
+use Rattle.hls_legal.proofs.Stays.{Stands, stays_kept, effect_stays, roused_stays, elapsed_stays}
 
 -- what is kept, with some ranks
 pub record Kept (h : Hierarchy) : Type 0 where
@@ -107,8 +108,9 @@ step_keeps h (Elapse asking masks path) k can =
     record { rank = k.rank; sound = elapsed_sound h k.rank k.sound asking masks path can.0 can.1 }
 
 -- the stays
-step_stays : (h : Hierarchy) (step : Step) → Kept h → KeepsPromises h → Can h step → Each (Stands h) h.stays
-    → Each (Stands (after h step)) (after h step).stays
+step_stays : (h : Hierarchy) (step : Step) → Kept h → KeepsPromises h → Can h step
+    → AllByRecursion (Stands h) h.stays
+    → AllByRecursion (Stands (after h step)) (after h step).stays
 step_stays h Refuse k promises can each = each
 step_stays h (Load c name config spare_ticks spare_marks seats) k promises can each =
     effect_stays h k.rank c _ nobody
@@ -135,7 +137,7 @@ run_keeps [] h k legal = k
 run_keeps (step ∷ steps) h k legal = run_keeps steps (after h step) (step_keeps h step k legal.0) legal.1
 
 pub run_stays : (steps : List Step) (h : Hierarchy) → Kept h → IsLegal h steps → KeepsPromisesAlong h steps
-    → Each (Stands h) h.stays → KeepsStays (state h steps)
+    → AllByRecursion (Stands h) h.stays → KeepsStays (state h steps)
 run_stays [] h k legal promises each = stays_kept h (supplied h k.rank (linked h k.rank k.sound) promises)
     each
 run_stays (step ∷ steps) h k legal promises each =

@@ -3,6 +3,8 @@ use Rattle.std.proofs.Common.{◌≡◌, ℕ, zero, suc, inl, inr, ◌<◌, ◌�
 use Rattle.std.proofs.Common.{None, Bool, true, false, if◌then◌else◌, ◌==◌, slice_get, refl, sym, ap, ◌∙◌}
 use Rattle.std.proofs.Common.{subst, arith}
 use Rattle.std.specs.Prelude.{map}
+use Rattle.std.specs.List.{AllByRecursion}
+use Rattle.std.proofs.lemmas.List.Elements.{All-from_recursion}
 use Rattle.std.proofs.lemmas.Bool.{cases_eq, cases_Bool, ne_eqb}
 use Rattle.hls_guarantee.specs.declared.Guarantee.{Guarantee}
 use Rattle.hls_guarantee.specs.Supply.{Supplies}
@@ -13,7 +15,7 @@ use Rattle.hls_legal.specs.Steps.{Path, thread_of, hop_at, hops_of, marked, rene
 use Rattle.hls_legal.specs.Steps.{leavings, closed, ended, stay_of, opened, nodes_after, effect, with_wake}
 use Rattle.hls_legal.specs.Steps.{elapsed, ticked, is_thread, listed}
 use Rattle.hls_legal.specs.Linked.{IsSupplied, since_at, asking_at, given_at}
-use Rattle.hls_legal.specs.Supplied.{end_of, IsKeptUntil, KeepsStays}
+use Rattle.hls_legal.specs.Supplied.{end_of, IsKeptUntil, IsKept, KeepsStays}
 use Rattle.hls_legal.proofs.Nodes.{seats-renewed}
 use Rattle.hls_legal.proofs.Kept.{at_same, at_other}
 use Rattle.hls_legal.proofs.Effects.{Owed}
@@ -37,28 +39,20 @@ StandsBy h stay (Some until) = IsEnded h stay until
 abbrev pub Stands : Hierarchy → Stay → Type 0
 Stands h stay = StandsBy h stay stay.until
 
-abbrev pub Each : (Stay → Type 0) → List Stay → Type 0
-Each P [] = Unit {0}
-Each P (stay ∷ stays) = P stay × Each P stays
-
-each_append : (P : Stay → Type 0) (xs ys : List Stay) → Each P xs → Each P ys → Each P (xs ++ ys)
+each_append : (P : Stay → Type 0) (xs ys : List Stay) → AllByRecursion P xs → AllByRecursion P ys
+    → AllByRecursion P (xs ++ ys)
 each_append P [] ys f g = g
 each_append P (x ∷ xs) ys f g = (f.0, each_append P xs ys f.1 g)
 
 each_map : (P Q : Stay → Type 0) (change : Stay → Stay) (xs : List Stay) → ((x : Stay) → P x → Q (change x))
-    → Each P xs → Each Q (map change xs)
+    → AllByRecursion P xs → AllByRecursion Q (map change xs)
 each_map P Q change [] up f = tt
 each_map P Q change (x ∷ xs) up f = (up x f.0, each_map P Q change xs up f.1)
 
-each_same : (P Q : Stay → Type 0) (xs : List Stay) → ((x : Stay) → P x → Q x) → Each P xs → Each Q xs
+each_same : (P Q : Stay → Type 0) (xs : List Stay) → ((x : Stay) → P x → Q x) → AllByRecursion P xs
+    → AllByRecursion Q xs
 each_same P Q [] up f = tt
 each_same P Q (x ∷ xs) up f = (up x f.0, each_same P Q xs up f.1)
-
-pub each_at : (P : Stay → Type 0) (xs : List Stay) (index : ℕ) (x : Stay) → Each P xs
-    → slice_get xs index ≡ Some x → P x
-each_at P [] index x f e = absurd (cc)
-each_at P (y ∷ ys) zero x f e = let same : y ≡ x = cc in subst P same f.0
-each_at P (y ∷ ys) (suc index) x f e = each_at P ys index x f.1 e
 
 -- of an open stay, by what its thread was supplied
 open_kept : (h : Hierarchy) (stay : Stay) → IsSupplied h → IsOpen h stay → IsKeptUntil h.past stay h.now
@@ -100,9 +94,10 @@ stands_kept : (h : Hierarchy) (stay : Stay) (until : Option ℕ) → IsSupplied 
 stands_kept h stay None supply s = open_kept h stay supply s
 stands_kept h stay (Some until) supply s = s.kept
 
-pub stays_kept : (h : Hierarchy) → IsSupplied h → Each (Stands h) h.stays → KeepsStays h
-stays_kept h supply each index stay e = let s = each_at (Stands h) h.stays index stay each e in
-    stands_kept h stay stay.until supply s
+pub stays_kept : (h : Hierarchy) → IsSupplied h → AllByRecursion (Stands h) h.stays → KeepsStays h
+stays_kept h supply each =
+    All-from_recursion (IsKept h) h.stays
+    (each_same (Stands h) (IsKept h) h.stays (λ stay s. stands_kept h stay stay.until supply s) each)
 
 -- a wake or a block
 roused_there : (k c : ℕ) (how : Wake) (node : Option Node) (t : Thread) → node ≡ Some (Admitted t)
@@ -121,8 +116,8 @@ stands_roused h k how stay None s = record {
 }
 stands_roused h k how stay (Some until) s = record { past = s.past; kept = s.kept }
 
-pub roused_stays : (h : Hierarchy) (k : ℕ) (how : Wake) → Each (Stands h) h.stays
-    → Each (Stands (with_wake h k how)) h.stays
+pub roused_stays : (h : Hierarchy) (k : ℕ) (how : Wake) → AllByRecursion (Stands h) h.stays
+    → AllByRecursion (Stands (with_wake h k how)) h.stays
 roused_stays h k how each = each_same (Stands h) (Stands (with_wake h k how)) h.stays
     (λ stay s. stands_roused h k how stay stay.until s) each
 
@@ -143,13 +138,13 @@ stands_elapsed h asking masks path stay (Some until) s = record {
 }
 
 pub elapsed_stays : (h : Hierarchy) (asking : ℕ → Bool) (masks : ℕ → ℕ) (path : Option Path)
-    → Each (Stands h) h.stays → Each (Stands (elapsed h asking masks path)) h.stays
+    → AllByRecursion (Stands h) h.stays → AllByRecursion (Stands (elapsed h asking masks path)) h.stays
 elapsed_stays h asking masks path each = each_same (Stands h) (Stands (elapsed h asking masks path)) h.stays
     (λ stay s. stands_elapsed h asking masks path stay stay.until s) each
 
 -- a command
 module _ (h : Hierarchy) (rank : ℕ → ℕ) (k : ℕ) (node : Option Node) (below : ℕ → Bool)
-    (owed : Owed h rank k node below) (supply : IsSupplied h) where
+    (owed : Owed h rank k node below) where
   abbrev made : Hierarchy
   made = effect h k node below
 
@@ -178,16 +173,16 @@ module _ (h : Hierarchy) (rank : ℕ → ℕ) (k : ℕ) (node : Option Node) (be
       (h.nodes c)) neither.1
       ∙ ap (marked (leavings (seats_of (h.nodes k)) c ++ seatings (seats_of node) c)) e
 
-  closed_stands : (stay : Stay) (until : Option ℕ) → StandsBy h stay until → (b : Bool)
+  closed_stands : IsSupplied h → (stay : Stay) (until : Option ℕ) → StandsBy h stay until → (b : Bool)
       → begins stay.thread ≡ b
       → StandsBy made (record stay { until = ended b h.now until }) (ended b h.now until)
-  closed_stands stay None s true e =
+  closed_stands supply stay None s true e =
       record {
         past = omega arith;
         kept = let kept = open_kept h stay supply s in
             record { windows = kept.windows; cap = kept.cap };
       }
-  closed_stands stay None s false e =
+  closed_stands supply stay None s false e =
       record {
         thread = s.thread;
         there = thread_same stay.thread s.thread e s.there;
@@ -195,9 +190,9 @@ module _ (h : Hierarchy) (rank : ℕ → ℕ) (k : ℕ) (node : Option Node) (be
         begun =
             s.begun;
       }
-  closed_stands stay (Some until) s true e =
+  closed_stands supply stay (Some until) s true e =
       record { past = s.past; kept = let kept = s.kept in record { windows = kept.windows; cap = kept.cap } }
-  closed_stands stay (Some until) s false e =
+  closed_stands supply stay (Some until) s false e =
       record { past = s.past; kept = let kept = s.kept in record { windows = kept.windows; cap = kept.cap } }
 
   -- and a thread that begins one begins it now
@@ -220,7 +215,7 @@ module _ (h : Hierarchy) (rank : ℕ → ℕ) (k : ℕ) (node : Option Node) (be
       ∙ ap (λ n. seat_of n 0) there in
       sym (ap since_of there) ∙ owed.starts 0 t.seat seat
 
-  begun_now : (c : ℕ) (t : Thread) → begins c ≡ true → nodes_after h k node below c ≡ Some (Admitted t)
+  pub begun_now : (c : ℕ) (t : Thread) → begins c ≡ true → nodes_after h k node below c ≡ Some (Admitted t)
       → t.stay ≡ h.now
   begun_now c t on e = elim (cases_eq c k) [
     | inl is ↦ named_now c t is e
@@ -231,31 +226,31 @@ module _ (h : Hierarchy) (rank : ℕ → ℕ) (k : ℕ) (node : Option Node) (be
   ]
 
   stay_stands : (c : ℕ) → begins c ≡ true → (any : Option Node) → nodes_after h k node below c ≡ any
-      → Each (Stands made) (stay_of h.now c any)
+      → AllByRecursion (Stands made) (stay_of h.now c any)
   stay_stands c on None e = tt
   stay_stands c on (Some (Loaded s)) e = tt
   stay_stands c on (Some (Admitted t)) e =
       (record { thread = t; there = e; keeps = refl; begun = begun_now c t on e }, tt)
 
   one_opened : (c : ℕ) (b : Bool) → begins c ≡ b
-      → Each (Stands made) (if b then stay_of h.now c (nodes_after h k node below c) else [])
+      → AllByRecursion (Stands made) (if b then stay_of h.now c (nodes_after h k node below c) else [])
   one_opened c true e = stay_stands c e (nodes_after h k node below c) refl
   one_opened c false e = tt
 
   opened_stand : (threads : List ℕ)
-      → Each (Stands made) (opened h.now (nodes_after h k node below) begins threads)
+      → AllByRecursion (Stands made) (opened h.now (nodes_after h k node below) begins threads)
   opened_stand [] = tt
   opened_stand (c ∷ threads) =
       each_append (Stands made) (if begins c then stay_of h.now c (nodes_after h k node below c) else [])
       (opened h.now (nodes_after h k node below) begins threads) (one_opened c (begins c) refl)
       (opened_stand threads)
 
-  pub effect_stays : Each (Stands h) h.stays
-      → Each (Stands (effect h k node below)) (effect h k node below).stays
-  effect_stays each =
+  pub effect_stays : IsSupplied h → AllByRecursion (Stands h) h.stays
+      → AllByRecursion (Stands (effect h k node below)) (effect h k node below).stays
+  effect_stays supply each =
       let threads = listed (is_thread (h.nodes k)) (is_thread node) k h.threads in
       each_append (Stands made) (map (λ (stay : Stay). closed (begins stay.thread) h.now stay) h.stays)
       (opened h.now (nodes_after h k node below) begins threads)
       (each_map (Stands h) (Stands made) (λ (stay : Stay). closed (begins stay.thread) h.now stay) h.stays
-      (λ stay s. closed_stands stay stay.until s (begins stay.thread) refl) each)
+      (λ stay s. closed_stands supply stay stay.until s (begins stay.thread) refl) each)
       (opened_stand threads)

@@ -9,3 +9,4 @@ pub mod Orderly
 pub mod Readings
 pub mod Example
 pub mod Alike
+pub mod Lists

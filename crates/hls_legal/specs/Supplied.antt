@@ -1,4 +1,5 @@
 -- What holds of every stay of a legal run.
+use Rattle.std.specs.Prelude.{All}
 use Rattle.std.specs.Prelude.{◌-◌, ◌≡◌, ℕ, ◌≤◌, ◌<◌, List, [], ◌∷◌, Option, Some, None, true, slice_get}
 use Rattle.std.specs.Prelude.{filter}
 use Rattle.std.specs.Prelude.{nat_lt}
@@ -32,7 +33,7 @@ IsKept h stay = IsKeptUntil h.past stay (end_of h.now stay.until)
 
 -- each stay so far, open or closed, is kept
 abbrev pub KeepsStays : Hierarchy → Type 0
-KeepsStays h = (index : ℕ) (stay : Stay) → slice_get h.stays index ≡ Some stay → IsKept h stay
+KeepsStays h = All (IsKept h) h.stays
 
 -- the stays of at least one tick
 abbrev pub accounts : Hierarchy → List Stay

@@ -1,6 +1,6 @@
 //! What holds of legal runs: each function's contract is a law, and its body does nothing.
 
-ghost use Rattle.std.specs.Prelude.{◌≡◌, ◌≢◌, ◌++◌, ◌∷◌, [], ℕ, List, Some, None, Bool, true, false};
+ghost use Rattle.std.specs.Prelude.{◌≡◌, ◌≢◌, ◌++◌, ◌∷◌, [], ℕ, List, Some, None, Bool, true, false, All};
 ghost use Rattle.hls_chron.specs.Kinds.{kind_of};
 ghost use Rattle.hls_chron.specs.Ledger.{Ledger};
 ghost use Rattle.hls_chron.specs.Seats.{asked, served};
@@ -9,10 +9,11 @@ ghost use Rattle.hls_legal.specs.Hierarchy.{Hierarchy, Seat, start, was_served, 
 ghost use Rattle.hls_legal.specs.Steps.{Path, Step, Move, Block, Elapse, after, state};
 ghost use Rattle.hls_legal.specs.Legal.{asks_now, Can, IsLegal};
 ghost use Rattle.hls_legal.specs.Linked.{config_at, book_at, IsLinked, KeepsPromises, IsSupplied};
-ghost use Rattle.hls_legal.specs.Supplied.{KeepsPromisesAlong, KeepsStays};
+ghost use Rattle.hls_legal.specs.Supplied.{KeepsPromisesAlong, IsKept, KeepsStays, accounts};
 ghost use Rattle.hls_legal.specs.Orderly.{IsOrderly, LoadsOnly, KeepsByRule};
 ghost use Rattle.hls_legal.specs.Readings.{Renews, LetSleep};
 ghost use Rattle.hls_legal.specs.Alike.{AreAlike};
+ghost use Rattle.hls_legal.specs.Lists.{IsListed};
 
 use hls_chron::{Config, Kind};
 
@@ -21,6 +22,17 @@ use hls_chron::{Config, Kind};
 pub fn legal_runs_keep_every_stay()
     ensures { (steps : List Step) → IsLegal start steps → KeepsPromisesAlong start steps →
         KeepsStays (state start steps) }
+{}
+
+/// The stays of at least one tick, which a report lists, are among those that are kept.
+pub fn kept_stays_keep_accounts()
+    ensures { (h : Hierarchy) → KeepsStays h → All (IsKept h) (accounts h) }
+{}
+
+/// The lists of a legal run are of what is there: schedulers, threads, and for each thread the stay that it has
+/// begun. No two nodes that are there have one name.
+pub fn legal_runs_list_what_is_there()
+    ensures { (steps : List Step) → IsLegal start steps → IsListed (state start steps) }
 {}
 
 /// A legal run goes on by any step that may be taken where it leads.
