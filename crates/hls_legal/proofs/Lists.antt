@@ -1,25 +1,24 @@
 -- The lists of a legal run hold what is there.
-use Rattle.std.proofs.Common.{◌≡◌, ◌≢◌, ℕ, zero, suc, inl, inr, ◌+◌, ◌<◌, ◌≤◌, ◌⊎◌, List, [], ◌∷◌, ◌++◌, ◌||◌}
+use Rattle.std.proofs.Common.{◌≡◌, ◌≢◌, ℕ, zero, suc, inl, inr, ◌<◌, List, [], ◌∷◌, ◌++◌, ◌||◌}
 use Rattle.std.proofs.Common.{length, Option, Some, None, Bool, true, false, not, if◌then◌else◌, ◌==◌}
-use Rattle.std.proofs.Common.{slice_get, refl, sym, ap, ◌∙◌, subst, arith, cond, get_or, filter}
-use Rattle.std.specs.Prelude.{map, Contains, AllPairs, All}
-use Rattle.std.proofs.lemmas.Bool.{cases_eq, cases_Bool, eq-eqb, ne_eqb, eqb-true}
+use Rattle.std.proofs.Common.{refl, sym, ap, ◌∙◌, subst, arith, cond, get_or, filter}
+use Rattle.std.specs.Prelude.{map, Contains}
+use Rattle.std.proofs.lemmas.Bool.{cases_eq, cases_Bool, eq-eqb, ne_eqb}
 use Rattle.std.proofs.lemmas.List.Elements.{Contains-append_left, Contains-append_right, Contains-push}
 use Rattle.std.proofs.lemmas.List.Elements.{Contains-push_cases, All-contains, All-filter, filter_passes}
 use Rattle.std.proofs.lemmas.List.Elements.{All-contains_itself}
 use Rattle.std.proofs.lemmas.List.Kept.{AllPairs-filter}
 use Rattle.std.proofs.lemmas.List.Quantifiers.{all_pairs_push}
 use Rattle.hls_chron.specs.declared.book.Event.{Event}
-use Rattle.hls_legal.specs.Hierarchy.{Hierarchy, Node, Loaded, Admitted, Scheduler, Thread, Wake, Asleep}
+use Rattle.hls_legal.specs.Hierarchy.{Hierarchy, Node, Loaded, Admitted, Wake, Asleep}
 use Rattle.hls_legal.specs.Hierarchy.{Seat, Stay, start, name_of, seats_of}
-use Rattle.hls_legal.specs.Steps.{Hop, Path, hop_at, hops_of, marked, renewed, reseated, roused, ticked}
-use Rattle.hls_legal.specs.Steps.{listed, is_scheduler, is_thread, seatings, leavings, nodes_after, effect}
+use Rattle.hls_legal.specs.Steps.{Hop, hop_at, hops_of, marked, renewed, reseated, roused, ticked}
+use Rattle.hls_legal.specs.Steps.{listed, is_scheduler, is_thread, seatings, leavings, effect}
 use Rattle.hls_legal.specs.Steps.{with_wake, elapsed, closed, stay_of, opened, nobody, loaded, admitted}
 use Rattle.hls_legal.specs.Steps.{wake_by, Step, Refuse, Load, Admit, End, Unload, Move, Rouse, Block, Elapse}
 use Rattle.hls_legal.specs.Steps.{after, state}
 use Rattle.hls_legal.specs.Legal.{Can, IsLegal}
 use Rattle.hls_legal.specs.Lists.{Lists, open_stay, IsListed}
-use Rattle.hls_legal.proofs.Nodes.{IsCurrent}
 use Rattle.hls_legal.proofs.Kept.{IsSound, at_same, at_other}
 use Rattle.hls_legal.proofs.Effects.{Owed}
 use Rattle.hls_legal.proofs.Stays.{begun_now}

@@ -1,5 +1,5 @@
 -- What the lists of a hierarchy hold: its schedulers, its threads and their open stays. And its names.
-use Rattle.std.specs.Prelude.{◌≡◌, ◌≢◌, ℕ, List, Option, Some, None, Bool, true, Contains, AllPairs}
+use Rattle.std.specs.Prelude.{◌≡◌, ◌≢◌, ℕ, List, Some, None, Bool, true, Contains, AllPairs}
 use Rattle.hls_legal.specs.Hierarchy.{Hierarchy, Thread, Admitted, Stay, name_of}
 use Rattle.hls_legal.specs.Steps.{is_scheduler, is_thread}
 

@@ -1,6 +1,6 @@
 -- What holds of every stay of a legal run.
 use Rattle.std.specs.Prelude.{All}
-use Rattle.std.specs.Prelude.{◌-◌, ◌≡◌, ℕ, ◌≤◌, ◌<◌, List, [], ◌∷◌, Option, Some, None, true, slice_get}
+use Rattle.std.specs.Prelude.{◌-◌, ◌≡◌, ℕ, ◌≤◌, ◌<◌, List, [], ◌∷◌, Option, Some, None, true}
 use Rattle.std.specs.Prelude.{filter}
 use Rattle.std.specs.Prelude.{nat_lt}
 use Rattle.hls_chron.specs.Ticks.{count}
