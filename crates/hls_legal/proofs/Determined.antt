@@ -1,7 +1,8 @@
 -- Legal runs of the same commands are the same.
 use Rattle.std.proofs.Common.{◌≡◌, ℕ, suc, List, [], ◌∷◌, slice_get, Option, Some, Bool, refl, sym, ap, subst}
 use Rattle.hls_legal.specs.Hierarchy.{Hierarchy, Seat, start, seats_of}
-use Rattle.hls_legal.specs.Steps.{Path, Step, Refuse, Load, Admit, End, Unload, Move, Rouse, Block, Elapse}
+use Rattle.hls_legal.specs.Steps.{state, Path, Step, Refuse, Load, Admit, End, Unload, Move, Rouse, Block}
+use Rattle.hls_legal.specs.Steps.{Elapse}
 use Rattle.hls_legal.specs.Steps.{after}
 use Rattle.hls_legal.specs.Legal.{MayTake, IsAsking, MayRun, CanMove, Can, IsLegal}
 use Rattle.hls_legal.specs.Alike.{IsAlikeSeat, AreAlikeSeats, IsAlike, AreAlike}
@@ -39,7 +40,7 @@ move_one h known k c seat other below under node alike f g =
     let same = below_one h known.kept.rank known.kept.sound k below under f.under theirs.under in
     λ i. Move (node i) (one i) (λ x. same x i)
 
-elapse_one : (h : Hierarchy) (known : IsKnown h) (asking other : ℕ → Bool) (masks slots : ℕ → ℕ)
+pub elapse_one : (h : Hierarchy) (known : IsKnown h) (asking other : ℕ → Bool) (masks slots : ℕ → ℕ)
     (path way : Option Path) → IsAsking h asking masks → MayRun h asking masks path → IsAsking h other slots
     → MayRun h other slots way → Elapse asking masks path ≡ Elapse other slots way
 elapse_one h known asking other masks slots path way one may two can =
@@ -86,6 +87,11 @@ step_known h step known can = record {
     any_load : (s : Step) → Rattle.hls_legal.specs.Orderly.IsLoadOf Any s
     any_load (Load k name config spare_ticks spare_marks seats) = tt
     any_load _ = tt
+
+pub run_known : (steps : List Step) (h : Hierarchy) → IsKnown h → IsLegal h steps → IsKnown (state h steps)
+run_known [] h known legal = known
+run_known (step ∷ steps) h known legal = run_known steps (after h step) (step_known h step known legal.0)
+    legal.1
 
 pub run_one : (steps others : List Step) (h : Hierarchy) → IsKnown h → IsLegal h steps → IsLegal h others
     → AreAlike steps others → steps ≡ others

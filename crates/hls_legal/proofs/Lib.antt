@@ -25,3 +25,5 @@ pub mod Unique
 pub mod Determined
 pub mod Goes
 pub mod Lists
+pub mod Choices
+pub mod Solutions

@@ -1,12 +1,10 @@
 -- What a step chooses is determined: the slot to serve, the path, who asks, what is below, and the free
 -- slot.
-use Rattle.std.proofs.Common.{◌≡◌, ℕ, zero, suc, inl, inr, ◌+◌, ◌^◌, ◌<◌, ◌≤◌, max, List, [], ◌∷◌, Option}
+use Rattle.std.proofs.Common.{◌≡◌, ℕ, zero, suc, inl, inr, ◌+◌, ◌<◌, ◌≤◌, max, List, [], ◌∷◌, Option}
 use Rattle.std.proofs.Common.{Some, None, Bool, refl, sym, ap, ◌∙◌, subst, arith}
 use Rattle.std.specs.Int.{bit_at}
 use Rattle.std.proofs.lemmas.Bool.{cases_eq, cases_lt, cases_Bool, eq-eqb, eqb-true}
-use Rattle.std.proofs.lemmas.Nat.Bits.{same_from_bits_below, bit_at-lt}
-use Rattle.std.proofs.Math.Nat.{two-pow-succ}
-use Rattle.std.proofs.Math.Pow.{pow-lt}
+use Rattle.std.proofs.lemmas.Nat.Bits.{same_from_bits, bit_at-lt}
 use Rattle.hls_chron.specs.declared.plain.Config.{Config}
 use Rattle.hls_chron.specs.declared.plain.Config.TheVariants as configs
 use Rattle.hls_chron.specs.declared.plain.Terms.{Terms}
@@ -141,14 +139,6 @@ module _ (h : Hierarchy) (rank : ℕ → ℕ) (sound : IsSound h rank) (due : Al
       λ i. Some (record { hops = same.hops_same i; thread = same.thread_same i })
 
 -- numbers with the same bits are the same
-below_power : (n : ℕ) → n < 2 ^ n
-below_power zero = omega arith
-below_power (suc n) = let rest = below_power n in let twice = two-pow-succ n in omega (arith, rest, twice)
-
-below_wide : (a b : ℕ) → a < 2 ^ (a + b + 1)
-below_wide a b = let one = below_power a in let two : 2 ^ a < 2 ^ (a + b + 1) = pow-lt (omega arith) in
-    omega (arith, one, two)
-
 bit_same : (a b slot : ℕ) → slot_asks a slot ≡ slot_asks b slot → bit_at a slot ≡ bit_at b slot
 bit_same a b slot e =
     let one = bit_at-lt a slot in
@@ -162,18 +152,14 @@ bit_same a b slot e =
     ]
 
 mask_same : (a b : ℕ) → ((slot : ℕ) → slot_asks a slot ≡ slot_asks b slot) → a ≡ b
-mask_same a b same =
-    let two : b < 2 ^ (a + b + 1) =
-    (let wide = below_wide b a in
-    subst (λ w. b < 2 ^ w) (let e : b + a + 1 ≡ a + b + 1 = omega arith in e) wide) in
-    same_from_bits_below (a + b + 1) a b (below_wide a b) two (λ i lt. bit_same a b i (same i))
+mask_same a b same = same_from_bits a b (λ i. bit_same a b i (same i))
 
 -- who asks: from the highest rank down
-most_rank : (ℕ → ℕ) → ℕ → ℕ
+pub most_rank : (ℕ → ℕ) → ℕ → ℕ
 most_rank rank zero = 0
 most_rank rank (suc n) = max (most_rank rank n) (rank n + 1)
 
-rank_below : (rank : ℕ → ℕ) (n k : ℕ) → k < n → rank k < most_rank rank n
+pub rank_below : (rank : ℕ → ℕ) (n k : ℕ) → k < n → rank k < most_rank rank n
 unfolding most_rank
 rank_below rank zero k lt = absurd (omega arith)
 rank_below rank (suc n) k lt = elim (cases_eq k n) [

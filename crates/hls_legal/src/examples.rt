@@ -7,8 +7,9 @@ ghost use Rattle.hls_legal.specs.Legal.{IsLegal};
 ghost use Rattle.hls_legal.specs.Orderly.{LoadsOnly, KeepsByRule};
 ghost use Rattle.hls_legal.specs.Example.{example, example_ticks, first_stay, second_stay};
 
-/// The example is a legal run: two ticks serve the player, before and after its move, and its burst is used up
-/// then. It loads only schedulers that keep their promises by their rule, so its stays are kept.
+/// The example is a legal run: two ticks serve the player, before and after its move, and its burst
+/// is used up then. It loads only schedulers that keep their promises by their rule, so its stays
+/// are kept.
 pub fn the_example_is_legal()
     ensures legal { IsLegal start example }
     ensures ticks { map (λ (t : ℕ). ((state start example).past t).to) (0 ∷ 1 ∷ 2 ∷ []) ≡ example_ticks }

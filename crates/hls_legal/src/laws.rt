@@ -1,10 +1,14 @@
 //! What holds of legal runs: each function's contract is a law, and its body does nothing.
 
-ghost use Rattle.std.specs.Prelude.{◌≡◌, ◌≢◌, ◌++◌, ◌∷◌, [], ℕ, List, Some, None, Bool, true, false, All};
+ghost use Rattle.std.specs.Prelude.{◌≡◌, ◌≢◌, ◌++◌, ◌∷◌, [], ℕ, List, Option, Some, None, Bool, true};
+ghost use Rattle.std.specs.Prelude.{false, All};
 ghost use Rattle.hls_chron.specs.Kinds.{kind_of};
 ghost use Rattle.hls_chron.specs.Ledger.{Ledger};
-ghost use Rattle.hls_chron.specs.Seats.{asked, served};
-ghost use Rattle.hls_kinds.specs.Discipline.{KeepsDiscipline};
+ghost use Rattle.hls_chron.specs.Ranges.{ConfigInRange};
+ghost use Rattle.hls_chron.specs.Seats.{asked, served, terms_at};
+ghost use Rattle.hls_kinds.specs.Asks.{asks, slot_asks};
+ghost use Rattle.hls_kinds.specs.Discipline.{Serves, KeepsDiscipline};
+ghost use Rattle.hls_promise.specs.Admission.{HasSeats};
 ghost use Rattle.hls_legal.specs.Hierarchy.{Hierarchy, Seat, start, was_served, had_asked};
 ghost use Rattle.hls_legal.specs.Steps.{Path, Step, Move, Block, Elapse, after, state};
 ghost use Rattle.hls_legal.specs.Legal.{asks_now, Can, IsLegal};
@@ -17,8 +21,9 @@ ghost use Rattle.hls_legal.specs.Lists.{IsListed};
 
 use hls_chron::{Config, Kind};
 
-/// In a legal run whose books keep their promises after every step, every stay of a thread, open or closed,
-/// meets its guarantee in every window in which the thread is ready, and keeps its cap over the whole stay.
+/// In a legal run whose books keep their promises after every step, every stay of a thread, open or
+/// closed, meets its guarantee in every window in which the thread is ready, and keeps its cap over
+/// the whole stay.
 pub fn legal_runs_keep_every_stay()
     ensures { (steps : List Step) → IsLegal start steps → KeepsPromisesAlong start steps →
         KeepsStays (state start steps) }
@@ -29,8 +34,8 @@ pub fn kept_stays_keep_accounts()
     ensures { (h : Hierarchy) → KeepsStays h → All (IsKept h) (accounts h) }
 {}
 
-/// The lists of a legal run are of what is there: schedulers, threads, and for each thread the stay that it has
-/// begun. No two nodes that are there have one name.
+/// The lists of a legal run are of what is there: schedulers, threads, and for each thread the stay
+/// that it has begun. No two nodes that are there have one name.
 pub fn legal_runs_list_what_is_there()
     ensures { (steps : List Step) → IsLegal start steps → IsListed (state start steps) }
 {}
@@ -46,8 +51,8 @@ pub fn legal_runs_go_on()
         KeepsPromisesAlong start (steps ++ step ∷ []) }
 {}
 
-/// The books that a legal run leaves are linked: a seat asks where its child asks and is served where that is
-/// granted, and the root is granted each tick in which it asks.
+/// The books that a legal run leaves are linked: a seat asks where its child asks and is served
+/// where that is granted, and the root is granted each tick in which it asks.
 pub fn legal_runs_link_the_books()
     ensures { (steps : List Step) → IsLegal start steps → (rank : ℕ → ℕ) × IsLinked (state start steps) rank }
 {}
@@ -57,21 +62,23 @@ pub fn linked_books_supply_every_seat()
     ensures { (h : Hierarchy) (rank : ℕ → ℕ) → IsLinked h rank → KeepsPromises h → IsSupplied h }
 {}
 
-/// In a legal run of schedulers of fixed priority, round robin and joins, every stay of a thread, open or closed,
-/// meets its guarantee in every window in which the thread is ready, and keeps its cap over the whole stay.
+/// In a legal run of schedulers of fixed priority, round robin and joins, every stay of a thread,
+/// open or closed, meets its guarantee in every window in which the thread is ready, and keeps its
+/// cap over the whole stay.
 pub fn legal_runs_by_rule_keep_every_stay()
     ensures { (steps : List Step) → IsLegal start steps → LoadsOnly KeepsByRule steps →
         KeepsStays (state start steps) }
 {}
 
-/// Every book that a legal run leaves admits seats as it is to, serves by its rule, and was granted through ports
-/// that its scheduler has.
+/// Every book that a legal run leaves admits seats as it is to, serves by its rule, and was granted
+/// through ports that its scheduler has.
 pub fn legal_runs_keep_books_orderly()
     ensures { (steps : List Step) → IsLegal start steps → (k : ℕ) →
         IsOrderly (config_at (state start steps) k) (book_at (state start steps) k) }
 {}
 
-/// An orderly book keeps its discipline. Fair queueing has a further clause, which is not said here.
+/// An orderly book keeps its discipline. Fair queueing has a further clause, which is not said
+/// here.
 pub fn orderly_books_keep_discipline(config: Config)
     requires { kind_of config ≢ Kind.Sfq }
     ensures { (b : Ledger) → IsOrderly config b → KeepsDiscipline config b }
@@ -84,7 +91,8 @@ pub fn legal_runs_run_ready_threads()
         had_asked (state start steps).past thread t ≡ true }
 {}
 
-/// A thread that was blocked does not run before it is woken again, also not in the tick of its block.
+/// A thread that was blocked does not run before it is woken again, also not in the tick of its
+/// block.
 pub fn blocked_threads_do_not_run()
     ensures { (h : Hierarchy) (k : ℕ) (steps : List Step) (asking : ℕ → Bool) (masks : ℕ → ℕ) (path : Path) →
         LetSleep k steps → Can (state (after h (Block k)) steps) (Elapse asking masks (Some path)) →
@@ -104,19 +112,42 @@ pub fn legal_runs_serve_slots_that_ask()
         asked (book_at (state start steps) k) slot t ≡ true }
 {}
 
-/// A move begins anew the accounts of the moved node and of all that is below it, and of no other: schedulers
-/// are settled, and threads have new stays.
+/// A move begins anew the accounts of the moved node and of all that is below it, and of no other:
+/// schedulers are settled, and threads have new stays.
 pub fn moves_renew_what_is_below()
     ensures { (steps : List Step) → IsLegal start steps → (k : ℕ) (seat : Seat) (below : ℕ → Bool) →
         Can (state start steps) (Move k seat below) →
         Renews (state start steps) k (after (state start steps) (Move k seat below)) }
 {}
 
-/// A legal run is a function of its commands, of which of them are refused, and of what is guaranteed: two legal
-/// runs that agree on these take the same slots, ask and serve alike in each tick, and lead to the same hierarchy.
+/// A legal run is a function of its commands, of which of them are refused, and of what is
+/// guaranteed: two legal runs that agree on these take the same slots, ask and serve alike in each
+/// tick, and lead to the same hierarchy.
 pub fn legal_runs_are_determined()
     ensures steps { (steps others : List Step) → IsLegal start steps → IsLegal start others →
         AreAlike steps others → steps ≡ others }
     ensures state { (steps others : List Step) → IsLegal start steps → IsLegal start others →
         AreAlike steps others → state start steps ≡ state start others }
+{}
+
+/// Where a legal run leads, a tick can elapse, and in one way only.
+pub fn ticks_elapse_in_one_way()
+    ensures some { (steps : List Step) → IsLegal start steps →
+        (asking : ℕ → Bool) × (masks : ℕ → ℕ) × (path : Option Path) ×
+        Can (state start steps) (Elapse asking masks path) }
+    ensures one { (steps : List Step) → IsLegal start steps →
+        (asking other : ℕ → Bool) (masks slots : ℕ → ℕ) (path way : Option Path) →
+        Can (state start steps) (Elapse asking masks path) →
+        Can (state start steps) (Elapse other slots way) →
+        Elapse asking masks path ≡ Elapse other slots way }
+{}
+
+/// A scheduler that asks serves a slot, and has one only to serve, where only seats ask.
+pub fn asking_schedulers_serve_one_slot(config: Config)
+    requires { ConfigInRange config }
+    ensures some { (b : Ledger) (mask : ℕ) → HasSeats config b →
+        ((slot : ℕ) → slot_asks mask slot ≡ true → terms_at b slot ≢ None) →
+        asks config b mask ≡ true → (slot : ℕ) × Serves config b mask slot }
+    ensures one { (b : Ledger) (mask slot other : ℕ) → HasSeats config b →
+        Serves config b mask slot → Serves config b mask other → slot ≡ other }
 {}
