@@ -24,6 +24,8 @@ pub mod Sitters
 pub mod Unique
 pub mod Determined
 pub mod Goes
+pub mod Listings
 pub mod Lists
 pub mod Choices
 pub mod Solutions
+pub mod Seated

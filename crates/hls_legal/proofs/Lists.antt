@@ -1,12 +1,11 @@
 -- The lists of a legal run hold what is there.
-use Rattle.std.proofs.Common.{◌≡◌, ◌≢◌, ℕ, zero, suc, inl, inr, ◌<◌, List, [], ◌∷◌, ◌++◌, ◌||◌}
-use Rattle.std.proofs.Common.{length, Option, Some, None, Bool, true, false, not, if◌then◌else◌, ◌==◌}
-use Rattle.std.proofs.Common.{refl, sym, ap, ◌∙◌, subst, arith, cond, get_or, filter}
+use Rattle.std.proofs.Common.{◌≡◌, ◌≢◌, ℕ, inl, inr, List, [], ◌∷◌, ◌++◌, ◌||◌}
+use Rattle.std.proofs.Common.{Option, Some, None, Bool, true, false, not, if◌then◌else◌, ◌==◌}
+use Rattle.std.proofs.Common.{refl, sym, ap, ◌∙◌, subst, arith, get_or, filter}
 use Rattle.std.specs.Prelude.{map, Contains}
 use Rattle.std.proofs.lemmas.Bool.{cases_eq, cases_Bool, eq-eqb, ne_eqb}
 use Rattle.std.proofs.lemmas.List.Elements.{Contains-append_left, Contains-append_right, Contains-push}
-use Rattle.std.proofs.lemmas.List.Elements.{Contains-push_cases, All-contains, All-filter, filter_passes}
-use Rattle.std.proofs.lemmas.List.Elements.{All-contains_itself}
+use Rattle.std.proofs.lemmas.List.Elements.{Contains-push_cases}
 use Rattle.std.proofs.lemmas.List.Kept.{AllPairs-filter}
 use Rattle.std.proofs.lemmas.List.Quantifiers.{all_pairs_push}
 use Rattle.hls_chron.specs.declared.book.Event.{Event}
@@ -21,48 +20,11 @@ use Rattle.hls_legal.specs.Legal.{Can, IsLegal}
 use Rattle.hls_legal.specs.Lists.{Lists, open_stay, IsListed}
 use Rattle.hls_legal.proofs.Kept.{IsSound, at_same, at_other}
 use Rattle.hls_legal.proofs.Effects.{Owed}
+use Rattle.hls_legal.proofs.Listings.{First, Later, contains_later, contains_first, in_cases, none_in}
+use Rattle.hls_legal.proofs.Listings.{contains_filter, filter_had, filter_true, at_contained, run_seats}
+use Rattle.hls_legal.proofs.Listings.{start_seats}
 use Rattle.hls_legal.proofs.Stays.{begun_now}
 use Rattle.hls_legal.proofs.Runs.{Kept, step_keeps, step_owes, start_kept}
-
--- a list with one more, and without one
-contains_later : {X : Type 0} (y : X) (xs : List X) (x : X) → Contains xs x → Contains (y ∷ xs) x
-contains_later y xs x c = Contains-append_right (y ∷ []) xs x c
-
-contains_first : {X : Type 0} (x : X) (xs : List X) → Contains (x ∷ xs) x
-contains_first x xs = (0, omega arith, refl)
-
-data IsIn {X : Type 0} (y : X) (xs : List X) (x : X) : Type 0 where
-  First : (same : y ≡ x) → IsIn y xs x
-  Later : (rest : Contains xs x) → IsIn y xs x
-
-in_cases : {X : Type 0} (y : X) (xs : List X) (x : X) → Contains (y ∷ xs) x → IsIn y xs x
-in_cases y xs x (zero, lt, is) = First is
-in_cases y xs x (suc k, lt, is) = Later (k, omega arith, is)
-
-none_in : {X : Type 0} (x : X) → Contains [] x → ⊥
-none_in x c = let lt = c.1 in omega arith
-
-contains_filter : (p : ℕ → Bool) (xs : List ℕ) (x : ℕ) → p x ≡ true → Contains xs x → Contains (filter p xs) x
-contains_filter p [] x on c = c
-contains_filter p (y ∷ ys) x on c = elim (in_cases y ys x c) [
-  | First same ↦
-      (let mine : p y ≡ true = ap p same
-      ∙ on in rw mine (subst (Contains (y ∷ filter p ys)) same (contains_first y (filter p ys))))
-  | Later rest ↦ elim (p y) as (λ b. Contains (cond b (y ∷ filter p ys) (filter p ys)) x) [
-    | true ↦ contains_later y (filter p ys) x (contains_filter p ys x on rest)
-    | false ↦ contains_filter p ys x on rest
-  ]
-]
-
-filter_had : (p : ℕ → Bool) (xs : List ℕ) (x : ℕ) → Contains (filter p xs) x → Contains xs x
-filter_had p xs x c =
-    All-contains (Contains xs) (filter p xs) x (All-filter p (Contains xs) xs (All-contains_itself xs)) c
-
-filter_true : (p : ℕ → Bool) (xs : List ℕ) (x : ℕ) → Contains (filter p xs) x → p x ≡ true
-filter_true p xs x c = All-contains (λ x. p x ≡ true) (filter p xs) x (filter_passes p xs) c
-
-at_contained : (xs : List ℕ) (i d : ℕ) → i < length xs → Contains xs (get_or xs i d)
-at_contained xs i d lt = All-contains_itself xs i d lt
 
 -- numbers in their order
 module _ (k : ℕ) (order : List ℕ) (old new : ℕ → Bool) (lists : Lists order old)
@@ -419,4 +381,5 @@ run_listed steps legal =
       threads = kept.threads;
       stays = λ k t e. kept.stays k (open_stay k t) (ap (open_in k) e);
       names = kept.names;
+      sitters = run_seats steps start start_seats;
     }

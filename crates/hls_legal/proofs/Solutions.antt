@@ -433,7 +433,7 @@ in_range h (Rouse k burst) can = tt
 in_range h (Block k) can = tt
 in_range h (Elapse asking masks path) can = tt
 
-run_goes : (steps : List Step) (h : Hierarchy) → CanGo h → IsLegal h steps → CanGo (state h steps)
+pub run_goes : (steps : List Step) (h : Hierarchy) → CanGo h → IsLegal h steps → CanGo (state h steps)
 run_goes [] h go legal = go
 run_goes (step ∷ steps) h go legal = run_goes steps (after h step) (record {
   kept = step_keeps h step go.kept legal.0;
@@ -443,7 +443,7 @@ run_goes (step ∷ steps) h go legal = run_goes steps (after h step) (record {
   root = step_root h step go.root;
 }) legal.1
 
-start_goes : CanGo start
+pub start_goes : CanGo start
 start_goes =
     record {
       kept = start_kept;

@@ -10,3 +10,4 @@ pub mod Readings
 pub mod Example
 pub mod Alike
 pub mod Lists
+pub mod Seated

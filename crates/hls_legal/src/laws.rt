@@ -18,6 +18,7 @@ ghost use Rattle.hls_legal.specs.Orderly.{IsOrderly, LoadsOnly, KeepsByRule};
 ghost use Rattle.hls_legal.specs.Readings.{Renews, LetSleep};
 ghost use Rattle.hls_legal.specs.Alike.{AreAlike};
 ghost use Rattle.hls_legal.specs.Lists.{IsListed};
+ghost use Rattle.hls_legal.specs.Seated.{IsSeated};
 
 use hls_chron::{Config, Kind};
 
@@ -38,6 +39,12 @@ pub fn kept_stays_keep_accounts()
 /// that it has begun. No two nodes that are there have one name.
 pub fn legal_runs_list_what_is_there()
     ensures { (steps : List Step) → IsLegal start steps → IsListed (state start steps) }
+{}
+
+/// Where a legal run leads, in each taken slot sits one port of one node, on the terms that the book
+/// has, and the root alone sits at the processor.
+pub fn legal_runs_seat_one_in_each_place()
+    ensures { (steps : List Step) → IsLegal start steps → IsSeated (state start steps) }
 {}
 
 /// A legal run goes on by any step that may be taken where it leads.
