@@ -27,13 +27,13 @@ FollowsBy g (s ∷ steps) = Converts s.rule g s.to × FollowsBy s.to steps
 -- From what the port of the scheduler step has: conversions, the step of the place's kind, conversions. It ends
 -- in want. Each guarantee is valid, since conversions and scheduler steps are of valid ones alone.
 pub record IsDerivation (place : Place) (haves : List Guarantee) (want : Guarantee) (d : Derivation) : Type 0
-    where
-  pub starts : slice_get haves d.sched.port ≡ Some d.from
-  pub before : FollowsBy d.from d.before
-  pub kind : d.sched.kind ≡ kind_of place.config
-  pub sched : Lends place.config place.terms haves d.sched.port (end_of d.from d.before) d.sched.to
-  pub after : FollowsBy d.sched.to d.after
-  pub ends : last_of d ≡ want
+  where
+    pub starts : slice_get haves d.sched.port ≡ Some d.from
+    pub before : FollowsBy d.from d.before
+    pub kind : d.sched.kind ≡ kind_of place.config
+    pub sched : Lends place.config place.terms haves d.sched.port (end_of d.from d.before) d.sched.to
+    pub after : FollowsBy d.sched.to d.after
+    pub ends : last_of d ≡ want
 
 -- ---- direct derivations
 
