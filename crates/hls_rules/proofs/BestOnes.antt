@@ -16,7 +16,7 @@ use Rattle.hls_guarantee.proofs.Readings.{error-quotient, quotient-error}
 use Rattle.hls_derive.specs.Answers.{IsStrongest}
 use Rattle.hls_rules.proofs.Sizes.{quotient-within}
 
-psbe-same : (s d t e : Frac) → s ≡ t → d ≡ e → Psbe s d ≡ Psbe t e
+pub psbe-same : (s d t e : Frac) → s ≡ t → d ≡ e → Psbe s d ≡ Psbe t e
 psbe-same s d t e first second = ap (λ (f : Frac). Psbe f d) first ∙ ap (λ (f : Frac). Psbe t f) second
 
 -- ---- the share of a reservation

@@ -1,3 +1,4 @@
 pub mod Sizes
 pub mod BestOnes
 pub mod Equal
+pub mod Answering

@@ -1,6 +1,10 @@
 //! The rules by which guarantees are converted, and what each of them answers.
 #![tactic(auto)]
 
+mod book;
 mod conclusions;
+mod rule;
 
+pub use book::RuleBook;
 pub use conclusions::{converts, strongest};
+pub use rule::{Conclude, Rule, answer};
