@@ -4,6 +4,8 @@
 mod book;
 mod conclusions;
 mod rule;
+#[cfg(test)]
+mod tests;
 
 pub use book::RuleBook;
 pub use conclusions::{converts, strongest};
