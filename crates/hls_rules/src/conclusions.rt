@@ -8,8 +8,8 @@ ghost use Rattle.hls_derive.specs.Answers.{IsStrongest};
 use hls_frac::Frac;
 use hls_guarantee::{Guarantee, RuleName};
 
-/// The fraction `num / den`.
-fn quotient(num: u128, den: u128) -> Frac
+/// The fraction `num / den`, in lowest terms.
+pub fn quotient(num: u128, den: u128) -> Frac
     requires { 1 ≤ den }
     ensures { IsQuotient result num den }
 {

@@ -8,5 +8,5 @@ mod rule;
 mod tests;
 
 pub use book::RuleBook;
-pub use conclusions::{converts, strongest};
+pub use conclusions::{converts, quotient, strongest};
 pub use rule::{Conclude, Rule, answer};

@@ -14,12 +14,7 @@ fn read(text: &str) -> Result<Guarantee, Fail>
 }
 
 /// What the stored rule of that name answers.
-fn answer_of(
-    book: &RuleBook,
-    name: RuleName,
-    have: Guarantee,
-    want: Guarantee,
-) -> Option<Guarantee>
+fn answer_of(book: &RuleBook, name: RuleName, have: Guarantee, want: Guarantee) -> Option<Guarantee>
     requires have { IsValid have }
     requires want { IsValid want }
 {
@@ -41,7 +36,12 @@ const CASES: [(RuleName, &str, &str, &str); 16] = [
     (RuleName::R3, "RESBS 3 10", "RESCS 3 20", "RESCS 3 20"),
     (RuleName::R3, "RESBS 3 10", "RESCS 3 16", "RESCS 3 17"),
     (RuleName::R3, "RESBS 3 20000", "NULL", ""),
-    (RuleName::R4, "RESBH 3 10", "PSBE 1/5 14/5", "PSBE 3/10 21/5"),
+    (
+        RuleName::R4,
+        "RESBH 3 10",
+        "PSBE 1/5 14/5",
+        "PSBE 3/10 21/5",
+    ),
     (RuleName::R5, "RESCS 3 10", "NULL", "PSBE 3/10 21/10"),
     (RuleName::R6, "PSBE 3/10 21/5", "RESCS 4 28", "RESCS 4 28"),
     (RuleName::R6, "PSBE 3/10 21/5", "RESCS 5 28", ""),
