@@ -44,7 +44,8 @@ derivation-carries place haves have want d b slot since is at promise ports sits
     let there = follows-supply d.from d.before f a (settled_at b) (now_of b) is.before start in
     let lent = promise.kept ports slot since d.sched.port place.terms (end_of d.from d.before) d.sched.to sits
     is.sched.through there in
-    let last = follows-supply d.sched.to d.after (served b slot) (asked b slot) since (now_of b) is.after lent in
+    let last = follows-supply d.sched.to d.after (served b slot) (asked b slot) since (now_of b) is.after
+    lent in
     subst (λ g. Supplies g (served b slot) (asked b slot) since (now_of b)) is.ends last
 
 -- the processor lends what it has

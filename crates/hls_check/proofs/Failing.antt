@@ -19,11 +19,13 @@ fails-start not = record {
   fails = λ holds. not (holds.starts refl);
 }
 
-pub fails-before : {place : Place} {haves : List Guarantee} {want : Guarantee} {d : Derivation} (before : List Step)
+pub fails-before : {place : Place} {haves : List Guarantee} {want : Guarantee} {d : Derivation} (before :
+    List Step)
     (at : ℕ) → before ≡ d.before → slice_get haves d.sched.port ≡ Some d.from
     → FindsWrong d.from before (Some at) → FailsFirst place haves want d (1 + at)
 fails-before {place} {haves} {want} {d} before at same starts wrong =
-    let found : FindsWrong d.from d.before (Some at) = subst (λ v. FindsWrong d.from v (Some at)) same wrong in
+    let found : FindsWrong d.from d.before (Some at) = subst (λ v. FindsWrong d.from v (Some at)) same wrong
+    in
     let within = found.0 in
     record {
       before = λ j below. record {
@@ -36,7 +38,8 @@ fails-before {place} {haves} {want} {d} before at same starts wrong =
       fails = λ holds. found.2 (holds.before at refl);
     }
 
-pub fails-sched : {place : Place} {haves : List Guarantee} {want : Guarantee} {d : Derivation} (before : List Step)
+pub fails-sched : {place : Place} {haves : List Guarantee} {want : Guarantee} {d : Derivation} (before :
+    List Step)
     → before ≡ d.before → slice_get haves d.sched.port ≡ Some d.from → FindsWrong d.from before None
     → (LendsAt place (end_of d.from before) d.sched → ⊥) → FailsFirst place haves want d (1 + length before)
 fails-sched {place} {haves} {want} {d} before same starts held not =

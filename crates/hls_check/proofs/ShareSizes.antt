@@ -11,7 +11,8 @@ sum-within : {n d m e : ℕ} (f a b : Frac) → IsWithin a n d → IsWithin b m 
 sum-within f a b first second sum =
     let left = mul-le-mul first.num second.den in
     let right = mul-le-mul second.num first.den in
-    quotient-within f _ _ _ _ (mul-pos a.positive b.positive) (omega arith) (mul-le-mul first.den second.den) sum
+    quotient-within f _ _ _ _ (mul-pos a.positive b.positive) (omega arith) (mul-le-mul first.den
+    second.den) sum
 
 -- the numbers of a seat and of the scheduler
 pub record IsWeight (total most weight : ℕ) : Type 0 where
@@ -22,7 +23,8 @@ pub record IsWeight (total most weight : ℕ) : Type 0 where
   pub seats : 1 ≤ most
   pub few : most ≤ 20
 
-part-within : (total most weight : ℕ) (part : Frac) → IsWeight total most weight → IsQuotient part weight total
+part-within : (total most weight : ℕ) (part : Frac) → IsWeight total most weight
+    → IsQuotient part weight total
     → IsWithin part 20 100
 part-within total most weight part size quotient =
     quotient-within part weight total _ _ (omega (arith, size.some, size.fits)) size.light size.small quotient
@@ -69,5 +71,6 @@ pub error-fits : (total most weight : ℕ) (s d part others waiting slowed rest 
 error-fits total most weight s d part others waiting slowed rest share size first second sum product left =
     let wait = waiting-within total most weight s d others waiting share size second sum in
     sum_fits {n = (10 ^ 13 * 1 + 19 * 10 ^ 8) * 20} {d = 10 ^ 8 * 1 * 100} {m = 100} {e = 100} (lit< tt)
-    (lit< tt) (product-within slowed waiting part wait (part-within total most weight part size first) product)
+    (lit< tt) (product-within slowed waiting part wait (part-within total most weight part size first)
+    product)
     (rest-within total most weight rest size left)

@@ -47,7 +47,8 @@ pub record FailsFirst (place : Place) (haves : List Guarantee) (want : Guarantee
   pub fails : StepHolds place haves want d k → ⊥
 
 -- what is checked: numbers in their ranges, a guarantee for each port, and guarantees within the limits
-pub record CanCheck (place : Place) (haves : List Guarantee) (want : Guarantee) (d : Derivation) : Type 0 where
+pub record CanCheck (place : Place) (haves : List Guarantee) (want : Guarantee) (d : Derivation)
+    : Type 0 where
   pub config : ConfigInRange place.config
   pub terms : TermsInRange place.terms
   pub ports : length haves ≡ ports_of place.config

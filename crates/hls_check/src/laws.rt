@@ -14,8 +14,8 @@ use hls_chron::Config;
 use hls_derive::{Derivation, Place};
 use hls_guarantee::Guarantee;
 
-/// A derivation carries supply from a scheduler to a seat. Take any book that keeps its promise, and a seat in
-/// it on the terms of the place. Where the derivation's port has supplied the guarantee with which the
+/// A derivation carries supply from a scheduler to a seat. Take any book that keeps its promise, and in it a
+/// seat on the terms of the place. Where the derivation's port has supplied the guarantee with which the
 /// derivation begins since the start or the last settling, the seat has been supplied with the guarantee in
 /// which it ends, since then or since its seating if that is later.
 pub fn derivations_carry_supply(place: Place, have: Guarantee, want: Guarantee)

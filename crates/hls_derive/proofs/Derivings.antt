@@ -17,10 +17,12 @@ steps_valid g (s ∷ steps) follow = (follow.0.to, steps_valid s.to steps follow
 pub follow-valid : (g : Guarantee) (steps : List Step) → FollowsBy g steps → AreValid steps
 follow-valid g steps follow = All-from_recursion _ steps (steps_valid g steps follow)
 
-pub follow-end : (g : Guarantee) (steps : List Step) → FollowsBy g steps → IsValid g → IsValid (end_of g steps)
+pub follow-end : (g : Guarantee) (steps : List Step) → FollowsBy g steps → IsValid g
+    → IsValid (end_of g steps)
 follow-end g [] follow valid = valid
 follow-end g (s ∷ steps) follow valid = follow-end s.to steps follow.1 follow.0.to
 
-pub follow-start : (g : Guarantee) (steps : List Step) → FollowsBy g steps → IsValid (end_of g steps) → IsValid g
+pub follow-start : (g : Guarantee) (steps : List Step) → FollowsBy g steps → IsValid (end_of g steps)
+    → IsValid g
 follow-start g [] follow valid = valid
 follow-start g (s ∷ steps) follow valid = follow.0.from

@@ -24,16 +24,16 @@ abbrev pub FollowsBy : Guarantee → List Step → Type 0
 FollowsBy g [] = Unit {0}
 FollowsBy g (s ∷ steps) = Converts s.rule g s.to × FollowsBy s.to steps
 
--- From what the port of the scheduler step has: conversions, the step of the place's kind, conversions. It ends
--- in want. Each guarantee is valid, since conversions and scheduler steps are of valid ones alone.
-pub record IsDerivation (place : Place) (haves : List Guarantee) (want : Guarantee) (d : Derivation) : Type 0
-  where
-    pub starts : slice_get haves d.sched.port ≡ Some d.from
-    pub before : FollowsBy d.from d.before
-    pub kind : d.sched.kind ≡ kind_of place.config
-    pub sched : Lends place.config place.terms haves d.sched.port (end_of d.from d.before) d.sched.to
-    pub after : FollowsBy d.sched.to d.after
-    pub ends : last_of d ≡ want
+-- From what the port of the scheduler step has, by conversions, the step of the place's kind, and
+-- conversions, to want. Each guarantee is valid: conversions and scheduler steps are of valid ones alone.
+pub record IsDerivation (place : Place) (haves : List Guarantee) (want : Guarantee) (d : Derivation)
+    : Type 0 where
+  pub starts : slice_get haves d.sched.port ≡ Some d.from
+  pub before : FollowsBy d.from d.before
+  pub kind : d.sched.kind ≡ kind_of place.config
+  pub sched : Lends place.config place.terms haves d.sched.port (end_of d.from d.before) d.sched.to
+  pub after : FollowsBy d.sched.to d.after
+  pub ends : last_of d ≡ want
 
 -- ---- direct derivations
 
@@ -53,7 +53,8 @@ FollowsAnswers wanted g [] = Unit {0}
 FollowsAnswers wanted g (s ∷ steps) = Answers s.rule g wanted (Some s.to) × FollowsAnswers wanted s.to steps
 
 -- each conversion goes to what its rule answers
-pub record IsDirect (place : Place) (haves : List Guarantee) (want : Guarantee) (d : Derivation) : Type 0 where
+pub record IsDirect (place : Place) (haves : List Guarantee) (want : Guarantee) (d : Derivation)
+    : Type 0 where
   pub derives : IsDerivation place haves want d
   pub asked : Guarantee
   pub asks : IsAskedBefore place.config want asked

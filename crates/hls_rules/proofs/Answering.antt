@@ -1,16 +1,15 @@
 -- A rule has at most one strongest conclusion, and what is answered by it.
-use Rattle.std.proofs.Common.{◌≡◌, ℕ, ◌+◌, ◌*◌, ◌≤◌, Bool, true, false, ◌⊎◌, inl, inr, refl, sym, subst, ap}
-use Rattle.std.proofs.Common.{◌∙◌, arith, mul-pos}
+use Rattle.std.proofs.Common.{◌≡◌, ℕ, ◌*◌, ◌≤◌, false, inl, inr, refl, sym, subst, ap}
+use Rattle.std.proofs.Common.{arith, mul-pos}
 use Rattle.std.specs.Prelude.{Option, Some, None, IfSome, IsNone}
 use Rattle.std.proofs.Math.Nat.{eq_of_mul-eq-mul_right}
 use Rattle.hls_frac.specs.declared.Frac.{Frac}
 use Rattle.hls_frac.proofs.Quotients.{same_value-same, at_most-same}
 use Rattle.hls_guarantee.specs.declared.Guarantee.{Guarantee}
-use Rattle.hls_guarantee.specs.declared.Guarantee.TheVariants.{All, Null, Resb, Resc, Psbe}
+use Rattle.hls_guarantee.specs.declared.Guarantee.TheVariants.{Resb, Resc, Psbe}
 use Rattle.hls_guarantee.specs.declared.rule.RuleName.{RuleName}
 use Rattle.hls_guarantee.specs.declared.rule.RuleName.TheVariants.{R1}
-use Rattle.hls_guarantee.specs.Limits.{IsValid}
-use Rattle.hls_guarantee.specs.Conversions.{StartsNoLater, Leads, Converts}
+use Rattle.hls_guarantee.specs.Conversions.{StartsNoLater, Converts}
 use Rattle.hls_derive.specs.Answers.{IsStrongest, Answers}
 use Rattle.hls_rules.proofs.BestOnes.{psbe-same}
 
@@ -43,7 +42,8 @@ both-same (Psbe s d) (Psbe t e) c back =
     psbe-same s d t e same (same_error s d t e c.from.some same c.leads.1 back.leads.1)
 both-same _ _ c d = absurd c.leads
 
-pub strongest-same : (rule : RuleName) (g h k : Guarantee) → IsStrongest rule g h → IsStrongest rule g k → h ≡ k
+pub strongest-same : (rule : RuleName) (g h k : Guarantee) → IsStrongest rule g h → IsStrongest rule g k
+    → h ≡ k
 strongest-same rule g h k one two = elim (one.best k two.concluded) [
   | inl same ↦ sym same
   | inr gives ↦ elim (two.best h one.concluded) [

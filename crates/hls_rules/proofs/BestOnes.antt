@@ -1,16 +1,17 @@
 -- Which rules have a strongest conclusion.
-use Rattle.std.proofs.Common.{◌≡◌, ℕ, ◌+◌, ◌*◌, ◌-◌, ◌^◌, ◌≤◌, Bool, true, false, ◌⊎◌, inl, inr, refl, sym, subst}
+use Rattle.std.proofs.Common.{◌≡◌, ℕ, ◌+◌, ◌*◌, ◌-◌, ◌^◌, ◌≤◌, Bool, true, false, ◌⊎◌, inl, inr, refl, sym}
+use Rattle.std.proofs.Common.{subst}
 use Rattle.std.proofs.Common.{zero, suc, ◌∙◌, ap, arith, mul-le-mul, mul-le-mul_left, lit<}
 use Rattle.std.proofs.Math.Nat.{le_of_mul-le-mul_right}
 use Rattle.std.specs.Prelude.{Option, Some, None, IfSome, IsNone}
 use Rattle.hls_frac.specs.declared.Frac.{Frac}
-use Rattle.hls_frac.specs.Frac.{IsQuotient, IsWithin}
+use Rattle.hls_frac.specs.Frac.{IsQuotient}
 use Rattle.hls_frac.proofs.Quotients.{quotient-same}
 use Rattle.hls_guarantee.specs.declared.Guarantee.{Guarantee}
 use Rattle.hls_guarantee.specs.declared.Guarantee.TheVariants.{All, Null, Resb, Resc, Psbe}
 use Rattle.hls_guarantee.specs.declared.rule.RuleName.{RuleName}
 use Rattle.hls_guarantee.specs.declared.rule.RuleName.TheVariants.{R1, R2, R3, R4, R5, R6, R7, R8, R9}
-use Rattle.hls_guarantee.specs.Limits.{IsReservation, IsShare, IsValid}
+use Rattle.hls_guarantee.specs.Limits.{IsReservation, IsValid}
 use Rattle.hls_guarantee.specs.Conversions.{IsError, Leads, Converts}
 use Rattle.hls_guarantee.proofs.Readings.{error-quotient, quotient-error}
 use Rattle.hls_derive.specs.Answers.{IsStrongest}
@@ -60,7 +61,8 @@ share-valid s d x y m size most rate error =
       error = quotient-within d _ y _ _ pos (error-num m x y most size.size) y_most error;
     }
 
-same-share : (s d t e : Frac) (x y m : ℕ) → IsReservation x y → IsQuotient s x y → IsQuotient d (m * (y - x)) y
+same-share : (s d t e : Frac) (x y m : ℕ) → IsReservation x y → IsQuotient s x y
+    → IsQuotient d (m * (y - x)) y
     → IsQuotient t x y → IsError e m x y → Psbe t e ≡ Psbe s d
 same-share s d t e x y m size rate error other left =
     let some : 1 ≤ y = omega (arith, size.some, size.fits) in
@@ -170,20 +172,22 @@ both_kinds rule g (Psbe s d) x y blocks windows strongest = elim (strongest.best
   | inr gives ↦ absurd gives.leads
 ]
 
-no_share : (g h : Guarantee) → IsStrongest R6 g h → ⊥
-no_share (Psbe s d) (Resc false x y) strongest =
+pub no-share : (g h : Guarantee) → IsStrongest R6 g h → ⊥
+no-share (Psbe s d) (Resc false x y) strongest =
     let c = strongest.concluded in
-    both_kinds R6 (Psbe s d) (Resc false x y) x y (record { from = c.from; to = c.to; leads = c.leads }) c strongest
-no_share (Psbe s d) (Resb false x y) strongest =
+    both_kinds R6 (Psbe s d) (Resc false x y) x y (record { from = c.from; to = c.to; leads = c.leads }) c
+    strongest
+no-share (Psbe s d) (Resb false x y) strongest =
     let c = strongest.concluded in
-    both_kinds R6 (Psbe s d) (Resb false x y) x y c (record { from = c.from; to = c.to; leads = c.leads }) strongest
-no_share _ _ strongest = absurd strongest.concluded.leads
+    both_kinds R6 (Psbe s d) (Resb false x y) x y c (record { from = c.from; to = c.to; leads = c.leads })
+    strongest
+no-share _ _ strongest = absurd strongest.concluded.leads
 
-no_whole : (g h : Guarantee) → IsStrongest R8 g h → ⊥
-no_whole All h strongest =
+pub no-whole : (g h : Guarantee) → IsStrongest R8 g h → ⊥
+no-whole All h strongest =
     both_kinds R8 All h 1 1 (record { from = tt; to = least; leads = tt })
     (record { from = tt; to = least; leads = tt }) strongest
-no_whole _ _ strongest = absurd strongest.concluded.leads
+no-whole _ _ strongest = absurd strongest.concluded.leads
 
 -- the other rules have one
 pub record IsOther (rule : RuleName) : Type 0 where
@@ -201,9 +205,9 @@ other-lacks R2 g h other strongest = other.not_2 refl
 other-lacks R3 g h other strongest = other.not_3 refl
 other-lacks R4 g h other strongest = other.not_4 refl
 other-lacks R5 g h other strongest = other.not_5 refl
-other-lacks R6 g h other strongest = no_share g h strongest
+other-lacks R6 g h other strongest = no-share g h strongest
 other-lacks R7 g h other strongest = other.not_7 refl
-other-lacks R8 g h other strongest = no_whole g h strongest
+other-lacks R8 g h other strongest = no-whole g h strongest
 other-lacks R9 g h other strongest = other.not_9 refl
 
 -- ---- rules that conclude one guarantee at most
@@ -234,7 +238,8 @@ same_errors t e u f x y m size first second left right =
     (error-quotient f m x y (y - x) sum right) refl)
 
 -- two conclusions of such a rule are one
-one_leads : (rule : RuleName) (g h k : Guarantee) → IsSingle rule → IsValid g → Leads rule g h → Leads rule g k
+one_leads : (rule : RuleName) (g h k : Guarantee) → IsSingle rule → IsValid g → Leads rule g h
+    → Leads rule g k
     → h ≡ k
 one_leads R2 (Resb true x y) h k single valid a b = a ∙ sym b
 one_leads R2 (Resc true x y) h k single valid a b = a ∙ sym b

@@ -1,6 +1,6 @@
 -- What `==` on guarantees tells.
-use Rattle.std.proofs.Common.{◌≡◌, ℕ, Bool, true, false, refl, ap, ap₂, arith, sym, subst, ◌∙◌}
-use Rattle.std.specs.Prelude.{Option, Some, None, nat_eq, ◌&&◌}
+use Rattle.std.proofs.Common.{◌≡◌, ℕ, Bool, true, false, refl, ap, arith, sym, subst, ◌∙◌}
+use Rattle.std.specs.Prelude.{Option, Some, None, ◌&&◌}
 use Rattle.std.specs.Option.{option_eq}
 use Rattle.std.proofs.lemmas.Grind.{common_steps}
 use Rattle.hls_frac.specs.declared.Frac.{Frac}

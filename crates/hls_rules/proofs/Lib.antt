@@ -2,3 +2,5 @@ pub mod Sizes
 pub mod BestOnes
 pub mod Equal
 pub mod Answering
+pub mod Decided
+pub mod Once

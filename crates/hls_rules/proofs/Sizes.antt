@@ -1,9 +1,9 @@
 -- How large quotients and products of fractions are, and that they can be compared.
-use Rattle.std.proofs.Common.{ℕ, ◌+◌, ◌*◌, ◌^◌, ◌<◌, ◌≤◌, lit<, arith, mul-le-mul, mul-pos}
+use Rattle.std.proofs.Common.{ℕ, ◌+◌, ◌*◌, ◌^◌, ◌≤◌, lit<, arith, mul-le-mul, mul-pos}
 use Rattle.hls_frac.specs.declared.Frac.{Frac}
-use Rattle.hls_frac.specs.Frac.{IsQuotient, IsProduct, IsWithin, CrossFits, ProductFits}
+use Rattle.hls_frac.specs.Frac.{IsQuotient, IsProduct, IsWithin, CrossFits}
 use Rattle.hls_frac.proofs.Quotients.{quotient-num, quotient-den}
-use Rattle.hls_frac.proofs.Limits.{cross_fits, product_fits}
+use Rattle.hls_frac.proofs.Limits.{cross_fits}
 use Rattle.hls_guarantee.specs.Limits.{IsReservation, IsShare}
 
 pub quotient-within : (f : Frac) (num den n d : ℕ) → 1 ≤ den → num ≤ n → den ≤ d → IsQuotient f num den
@@ -27,7 +27,8 @@ rate-within s d share = record {
 }
 
 -- the products that compare the starts of two shares
-pub starts-fit : (s d p e first second : Frac) → IsShare (10 ^ 13) (10 ^ 8) s d → IsShare (10 ^ 13) (10 ^ 8) p e
+pub starts-fit : (s d p e first second : Frac) → IsShare (10 ^ 13) (10 ^ 8) s d
+    → IsShare (10 ^ 13) (10 ^ 8) p e
     → IsProduct first d p → IsProduct second e s → CrossFits first second
 starts-fit s d p e first second a b left right =
     cross_fits (lit< tt) (lit< tt) (product-within first d p a.error (rate-within p e b) left)
@@ -45,11 +46,13 @@ given-num num y fits small =
 
 -- the products that compare what is needed of a share with what it gives
 pub covers-fit : (s d needed given : Frac) (x y : ℕ) → IsShare (10 ^ 13) (10 ^ 8) s d → IsReservation x y
-    → IsQuotient needed (x * d.den + d.num) d.den → IsQuotient given (s.num * y) s.den → CrossFits needed given
+    → IsQuotient needed (x * d.den + d.num) d.den → IsQuotient given (s.num * y) s.den
+    → CrossFits needed given
 covers-fit s d needed given x y share size first second =
     let rate = rate-within s d share in
     let small : x ≤ 20000 = omega (arith, size.fits, size.size) in
     cross_fits {n = 10 ^ 14} {d = 10 ^ 8} {m = 10 ^ 13} {e = 10 ^ 8} (lit< tt) (lit< tt)
-    (quotient-within needed _ _ _ _ d.positive (needed-num x d.den d.num small share.error.den share.error.num)
+    (quotient-within needed _ _ _ _ d.positive (needed-num x d.den d.num small share.error.den
+    share.error.num)
     share.error.den first)
     (quotient-within given _ _ _ _ s.positive (given-num s.num y rate.num size.size) rate.den second)

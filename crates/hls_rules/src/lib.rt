@@ -3,6 +3,7 @@
 
 mod book;
 mod conclusions;
+pub mod laws;
 mod rule;
 #[cfg(test)]
 mod tests;

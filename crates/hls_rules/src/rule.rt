@@ -42,13 +42,23 @@ impl Rule {
         requires callable { (have want : _) → IsValid have → IsValid want → Conclude.pre step have want }
         requires answers { (have want : _) (result : _) → IsValid have → IsValid want →
             Conclude.post step have want result → Answers name have want result }
-        ensures { result.name ≡ name }
+        ensures named { result.name ≡ name }
+        ensures called { result.step ≡ step }
     {
         Rule { name, step }
     }
 
     /// What the rule answers to `have` where `want` is wanted.
     pub fn call(&self, have: Guarantee, want: Guarantee) -> Option<Guarantee>
+        requires have { IsValid have }
+        requires want { IsValid want }
+        ensures exact { Answers self.now.name have want result }
+        ensures sound { IfSome result (λ h. Converts self.now.name have h) }
+    {
+        self.told(have, want)
+    }
+
+    fn told(&self, have: Guarantee, want: Guarantee) -> Option<Guarantee>
         requires have { IsValid have }
         requires want { IsValid want }
         ensures { Answers self.now.name have want result }

@@ -7,7 +7,8 @@ returns-in-Some-clause-yes c =
     let a = c.args in
     let first = c.in-Some.ensures.some in (
       λ no. cc,
-      λ is. absurd (first.fails (derivation-holds a.place.now a.haves.now a.want.now a.d.now is c.in-Some.step)),
+      λ is. absurd (first.fails (derivation-holds a.place.now a.haves.now a.want.now a.d.now is
+          c.in-Some.step)),
     )
 
 pub returns-in-None-clause-no : goal.returns-in-None-clause-no

@@ -23,4 +23,5 @@ loop-at-preserved c =
     }
 
 pub returns : goal.returns
-returns c = all-hold c.args.from.now c.args.steps.now c.loop-at.at c.loop-at-test.false c.loop-at.invariant.held
+returns c = all-hold c.args.from.now c.args.steps.now c.loop-at.at c.loop-at-test.false
+    c.loop-at.invariant.held

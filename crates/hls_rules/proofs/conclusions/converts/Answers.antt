@@ -7,6 +7,7 @@ returns-in-R2 c =
     let found = c.strongest.result in
     let said = c.strongest.ensures in (
       λ yes. found-converts a.rule a.g.now a.h.now found said.found (c.is_found.ensures.0 yes),
-      λ leads. c.is_found.ensures.1 (converts-found a.rule a.g.now a.h.now found (single_of c.in-R2.is) said.found
+      λ leads. c.is_found.ensures.1 (converts-found a.rule a.g.now a.h.now found (single_of c.in-R2.is)
+          said.found
           said.lacks leads),
     )

@@ -1,4 +1,4 @@
-use Rattle.std.proofs.Common.{◌≤◌, ◌*◌, mul-pos, ◌↔◌}
+use Rattle.std.proofs.Common.{◌≤◌, ◌*◌, mul-pos}
 use Rattle.hls_frac.proofs.Quotients.{quotient-at_most, at_most-quotient}
 use Rattle.hls_rules.proofs.Sizes.{starts-fit}
 use Rattle.hls_rules.proofs.conclusions.starts_no_later.Goals as goal
