@@ -3,3 +3,4 @@ mod Options
 mod Spaces
 mod Fronts
 mod Parses
+pub mod Derivings

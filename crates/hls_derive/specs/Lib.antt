@@ -1,3 +1,5 @@
 pub mod Derivation
+pub mod Answers
+pub mod Derives
 pub mod DerivationText
 pub mod Reading

@@ -1,0 +1,123 @@
+// What a place lends of what it has.
+ghost use Rattle.std.specs.Prelude.{◌≡◌, ◌≤◌, ◌^◌, ◌↔◌, IsTrue, IfSome, IsNone, true};
+ghost use Rattle.hls_chron.specs.Ranges.{ConfigInRange, TermsInRange, IsWithin};
+ghost use Rattle.hls_guarantee.specs.Limits.{IsValid, IsShare};
+ghost use Rattle.hls_guarantee.specs.Satisfaction.{IsSoft};
+ghost use Rattle.hls_guarantee.specs.Steps.{IsPort, IsFairShare, LendsByTerms, LendsNothing, LendsThrough};
+
+use hls_chron::{Config, Terms};
+use hls_derive::Place;
+use hls_frac::Frac;
+use hls_guarantee::Guarantee;
+use hls_rules::quotient;
+
+/// Whether a seat at the place is lent `h` where the scheduler has `g` through this port.
+pub fn lends(place: &Place, port: u8, g: &Guarantee, h: &Guarantee) -> bool
+    requires config { ConfigInRange place.now.config }
+    requires terms { TermsInRange place.now.terms }
+    requires from { IsValid g.now }
+    requires to { IsValid h.now }
+    ensures { IsTrue result ↔ LendsThrough place.now.config place.now.terms port g.now h.now }
+{
+    has_port(&place.config, port) && (is_lent(place, g, h) || lends_nothing(&place.config, h))
+}
+
+/// What terms of the scheduler's kind lend a seat where the scheduler has `g`, if they lend anything.
+pub fn lent(place: &Place, g: &Guarantee) -> Option<Guarantee>
+    requires config { ConfigInRange place.now.config }
+    requires terms { TermsInRange place.now.terms }
+    requires from { IsValid g.now }
+    ensures some { IfSome result (λ h. LendsByTerms place.now.config place.now.terms g.now h) }
+    ensures none { IsNone result → (h : Guarantee) →
+        LendsByTerms place.now.config place.now.terms g.now h → ⊥ }
+{
+    match (place.config, place.terms, *g) {
+        (Config::Cpu, Terms::Cpu, Guarantee::All) => Some(Guarantee::All),
+        (Config::Fp, Terms::Prio(0), _) => Some(*g),
+        (Config::Edf, Terms::Res { hard, x, y }, Guarantee::All) => {
+            Some(Guarantee::Resb { hard, x, y })
+        }
+        (Config::Wheel { frame }, Terms::Slots(places), Guarantee::All) => {
+            places_lent(places, frame)
+        }
+        (Config::Sfq { total, most }, Terms::Weight(weight), Guarantee::Psbe { s, d }) => {
+            share_lent(total, most, weight, &s, &d)
+        }
+        (Config::Join { .. }, Terms::Sole, _) => soft(g),
+        _ => None,
+    }
+}
+
+fn places_lent(places: u32, frame: u32) -> Option<Guarantee>
+    ensures some { IfSome result (λ h. (places ≤ frame) × (h ≡ Guarantee.Resc true places frame)) }
+    ensures none { IsNone result → places ≤ frame → ⊥ }
+{
+    if places > frame {
+        return None;
+    }
+    Some(Guarantee::Resc {
+        hard: true,
+        x: places,
+        y: frame,
+    })
+}
+
+/// The share of a seat of this weight, where there is weight for it.
+fn share_lent(total: u32, most: u32, weight: u32, s: &Frac, d: &Frac) -> Option<Guarantee>
+    requires config { ConfigInRange (Config.Sfq total most) }
+    requires terms { TermsInRange (Terms.Weight weight) }
+    requires share { IsShare (10 ^ 13) (10 ^ 8) s.now d.now }
+    ensures some { IfSome result (λ h. LendsByTerms (Config.Sfq total most) (Terms.Weight weight)
+        (Guarantee.Psbe s.now d.now) h) }
+    ensures none { IsNone result → weight ≤ total → ⊥ }
+{
+    if weight > total {
+        return None;
+    }
+    let part = quotient(weight as u128, total as u128);
+    let others = quotient(most as u128 - 1, 1);
+    let rest = quotient((total - weight) as u128, total as u128);
+    Some(Guarantee::Psbe {
+        s: s.mul(&part),
+        d: d.add(&others).mul(&part).add(&rest),
+    })
+}
+
+/// The guarantee itself where more service never breaks it.
+fn soft(g: &Guarantee) -> Option<Guarantee>
+    ensures some { IfSome result (λ h. IsSoft g.now × (h ≡ g.now)) }
+    ensures none { IsNone result → IsSoft g.now → ⊥ }
+{
+    match g {
+        Guarantee::Resb { hard, .. } | Guarantee::Resc { hard, .. } if *hard => None,
+        _ => Some(*g),
+    }
+}
+
+fn is_lent(place: &Place, g: &Guarantee, h: &Guarantee) -> bool
+    requires config { ConfigInRange place.now.config }
+    requires terms { TermsInRange place.now.terms }
+    requires from { IsValid g.now }
+    ensures { IsTrue result ↔ LendsByTerms place.now.config place.now.terms g.now h.now }
+{
+    lent(place, g) == Some(*h)
+}
+
+fn lends_nothing(config: &Config, h: &Guarantee) -> bool
+    ensures { IsTrue result ↔ LendsNothing config.now h.now }
+{
+    match (config, h) {
+        (Config::Cpu, _) => false,
+        (_, Guarantee::Null) => true,
+        _ => false,
+    }
+}
+
+fn has_port(config: &Config, port: u8) -> bool
+    ensures { IsTrue result ↔ IsPort config.now port }
+{
+    match config {
+        Config::Join { ports } => port < *ports,
+        _ => port == 0,
+    }
+}

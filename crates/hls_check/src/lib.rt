@@ -1,0 +1,11 @@
+//! The checker of derivations.
+#![tactic(auto)]
+
+mod checking;
+pub mod laws;
+mod lending;
+#[cfg(test)]
+mod tests;
+
+pub use checking::{Verdict, check};
+pub use lending::{lends, lent};

@@ -1,0 +1,6 @@
+pub mod Sizes
+pub mod BestOnes
+pub mod Equal
+pub mod Answering
+pub mod Decided
+pub mod Once

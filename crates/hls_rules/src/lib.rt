@@ -1,0 +1,13 @@
+//! The rules by which guarantees are converted, and what each of them answers.
+#![tactic(auto)]
+
+mod book;
+mod conclusions;
+pub mod laws;
+mod rule;
+#[cfg(test)]
+mod tests;
+
+pub use book::RuleBook;
+pub use conclusions::{converts, quotient, strongest};
+pub use rule::{Conclude, Rule, answer};
