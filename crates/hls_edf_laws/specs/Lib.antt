@@ -1,0 +1,6 @@
+pub mod Demand
+pub mod Accounts
+pub mod Choosing
+pub mod Recomputed
+pub mod Stays
+pub mod Books
