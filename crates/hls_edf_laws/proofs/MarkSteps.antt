@@ -20,7 +20,7 @@ use Rattle.hls_kinds.specs.Tenants.{after_leaving, after_settling, tenant_after,
 use Rattle.hls_kinds.specs.Tenants.{settled_at}
 use Rattle.hls_kinds.specs.Reservations.{all_parts, parts}
 use Rattle.hls_edf_laws.specs.declared.account.Account.{Account}
-use Rattle.hls_edf_laws.specs.Accounts.{AreSound, HaveRoom, vacant, fresh, marked, parts_in}
+use Rattle.hls_edf_laws.specs.Accounts.{AreSound, HaveRoom, vacant, fresh, marked, parts_in, offered}
 use Rattle.hls_edf_laws.specs.Recomputed.{account_before}
 use Rattle.hls_edf_laws.specs.Books.{held, account_of, account_at, IsTenant, IsReservation}
 use Rattle.hls_edf_laws.proofs.Parts.{parts-rate}
@@ -105,10 +105,7 @@ seated_account x y now asks serves c ex ey ep =
     ∙ rw (last-zero (record { x = x; y = y; since = now }) asks serves, ex, ey, ep) refl
 
 -- a seating where the slot claims nothing
-abbrev pub offered : (x y : ℕ) → Account
-offered x y = record { x = x; y = y; parts = parts x y; budget = 0; deadline = 0; asked = false }
-
-seat_account : (b : Ledger) (slot : ℕ) (hard : Bool) (x y : ℕ)
+pub seat_account : (b : Ledger) (slot : ℕ) (hard : Bool) (x y : ℕ)
     → account_at (with_mark b (Seat slot (Res hard x y))) slot ≡ fresh (offered x y) (now_of b)
 seat_account b slot hard x y =
     account_at-mark b (Seat slot (Res hard x y)) slot

@@ -2,12 +2,17 @@
 use Rattle.std.specs.Prelude.{◌≡◌, ℕ, ◌+◌, ◌*◌, ◌-◌, ◌≤◌, ◌<◌, Bool, true, false, nat_le, nat_lt, ◌==◌, ◌||◌}
 use Rattle.std.specs.Prelude.{if◌then◌else◌}
 use Rattle.hls_kinds.specs.Slots.{sum_below}
+use Rattle.hls_kinds.specs.Reservations.{parts}
 use Rattle.hls_edf_laws.specs.declared.account.Account.{Account}
 use Rattle.hls_edf_laws.specs.Demand.{claimed}
 
 -- the account of a free slot
 abbrev pub vacant : Account
 vacant = record { x = 0; y = 0; parts = 0; budget = 0; deadline = 0; asked = false }
+
+-- of a reservation that has nothing yet
+abbrev pub offered : (x y : ℕ) → Account
+offered x y = record { x = x; y = y; parts = parts x y; budget = 0; deadline = 0; asked = false }
 
 -- of a seat that was seated or settled at the tick `now`
 abbrev pub fresh : Account → ℕ → Account

@@ -4,3 +4,4 @@ pub mod Choosing
 pub mod Recomputed
 pub mod Stays
 pub mod Books
+pub mod Props

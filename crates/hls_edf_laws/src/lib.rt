@@ -1,8 +1,8 @@
-//! Reservations over a whole book: the account of each slot, the demand of all of them together, and what
-//! follows for each seat. Proofs alone, for the scheduler that stands on them.
+//! Reservations: the running account of a slot, the demand of all slots together over a whole book, and what
+//! follows for each seat: that its deadlines are met, its promise kept, and its cap.
 #![tactic(auto)]
 
 mod account;
 pub mod laws;
 
-pub use account::Account;
+pub use account::{ALL_PARTS, Account};

@@ -1,0 +1,7 @@
+pub mod Choices
+pub mod Tables
+pub mod Occupants
+pub mod Changing
+pub mod Serving
+pub mod Sounds
+pub mod Configured

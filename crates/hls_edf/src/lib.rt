@@ -1,0 +1,7 @@
+//! Scheduling by reservations.
+#![tactic(auto)]
+
+mod edf;
+mod slots;
+
+pub use edf::Edf;
