@@ -3,5 +3,9 @@
 
 mod edf;
 mod slots;
+#[cfg(test)]
+mod tests;
+#[cfg(test)]
+mod trials;
 
 pub use edf::Edf;
