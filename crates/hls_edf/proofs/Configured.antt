@@ -26,7 +26,7 @@ use Rattle.hls_edf_laws.specs.Books.{account_at, IsReservation}
 use Rattle.hls_edf_laws.proofs.Sums.{sum-eq}
 use Rattle.hls_edf.specs.Choice.{account_in, choice_of, IsFirstFree, AllPaid}
 use Rattle.hls_edf.specs.Sound.{edf_seen, IsSound}
-use Rattle.hls_edf.proofs.Occupants.{slot-free, slot-taken, slot-vacant, room-used}
+use Rattle.hls_edf_laws.proofs.Occupants.{slot-free, slot-taken, slot-vacant, room-used}
 use Rattle.hls_edf.proofs.Serving.{ServesOr, choice_is}
 
 -- a box that is set up has 32 seats

@@ -1,6 +1,5 @@
 pub mod Choices
 pub mod Tables
-pub mod Occupants
 pub mod Changing
 pub mod Serving
 pub mod Sounds

@@ -7,10 +7,14 @@ use Rattle.std.specs.Int.{bit_at}
 use Rattle.std.proofs.lemmas.Bool.{eqb-true}
 use Rattle.hls_chron.specs.declared.plain.Config.TheVariants.{Edf}
 use Rattle.hls_chron.specs.declared.plain.Terms.{Terms}
+use Rattle.hls_chron.specs.declared.plain.Terms.TheVariants.{Res}
 use Rattle.hls_chron.specs.Ledger.{Ledger, now_of}
+use Rattle.hls_chron.specs.Seats.{terms_at}
 use Rattle.hls_kinds.specs.Slots.{any_below, IsFirst}
+use Rattle.hls_kinds.specs.declared.tenant.Tenant.{Tenant}
+use Rattle.hls_kinds.specs.declared.tenant.Tenant.TheVariants.{Vacant, Sits, Left}
 use Rattle.hls_kinds.specs.Tenants.{tenant_at}
-use Rattle.hls_kinds.specs.Reservations.{all_parts, deadline_at, budget_at, is_soft}
+use Rattle.hls_kinds.specs.Reservations.{all_parts, deadline_at, budget_at, is_soft, is_soft_in}
 use Rattle.hls_kinds.specs.Asks.{asks, slot_asks, asks_in_budget, asks_softly}
 use Rattle.hls_kinds.specs.Discipline.{Serves, may_go}
 use Rattle.hls_kinds.proofs.SlotLaws.{any_below-at, any_below-or}
@@ -27,7 +31,17 @@ use Rattle.hls_edf.specs.Choice.{account_in, seat_in, amid_in, may_use_at, best_
 use Rattle.hls_edf.specs.Choice.{choice_of, soft_in}
 use Rattle.hls_edf.specs.Sound.{IsSound}
 use Rattle.hls_edf.proofs.Choices.{FirstIs, first_is}
-use Rattle.hls_edf.proofs.Occupants.{soft-is}
+
+-- a seat is soft by its terms
+soft_case : (tenant : Tenant) → soft_in (seated_in tenant) ≡ is_soft_in tenant
+soft_case Vacant = refl
+soft_case (Sits (Res true x y) since) = refl
+soft_case (Sits (Res false x y) since) = refl
+soft_case (Sits _ since) = refl
+soft_case (Left terms since at) = refl
+
+pub soft-is : (b : Ledger) (slot : ℕ) → soft_in (terms_at b slot) ≡ is_soft b slot
+soft-is b slot = rw (← seated-terms b slot) (soft_case (tenant_at b slot))
 
 -- tests that agree on the slots below n
 any-agree : (f g : ℕ → Bool) (n : ℕ) → ((slot : ℕ) → slot < n → f slot ≡ g slot)
@@ -182,7 +196,8 @@ choose_case b mask (Some slot) soft is _ = (
 choose_case b mask None (Some slot) none is = (
   soft_serves b mask slot none is,
   (let some = any_below-at (asks_softly b mask) 32 slot is.within is.chosen in
-      asks_as b mask ∙ or_right (any_below (asks_in_budget b mask) 32) (any_below (asks_softly b mask) 32) some),
+      asks_as b mask ∙ or_right (any_below (asks_in_budget b mask) 32) (any_below (asks_softly b mask) 32)
+      some),
 )
 choose_case b mask None None none neither = asks_as b mask ∙ rw (none, neither) refl
 

@@ -27,6 +27,7 @@ use Rattle.hls_sched.proofs.Masks.{asks_with, asks_without, silent_without, sile
 use Rattle.hls_edf_laws.specs.declared.account.Account.{Account}
 use Rattle.hls_edf_laws.specs.Accounts.{vacant, fresh, offered, parts_in}
 use Rattle.hls_edf_laws.specs.Books.{held, account_at, IsRow, IsReservation, KeepsReservations}
+use Rattle.hls_edf_laws.proofs.Admitting.{tenant_there, taken_within}
 use Rattle.hls_edf_laws.proofs.Bare.{before-last, asks-bare, serves-bare}
 use Rattle.hls_edf_laws.proofs.Choices.{is-asking}
 use Rattle.hls_edf_laws.proofs.Keeping.{keeps-row, keeps-seat, keeps-leave, keeps-settle}
@@ -79,23 +80,6 @@ sound_release b mask seats accounts slot s = record {
   within = s.within;
   seated = λ k asks. s.seated k (asks_without mask slot k asks);
 }
-
--- the tenant of a slot that is taken
-some_tenant : (tenant : Tenant) → seated_in tenant ≢ None → (terms : Terms) × (since : ℕ)
-    × (tenant ≡ Sits terms since)
-some_tenant Vacant taken = absurd (taken refl)
-some_tenant (Sits terms since) taken = (terms, since, refl)
-some_tenant (Left terms since at) taken = absurd (taken refl)
-
-tenant_there : (b : Ledger) (slot : ℕ) → terms_at b slot ≢ None
-    → (terms : Terms) × (since : ℕ) × (tenant_at b slot ≡ Sits terms since)
-tenant_there b slot taken = some_tenant (tenant_at b slot) (λ none. taken (sym (seated-terms b slot) ∙ none))
-
-pub taken_within : (b : Ledger) (slot : ℕ) → KeepsReservations b → terms_at b slot ≢ None → slot < 32
-taken_within b slot keeps taken = elim (cases_lt slot 32) [
-  | inl lt ↦ lt
-  | inr beyond ↦ absurd (taken (sym (seated-terms b slot) ∙ ap seated_in (keeps.within slot beyond)))
-]
 
 -- terms after an event at a slot
 ne_eqb : (at slot : ℕ) → at ≢ slot → (at == slot) ≡ false

@@ -15,8 +15,8 @@ use hls_kinds::parts;
 use hls_sched::{Scheduler, SeatFault};
 use std::alloc::{AllocError, Global};
 
-/// A scheduler of reservations (after Abeni and Buttazzo 1998, in whole ticks): of the seats that ask and have
-/// budget, the one of earliest deadline is served, and where there is none, of those that are soft.
+/// A scheduler of reservations (after Abeni and Buttazzo 1998, in whole ticks): of the seats that ask and
+/// have budget, the one of earliest deadline is served, and where there is none, of those that are soft.
 #[derive(Drop)]
 pub struct Edf {
     alloc: Global,

@@ -4,7 +4,7 @@ ghost use Rattle.hls_chron.specs.Seats.{is_slot};
 ghost use Rattle.hls_kinds.specs.Asks.{slot_asks};
 ghost use Rattle.hls_kinds.specs.Slots.{sum_below};
 ghost use Rattle.hls_sched.specs.Seen.{tick_row};
-ghost use Rattle.hls_edf.specs.Choice.{account_in, seat_in, amid_in, soft_in, may_use, better_of, best_of, choice_of};
+ghost use Rattle.hls_edf.specs.Choice.{account_in, seat_in, soft_in, may_use, better_of, best_of, choice_of};
 ghost use Rattle.hls_edf.specs.Choice.{IsFirstFree, AllPaid};
 ghost use Rattle.hls_edf.specs.Changes.{next_of, settled_of, served_of};
 

@@ -1,5 +1,5 @@
-// What no clause says of a box of reservations: that its calls can succeed, worked schedules, and some hundreds
-// of calls against the definitions as plain functions of the book.
+// What no clause says of a box of reservations: that its calls can succeed; and worked schedules, each tick
+// against the definitions as plain functions of the book.
 ghost use Rattle.std.specs.Prelude.{◌≡◌, ◌≢◌, ◌+◌, ◌<◌, ◌≤◌, None, true, false};
 ghost use Rattle.hls_chron.specs.declared.plain.Kind.{Kind};
 ghost use Rattle.hls_chron.specs.Ranges.{TermsInRange};
@@ -28,14 +28,15 @@ enum Step {
     Hard(u32, u32, u32),
     /// A soft one.
     Soft(u32, u32, u32),
-    /// A hard seat of so many ticks in every so many is refused: so many parts are free, and so many are asked.
+    /// A hard seat of so many ticks in every so many is refused: so many parts are free, and so many are
+    /// asked.
     Refuse(u32, u32, u128, u128),
     Leave(u32),
     Request(u32),
     Release(u32),
     Settle,
-    /// Ticks pass, one for each byte: a digit is the slot that is served, `.` is for none that is to be served, and
-    /// `-` for a tick in which the box asks and is not granted.
+    /// Ticks pass, one for each byte: a digit is the slot that is served, `.` is for none that is to be
+    /// served, and `-` for a tick in which the box asks and is not granted.
     Pass(&'static [u8]),
 }
 

@@ -1,5 +1,6 @@
-// Some hundreds of calls that a generator draws, each tick against the definitions as plain functions of the book;
-// and where every tick that was asked for is given, each run of ticks in which a seat asks against its guarantee.
+// Some hundreds of calls that a generator draws, each tick against the definitions as plain functions of the
+// book; and where every tick that was asked for is given, each run of ticks in which a seat asks against its
+// guarantee.
 ghost use Rattle.std.specs.Prelude.{◌≡◌, ◌≢◌, ◌<◌, ◌≤◌, None, Some};
 ghost use Rattle.hls_chron.specs.declared.plain.Kind.{Kind};
 ghost use Rattle.hls_sched.specs.Seen.{IsBlank, IsConfigured};

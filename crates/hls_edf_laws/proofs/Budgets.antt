@@ -67,7 +67,7 @@ replenished_ahead whole n accounts now k pos lt kept have wide =
             let le = (budget_fits whole n accounts now k pos lt kept have on).0 in
             omega arith
         | inr off ↦ let h = due-off-not whole (accounts k).x (accounts k).y (accounts k).parts
-              (accounts k).budget
+            (accounts k).budget
             (accounts k).deadline now (rw off at not) in omega (arith, h.0)
       ])
     ]

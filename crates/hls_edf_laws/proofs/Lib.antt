@@ -21,3 +21,5 @@ pub mod Each
 pub mod Bare
 pub mod Keeping
 pub mod Promises
+pub mod Occupants
+pub mod Admitting

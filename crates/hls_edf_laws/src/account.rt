@@ -107,7 +107,8 @@ impl Account {
         }
     }
 
-    /// What is held of it at a tick, where its seat left: all while its deadline lies ahead, and then nothing.
+    /// What is held of it at a tick, where its seat left: all while its deadline lies ahead, and then
+    /// nothing.
     #[tactic(auto, unfolding(crate::specs::Books::held))]
     pub fn held(self, now: u64) -> Account
         ensures { result ≡ books.held self now }

@@ -37,5 +37,6 @@ invariant_of-self c =
         c.in-Res.is,
       ) (sound_seat c.args.self.now.book c.args.self.now.mask c.args.self.now.seats c.args.self.now.accounts
           c.args.slot
-          c.in-Res.hard c.in-Res.x c.in-Res.y within seats accounts vacant range has.room c.args.self.now.sound);
+          c.in-Res.hard c.in-Res.x c.in-Res.y within seats accounts vacant range has.room
+          c.args.self.now.sound);
     }

@@ -7,13 +7,13 @@ use Rattle.hls_chron.specs.declared.plain.Config.TheVariants.{Edf}
 use Rattle.hls_chron.specs.declared.plain.Terms.{Terms}
 use Rattle.hls_chron.specs.declared.plain.Terms.TheVariants.{Res}
 use Rattle.hls_chron.specs.Ledger.{Ledger, now_of}
-use Rattle.hls_chron.specs.Seats.{asked, served, terms_at}
+use Rattle.hls_chron.specs.Seats.{asked, served}
 use Rattle.hls_kinds.specs.declared.tenant.Tenant.{Tenant}
 use Rattle.hls_kinds.specs.declared.tenant.Tenant.TheVariants.{Vacant, Sits, Left}
 use Rattle.hls_kinds.specs.declared.reservations.Reservation.{Reservation}
 use Rattle.hls_kinds.specs.Slots.{sum_below}
 use Rattle.hls_kinds.specs.Tenants.{tenant_at}
-use Rattle.hls_kinds.specs.Reservations.{parts, is_held, is_held_in, is_soft, is_soft_in}
+use Rattle.hls_kinds.specs.Reservations.{parts, is_held, is_held_in}
 use Rattle.hls_kinds.specs.Room.{terms_left, occupant_at, parts_in, room_used}
 use Rattle.hls_kinds.proofs.TenantLaws.{seated_in, seated-terms}
 use Rattle.hls_edf_laws.specs.declared.account.Account.{Account}
@@ -23,7 +23,6 @@ use Rattle.hls_edf_laws.specs.Books.{held, account_at, IsTenant}
 use Rattle.hls_edf_laws.proofs.Parts.{parts-paid}
 use Rattle.hls_edf_laws.proofs.Sums.{sum-eq}
 use Rattle.hls_edf_laws.proofs.RowSteps.{account_now, HasTenants}
-use Rattle.hls_edf.specs.Choice.{soft_in}
 
 abbrev pub occupant_of : Ledger → ℕ → Tenant → Option Terms
 occupant_of b slot tenant = if is_held_in b slot tenant then terms_left tenant else seated_in tenant
@@ -119,14 +118,3 @@ pub room-used : (b : Ledger) → HasTenants b
 room-used b tenants = sum-eq (λ slot. parts_in (occupant_at Edf b slot)) (λ slot. (account_at b slot).parts)
     32
     (λ slot lt. parts_if (occupant_at Edf b slot) (account_at b slot) (occupied b slot tenants))
-
--- a seat is soft by its terms
-soft_case : (tenant : Tenant) → soft_in (seated_in tenant) ≡ is_soft_in tenant
-soft_case Vacant = refl
-soft_case (Sits (Res true x y) since) = refl
-soft_case (Sits (Res false x y) since) = refl
-soft_case (Sits _ since) = refl
-soft_case (Left terms since at) = refl
-
-pub soft-is : (b : Ledger) (slot : ℕ) → soft_in (terms_at b slot) ≡ is_soft b slot
-soft-is b slot = rw (← seated-terms b slot) (soft_case (tenant_at b slot))
