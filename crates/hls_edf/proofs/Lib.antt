@@ -1,0 +1,6 @@
+pub mod Choices
+pub mod Tables
+pub mod Changing
+pub mod Serving
+pub mod Sounds
+pub mod Configured

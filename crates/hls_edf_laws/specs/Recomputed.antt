@@ -1,0 +1,33 @@
+-- The account of a seat, recomputed from the ticks since it was seated or settled: which of them it asked in,
+-- and which of them served it.
+use Rattle.std.specs.Prelude.{ℕ, ◌+◌, Bool, false, zero, suc}
+use Rattle.hls_kinds.specs.declared.reservations.Reservation.{Reservation}
+use Rattle.hls_kinds.specs.Reservations.{parts, deadline_after, budget_after, last_replenished}
+use Rattle.hls_edf_laws.specs.declared.account.Account.{Account}
+
+-- it asked in the tick before the nth since
+abbrev pub asked_before : Reservation → (asks : ℕ → Bool) → ℕ → Bool
+asked_before r asks zero = false
+asked_before r asks (suc n) = asks (r.since + n)
+
+-- as it stands before the replenishment of the nth tick since
+abbrev pub account_before : Reservation → (asks serves : ℕ → Bool) → ℕ → Account
+account_before r asks serves n = record {
+  x = r.x;
+  y = r.y;
+  parts = parts r.x r.y;
+  budget = budget_after r serves (last_replenished r asks serves n) (r.since + n);
+  deadline = deadline_after r (last_replenished r asks serves n);
+  asked = asked_before r asks n;
+}
+
+-- and after it
+abbrev pub account_within : Reservation → (asks serves : ℕ → Bool) → ℕ → Account
+account_within r asks serves n = record {
+  x = r.x;
+  y = r.y;
+  parts = parts r.x r.y;
+  budget = budget_after r serves (last_replenished r asks serves (suc n)) (r.since + n);
+  deadline = deadline_after r (last_replenished r asks serves (suc n));
+  asked = asks (r.since + n);
+}
