@@ -1,0 +1,2 @@
+//! What follows of fair queueing from its books alone.
+#![tactic(auto)]
