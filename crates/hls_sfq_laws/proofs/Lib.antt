@@ -5,3 +5,4 @@ pub mod Atoms
 pub mod Moves
 pub mod Spans
 pub mod Shares
+pub mod Agree
