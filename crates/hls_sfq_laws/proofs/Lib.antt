@@ -6,3 +6,4 @@ pub mod Moves
 pub mod Spans
 pub mod Shares
 pub mod Agree
+pub mod Nexts
