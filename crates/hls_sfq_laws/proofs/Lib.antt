@@ -7,3 +7,5 @@ pub mod Spans
 pub mod Shares
 pub mod Agree
 pub mod Nexts
+pub mod Rooms
+pub mod Follows
