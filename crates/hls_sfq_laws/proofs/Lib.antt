@@ -9,3 +9,4 @@ pub mod Agree
 pub mod Nexts
 pub mod Rooms
 pub mod Follows
+pub mod Laws
