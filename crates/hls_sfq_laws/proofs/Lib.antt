@@ -10,3 +10,4 @@ pub mod Nexts
 pub mod Rooms
 pub mod Follows
 pub mod Laws
+pub mod Promises
