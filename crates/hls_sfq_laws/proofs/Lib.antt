@@ -11,3 +11,4 @@ pub mod Rooms
 pub mod Follows
 pub mod Laws
 pub mod Promises
+pub mod Keeping
