@@ -1,19 +1,18 @@
 -- Start tags at a tick go by the rows before it and the marks up to it.
 use Rattle.std.proofs.Common.{◌≡◌, ℕ, zero, suc, ◌+◌, ◌-◌, ◌*◌, ◌<◌, ◌≤◌, max, refl, sym, ap, ◌∙◌, arith}
-use Rattle.std.proofs.Common.{take, length}
-use Rattle.std.proofs.Common.{List, [], ◌∷◌, filter, Bool, true, false, inl, inr, get_or, min}
-use Rattle.std.specs.Prelude.{Option, Some, None, is_some, not, nat_le, nat_lt, if◌then◌else◌}
-use Rattle.std.proofs.lemmas.Bool.{cases_Bool, cases_lt, lt-ltb, le-ltb, leb-true}
+use Rattle.std.proofs.Common.{List, [], ◌∷◌, filter, Bool, false, inl, inr}
+use Rattle.std.specs.Prelude.{Option, Some, None, is_some, not, nat_le, if◌then◌else◌}
+use Rattle.std.proofs.lemmas.Bool.{cases_Bool, cases_lt, lt-ltb, le-ltb}
 use Rattle.std.proofs.lemmas.Bool.Decides.{nat_tests}
 use Rattle.std.proofs.lemmas.List.{get_or-take, length-take-le}
 use Rattle.hls_chron.specs.declared.book.Mark.{Mark}
 use Rattle.hls_chron.specs.Ledger.{Ledger, now_of, row_at, before, no_row}
-use Rattle.hls_chron.specs.Seats.{asked, served, is_slot}
+use Rattle.hls_chron.specs.Seats.{asked, served}
 use Rattle.hls_chron.specs.Ticks.{count}
 use Rattle.hls_chron.proofs.CountLaws.{count-agree}
 use Rattle.hls_kinds.specs.declared.tags.Share.{Share}
-use Rattle.hls_kinds.specs.Ticks.{last_of, next_or, after_last}
-use Rattle.hls_kinds.specs.Tenants.{tenant_at, tenant_then}
+use Rattle.hls_kinds.specs.Ticks.{last_of, next_or}
+use Rattle.hls_kinds.specs.Tenants.{tenant_then}
 use Rattle.hls_kinds.specs.Tags.{tag_step, share_in, slot_or, tag_served, time_by, finish_after, finish_by}
 use Rattle.hls_kinds.specs.Tags.{asking_since, start_of, start_by, start_tags, start_tag}
 use Rattle.hls_kinds.proofs.MarkLaws.{tenant_at-same}
@@ -86,7 +85,7 @@ finish-same a b f g t r share slot same since le agree =
     (λ z lo hi. served-same a b slot z (same.rows z (omega arith))) in
     ap (finish_after a f share slot) last
     ∙ finish_after-same a b f g t share slot (last_of (served b slot) share.since (r - share.since)) same
-        since agree
+    since agree
     (λ z is. let lt = last-before (served b slot) share.since r z is in omega (arith, lt, le))
 
 asking_since-same : (a b : Ledger) (t z since slot : ℕ) → SameUpTo a b t → z ≤ t
@@ -100,14 +99,14 @@ start_from : (share : Share) (a b : Ledger) (f g : ℕ → ℕ → ℕ) (slot z 
     → time_by a f r ≡ time_by b g r → finish_by a f share slot r ≡ finish_by b g share slot r
     → count (served a slot) r (z - r) ≡ count (served b slot) r (z - r)
     → max (time_by a f q) (finish_by a f share slot q) + count (served a slot) q (z - q) * tag_step
-        share.weight
+    share.weight
     ≡ max (time_by b g r) (finish_by b g share slot r) + count (served b slot) r (z - r) * tag_step
-        share.weight
+    share.weight
 start_from share a b f g slot z r q same time finish counts =
     ap (λ x. max (time_by a f x) (finish_by a f share slot x)
     + count (served a slot) x (z - x) * tag_step share.weight) same
     ∙ ap (λ x. max x (finish_by a f share slot r) + count (served a slot) r (z - r) * tag_step share.weight)
-        time
+    time
     ∙ ap (λ x. max (time_by b g r) x + count (served a slot) r (z - r) * tag_step share.weight) finish
     ∙ ap (λ x. max (time_by b g r) (finish_by b g share slot r) + x * tag_step share.weight) counts
 

@@ -2,25 +2,23 @@
 use Rattle.std.proofs.Common.{◌≡◌, ◌≢◌, ℕ, ◌+◌, ◌*◌, ◌-◌, ◌<◌, ◌≤◌, suc, zero, refl, sym, arith, ap, ◌∙◌, inl}
 use Rattle.std.proofs.Common.{inr, subst}
 use Rattle.std.proofs.Common.{Bool, true, false}
-use Rattle.std.specs.Prelude.{Option, Some, None, max, nat_lt, nat_eq, if◌then◌else◌, ◌⊎◌}
-use Rattle.std.proofs.lemmas.Bool.{cases_lt, cases_eq, cases_Bool, eqb-true}
+use Rattle.std.specs.Prelude.{Option, Some, None, max, nat_lt, if◌then◌else◌, ◌⊎◌}
+use Rattle.std.proofs.lemmas.Bool.{cases_lt, cases_Bool}
 use Rattle.std.proofs.lemmas.Bool.Decides.{nat_tests}
-use Rattle.hls_chron.specs.declared.plain.Config.TheVariants.{Sfq}
 use Rattle.hls_chron.specs.Ledger.{Ledger, now_of, row_at, before}
 use Rattle.hls_chron.specs.Seats.{asked, served, is_slot}
 use Rattle.hls_chron.specs.Ticks.{one_if}
 use Rattle.hls_kinds.specs.declared.tags.Share.{Share}
 use Rattle.hls_kinds.specs.Slots.{IsFirst}
-use Rattle.hls_kinds.specs.Tenants.{tenant_then}
 use Rattle.hls_kinds.specs.Asks.{slot_asks}
-use Rattle.hls_kinds.specs.Tags.{unit_tag, tag_step, share_in, start_tag}
+use Rattle.hls_kinds.specs.Tags.{unit_tag, tag_step, start_tag}
 use Rattle.hls_promise.proofs.PromiseLaws.{served-to, to-served}
 use Rattle.hls_sfq_laws.specs.ShareBook.{KeepsShareBook}
 use Rattle.hls_sfq_laws.proofs.Tags.{Tag, Clock, v_after, clock_after, tag_after, SfqServes, HaveRoom}
 use Rattle.hls_sfq_laws.proofs.Tags.{AreTags, IsChurn}
 use Rattle.hls_sfq_laws.proofs.Agree.{start_tag-same, same-before, now-before}
-use Rattle.hls_sfq_laws.proofs.Nexts.{v_of, share_at, f_of, v-first, v-none, v-served, f-fresh, s-fresh}
-use Rattle.hls_sfq_laws.proofs.Nexts.{f-served, f-unserved, s-off, s-on, Goes, Gone, Fresh, Stays, goes-on}
+use Rattle.hls_sfq_laws.proofs.Nexts.{v_of, share_at, f_of, v-none, v-served, f-fresh, s-fresh}
+use Rattle.hls_sfq_laws.proofs.Nexts.{f-served, f-unserved, s-off, s-on, Gone, Fresh, Stays, goes-on}
 use Rattle.hls_sfq_laws.proofs.Nexts.{begins}
 use Rattle.hls_sfq_laws.proofs.Rooms.{steps-at, slot-at, few-at, fits-at, taken-at}
 use Rattle.hls_sfq_laws.proofs.Moves.{v-none as after-none, v-begins, tag-here, tag-other, tag-none}
@@ -150,14 +148,14 @@ module _ (T M : ℕ) (b : Ledger) (kept : KeepsShareBook T M b) where
             let mine = start_is t k here some in
             let g = tag-taken (share_at b (suc t) k) (f_of b (suc t) k) (omega (arith, sw, some)) in
             tag_eq _ _ _ _ _ _ sw (ap tag_step sw) (g ∙ fs ∙ ap (λ x. x + tag_step (share_at b t k).weight)
-                mine)
+            mine)
             ∙ sym (ap (λ o. tag_after (v_of b t) (tags_of b t k) o k) to ∙ tag-here (v_of b t) (tags_of b t k)
-                k)
+            k)
         | inr miss ↦
             let fs = f-unserved b t k same miss in
             let g : (tags_of b (suc t) k).f ≡ (tags_of b t k).f =
             ap (λ (s : Share). (tag_for s (f_of b (suc t) k)).f) same ∙ ap
-                (λ x. (tag_for (share_at b t k) x).f) fs in
+            (λ x. (tag_for (share_at b t k) x).f) fs in
             tag_eq _ _ _ _ _ _ sw (ap tag_step sw) g
             ∙ sym (tag_not (v_of b t) (tags_of b t k) (to_of b t) k (not_served b t k miss))
       ]
@@ -233,12 +231,12 @@ module _ (T M : ℕ) (b : Ledger) (kept : KeepsShareBook T M b) where
         let lt_most = slot-at T M b kept t k (omega (arith, lt)) some in
         omega (arith, lt_most, kept.range.1.1)) in
         let st = start-tick 1 unit_tag 32 k (clock_of b t) (tags_of b t) (asks_of b t) (to_of b t)
-            (omega arith)
+        (omega arith)
         below on here.kept (λ j is. serves-at t j lo lt here is) in
         let vn = v-next t lo lt here in
         let tag = tag-stays t k lo lt here same in
         let sw : (share_at b (suc t) k).weight ≡ (share_at b t k).weight =
-            ap (λ (s : Share). s.weight) same in
+        ap (λ (s : Share). s.weight) same in
         let fn : f_of b (suc t) k ≡ (tag_after (v_of b t) (tags_of b t k) (to_of b t) k).f =
         sym (tag-taken (share_at b (suc t) k) (f_of b (suc t) k) (omega (arith, sw, some)))
         ∙ ap (λ (c : Tag). c.f) tag in
@@ -260,7 +258,7 @@ module _ (T M : ℕ) (b : Ledger) (kept : KeepsShareBook T M b) where
     | Fresh new ↦ s-fresh b (suc t) k new
     | Stays same ↦
         let sw : (share_at b (suc t) k).weight ≡ (share_at b t k).weight =
-            ap (λ (s : Share). s.weight) same in
+        ap (λ (s : Share). s.weight) same in
         next_start t k lo lt here same (omega (arith, sw, some))
   ]
 

@@ -1,7 +1,6 @@
 -- What a row and a mark leave of what fair queueing keeps in its book.
 use Rattle.std.proofs.Common.{◌≡◌, ◌≢◌, ℕ, ◌+◌, ◌-◌, ◌<◌, ◌≤◌, suc, zero, refl, sym, arith, ap, ◌∙◌, inl, inr}
 use Rattle.std.proofs.Common.{subst, [], Some, None}
-use Rattle.std.specs.Prelude.{Option}
 use Rattle.std.proofs.lemmas.Bool.{cases_lt, cases_eq, eq-eqb, ne_eqb}
 use Rattle.hls_chron.specs.declared.book.TickRow.{TickRow}
 use Rattle.hls_chron.specs.declared.book.Event.{Event}
@@ -11,13 +10,12 @@ use Rattle.hls_chron.specs.declared.plain.Terms.{Terms}
 use Rattle.hls_chron.specs.declared.plain.Terms.TheVariants.{Weight}
 use Rattle.hls_chron.specs.Ranges.{ConfigInRange, TermsInRange}
 use Rattle.hls_chron.specs.Ledger.{Ledger, now_of, with_row, with_mark, row_at, before}
-use Rattle.hls_chron.specs.Seats.{SlotAsks, terms_after, terms_at}
+use Rattle.hls_chron.specs.Seats.{SlotAsks, terms_at}
 use Rattle.hls_chron.proofs.BookLaws.{terms_at-mark, terms_at-unmarked, now_of-row, row_at-mark, row_at-past}
 use Rattle.hls_chron.proofs.BookLaws.{row_at-now, row_at-unwritten, before-mark, before-row, before-now}
 use Rattle.hls_chron.proofs.BookLaws.{dated-mark, dated-row}
 use Rattle.hls_kinds.specs.declared.tenant.Tenant.TheVariants.{Sits}
-use Rattle.hls_kinds.specs.Slots.{sum_below, IsFirst}
-use Rattle.hls_kinds.specs.Asks.{slot_asks}
+use Rattle.hls_kinds.specs.Slots.{sum_below}
 use Rattle.hls_kinds.specs.Tags.{start_tag}
 use Rattle.hls_kinds.specs.Tenants.{tenant_at, tenant_then}
 use Rattle.hls_kinds.specs.Room.{weight_in, room_used}
@@ -29,7 +27,7 @@ use Rattle.hls_promise.proofs.AdmissionLaws.{admission-mark, admission-row, admi
 use Rattle.hls_sfq_laws.specs.ShareBook.{KeepsSittings, HasWeights, KeepsShareBook}
 use Rattle.hls_sfq_laws.proofs.Sums.{sum-eq, sum-le, sum-one}
 use Rattle.hls_sfq_laws.proofs.Agree.{SameUpTo, start_tag-same, same-before, now-before}
-use Rattle.hls_sfq_laws.proofs.Rooms.{weights-same, marks-now, tenant-now}
+use Rattle.hls_sfq_laws.proofs.Rooms.{weights-same, tenant-now}
 
 -- who sits, by the rows
 marks_row : (b : Ledger) (row : TickRow) (t : ℕ) → (before t (with_row b row)).marks ≡ (before t b).marks
@@ -45,7 +43,7 @@ module _ (T M : ℕ) (b : Ledger) (row : TickRow) (kept : KeepsShareBook T M b) 
   then_late : (slot : ℕ) → tenant_then b slot (now_of b + 1) ≡ tenant_then b slot (now_of b)
   then_late slot =
       let next : tenant_then (with_row b row) slot (now_of (with_row b row)) ≡ tenant_at (with_row b row) slot
-          =
+      =
       tenant-now (with_row b row) slot (dated-row b row kept.admission.dated) in
       sym (then_row b row slot (now_of b + 1))
       ∙ ap (tenant_then (with_row b row) slot) (sym (now_of-row b row)) ∙ next
@@ -53,7 +51,7 @@ module _ (T M : ℕ) (b : Ledger) (row : TickRow) (kept : KeepsShareBook T M b) 
 
   row_next : (t slot since : ℕ) (terms : Terms) → t < now_of (with_row b row)
       → tenant_then b slot (t + 1) ≡ Sits terms since → since ≢ t + 1
-          → tenant_then b slot t ≡ Sits terms since
+      → tenant_then b slot t ≡ Sits terms since
   row_next t slot since terms lt sits old = elim (cases_lt t (now_of b)) [
     | inl past ↦ kept.sittings.next t slot since terms past sits old
     | inr late ↦
@@ -77,7 +75,7 @@ module _ (T M : ℕ) (b : Ledger) (row : TickRow) (kept : KeepsShareBook T M b) 
         let here : now_of b ≡ t = omega (arith, now_of-row b row, lt, late) in
         subst (λ z. HasWeights T M (before z (with_row b row))) here
         (weights-same T M (before (now_of b) (with_row b row)) b (before-now b row kept.admission.dated)
-            kept.weights)
+        kept.weights)
   ]
 
   same_row : SameUpTo (with_row b row) b (now_of b)

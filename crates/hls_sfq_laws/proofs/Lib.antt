@@ -9,6 +9,7 @@ pub mod Agree
 pub mod Nexts
 pub mod Rooms
 pub mod Follows
-pub mod Laws
+pub mod Runs
 pub mod Promises
 pub mod Keeping
+pub mod Bounds

@@ -1,10 +1,9 @@
 -- Virtual time, finish tags and start tags, from tick to tick.
-use Rattle.std.proofs.Common.{◌≡◌, ◌≢◌, ℕ, ◌+◌, ◌*◌, ◌-◌, ◌<◌, ◌≤◌, suc, zero, refl, sym, arith, ap, ◌∙◌, inl}
-use Rattle.std.proofs.Common.{inr, subst}
+use Rattle.std.proofs.Common.{◌≡◌, ℕ, ◌+◌, ◌*◌, ◌-◌, ◌<◌, ◌≤◌, suc, refl, sym, arith, ap, ◌∙◌, inl}
+use Rattle.std.proofs.Common.{inr}
 use Rattle.std.proofs.Common.{Bool, true, false, add-one}
-use Rattle.std.specs.Prelude.{Option, Some, None, max, is_some, not, ◌⊎◌, if◌then◌else◌}
+use Rattle.std.specs.Prelude.{Some, None, max, is_some, not, if◌then◌else◌}
 use Rattle.std.proofs.lemmas.Bool.{cases_eq}
-use Rattle.hls_chron.specs.declared.plain.Terms.{Terms}
 use Rattle.hls_chron.specs.declared.plain.Terms.TheVariants as terms
 use Rattle.hls_chron.specs.Ledger.{Ledger, now_of, row_at}
 use Rattle.hls_chron.specs.Seats.{asked, served}
@@ -13,7 +12,7 @@ use Rattle.hls_chron.proofs.CountLaws.{count-none, count-push}
 use Rattle.hls_kinds.specs.declared.tags.Share.{Share}
 use Rattle.hls_kinds.specs.declared.tenant.Tenant.{Tenant}
 use Rattle.hls_kinds.specs.declared.tenant.Tenant.TheVariants.{Vacant, Sits, Left}
-use Rattle.hls_kinds.specs.Ticks.{last_of, next_or, after_last}
+use Rattle.hls_kinds.specs.Ticks.{last_of, next_or}
 use Rattle.hls_kinds.specs.Tenants.{tenant_then}
 use Rattle.hls_kinds.specs.Tags.{tag_step, share_in, slot_or, tag_served, time_by, finish_after, finish_by}
 use Rattle.hls_kinds.specs.Tags.{asking_since, start_of, start_tag}
@@ -88,12 +87,12 @@ pub f-fresh : (b : Ledger) (t k : ℕ) → (share_at b t k).since ≡ t
     → f_of b t k ≡ v_of b t + tag_step (share_at b t k).weight
 f-fresh b t k new =
     ap (finish_after b (start_tag b) (share_at b t k) k) (last-none-at (served b k) (share_at b t k).since t
-        new)
+    new)
     ∙ ap (λ n. v_of b n + tag_step (share_at b t k).weight) new
 
 start_zero : (b : Ledger) (share : Share) (k r t : ℕ) → r ≡ t
     → max (v_of b r) (finish_by b (start_tag b) share k r) + count (served b k) r (t - r) * tag_step
-        share.weight
+    share.weight
     ≡ max (v_of b t) (finish_by b (start_tag b) share k t)
 start_zero b share k r t e =
     ap (λ n. max (v_of b r) (finish_by b (start_tag b) share k r) + n * tag_step share.weight)
@@ -103,9 +102,9 @@ start_zero b share k r t e =
 one_more : (b : Ledger) (share : Share) (k t r q : ℕ) → q ≡ r
     → count (served b k) r (suc t - r) ≡ count (served b k) r (t - r) + one_if (served b k t)
     → max (v_of b q) (finish_by b (start_tag b) share k q) + count (served b k) q (suc t - q) * tag_step
-        share.weight
+    share.weight
     ≡ max (v_of b r) (finish_by b (start_tag b) share k r) + count (served b k) r (t - r) * tag_step
-        share.weight
+    share.weight
     + one_if (served b k t) * tag_step share.weight
 one_more b share k t r q same had =
     ap (λ n. max (v_of b n) (finish_by b (start_tag b) share k n)
@@ -158,7 +157,7 @@ module _ (b : Ledger) (t k : ℕ) (same : share_at b (suc t) k ≡ share_at b t 
       (last-not-at (silent b k) (share_at b t k).since t since_le (ap not on)) in
       let before : asking_since b (share_at b t k).since k t ≤ t =
       omega (arith, since_le, after_last-le (silent b k) (share_at b t k).since (t - (share_at b t k).since))
-          in
+      in
       let had = count_more_at (served b k) (asking_since b (share_at b t k).since k t) t before in
       s_stays
       ∙ one_more b (share_at b t k) k t (asking_since b (share_at b t k).since k t)

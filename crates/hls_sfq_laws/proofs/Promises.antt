@@ -1,36 +1,35 @@
 -- The promise of fair queueing.
-use Rattle.std.proofs.Common.{◌≡◌, ◌≢◌, ℕ, ◌+◌, ◌*◌, ◌-◌, ◌<◌, ◌≤◌, suc, zero, refl, sym, arith, ap, ◌∙◌, inl}
-use Rattle.std.proofs.Common.{inr, subst}
+use Rattle.std.proofs.Common.{◌≡◌, ℕ, ◌+◌, ◌*◌, ◌-◌, ◌<◌, ◌≤◌, suc, zero, refl, arith, ap, ◌∙◌, inl}
+use Rattle.std.proofs.Common.{inr}
 use Rattle.std.proofs.Common.{Bool, true, false, mul-pos}
-use Rattle.std.specs.Prelude.{Option, Some, None, is_some, ◌&&◌, ◌==◌, not}
+use Rattle.std.specs.Prelude.{is_some, ◌&&◌, ◌==◌}
 use Rattle.std.proofs.Math.Nat.{mul-le-mul_left, mul-le-mul_right, le_of_mul-le-mul_right}
 use Rattle.std.proofs.lemmas.Bool.{cases_eq}
 use Rattle.std.proofs.lemmas.Bool.Decides.{nat_tests}
 use Rattle.std.proofs.lemmas.Nat.Bits.{bit_at-zero}
 use Rattle.hls_frac.specs.declared.Frac.{Frac}
-use Rattle.hls_frac.specs.Frac.{IsQuotient}
 use Rattle.hls_chron.specs.declared.plain.Config.TheVariants.{Sfq}
 use Rattle.hls_chron.specs.declared.plain.Terms.{Terms}
 use Rattle.hls_chron.specs.declared.plain.Terms.TheVariants as terms
 use Rattle.hls_chron.specs.Ledger.{Ledger, now_of, row_at}
-use Rattle.hls_chron.specs.Seats.{SlotAsks, asked, served, is_slot}
+use Rattle.hls_chron.specs.Seats.{SlotAsks, asked, served}
 use Rattle.hls_chron.specs.Ticks.{count}
-use Rattle.hls_chron.proofs.CountLaws.{count-none, count-more}
+use Rattle.hls_chron.proofs.CountLaws.{count-more}
 use Rattle.hls_kinds.specs.declared.tenant.Tenant.TheVariants.{Sits}
-use Rattle.hls_kinds.specs.Tenants.{tenant_at, tenant_then, settled_at}
+use Rattle.hls_kinds.specs.Tenants.{tenant_at, settled_at}
 use Rattle.hls_kinds.specs.Asks.{some_slot_asks}
 use Rattle.hls_guarantee.specs.declared.Guarantee.{Guarantee}
-use Rattle.hls_guarantee.specs.declared.Guarantee.TheVariants.{All, Null, Resb, Resc, Psbe}
+use Rattle.hls_guarantee.specs.declared.Guarantee.TheVariants.{Psbe}
 use Rattle.hls_guarantee.specs.Satisfaction.{HasShare}
 use Rattle.hls_guarantee.specs.Supply.{Supplies}
-use Rattle.hls_guarantee.specs.Steps.{IsFairShare, LendsThrough, LendsByTerms}
-use Rattle.hls_promise.specs.Promise.{given, asked_by, HasPorts, KeepsPromise}
+use Rattle.hls_guarantee.specs.Steps.{IsFairShare, LendsByTerms}
+use Rattle.hls_promise.specs.Promise.{given, asked_by, KeepsPromise}
 use Rattle.hls_promise.proofs.PromiseLaws.{asked-slot, nothing-supplies}
 use Rattle.hls_sfq_laws.specs.ShareBook.{KeepsShareBook}
-use Rattle.hls_sfq_laws.proofs.Windows.{given_in, served_in}
+use Rattle.hls_sfq_laws.proofs.Windows.{served_in}
 use Rattle.hls_sfq_laws.proofs.Rooms.{tenant-now}
 use Rattle.hls_sfq_laws.proofs.Follows.{to_of}
-use Rattle.hls_sfq_laws.proofs.Laws.{sat-at, has-share}
+use Rattle.hls_sfq_laws.proofs.Runs.{sat-at, has-share}
 
 -- the ticks that a seat of weight w has of G given ones, as a share: sn/sd and en/ed are what is given
 part_of : (sn sd en ed w T others rest n G N : ℕ) → sn * n * ed ≤ (G * ed + en) * sd
@@ -65,14 +64,14 @@ fair-share T M w s d s' d' n G N some fair given got =
     omega (arith, got, rest, more)) in
     reduced s.num s.den d.num d.den s'.num s'.den d'.num d'.den w T
     ((d.num + fair.others * d.den) * w + fair.rest * d.den) n N s.positive d.positive some fair.rate
-        fair.error
+    fair.error
     (part_of s.num s.den d.num d.den w T fair.others fair.rest n G N given has)
 
 both_first : (a c : Bool) → (a && c) ≡ true → a ≡ true
 both_first true c is = refl
 both_first false c is = absurd (let clash : false ≡ true = is in cc)
 
-some_asks : (mask slot : ℕ) → SlotAsks mask slot → some_slot_asks mask ≡ true
+pub some_asks : (mask slot : ℕ) → SlotAsks mask slot → some_slot_asks mask ≡ true
 some_asks mask slot asks = elim (cases_eq mask 0) [
   | inl none ↦ absurd (let silent = bit_at-zero slot in let clash : SlotAsks 0 slot = rw none at asks in cc)
   | inr some ↦ grind (arith, nat_tests, some)
@@ -102,17 +101,17 @@ module _ (T M : ℕ) (b : Ledger) (kept : KeepsShareBook T M b) where
   part_met slot since port weight i (suc n) s d s' d' sits early le on fair lent =
       let now = tenant-now b slot kept.admission.dated ∙ sits in
       let last = sat-at b slot since (i + n) (now_of b) (terms.Weight weight) kept.sittings
-          (omega (arith, le))
+      (omega (arith, le))
       (omega arith) (omega (arith, early)) now in
       let h = has-share T M b kept slot since weight i n le early last on in
       let less = count-more (given b port) (λ z. is_some (to_of b z)) i (suc n)
-          (λ t is. given_some b port t is) in
+      (λ t is. given_some b port t is) in
       let few = mul-le-mul_left weight less in
       let got : weight * count (given b port) i (suc n)
       ≤ T * count (served b slot) i (suc n) + (T - weight) * 1 + weight * ((M - 1) * 1) =
       rw (served_count slot i (suc n)) (omega (arith, h, few)) in
       fair-share T M weight s d s' d' (suc n) (count (given b port) i (suc n))
-          (count (served b slot) i (suc n))
+      (count (served b slot) i (suc n))
       kept.range.0.0 fair lent got
 
   share_supplied : (slot since port weight : ℕ) (s d s' d' : Frac)
@@ -124,7 +123,7 @@ module _ (T M : ℕ) (b : Ledger) (kept : KeepsShareBook T M b) where
       record {
         met = λ i j from to asks. λ k n lo hi.
             part_met slot since port weight k n s d s' d' sits (omega (arith, from, lo))
-                (omega (arith, hi, to))
+            (omega (arith, hi, to))
             (λ t ge lt. asks t (omega (arith, lo, ge)) (omega (arith, lt, hi))) fair
             (supplied.met i j (omega (arith, later.0, from)) to
             (λ t ge lt. fair_asks slot t (asks t ge lt)) k n lo hi);

@@ -2,16 +2,16 @@
 use Rattle.std.proofs.Common.{◌≡◌, ◌≢◌, ℕ, ◌+◌, ◌*◌, ◌-◌, ◌<◌, ◌≤◌, suc, zero, refl, sym, arith, ap, ◌∙◌, inl}
 use Rattle.std.proofs.Common.{inr, subst}
 use Rattle.std.proofs.Common.{Bool, true, false}
-use Rattle.std.specs.Prelude.{Option, Some, None, not, ◌&&◌, ◌==◌, nat_lt, nat_eq}
-use Rattle.std.proofs.lemmas.Bool.{cases_lt, cases_eq, ne_eqb, eqb-true}
+use Rattle.std.specs.Prelude.{Option, Some, None, not, nat_lt, nat_eq}
+use Rattle.std.proofs.lemmas.Bool.{cases_lt, cases_eq, ne_eqb}
 use Rattle.std.proofs.lemmas.Bool.Decides.{nat_tests}
 use Rattle.hls_chron.specs.declared.plain.Config.TheVariants.{Sfq}
 use Rattle.hls_chron.specs.declared.plain.Terms.{Terms}
 use Rattle.hls_chron.specs.declared.plain.Terms.TheVariants as terms
 use Rattle.hls_chron.specs.Ranges.{TermsInRange}
 use Rattle.hls_chron.specs.Kinds.{kind_of, terms_kind}
-use Rattle.hls_chron.specs.Ledger.{Ledger, no_row, now_of, row_at, before, with_row, IsDated}
-use Rattle.hls_chron.specs.Seats.{SlotAsks, asked, terms_at}
+use Rattle.hls_chron.specs.Ledger.{Ledger, no_row, now_of, before, IsDated}
+use Rattle.hls_chron.specs.Seats.{asked, terms_at}
 use Rattle.hls_chron.specs.Ticks.{one_if}
 use Rattle.hls_chron.proofs.BookLaws.{before-now, terms_at-same}
 use Rattle.hls_kinds.specs.declared.tenant.Tenant.{Tenant}
@@ -23,7 +23,7 @@ use Rattle.hls_kinds.specs.Room.{weight_in, room_used}
 use Rattle.hls_kinds.proofs.SlotLaws.{any_below-none}
 use Rattle.hls_kinds.proofs.TenantLaws.{seated_in, seated-terms}
 use Rattle.hls_kinds.proofs.MarkLaws.{tenant_at-same}
-use Rattle.hls_promise.specs.Admission.{HasSeats, KeepsAdmission}
+use Rattle.hls_promise.specs.Admission.{HasSeats}
 use Rattle.hls_promise.proofs.AdmissionLaws.{seats-same}
 use Rattle.hls_promise.proofs.PromiseLaws.{asked-slot}
 use Rattle.hls_sfq_laws.specs.ShareBook.{HasWeights, KeepsShareBook}
@@ -46,7 +46,7 @@ divides w some most = elim (cases_eq (w * tag_step w) unit_tag) [
       let apart : ((w - 1) + 1) * tag_step ((w - 1) + 1) ≢ unit_tag =
       λ e. ne (sym (ap (λ n. n * tag_step n) at) ∙ e) in
       absurd (any_below-none misses 20 (w - 1) none_misses (omega (arith, some, most))
-          (ap not (ne_eqb _ unit_tag apart)))
+      (ap not (ne_eqb _ unit_tag apart)))
 ]
 
 -- few seats where their slots are few
@@ -58,8 +58,11 @@ few_by f m (suc n) one none =
     let before = few_by f m n one none in
     let here = one n in elim (cases_lt n m) [
       | inl lt ↦ (omega (arith, before.0, here), omega (arith, before.0, here, lt))
-      | inr ge ↦ let zero_here = none n ge in (omega (arith, before.0, here), omega
-          (arith, before.1, zero_here))
+      | inr ge ↦ let zero_here = none n ge in (
+        omega (arith, before.0, here),
+        omega
+            (arith, before.1, zero_here),
+      )
     ]
 
 -- the weight of a tenant is that of the terms
@@ -145,7 +148,7 @@ module _ (T M : ℕ) (b : Ledger) (kept : KeepsShareBook T M b) where
       let is = weight-is (before t b) slot in
       let has = weights-at t le in
       let within = weight_range (terms_at (before t b) slot) (omega (arith, is, some))
-          (λ m e. has.ranged slot m e) in
+      (λ m e. has.ranged slot m e) in
       (omega (arith, within.0, is), omega (arith, within.1, is))
 
   pub steps-at : (t slot : ℕ) → t ≤ now_of b → 0 < (share_at b t slot).weight
@@ -192,7 +195,7 @@ module _ (T M : ℕ) (b : Ledger) (kept : KeepsShareBook T M b) where
   seat_weighs t slot le taken =
       let is = weight-is (before t b) slot in
       elim (terms_at (before t b) slot) as (λ m. terms_at (before t b) slot ≡ m → 0 <
-          (share_at b t slot).weight) [
+      (share_at b t slot).weight) [
         | None ↦ λ none. absurd (taken none)
         | Some m ↦ λ e.
             let some = weighs m ((seats-at t le).of_kind slot m e) ((weights-at t le).ranged slot m e) in

@@ -1,37 +1,22 @@
 -- What a book of fair queueing keeps: start tags near the virtual time, the shares of seats, and its promise.
 use Rattle.std.proofs.Common.{◌≡◌, ◌≢◌, ℕ, ◌+◌, ◌*◌, ◌-◌, ◌<◌, ◌≤◌, suc, zero, refl, sym, arith, ap, ◌∙◌, inl}
 use Rattle.std.proofs.Common.{inr, subst}
-use Rattle.std.proofs.Common.{Bool, true, false, add-one, mul-pos}
-use Rattle.std.specs.Prelude.{Option, Some, None, max, is_some, ◌&&◌, ◌==◌, nat_lt}
-use Rattle.std.proofs.Math.Nat.{mul-le-mul_left, le_of_mul-le-mul_right}
-use Rattle.std.proofs.lemmas.Bool.{cases_lt, cases_eq, lt-ltb, eqb-true}
+use Rattle.std.proofs.Common.{true, false, add-one}
+use Rattle.std.proofs.lemmas.Bool.{cases_lt, lt-ltb}
 use Rattle.std.proofs.lemmas.Nat.Bits.{bit_at-zero}
-use Rattle.hls_frac.specs.declared.Frac.{Frac}
-use Rattle.hls_frac.specs.Frac.{IsQuotient}
-use Rattle.hls_chron.specs.declared.plain.Config.TheVariants.{Sfq}
 use Rattle.hls_chron.specs.declared.plain.Terms.{Terms}
 use Rattle.hls_chron.specs.declared.plain.Terms.TheVariants as terms
-use Rattle.hls_chron.specs.Ledger.{Ledger, no_row, now_of, row_at, before}
-use Rattle.hls_chron.specs.Seats.{asked, served, is_slot}
+use Rattle.hls_chron.specs.Ledger.{Ledger, no_row, now_of, row_at}
+use Rattle.hls_chron.specs.Seats.{asked, served}
 use Rattle.hls_chron.specs.Ticks.{count}
-use Rattle.hls_chron.proofs.CountLaws.{count-none, count-more}
-use Rattle.hls_kinds.specs.declared.tags.Share.{Share}
 use Rattle.hls_kinds.specs.declared.tenant.Tenant.TheVariants.{Sits}
-use Rattle.hls_kinds.specs.Tenants.{tenant_at, tenant_then, settled_at}
-use Rattle.hls_kinds.specs.Asks.{some_slot_asks}
+use Rattle.hls_kinds.specs.Tenants.{tenant_then}
 use Rattle.hls_kinds.specs.Tags.{unit_tag, tag_step, share_in, time_by, start_tag}
-use Rattle.hls_kinds.specs.Shares.{AsksThroughout, KeepsSharesByWeight}
-use Rattle.hls_guarantee.specs.declared.Guarantee.{Guarantee}
-use Rattle.hls_guarantee.specs.declared.Guarantee.TheVariants.{All, Null, Resb, Resc, Psbe}
-use Rattle.hls_guarantee.specs.Satisfaction.{HasShare}
-use Rattle.hls_guarantee.specs.Supply.{Supplies}
-use Rattle.hls_guarantee.specs.Steps.{IsFairShare, LendsThrough, LendsByTerms}
-use Rattle.hls_promise.specs.Promise.{given, asked_by, HasPorts, KeepsPromise}
-use Rattle.hls_promise.proofs.PromiseLaws.{asked-slot, nothing-supplies}
+use Rattle.hls_kinds.specs.Shares.{KeepsSharesByWeight}
 use Rattle.hls_sfq_laws.specs.ShareBook.{KeepsSittings, KeepsShareBook}
 use Rattle.hls_sfq_laws.proofs.Windows.{given_in, served_in, Passes, AsksOn}
 use Rattle.hls_sfq_laws.proofs.Nexts.{v_of, share_at, f_of}
-use Rattle.hls_sfq_laws.proofs.Rooms.{slot-at, taken-at, steps-at, tenant-now}
+use Rattle.hls_sfq_laws.proofs.Rooms.{slot-at, taken-at}
 use Rattle.hls_sfq_laws.proofs.Follows.{tags_of, clock_of, asks_of, to_of, At, tag-taken, room-of, serves-at}
 use Rattle.hls_sfq_laws.proofs.Follows.{v-next}
 use Rattle.hls_sfq_laws.proofs.Follows.{tag-stays, churn-at, at-all}
@@ -117,7 +102,7 @@ module _ (T M : ℕ) (b : Ledger) (kept : KeepsShareBook T M b) where
     ready = λ t ge lt. on t ge lt;
     stays = λ t ge lt.
         let later = sat-at b slot since (suc t) (from + len) (terms.Weight weight) kept.sittings
-            (omega (arith, lt))
+        (omega (arith, lt))
         (omega (arith, le)) (omega (arith, ge, early)) sits in
         let now = sat-at b slot since t (from + len) (terms.Weight weight) kept.sittings (omega (arith, lt))
         (omega (arith, le)) (omega (arith, ge, early)) sits in
@@ -133,7 +118,7 @@ module _ (T M : ℕ) (b : Ledger) (kept : KeepsShareBook T M b) where
 
   slot_below : (slot since weight from len : ℕ) → from + suc len ≤ now_of b → since ≤ from
       → tenant_then b slot (from + len) ≡ Sits (terms.Weight weight) since → asked b slot from ≡ true
-          → slot < 32
+      → slot < 32
   slot_below slot since weight from len le early sits asks =
       let some = taken-at T M b kept from slot (omega (arith, le)) asks in
       let lt = slot-at T M b kept from slot (omega (arith, le)) some in
@@ -150,7 +135,7 @@ module _ (T M : ℕ) (b : Ledger) (kept : KeepsShareBook T M b) where
       let lo = asked-started b slot from asks in
       let w = weight_of slot since weight from len le early sits in
       let h = share 1 unit_tag T M 32 slot from len (clock_of b) (tags_of b) (asks_of b) (to_of b)
-          (omega arith)
+      (omega arith)
       (omega arith) (slot_below slot since weight from len le early sits asks)
       (passes from (from + suc len) lo le) (asks_on slot since weight from len lo le early sits on) in
       subst (λ n. n * given_in (to_of b) from (suc len)
@@ -174,11 +159,11 @@ module _ (T M : ℕ) (b : Ledger) (kept : KeepsShareBook T M b) where
       let w = weight_of slot since weight i n le early sits in
       let u = weight_of other since' rival i n le early' sits' in
       let d = differ 1 unit_tag T M 32 slot other i n (clock_of b) (tags_of b) (asks_of b) (to_of b)
-          (omega arith)
+      (omega arith)
       (omega arith) (slot_below slot since weight i n le early sits asks)
       (slot_below other since' rival i n le early' sits' asks') (passes i (i + suc n) lo le)
       (asks_on slot since weight i n lo le early sits on) (asks_on other since' rival i n lo le early' sits'
-          on') in
+      on') in
       let e = subst (λ x. served_in (to_of b) slot i (suc n) * (tags_of b i other).w
       ≤ served_in (to_of b) other i (suc n) * x + 1 * (tags_of b i other).w + 1 * x) w d in
       let f = subst (λ x. served_in (to_of b) slot i (suc n) * x
@@ -188,7 +173,7 @@ module _ (T M : ℕ) (b : Ledger) (kept : KeepsShareBook T M b) where
   pub keeps-shares : KeepsSharesByWeight b
   keeps-shares = λ i n slot other weight rival lt one two.
       let d = differ_by i n slot other weight rival one.since two.since (omega (arith, lt)) one.early
-          two.early
+      two.early
       one.sits two.sits (λ t ge below. one.asks t ge (omega (arith, below)))
       (λ t ge below. two.asks t ge (omega (arith, below))) in
       rw (add-one n) d
