@@ -32,10 +32,14 @@ last-agree f g i (suc n) same =
     (same (i + n) (omega arith) (omega arith))
     (last-agree f g i n (λ t lo hi. same t lo (omega arith))) refl
 
--- the books say the same of the ticks before t, and of who sits in them and in t
-pub record SameUpTo (a b : Ledger) (t : ℕ) : Type 0 where
+-- the books say the same of the ticks before t
+pub record SameRows (a b : Ledger) (t : ℕ) : Type 0 where
   pub start : a.start ≡ b.start
   pub rows : (z : ℕ) → z < t → row_at a z ≡ row_at b z
+
+-- and of who sits in them and in t
+pub record SameUpTo (a b : Ledger) (t : ℕ) : Type 0 where
+  pub before : SameRows a b t
   pub tenants : (z slot : ℕ) → z ≤ t → tenant_then a slot z ≡ tenant_then b slot z
 
 asked-same : (a b : Ledger) (slot z : ℕ) → row_at a z ≡ row_at b z → asked a slot z ≡ asked b slot z
@@ -50,14 +54,14 @@ served-same a b slot z same = rw same refl
 abbrev pub AgreeBefore : (f g : ℕ → ℕ → ℕ) → ℕ → Type 0
 AgreeBefore f g t = (z slot : ℕ) → z < t → f z slot ≡ g z slot
 
-tag_served-same : (a b : Ledger) (f g : ℕ → ℕ → ℕ) (t : ℕ) (last : Option ℕ) → SameUpTo a b t
+tag_served-same : (a b : Ledger) (f g : ℕ → ℕ → ℕ) (t : ℕ) (last : Option ℕ) → SameRows a b t
     → AgreeBefore f g t
     → ((z : ℕ) → last ≡ Some z → z < t) → tag_served a f last ≡ tag_served b g last
 tag_served-same a b f g t None same agree before = refl
 tag_served-same a b f g t (Some z) same agree before =
     rw (same.rows z (before z refl)) (agree z (slot_or (row_at b z).to) (before z refl))
 
-time-same : (a b : Ledger) (f g : ℕ → ℕ → ℕ) (t r : ℕ) → SameUpTo a b t → r ≤ t → AgreeBefore f g t
+pub time-same : (a b : Ledger) (f g : ℕ → ℕ → ℕ) (t r : ℕ) → SameRows a b t → r ≤ t → AgreeBefore f g t
     → time_by a f r ≡ time_by b g r
 time-same a b f g t r same le agree =
     let one : ℕ → Bool = λ z. is_some (row_at a z).to in
@@ -69,14 +73,14 @@ time-same a b f g t r same le agree =
     (λ z is. let lt = last-before two b.start r z is in omega (arith, lt, le))
 
 finish_after-same : (a b : Ledger) (f g : ℕ → ℕ → ℕ) (t : ℕ) (share : Share) (slot : ℕ) (last : Option ℕ)
-    → SameUpTo a b t → share.since ≤ t → AgreeBefore f g t → ((z : ℕ) → last ≡ Some z → z < t)
+    → SameRows a b t → share.since ≤ t → AgreeBefore f g t → ((z : ℕ) → last ≡ Some z → z < t)
     → finish_after a f share slot last ≡ finish_after b g share slot last
 finish_after-same a b f g t share slot None same le agree before =
     ap (λ v. v + tag_step share.weight) (time-same a b f g t share.since same le agree)
 finish_after-same a b f g t share slot (Some z) same le agree before =
     ap (λ v. v + tag_step share.weight) (agree z slot (before z refl))
 
-finish-same : (a b : Ledger) (f g : ℕ → ℕ → ℕ) (t r : ℕ) (share : Share) (slot : ℕ) → SameUpTo a b t
+pub finish-same : (a b : Ledger) (f g : ℕ → ℕ → ℕ) (t r : ℕ) (share : Share) (slot : ℕ) → SameRows a b t
     → share.since ≤ t → r ≤ t → AgreeBefore f g t → finish_by a f share slot r ≡ finish_by b g share slot r
 finish-same a b f g t r share slot same since le agree =
     let last : last_of (served a slot) share.since (r - share.since) ≡
@@ -88,7 +92,7 @@ finish-same a b f g t r share slot same since le agree =
     since agree
     (λ z is. let lt = last-before (served b slot) share.since r z is in omega (arith, lt, le))
 
-asking_since-same : (a b : Ledger) (t z since slot : ℕ) → SameUpTo a b t → z ≤ t
+asking_since-same : (a b : Ledger) (t z since slot : ℕ) → SameRows a b t → z ≤ t
     → asking_since a since slot z ≡ asking_since b since slot z
 asking_since-same a b t z since slot same le =
     ap (next_or since) (last-agree (λ u. not (asked a slot u)) (λ u. not (asked b slot u)) since (z - since)
@@ -110,13 +114,12 @@ start_from share a b f g slot z r q same time finish counts =
     ∙ ap (λ x. max (time_by b g r) x + count (served a slot) r (z - r) * tag_step share.weight) finish
     ∙ ap (λ x. max (time_by b g r) (finish_by b g share slot r) + x * tag_step share.weight) counts
 
-start_of-same : (a b : Ledger) (f g : ℕ → ℕ → ℕ) (t z : ℕ) (share : Share) (slot : ℕ) → SameUpTo a b t → z ≤ t
+start_of-same : (a b : Ledger) (f g : ℕ → ℕ → ℕ) (t z : ℕ) (share : Share) (slot : ℕ) → SameRows a b t → z ≤ t
     → share.since ≤ z → AgreeBefore f g z → start_of a f share z slot ≡ start_of b g share z slot
 start_of-same a b f g t z share slot same le since agree =
-    let less : SameUpTo a b z = record {
+    let less : SameRows a b z = record {
       start = same.start;
       rows = λ u lt. same.rows u (omega arith);
-      tenants = λ u k at. same.tenants u k (omega arith);
     } in
     let r = asking_since b share.since slot z in
     let early : asking_since b share.since slot z ≤ z =
@@ -133,7 +136,8 @@ start_by-same : (a b : Ledger) (f g : ℕ → ℕ → ℕ) (t z slot : ℕ) → 
     → start_by a f z slot ≡ start_by b g z slot
 start_by-same a b f g t z slot same le agree =
     ap (λ tenant. start_of a f (share_in tenant) z slot) (same.tenants z slot le)
-    ∙ start_of-same a b f g t z (share_in (tenant_then b slot z)) slot same le (since-then b slot z) agree
+    ∙ start_of-same a b f g t z (share_in (tenant_then b slot z)) slot same.before le (since-then b slot z)
+        agree
 
 pub start_tags-same : (a b : Ledger) (t n z slot : ℕ) → SameUpTo a b t → z ≤ t
     → start_tags a n z slot ≡ start_tags b n z slot
@@ -180,8 +184,7 @@ start_before t b = refl
 
 pub same-before : (t : ℕ) (b : Ledger) → SameUpTo (before t b) b t
 same-before t b = record {
-  start = start_before t b;
-  rows = λ z lt. row_before t z b lt;
+  before = record { start = start_before t b; rows = λ z lt. row_before t z b lt };
   tenants = λ z slot le. tenant_at-same (before z (before t b)) (before z b) slot (marks_before t z b le);
 }
 
@@ -201,7 +204,6 @@ row_same a b t start rows = rw (start, rows) refl
 pub same-all : (a b : Ledger) (t : ℕ) → a.start ≡ b.start → a.rows ≡ b.rows → a.marks ≡ b.marks
     → SameUpTo a b t
 same-all a b t start rows marks = record {
-  start = start;
-  rows = λ z lt. row_same a b z start rows;
+  before = record { start = start; rows = λ z lt. row_same a b z start rows };
   tenants = λ z slot le. tenant_at-same (before z a) (before z b) slot (marks_same a b z marks);
 }

@@ -34,13 +34,13 @@ marks_row : (b : Ledger) (row : TickRow) (t : ℕ) → (before t (with_row b row
 unfolding before
 marks_row b row t = refl
 
-then_row : (b : Ledger) (row : TickRow) (slot t : ℕ)
+pub then_row : (b : Ledger) (row : TickRow) (slot t : ℕ)
     → tenant_then (with_row b row) slot t ≡ tenant_then b slot t
 then_row b row slot t = tenant_at-same (before t (with_row b row)) (before t b) slot (marks_row b row t)
 
 module _ (T M : ℕ) (b : Ledger) (row : TickRow) (kept : KeepsShareBook T M b) where
   -- in the tick after the row, who sat in the present one
-  then_late : (slot : ℕ) → tenant_then b slot (now_of b + 1) ≡ tenant_then b slot (now_of b)
+  pub then_late : (slot : ℕ) → tenant_then b slot (now_of b + 1) ≡ tenant_then b slot (now_of b)
   then_late slot =
       let next : tenant_then (with_row b row) slot (now_of (with_row b row)) ≡ tenant_at (with_row b row) slot
       =
@@ -78,10 +78,9 @@ module _ (T M : ℕ) (b : Ledger) (row : TickRow) (kept : KeepsShareBook T M b) 
         kept.weights)
   ]
 
-  same_row : SameUpTo (with_row b row) b (now_of b)
+  pub same_row : SameUpTo (with_row b row) b (now_of b)
   same_row = record {
-    start = refl;
-    rows = λ z lt. row_at-past b row z lt;
+    before = record { start = refl; rows = λ z lt. row_at-past b row z lt };
     tenants = λ z slot le. then_row b row slot z;
   }
 
@@ -239,7 +238,7 @@ module _ (T M : ℕ) (b : Ledger) (event : Event) (kept : KeepsShareBook T M b) 
       sat_before b event slot since terms (sym (tenant-now (with_mark b event) slot
       (dated-mark b event kept.admission.dated)) ∙ sits)
 
-  past_mark : (slot t : ℕ) → t < now_of b → tenant_then (with_mark b event) slot t ≡ tenant_then b slot t
+  pub past_mark : (slot t : ℕ) → t < now_of b → tenant_then (with_mark b event) slot t ≡ tenant_then b slot t
   past_mark slot t lt = ap (λ before. tenant_at before slot) (before-mark b event t lt)
 
   mark_first : (slot since : ℕ) (terms : Terms)

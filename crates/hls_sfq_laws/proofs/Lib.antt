@@ -13,3 +13,4 @@ pub mod Runs
 pub mod Promises
 pub mod Keeping
 pub mod Bounds
+pub mod States
