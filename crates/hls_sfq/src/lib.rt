@@ -1,0 +1,4 @@
+//! Scheduling by fair queueing.
+#![tactic(auto)]
+
+mod slots;
