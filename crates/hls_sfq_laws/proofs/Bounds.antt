@@ -1,21 +1,23 @@
 -- What the laws of fair queueing say of a book, and that its tags are small.
 use Rattle.std.proofs.Common.{◌≡◌, ℕ, ◌+◌, ◌*◌, ◌-◌, ◌<◌, ◌≤◌, suc, zero, refl, arith, ap, ◌∙◌}
-use Rattle.std.proofs.Common.{Some, None}
-use Rattle.std.specs.Prelude.{Option}
+use Rattle.std.proofs.Common.{Some, None, length}
+use Rattle.std.specs.Prelude.{Option, max}
 use Rattle.std.proofs.Math.Nat.{mul-le-mul_right}
 use Rattle.std.proofs.lemmas.Bool.{eqb-true}
 use Rattle.hls_chron.specs.declared.plain.Config.TheVariants.{Sfq}
 use Rattle.hls_chron.specs.declared.plain.Terms.TheVariants.{Weight}
 use Rattle.hls_chron.specs.Ranges.{IsWithin}
 use Rattle.hls_chron.specs.Ledger.{Ledger, now_of, row_at, before}
+use Rattle.hls_chron.specs.Seats.{terms_at}
 use Rattle.hls_kinds.specs.declared.tenant.Tenant.TheVariants.{Sits}
 use Rattle.hls_kinds.specs.Tenants.{tenant_then}
 use Rattle.hls_kinds.specs.Tags.{unit_tag, tag_step, share_in, time_by, start_tag}
 use Rattle.hls_kinds.specs.Discipline.{KeepsDiscipline}
 use Rattle.hls_kinds.proofs.MarkLaws.{sits_on}
+use Rattle.hls_kinds.specs.Room.{weight_in}
 use Rattle.hls_sfq_laws.specs.ShareBook.{KeepsShareBook}
 use Rattle.hls_sfq_laws.proofs.Nexts.{v_of, share_at, f_of, v-first, v-none, v-served}
-use Rattle.hls_sfq_laws.proofs.Rooms.{weights-at, taken-at, steps-at, slot-at}
+use Rattle.hls_sfq_laws.proofs.Rooms.{weights-at, taken-at, steps-at, slot-at, weight-is, tenant-now}
 use Rattle.hls_sfq_laws.proofs.Follows.{tags_of, to_of, tag-taken, at-all, serves-at}
 use Rattle.hls_sfq_laws.proofs.Runs.{near-time, keeps-shares}
 use Rattle.hls_sfq_laws.proofs.Promises.{some_asks}
@@ -29,7 +31,7 @@ module _ (T M : ℕ) (b : Ledger) (kept : KeepsShareBook T M b) where
   seat_weight : (slot since weight t : ℕ) → t ≤ now_of b → tenant_then b slot t ≡ Sits (Weight weight) since
       → 0 < weight
   seat_weight slot since weight t le sits =
-      let range = (weights-at T M b kept t le).ranged slot (Weight weight)
+      let range = (weights-at T M b kept t le).ranged slot weight
       (sits_on (before t b) slot since (Weight weight) sits) in
       omega (arith, range.0)
 
@@ -90,3 +92,30 @@ module _ (T M : ℕ) (b : Ledger) (kept : KeepsShareBook T M b) where
     served = λ t slot lt is. kept.served t slot lt is;
     shares = keeps-shares T M b kept;
   }
+
+  -- at the present tick
+  pub seat-share : (slot weight : ℕ) → terms_at b slot ≡ Some (Weight weight)
+      → (share_at b (now_of b) slot).weight ≡ weight
+  seat-share slot weight is =
+      ap (λ tenant. (share_in tenant).weight) (tenant-now b slot kept.admission.dated)
+      ∙ weight-is b slot ∙ ap weight_in is
+
+  present_heavy : (slot weight : ℕ) → terms_at b slot ≡ Some (Weight weight)
+      → 0 < (share_at b (now_of b) slot).weight
+  present_heavy slot weight is =
+      let range = kept.weights.ranged slot weight is in
+      let same = seat-share slot weight is in omega (arith, range.0, same)
+
+  pub present-start : (slot weight : ℕ) → terms_at b slot ≡ Some (Weight weight)
+      → start_tag b (now_of b) slot ≡ max (v_of b (now_of b)) (f_of b (now_of b) slot)
+  present-start slot weight is =
+      (at-all T M b kept (now_of b) (omega arith) (omega arith)).start slot (present_heavy slot weight is)
+
+  pub present-small : v_of b (now_of b) ≤ length b.rows * unit_tag
+  present-small = time_by_ticks (length b.rows) (omega arith)
+
+  pub finish-small : (slot weight : ℕ) → terms_at b slot ≡ Some (Weight weight)
+      → f_of b (now_of b) slot ≤ v_of b (now_of b) + unit_tag
+  finish-small slot weight is =
+      let near = tag_near (now_of b) slot (omega arith) (omega arith) (present_heavy slot weight is) in
+      let start = present-start slot weight is in omega (arith, near, start)

@@ -8,7 +8,7 @@ use Rattle.hls_chron.specs.declared.book.Event.TheVariants.{Seat, Leave, Settle}
 use Rattle.hls_chron.specs.declared.plain.Config.TheVariants.{Sfq}
 use Rattle.hls_chron.specs.declared.plain.Terms.{Terms}
 use Rattle.hls_chron.specs.declared.plain.Terms.TheVariants.{Weight}
-use Rattle.hls_chron.specs.Ranges.{ConfigInRange, TermsInRange}
+use Rattle.hls_chron.specs.Ranges.{IsWithin, ConfigInRange, TermsInRange}
 use Rattle.hls_chron.specs.Ledger.{Ledger, now_of, with_row, with_mark, row_at, before}
 use Rattle.hls_chron.specs.Seats.{SlotAsks, terms_at}
 use Rattle.hls_chron.proofs.BookLaws.{terms_at-mark, terms_at-unmarked, now_of-row, row_at-mark, row_at-past}
@@ -194,19 +194,19 @@ may_mark T M b (Leave slot) may = tt
 may_mark T M b Settle may = tt
 
 ranged_seat : (T M : ℕ) (b : Ledger) (at : ℕ) (new : Terms) → HasWeights T M b → TermsInRange new
-    → (slot : ℕ) (terms : Terms) → terms_at (with_mark b (Seat at new)) slot ≡ Some terms → TermsInRange terms
-ranged_seat T M b at new had range slot terms is = elim (cases_eq at slot) [
+    → (slot weight : ℕ) → terms_at (with_mark b (Seat at new)) slot ≡ Some (Weight weight) → IsWithin 1 20 weight
+ranged_seat T M b at new had range slot weight is = elim (cases_eq at slot) [
   | inl same ↦
       let one = seat_here b at slot new same in
-      let e : new ≡ terms = cc in subst TermsInRange e range
-  | inr other ↦ had.ranged slot terms (sym (seat_other b at slot new other) ∙ is)
+      let e : new ≡ Weight weight = cc in subst TermsInRange e range
+  | inr other ↦ had.ranged slot weight (sym (seat_other b at slot new other) ∙ is)
 ]
 
 ranged_leave : (T M : ℕ) (b : Ledger) (at : ℕ) → HasWeights T M b
-    → (slot : ℕ) (terms : Terms) → terms_at (with_mark b (Leave at)) slot ≡ Some terms → TermsInRange terms
-ranged_leave T M b at had slot terms is = elim (cases_eq at slot) [
+    → (slot weight : ℕ) → terms_at (with_mark b (Leave at)) slot ≡ Some (Weight weight) → IsWithin 1 20 weight
+ranged_leave T M b at had slot weight is = elim (cases_eq at slot) [
   | inl same ↦ absurd (let clash = sym (leave_here b at slot same) ∙ is in cc)
-  | inr other ↦ had.ranged slot terms (sym (leave_other b at slot other) ∙ is)
+  | inr other ↦ had.ranged slot weight (sym (leave_other b at slot other) ∙ is)
 ]
 
 pub weights-mark : (T M : ℕ) (b : Ledger) (event : Event) → MayMarkInRange T M b event → HasWeights T M b

@@ -8,7 +8,7 @@ use Rattle.std.proofs.lemmas.Bool.Decides.{nat_tests}
 use Rattle.hls_chron.specs.declared.plain.Config.TheVariants.{Sfq}
 use Rattle.hls_chron.specs.declared.plain.Terms.{Terms}
 use Rattle.hls_chron.specs.declared.plain.Terms.TheVariants as terms
-use Rattle.hls_chron.specs.Ranges.{TermsInRange}
+use Rattle.hls_chron.specs.Ranges.{IsWithin}
 use Rattle.hls_chron.specs.Kinds.{kind_of, terms_kind}
 use Rattle.hls_chron.specs.Ledger.{Ledger, no_row, now_of, before, IsDated}
 use Rattle.hls_chron.specs.Seats.{asked, terms_at}
@@ -103,8 +103,9 @@ pub tenant-now : (b : Ledger) (slot : ℕ) → IsDated b → tenant_then b slot 
 tenant-now b slot dated = tenant_at-same (before (now_of b) b) b slot (marks-now b dated)
 
 -- terms of the kind have a weight
-weighs : (m : Terms) → terms_kind m ≡ kind_of (Sfq 0 0) → TermsInRange m → 0 < weight_in (Some m)
-weighs (terms.Weight weight) is range = omega (arith, range.0)
+weighs : (m : Terms) → terms_kind m ≡ kind_of (Sfq 0 0)
+    → ((weight : ℕ) → Some m ≡ Some (terms.Weight weight) → IsWithin 1 20 weight) → 0 < weight_in (Some m)
+weighs (terms.Weight weight) is range = omega (arith, (range weight refl).0)
 weighs terms.Cpu is range = absurd cc
 weighs terms.Turn is range = absurd cc
 weighs terms.Sole is range = absurd cc
@@ -112,9 +113,10 @@ weighs (terms.Prio priority) is range = absurd cc
 weighs (terms.Slots places) is range = absurd cc
 weighs (terms.Res hard x y) is range = absurd cc
 
-weight_range : (m : Option Terms) → 0 < weight_in m → ((n : Terms) → m ≡ Some n → TermsInRange n)
-    → (1 ≤ weight_in m) × (weight_in m ≤ 20)
-weight_range (Some (terms.Weight weight)) some range = let r = range (terms.Weight weight) refl in (r.0, r.1)
+weight_range : (m : Option Terms) → 0 < weight_in m
+    → ((weight : ℕ) → m ≡ Some (terms.Weight weight) → IsWithin 1 20 weight)
+    → IsWithin 1 20 (weight_in m)
+weight_range (Some (terms.Weight weight)) some range = range weight refl
 weight_range None some range = absurd (omega (arith, some))
 weight_range (Some _) some range = absurd (omega (arith, some))
 
@@ -148,7 +150,7 @@ module _ (T M : ℕ) (b : Ledger) (kept : KeepsShareBook T M b) where
       let is = weight-is (before t b) slot in
       let has = weights-at t le in
       let within = weight_range (terms_at (before t b) slot) (omega (arith, is, some))
-      (λ m e. has.ranged slot m e) in
+      (λ weight e. has.ranged slot weight e) in
       (omega (arith, within.0, is), omega (arith, within.1, is))
 
   pub steps-at : (t slot : ℕ) → t ≤ now_of b → 0 < (share_at b t slot).weight
@@ -198,7 +200,7 @@ module _ (T M : ℕ) (b : Ledger) (kept : KeepsShareBook T M b) where
       (share_at b t slot).weight) [
         | None ↦ λ none. absurd (taken none)
         | Some m ↦ λ e.
-            let some = weighs m ((seats-at t le).of_kind slot m e) ((weights-at t le).ranged slot m e) in
+            let some = weighs m ((seats-at t le).of_kind slot m e) (λ weight same. (weights-at t le).ranged slot weight (e ∙ same)) in
             let same = ap weight_in e in
             omega (arith, is, some, same)
       ] refl

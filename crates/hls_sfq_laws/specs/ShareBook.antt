@@ -2,7 +2,8 @@
 use Rattle.std.specs.Prelude.{◌≡◌, ◌≢◌, ℕ, ◌+◌, ◌≤◌, ◌<◌, Some}
 use Rattle.hls_chron.specs.declared.plain.Config.TheVariants.{Sfq}
 use Rattle.hls_chron.specs.declared.plain.Terms.{Terms}
-use Rattle.hls_chron.specs.Ranges.{ConfigInRange, TermsInRange}
+use Rattle.hls_chron.specs.declared.plain.Terms.TheVariants.{Weight}
+use Rattle.hls_chron.specs.Ranges.{IsWithin, ConfigInRange}
 use Rattle.hls_chron.specs.Ledger.{Ledger, now_of, row_at, before}
 use Rattle.hls_chron.specs.Seats.{terms_at}
 use Rattle.hls_kinds.specs.declared.tenant.Tenant.TheVariants.{Sits}
@@ -18,9 +19,9 @@ pub record KeepsSittings (b : Ledger) : Type 0 where
   pub next : (t slot since : ℕ) (terms : Terms) → t < now_of b → tenant_then b slot (t + 1) ≡ Sits terms since
       → since ≢ t + 1 → tenant_then b slot t ≡ Sits terms since
 
--- the terms of the seats are in range, and their weights sum to at most the total
+-- the weights of the seats are in range, and sum to at most the total
 pub record HasWeights (total most : ℕ) (b : Ledger) : Type 0 where
-  pub ranged : (slot : ℕ) (terms : Terms) → terms_at b slot ≡ Some terms → TermsInRange terms
+  pub ranged : (slot weight : ℕ) → terms_at b slot ≡ Some (Weight weight) → IsWithin 1 20 weight
   pub fits : room_used (Sfq total most) b ≤ total
 
 -- Seats are admitted as they are, their weights fit now and before each tick, and each row served the slot of
