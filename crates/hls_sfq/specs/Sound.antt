@@ -44,14 +44,14 @@ seat_on finish (Some (Weight weight)) = Some (record { weight = weight; finish =
 seat_on finish _ = None
 
 pub record IsSound (b : Ledger) (mask time : ℕ) (seats : List (Option FairSeat)) (limits : Limits) : Type 0
-    where
-  pub book : KeepsShareBook limits.total limits.most b
-  -- only seats ask
-  pub seated : (slot : ℕ) → SlotAsks mask slot → terms_at b slot ≢ None
-  -- virtual time and tags are those of the book at the present tick
-  pub present : time ≡ present_time b
-  pub taken : (slot : ℕ) → slot < 32
-      → slice_index_or seats slot None ≡ seat_on (present_finish b slot) (terms_at b slot)
+  where
+    pub book : KeepsShareBook limits.total limits.most b
+    -- only seats ask
+    pub seated : (slot : ℕ) → SlotAsks mask slot → terms_at b slot ≢ None
+    -- virtual time and tags are those of the book at the present tick
+    pub present : time ≡ present_time b
+    pub taken : (slot : ℕ) → slot < 32
+        → slice_index_or seats slot None ≡ seat_on (present_finish b slot) (terms_at b slot)
 
 -- a box that is set up keeps the discipline
 pub keeps_discipline : (limits : Option Limits) (b : Ledger) (mask : ℕ) (grant : Option ℕ) (time : ℕ)

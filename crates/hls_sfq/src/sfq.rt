@@ -2,7 +2,8 @@
 ghost use Rattle.std.specs.Option.{ForSome};
 ghost use Rattle.hls_sfq.specs.Choice.{choice_of};
 ghost use Rattle.hls_sfq.specs.Sound.{sfq_seen, IsSound, keeps_discipline, keeps_promise};
-ghost use Rattle.hls_sched.specs.Seen.{IsBlank};
+ghost use Rattle.hls_sfq.specs.Weights.{IsSmall};
+ghost use Rattle.hls_sched.specs.Seen.{IsBlank, IsConfigured};
 
 use crate::slots::{
     FairSeat, Seats, after_settle, after_tick, bit, first_free, first_slot, fresh, row, serve,
@@ -47,6 +48,14 @@ impl Sfq {
             time: 0,
             seats: [None; 32],
         }
+    }
+
+    /// Tells that tags are far below what their numbers can hold, and does nothing.
+    fn bound_tags(&self)
+        requires { IsConfigured (sfq_seen self.now.limits self.now.book self.now.mask self.now.grant) }
+        ensures { IsSmall self.now.time self.now.seats }
+    {
+        let _ = self.book.now();
     }
 }
 
@@ -101,7 +110,7 @@ impl Scheduler for Sfq {
         if first_free(&self.seats, most).is_none() {
             return Some(SeatFault::Full { seats: most });
         }
-        let free = u128::from(total) - weight_used(&self.seats);
+        let free = u128::from(total).saturating_sub(weight_used(&self.seats));
         let asked = u128::from(weight);
         if free < asked {
             return Some(SeatFault::NoRoom { free, asked });
@@ -117,6 +126,7 @@ impl Scheduler for Sfq {
         let Terms::Weight(weight) = *terms else {
             unreachable!()
         };
+        self.bound_tags();
         self.book.push_mark(Event::Seat {
             slot: slot as u8,
             terms: *terms,
@@ -151,10 +161,12 @@ impl Scheduler for Sfq {
     }
 
     fn choice(&self) -> Option<u32> {
-        first_slot(self.time, &self.seats, self.mask)
+        let mask = self.mask;
+        first_slot(self.time, &self.seats, mask)
     }
 
     fn turn(&mut self) {
+        self.bound_tags();
         let choice = first_slot(self.time, &self.seats, self.mask);
         let slot = served(self.grant, choice);
         let time = after_tick(self.time, &self.seats, slot);
@@ -164,6 +176,7 @@ impl Scheduler for Sfq {
     }
 
     fn settle(&mut self) {
+        self.bound_tags();
         self.book.push_mark(Event::Settle);
         self.seats = after_settle(self.time, self.seats);
     }
