@@ -1,5 +1,5 @@
 -- What a box that is set up answers.
-use Rattle.std.proofs.Common.{◌≡◌, ◌≢◌, ℕ, ◌^◌, ◌+◌, ◌-◌, ◌<◌, ◌≤◌, List, Option, Some, None, Bool, true}
+use Rattle.std.proofs.Common.{◌≡◌, ◌≢◌, ℕ, ◌^◌, ◌-◌, ◌<◌, ◌≤◌, List, Option, Some, None}
 use Rattle.std.proofs.Common.{false, refl}
 use Rattle.std.proofs.Common.{sym, ◌∙◌, inl, inr, ap, arith, subst, length, get_or}
 use Rattle.std.specs.Prelude.{IfSome, IsNone, ◌↔◌, is_some}
@@ -7,7 +7,6 @@ use Rattle.std.specs.Option.{ForSome}
 use Rattle.std.proofs.lemmas.Bool.{eqb-true}
 use Rattle.std.specs.Int.{bit_at}
 use Rattle.hls_chron.specs.declared.plain.Kind.TheVariants.{Sfq as SfqKind}
-use Rattle.hls_chron.specs.declared.plain.Config.TheVariants.{Sfq}
 use Rattle.hls_chron.specs.declared.plain.Terms.{Terms}
 use Rattle.hls_chron.specs.declared.plain.Terms.TheVariants.{Cpu, Prio, Res, Weight, Slots, Turn, Sole}
 use Rattle.hls_chron.specs.Kinds.{terms_kind}
@@ -15,11 +14,11 @@ use Rattle.hls_chron.specs.Ledger.{Ledger, now_of}
 use Rattle.hls_chron.specs.Seats.{most_seats, terms_at}
 use Rattle.hls_kinds.specs.Slots.{sum_below}
 use Rattle.hls_kinds.specs.Asks.{some_slot_asks}
-use Rattle.hls_kinds.specs.Room.{IsFree, IsFull, room_used, LacksRoom}
+use Rattle.hls_kinds.specs.Room.{IsFree, IsFull, room_used}
 use Rattle.hls_kinds.specs.Fits.{Fits}
 use Rattle.hls_kinds.specs.Discipline.{Serves}
 use Rattle.hls_sched.specs.Seen.{IsConfigured, config_of, seen_asks}
-use Rattle.hls_sched.specs.Fits.{Applies, fault_number, IsFirst, IsAnswer}
+use Rattle.hls_sched.specs.Fits.{Applies, fault_number, IsAnswer}
 use Rattle.hls_sched.specs.declared.fault.SeatFault.{SeatFault}
 use Rattle.hls_sched.specs.declared.fault.SeatFault.TheVariants.{Unfit, PriorityTaken, Full, NoRoom}
 use Rattle.hls_sched.proofs.Masks.{some_if_asks}
@@ -28,7 +27,7 @@ use Rattle.hls_sfq.specs.declared.sfq.Limits.{Limits}
 use Rattle.hls_sfq.specs.Choice.{choice_of}
 use Rattle.hls_sfq.specs.Weights.{weight_of, IsSmall}
 use Rattle.hls_sfq.specs.Sound.{config_by, sfq_seen, IsSound}
-use Rattle.hls_sfq.proofs.Sounds.{Weighs, weighs, sound_serves, silent_if_none, none_if_silent, tags_small}
+use Rattle.hls_sfq.proofs.Sounds.{weighs, sound_serves, silent_if_none, none_if_silent, tags_small}
 use Rattle.hls_sfq.proofs.Sounds.{used_same, free_if_none, none_if_free}
 
 abbrev pub Seats : Type 0

@@ -1,11 +1,10 @@
 -- What each change leaves of what the fields keep.
-use Rattle.std.proofs.Common.{◌≡◌, ◌≢◌, ℕ, ◌+◌, ◌*◌, ◌^◌, ◌<◌, ◌≤◌, List, [], length, Option, Some, None}
+use Rattle.std.proofs.Common.{◌≡◌, ◌≢◌, ℕ, ◌+◌, ◌^◌, ◌<◌, List, [], length, Option, Some, None}
 use Rattle.std.proofs.Common.{Bool, true, false, suc, zero, refl, arith, sym, ap, ◌∙◌, subst, inl, inr}
 use Rattle.std.proofs.Common.{get_or, get_or-set_same, get_or-set_other}
-use Rattle.std.specs.Prelude.{slice_set, replicate, max, is_some, ◌==◌, if◌then◌else◌}
+use Rattle.std.specs.Prelude.{slice_set, replicate, max, is_some, if◌then◌else◌}
 use Rattle.std.specs.Int.{bit_at}
 use Rattle.std.proofs.lemmas.Bool.{cases_lt, cases_eq, eq-eqb, ne_eqb, eqb-true}
-use Rattle.std.proofs.lemmas.Bool.Decides.{nat_tests}
 use Rattle.std.proofs.lemmas.List.{get_or_past}
 use Rattle.hls_chron.specs.declared.book.TickRow.{TickRow}
 use Rattle.hls_chron.specs.declared.book.Event.{Event}
@@ -24,10 +23,9 @@ use Rattle.hls_kinds.specs.declared.tenant.Tenant.TheVariants.{Vacant, Sits, Lef
 use Rattle.hls_kinds.specs.Slots.{sum_below, IsFirst}
 use Rattle.hls_kinds.specs.Room.{weight_in, room_used}
 use Rattle.hls_kinds.specs.Asks.{some_slot_asks, slot_asks}
-use Rattle.hls_kinds.specs.Tags.{unit_tag, tag_step, share_in, start_tag}
+use Rattle.hls_kinds.specs.Tags.{tag_step, share_in, start_tag}
 use Rattle.hls_kinds.specs.Tenants.{tenant_at, tenant_then, after_settling}
 use Rattle.hls_kinds.specs.Fits.{Fits}
-use Rattle.hls_kinds.specs.Discipline.{Serves}
 use Rattle.hls_kinds.proofs.TenantLaws.{seated_in, seated-terms}
 use Rattle.hls_kinds.proofs.MarkLaws.{tenant_at-mark}
 use Rattle.hls_sfq_laws.specs.ShareBook.{KeepsShareBook}
@@ -38,7 +36,7 @@ use Rattle.hls_sfq_laws.proofs.States.{time-unwritten, time-idle, time-served, f
 use Rattle.hls_sfq_laws.proofs.States.{time-mark, finish-stays, finish-begins}
 use Rattle.hls_sfq_laws.proofs.Bounds.{seat-share, present-start, present-small, finish-small}
 use Rattle.hls_sched.specs.Seen.{with_slot, without_slot, tick_row}
-use Rattle.hls_sched.proofs.Masks.{asks_with, asks_without, silent_without, within_width, silent_zero}
+use Rattle.hls_sched.proofs.Masks.{asks_with, asks_without, silent_without, silent_zero}
 use Rattle.hls_sched.proofs.Masks.{some_slot, some_if_asks}
 use Rattle.hls_sfq.specs.declared.slots.FairSeat.{FairSeat}
 use Rattle.hls_sfq.specs.declared.sfq.Limits.{Limits}
@@ -46,7 +44,7 @@ use Rattle.hls_sfq.specs.Choice.{tag_of, tag_asking, choice_of}
 use Rattle.hls_sfq.specs.Changes.{served_seat, fresh_seat, start_or, time_after, seats_after}
 use Rattle.hls_sfq.specs.Weights.{weight_of, IsSmall}
 use Rattle.hls_sfq.specs.Sound.{present_time, present_finish, seat_on, IsSound}
-use Rattle.hls_sfq.proofs.Choices.{asks_by, key_by, number_in, choice_is, no_choice}
+use Rattle.hls_sfq.proofs.Choices.{asks_by, number_in, choice_is, no_choice}
 
 none_at : {X : Type 0} (n k : ℕ) (x : X) → get_or (replicate n x) k x ≡ x
 none_at zero k x = refl

@@ -1,5 +1,5 @@
 -- Lists of seats, one slot more at a time.
-use Rattle.std.proofs.Common.{◌≡◌, ◌≢◌, ℕ, ◌+◌, ◌<◌, List, length, arith, inl, inr, ◌∙◌, sym, ap, subst}
+use Rattle.std.proofs.Common.{◌≡◌, ℕ, ◌+◌, ◌<◌, List, length, arith, inl, inr, ◌∙◌, subst}
 use Rattle.std.proofs.Common.{Option, None}
 use Rattle.std.proofs.Common.{get_or, get_or-set_same, get_or-set_other}
 use Rattle.std.specs.Prelude.{slice_set}

@@ -1,4 +1,4 @@
-use Rattle.std.proofs.Common.{rules, ◌≡◌, ◌<◌, None, length, get_or}
+use Rattle.std.proofs.Common.{rules, ◌<◌, None, length, get_or}
 use Rattle.hls_sfq.specs.Changes.{fresh_seat}
 use Rattle.hls_sfq.proofs.Tables.{table_more}
 use Rattle.hls_sfq.proofs.slots.after_settle.Goals as goal

@@ -1,4 +1,4 @@
-use Rattle.std.proofs.Common.{rules, ◌≡◌, ◌<◌, length, arith}
+use Rattle.std.proofs.Common.{rules, ◌≡◌, length, arith}
 use Rattle.hls_sfq.proofs.Configured.{taken_within}
 use Rattle.hls_sfq.proofs.Sounds.{sound_leave}
 use Rattle.hls_sfq.proofs.sfq.SfqScheduler.leave.Goals as goal

@@ -1,4 +1,4 @@
-use Rattle.std.proofs.Common.{rules, ◌≡◌, ◌<◌, length, arith}
+use Rattle.std.proofs.Common.{rules, ◌≡◌, length, arith}
 use Rattle.hls_sfq.proofs.Configured.{free_within, fits_are_weights, fits_of, most_of}
 use Rattle.hls_sfq.proofs.Sounds.{sound_seat}
 use Rattle.hls_sfq.proofs.sfq.SfqScheduler.seat.Goals as goal
