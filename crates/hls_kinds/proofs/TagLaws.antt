@@ -156,7 +156,7 @@ share_since t (Left terms since at) by = omega arith
 share_since t (Sits (terms.Weight weight) since) by = by
 share_since t (Sits _ since) by = omega arith
 
-since-then : (b : Ledger) (slot t : ℕ) → (share_in (tenant_then b slot t)).since ≤ t
+pub since-then : (b : Ledger) (slot t : ℕ) → (share_in (tenant_then b slot t)).since ≤ t
 unfolding tenant_at before
 since-then b slot t = share_since t _ (fold_since slot t b.marks Vacant tt)
 

@@ -1,0 +1,4 @@
+pub mod Choices
+pub mod Tables
+pub mod Sounds
+pub mod Configured

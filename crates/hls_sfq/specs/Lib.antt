@@ -1,0 +1,4 @@
+pub mod Weights
+pub mod Choice
+pub mod Changes
+pub mod Sound

@@ -1,0 +1,7 @@
+//! Scheduling by fair queueing.
+#![tactic(auto)]
+
+mod sfq;
+mod slots;
+
+pub use sfq::Sfq;

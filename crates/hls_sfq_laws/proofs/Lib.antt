@@ -1,0 +1,16 @@
+pub mod Sums
+pub mod Tags
+pub mod Windows
+pub mod Atoms
+pub mod Moves
+pub mod Spans
+pub mod Shares
+pub mod Agree
+pub mod Nexts
+pub mod Rooms
+pub mod Follows
+pub mod Runs
+pub mod Promises
+pub mod Keeping
+pub mod Bounds
+pub mod States

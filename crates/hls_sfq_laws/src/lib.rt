@@ -1,0 +1,4 @@
+//! What follows of fair queueing from its books alone.
+#![tactic(auto)]
+
+pub mod laws;
