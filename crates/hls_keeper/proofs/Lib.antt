@@ -1,0 +1,3 @@
+pub mod Sounds
+pub mod Standing
+pub mod Promises
