@@ -1,5 +1,6 @@
 -- The choice of a join is the slot to serve, and there is one exactly where the join asks.
-use Rattle.std.proofs.Common.{◌≡◌, ◌≢◌, ℕ, ◌<◌, ◌^◌, subst, Some, None, Bool, true, false, refl, sym, ◌∙◌, arith}
+use Rattle.std.proofs.Common.{◌≡◌, ◌≢◌, ℕ, ◌<◌, ◌^◌, subst, Some}
+use Rattle.std.proofs.Common.{None, Bool, true, false, refl, sym, ◌∙◌, arith}
 use Rattle.std.specs.Prelude.{Option, is_some, IfSome, if◌then◌else◌}
 use Rattle.std.specs.Int.{bit_at}
 use Rattle.std.proofs.lemmas.Bool.{eqb-true, eq-eqb}
@@ -20,7 +21,8 @@ use Rattle.hls_join.specs.Sole.{choice_of}
 
 -- only the sole slot asks
 sole_asks : (ports : ℕ) (b : Ledger) (mask : ℕ) → mask < 2 ^ 32 → KeepsAdmission (Join ports) b
-    → ((slot : ℕ) → SlotAsks mask slot → terms_at b slot ≢ None) → some_slot_asks mask ≡ true → SlotAsks mask 0
+    → ((slot : ℕ) → SlotAsks mask slot → terms_at b slot ≢ None) → some_slot_asks mask ≡ true
+    → SlotAsks mask 0
 sole_asks ports b mask width kept seated some =
     let found = some_slot mask width some in
     elim (terms_at b found.slot) as (λ terms. terms_at b found.slot ≡ terms → SlotAsks mask 0) [

@@ -70,7 +70,7 @@ impl Scheduler for Join {
     }
 
     fn fits(&self, terms: &Terms) -> Option<SeatFault> {
-        self.keeper.fits(terms)
+        self.keeper.fits(terms, self.keeper.room_used())
     }
 
     fn free_slot(&self) -> Option<u32> {

@@ -14,10 +14,12 @@ use Rattle.hls_sched.specs.Fits.{IsAnswer}
 use Rattle.hls_sched.specs.Seen.{Seen, IsSetUp, config_of}
 use Rattle.hls_sched.specs.Seen.{requested, released, seated, left, settled, granted, revoked}
 use Rattle.hls_keeper.specs.Sound.{IsSound}
-use Rattle.hls_keeper.proofs.Sounds.{sound_set_up, sound_requested, sound_released, sound_granted, sound_revoked}
+use Rattle.hls_keeper.proofs.Sounds.{sound_set_up, sound_requested}
+use Rattle.hls_keeper.proofs.Sounds.{sound_released, sound_granted, sound_revoked}
 use Rattle.hls_keeper.proofs.Sounds.{sound_settled, sound_seated, sound_left, taken_within, answer_fits}
 
-pub after_setup : {T E : Type 0} (result : Result T E) (kind : Kind) (config : Config) (now horizon commands : ℕ)
+pub after_setup : {T E : Type 0} (result : Result T E) (kind : Kind) (config : Config)
+    (now horizon commands : ℕ)
     (s t : Seen) → OnOk result (IsSetUp config now horizon commands t) → OnErr result (t ≡ s) → IsSound kind s
     → kind_of config ≡ s.kind → ConfigInRange config → IsSound kind t
 after_setup (Ok done) kind config now horizon commands s t up same sound of_kind ranges =
@@ -29,17 +31,20 @@ pub after_request : (kind : Kind) (slot : ℕ) (s t : Seen) → t ≡ requested 
 after_request kind slot s t is sound taken =
     rw is (sound_requested kind slot s sound (taken_within kind slot s sound taken) taken)
 
-pub after_release : (kind : Kind) (slot : ℕ) (s t : Seen) → t ≡ released slot s → IsSound kind s → IsSound kind t
+pub after_release : (kind : Kind) (slot : ℕ) (s t : Seen) → t ≡ released slot s → IsSound kind s
+    → IsSound kind t
 after_release kind slot s t is sound = rw is (sound_released kind slot s sound)
 
-pub after_seat : (kind : Kind) (slot : ℕ) (terms : Terms) (s t : Seen) → t ≡ seated slot terms s → IsSound kind s
+pub after_seat : (kind : Kind) (slot : ℕ) (terms : Terms) (s t : Seen) → t ≡ seated slot terms s
+    → IsSound kind s
     → IsFree (config_of s) s.book slot → IsAnswer (config_of s) s.book terms None → IsSound kind t
 after_seat kind slot terms s t is sound free fits =
     rw is (sound_seated kind slot terms s sound free.within (answer_fits (config_of s) s.book terms fits))
 
 pub after_leave : (kind : Kind) (slot : ℕ) (s t : Seen) → t ≡ left slot s → IsSound kind s
     → terms_at s.book slot ≢ None → IsSound kind t
-after_leave kind slot s t is sound taken = rw is (sound_left kind slot s sound (taken_within kind slot s sound taken))
+after_leave kind slot s t is sound taken =
+    rw is (sound_left kind slot s sound (taken_within kind slot s sound taken))
 
 pub after_settle : (kind : Kind) (s t : Seen) → t ≡ settled s → IsSound kind s → IsSound kind t
 after_settle kind s t is sound = rw is (sound_settled kind s sound)

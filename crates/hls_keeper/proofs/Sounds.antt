@@ -23,10 +23,12 @@ use Rattle.hls_sched.specs.declared.fault.SeatFault.TheVariants.{Unfit, Priority
 use Rattle.hls_chron.specs.declared.plain.Config.TheVariants as configs
 use Rattle.std.specs.Prelude.{◌⊎◌}
 use Rattle.hls_kinds.specs.Shares.{KeepsShares}
-use Rattle.hls_kinds.proofs.DisciplineLaws.{ServesInTick, discipline-mark, discipline-row, discipline-unwritten}
+use Rattle.hls_kinds.proofs.DisciplineLaws.{ServesInTick, discipline-mark}
+use Rattle.hls_kinds.proofs.DisciplineLaws.{discipline-row, discipline-unwritten}
 use Rattle.hls_promise.proofs.AdmissionLaws.{admission-mark, admission-row, admission-unwritten}
 use Rattle.hls_sched.specs.Seen.{Seen, IsBlank, IsSetUp, config_of, without_slot}
-use Rattle.hls_sched.specs.Seen.{requested, released, seated, left, settled, granted, revoked, turned, tick_row}
+use Rattle.hls_sched.specs.Seen.{requested, released, seated, left}
+use Rattle.hls_sched.specs.Seen.{settled, granted, revoked, turned, tick_row}
 use Rattle.hls_sched.proofs.Masks.{asks_with, asks_without, silent_without, silent_zero}
 use Rattle.hls_keeper.specs.Sound.{IsSound}
 use Rattle.hls_keeper.proofs.Standing.{before_row, asks_without_room, serves_without_room}
@@ -159,7 +161,8 @@ seat_other : (b : Ledger) (at slot : ℕ) (terms : Terms) → at ≢ slot
     → terms_at (with_mark b (Seat at terms)) slot ≡ terms_at b slot
 seat_other b at slot terms other = terms_at-mark b (Seat at terms) slot ∙ rw (ne_eqb at slot other) refl
 
-leave_other : (b : Ledger) (at slot : ℕ) → at ≢ slot → terms_at (with_mark b (Leave at)) slot ≡ terms_at b slot
+leave_other : (b : Ledger) (at slot : ℕ) → at ≢ slot
+    → terms_at (with_mark b (Leave at)) slot ≡ terms_at b slot
 leave_other b at slot other = terms_at-mark b (Leave at) slot ∙ rw (ne_eqb at slot other) refl
 
 pub sound_seated : (kind : Kind) (slot : ℕ) (terms : Terms) (s : Seen) → IsSound kind s

@@ -24,7 +24,8 @@ rows_before : (b : Ledger) (row : TickRow) → (before (now_of b) (with_row b ro
 unfolding before
 rows_before b row =
     let all : now_of b - b.start ≡ length b.rows = omega arith in
-    rw all (take-append-le (length b.rows) b.rows (row ∷ []) (omega arith) ∙ take_all (length b.rows) b.rows (omega arith))
+    rw all (take-append-le (length b.rows) b.rows (row ∷ []) (omega arith)
+    ∙ take_all (length b.rows) b.rows (omega arith))
 
 same_book : (a b : Ledger) → a.start ≡ b.start → a.rows ≡ b.rows → a.marks ≡ b.marks
     → without_room a ≡ without_room b
@@ -40,13 +41,15 @@ unfolding before
 start_before b row = refl
 
 -- the book before the row of the present tick
-pub before_row : (b : Ledger) (row : TickRow) → IsDated b → before (now_of b) (with_row b row) ≡ without_room b
+pub before_row : (b : Ledger) (row : TickRow) → IsDated b
+    → before (now_of b) (with_row b row) ≡ without_room b
 before_row b row dated =
     sym (no_room_before b row)
     ∙ same_book (before (now_of b) (with_row b row)) b (start_before b row) (rows_before b row)
     (before-now b row dated)
 
-pub asks_without_room : (config : Config) (b : Ledger) (mask : ℕ) → asks config (without_room b) mask ≡ asks config b mask
+pub asks_without_room : (config : Config) (b : Ledger) (mask : ℕ)
+    → asks config (without_room b) mask ≡ asks config b mask
 unfolding owner_at claim_at tenant_at asked served row_at
 asks_without_room Cpu b mask = refl
 asks_without_room Fp b mask = refl
@@ -56,7 +59,8 @@ asks_without_room (Rr quantum) b mask = refl
 asks_without_room (Wheel frame) b mask = refl
 asks_without_room (Join ports) b mask = refl
 
-pub tags_without_room : (b : Ledger) (n t slot : ℕ) → start_tags (without_room b) n t slot ≡ start_tags b n t slot
+pub tags_without_room : (b : Ledger) (n t slot : ℕ)
+    → start_tags (without_room b) n t slot ≡ start_tags b n t slot
 unfolding start_tags tenant_at asked served row_at before
 tags_without_room b zero t slot = refl
 tags_without_room b (suc n) t slot =
@@ -76,9 +80,15 @@ serves_without_room Edf b mask slot is = is
 serves_without_room (Sfq total most) b mask slot is = record {
   within = is.within;
   chosen = is.chosen;
-  least = λ other lt on. rw (tags_without_room b (now_of b + 1) (now_of b) slot, tags_without_room b (now_of b + 1) (now_of b) other)
+  least = λ other lt on. rw (
+    tags_without_room b (now_of b + 1) (now_of b) slot,
+    tags_without_room b (now_of b + 1) (now_of b) other,
+  )
       (is.least other lt on);
-  first = λ other lt on. rw (tags_without_room b (now_of b + 1) (now_of b) slot, tags_without_room b (now_of b + 1) (now_of b) other)
+  first = λ other lt on. rw (
+    tags_without_room b (now_of b + 1) (now_of b) slot,
+    tags_without_room b (now_of b + 1) (now_of b) other,
+  )
       (is.first other lt on);
 }
 serves_without_room (Rr quantum) b mask slot is = record {

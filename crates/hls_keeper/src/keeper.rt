@@ -1,6 +1,6 @@
 // What a box keeps.
 ghost use Rattle.std.specs.Prelude.{◌≡◌, ◌≢◌, ℕ, ◌<◌, ◌≤◌, ◌↔◌, [], None, true, false};
-ghost use Rattle.std.specs.Prelude.{OnOk, OnErr, IsNone, IfSome};
+ghost use Rattle.std.specs.Prelude.{OnOk, OnErr, IsNone, IfSome, is_some};
 ghost use Rattle.hls_chron.specs.declared.plain.Config.TheVariants as configs;
 ghost use Rattle.hls_chron.specs.declared.plain.Kind.{Kind};
 ghost use Rattle.hls_chron.specs.Kinds.{kind_of};
@@ -66,22 +66,6 @@ fn exceeds(config: &Config, terms: &Terms) -> bool
         (Config::Sfq { total, .. }, Terms::Weight(weight)) => total < weight,
         (Config::Wheel { frame }, Terms::Slots(places)) => frame < places,
         _ => false,
-    }
-}
-
-/// That more is asked than is free, if it is so.
-fn lacking(book: &Book, config: &Config, terms: &Terms) -> Option<SeatFault>
-    requires { ConfigInRange config.now }
-    ensures lacks { IfSome result (Applies config.now book.now terms.now) }
-    ensures none { IsNone result → (free asked : ℕ) → ¬ LacksRoom config.now book.now terms.now free asked }
-    ensures fault { IfSome result (λ fault. fault_number fault ≡ 23) }
-{
-    let free = room_total(config).saturating_sub(room_used(book, config));
-    let asked = room_asked(config, terms);
-    if free < asked {
-        Some(SeatFault::NoRoom { free, asked })
-    } else {
-        None
     }
 }
 
@@ -159,6 +143,13 @@ impl Keeper {
         Ok(())
     }
 
+    /// Whether it is granted.
+    pub fn is_granted(&self) -> bool
+        ensures { result ≡ is_some self.now.grant }
+    {
+        self.grant.is_some()
+    }
+
     /// The least free slot, or `None` where every seat is taken.
     pub fn free_slot(&self) -> Option<u32>
         requires { IsConfigured self.now }
@@ -169,11 +160,11 @@ impl Keeper {
         first_free(&self.book, &config)
     }
 
-    /// Why a seat on these terms cannot be taken at present, or `None` where it can; not of fixed
-    /// priority, where it goes by the priority numbers too.
-    pub fn fits(&self, terms: &Terms) -> Option<SeatFault>
+    /// Why a seat on these terms cannot be taken at present, where so much of the room is used up, or
+    /// `None` where it can; not of fixed priority, where it goes by the priority numbers too.
+    pub fn fits(&self, terms: &Terms, used: u128) -> Option<SeatFault>
         requires configured { IsConfigured self.now }
-        requires ranges { ConfigInRange (config_of self.now) }
+        requires used { used ≡ room_of (config_of self.now) self.now.book }
         requires unranked { self.now.kind ≢ Kind.Fp }
         requires kind { kind_of (config_of self.now) ≡ self.now.kind }
         ensures { IsAnswer (config_of self.now) self.now.book terms.now result }
@@ -187,7 +178,26 @@ impl Keeper {
                 seats: most_seats(&config),
             });
         }
-        lacking(&self.book, &config, terms)
+        self.lacking(terms, used)
+    }
+
+    /// That more is asked than is free, if it is so, where so much of the room is used up.
+    fn lacking(&self, terms: &Terms, used: u128) -> Option<SeatFault>
+        requires configured { IsConfigured self.now }
+        requires used { used ≡ room_of (config_of self.now) self.now.book }
+        ensures lacks { IfSome result (Applies (config_of self.now) self.now.book terms.now) }
+        ensures none { IsNone result → (free asked : ℕ)
+            → ¬ LacksRoom (config_of self.now) self.now.book terms.now free asked }
+        ensures fault { IfSome result (λ fault. fault_number fault ≡ 23) }
+    {
+        let config = self.config();
+        let free = room_total(&config).saturating_sub(used);
+        let asked = room_asked(&config, terms);
+        if free < asked {
+            Some(SeatFault::NoRoom { free, asked })
+        } else {
+            None
+        }
     }
 
     /// Takes a seat.

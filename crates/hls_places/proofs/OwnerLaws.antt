@@ -24,7 +24,8 @@ owner_at-mark b event place =
     (fold-append (λ owners (m : Mark). owner_after owners m.event) unowned b.marks
     (record { tick = now_of b; event = event } ∷ []))
 
-pub owner_at-row : (b : Ledger) (row : TickRow) (place : ℕ) → owner_at (with_row b row) place ≡ owner_at b place
+pub owner_at-row : (b : Ledger) (row : TickRow) (place : ℕ)
+    → owner_at (with_row b row) place ≡ owner_at b place
 unfolding owner_at
 owner_at-row b row place = refl
 
@@ -38,7 +39,8 @@ unfolding owner_at
 owner_at-unmarked b place unmarked = rw unmarked refl
 
 -- a place that is one slot's is no other's
-pub other_slot : (owner : Option ℕ) (at slot : ℕ) → at ≢ slot → is_slot owner at ≡ true → is_slot owner slot ≡ false
+pub other_slot : (owner : Option ℕ) (at slot : ℕ) → at ≢ slot → is_slot owner at ≡ true
+    → is_slot owner slot ≡ false
 other_slot None at slot apart is = absurd cc
 other_slot (Some found) at slot apart is =
     let same : found ≡ at = eqb-true found at is in
@@ -135,7 +137,8 @@ pub count-taken : (free : ℕ → Bool) (k n : ℕ) → IsTaken (count free 0 n)
 unfolding count
 count-taken free k zero = record { all = λ le. refl; some = λ le. omega (arith, le) }
 count-taken free k (suc n) =
-    rw (zero-add n) (taken_step free k n (free n) (nat_lt (count free 0 n) k) refl refl (count-taken free k n))
+    rw (zero-add n)
+    (taken_step free k n (free n) (nat_lt (count free 0 n) k) refl refl (count-taken free k n))
 
 -- free places and owned ones are all places
 one_of_two : (owner : Option ℕ) → one_if (is_none owner) + one_if (is_some owner) ≡ 1

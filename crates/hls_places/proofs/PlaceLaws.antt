@@ -22,7 +22,8 @@ use Rattle.hls_kinds.specs.Fits.{Fits}
 use Rattle.hls_kinds.proofs.MarkLaws.{tenant_at-row, tenant_at-unmarked, sits_on}
 use Rattle.hls_promise.proofs.AdmissionLaws.{Before, Since, sat_before}
 use Rattle.hls_places.specs.Places.{owns_place, KeepsPlaces}
-use Rattle.hls_places.proofs.OwnerLaws.{owner_at-row, owner_at-same, owner_at-unmarked, IsElsewhere, owns-elsewhere}
+use Rattle.hls_places.proofs.OwnerLaws.{owner_at-row, owner_at-same}
+use Rattle.hls_places.proofs.OwnerLaws.{owner_at-unmarked, IsElsewhere, owns-elsewhere}
 use Rattle.hls_places.proofs.OwnerLaws.{owns-left, owns-seated, count-taken, count-owned}
 
 pub places-unwritten : (frame : ℕ) (b : Ledger) → b.marks ≡ [] → KeepsPlaces frame b
@@ -101,7 +102,8 @@ seated_terms b slot places m is =
     let same : Some m ≡ Some (terms.Slots places) = sym here ∙ is in
     cc
 
-taken_at : (frame : ℕ) (b : Ledger) (slot places : ℕ) (m : Terms) → KeepsPlaces frame b → terms_at b slot ≡ None
+taken_at : (frame : ℕ) (b : Ledger) (slot places : ℕ) (m : Terms) → KeepsPlaces frame b
+    → terms_at b slot ≡ None
     → Fits (configs.Wheel frame) b m → m ≡ terms.Slots places
     → count (owns_place (with_mark b (Seat slot m)) slot) 0 frame ≡ places
 taken_at frame b slot places m kept free fits is =
@@ -148,7 +150,8 @@ places-leave frame b at kept = record {
   ];
   stood = λ slot since t place n is le lt. elim (cases_eq at slot) [
     | inl same ↦ absurd (
-        let on : terms_at (with_mark b (Leave at)) slot ≡ Some n = sits_on (with_mark b (Leave at)) slot since n is in
+        let on : terms_at (with_mark b (Leave at)) slot ≡ Some n =
+        sits_on (with_mark b (Leave at)) slot since n is in
         let here : terms_at (with_mark b (Leave at)) slot ≡ None = rw (← same) (leave_here b at) in cc)
     | inr apart ↦ stood-elsewhere frame b (Leave at) slot since t place n kept apart is le lt
   ];
@@ -158,7 +161,8 @@ pub places-settle : (frame : ℕ) (b : Ledger) → KeepsPlaces frame b → Keeps
 places-settle frame b kept = record {
   lost = λ slot place none. lost-elsewhere frame b Settle slot place kept tt none;
   owns = λ slot places is. owns-as-before frame b Settle slot places kept tt is;
-  stood = λ slot since t place n is le lt. stood-elsewhere frame b Settle slot since t place n kept tt is le lt;
+  stood = λ slot since t place n is le lt. stood-elsewhere frame b Settle slot since t place n kept tt is le
+      lt;
 }
 
 -- a row

@@ -152,7 +152,8 @@ module _ (frame : ℕ) (b : Ledger) (kept : KeepsAdmission (configs.Wheel frame)
   served_owns slot since t m sits from is =
       let to = served-to b slot t is in
       let lt = served_before b slot t to in
-      let serves : IsOwner (owner_now frame (before t b)) (row_at b t).mask slot = discipline.served t slot lt to in
+      let serves : IsOwner (owner_now frame (before t b)) (row_at b t).mask slot =
+      discipline.served t slot lt to in
       sym (owner_then slot since t m sits from lt (served_after b slot t to))
       ∙ slot_owns (owner_now frame (before t b)) slot serves.owns
 
@@ -167,7 +168,8 @@ module _ (frame : ℕ) (b : Ledger) (kept : KeepsAdmission (configs.Wheel frame)
       let wheel_asks : owner_asks (row_at b t).mask (owner_now frame (before t b)) ≡ true =
       rw owner (eq-eqb _ _ (asked-slot b slot t asks)) in
       let later = kept.stood.later slot since m sits in
-      let gives : given b 0 t ≡ true = supplied.met t (t + 1) (omega (arith, later.0, from)) (omega (arith, lt))
+      let gives : given b 0 t ≡ true =
+      supplied.met t (t + 1) (omega (arith, later.0, from)) (omega (arith, lt))
       (λ u a z. let here : t ≡ u = omega (arith, a, z) in
       subst (λ u. asked_by (configs.Wheel frame) b u ≡ true) here wheel_asks) t (omega arith) (omega arith) in
       let went = given-went b 0 t gives in
@@ -188,7 +190,8 @@ module _ (frame : ℕ) (b : Ledger) (kept : KeepsAdmission (configs.Wheel frame)
             let same = count-agree (served b slot) (in_tick frame own) a n (λ t u v.
             both_ways (served b slot t) (in_tick frame own t)
             (served_owns slot since t (terms.Slots k) sits (omega (arith, from, lo, u)))
-            (owner_served slot since t (terms.Slots k) sits (omega (arith, from, lo, u)) (omega (arith, to, hi, v))
+            (owner_served slot since t (terms.Slots k) sits (omega (arith, from, lo, u))
+            (omega (arith, to, hi, v))
             supplied (asks t (omega (arith, lo, u)) (omega (arith, hi, v))))) in
             record {
               enough = omega (arith, owned.1, all, same);
@@ -217,7 +220,8 @@ wheel_keeps frame b kept discipline places = record {
   kept = λ ports slot since port m g h sits lends supplied. elim lends.lends [
     | inl by_terms ↦
         let zero : port ≡ 0 = lends.port_of in
-        let through = subst (λ p. Supplies g (given b p) (asked_by (configs.Wheel frame) b) (settled_at b) (now_of b))
+        let through =
+        subst (λ p. Supplies g (given b p) (asked_by (configs.Wheel frame) b) (settled_at b) (now_of b))
         zero supplied in
         places_lend frame b kept discipline places slot since m g h sits by_terms through
     | inr nothing ↦ rw nothing (nothing-supplies (served b slot) (asked b slot) since (now_of b))

@@ -62,7 +62,8 @@ turn_right quantum b mask false width lt is =
 
 right_of : (config : Config) (b : Ledger) (mask : ℕ) → kind_of config ≡ kinds.Rr → mask < 2 ^ 32
     → KeepsAdmission config b → KeepsDiscipline config b
-    → (is_some (choice_of config b mask) ≡ asks config b mask) × IfSome (choice_of config b mask) (Serves config b mask)
+    → (is_some (choice_of config b mask) ≡ asks config b mask) × IfSome (choice_of config b mask)
+    (Serves config b mask)
 right_of (Rr quantum) b mask is width kept discipline =
     turn_right quantum b mask (turn_goes_on quantum b mask) width (turn_within quantum b kept discipline) refl
 right_of Cpu b mask is width kept discipline = absurd cc

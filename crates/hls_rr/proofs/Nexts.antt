@@ -1,5 +1,6 @@
 -- The next slot that asks, in the cyclic order.
-use Rattle.std.proofs.Common.{◌≡◌, ℕ, zero, suc, ◌+◌, ◌-◌, ◌%◌, ◌<◌, ◌≤◌, Some, None, Bool, true, false, refl, sym}
+use Rattle.std.proofs.Common.{◌≡◌, ℕ, zero, suc, ◌+◌, ◌-◌, ◌%◌, ◌<◌}
+use Rattle.std.proofs.Common.{◌≤◌, Some, None, Bool, true, false, refl, sym}
 use Rattle.std.proofs.Common.{ap, ◌∙◌, arith, inl, inr}
 use Rattle.std.specs.Prelude.{if◌then◌else◌}
 use Rattle.std.proofs.lemmas.Bool.{cases_lt, cases_eq}
@@ -71,7 +72,8 @@ unfolding next_of
 found_from mask start zero k s found sum at is = absurd cc
 found_from mask start (suc n) k s found sum at is =
     found_by mask start n k s found (slot_asks mask ((s + 1) % 32)) refl sum at
-    (λ later. found_from mask start n (k + 1) ((s + 1) % 32) found (omega (arith, sum)) (omega (arith, at)) later)
+    (λ later. found_from mask start n (k + 1) ((s + 1) % 32) found (omega (arith, sum))
+    (omega (arith, at)) later)
     is
 
 none_by : (mask start n k s j : ℕ) (asks : Bool) → slot_asks mask ((s + 1) % 32) ≡ asks → k + suc n ≡ 32
@@ -91,14 +93,17 @@ unfolding next_of
 none_from mask start zero k s sum at is j from to = absurd (omega (arith, sum, from, to))
 none_from mask start (suc n) k s sum at is j from to =
     none_by mask start n k s j (slot_asks mask ((s + 1) % 32)) refl sum at
-    (λ later from. none_from mask start n (k + 1) ((s + 1) % 32) (omega (arith, sum)) (omega (arith, at)) later j from to)
+    (λ later from. none_from mask start n (k + 1) ((s + 1) % 32) (omega (arith, sum))
+    (omega (arith, at)) later j from to)
     is from
 
 -- places after the start and slots
-pub place_of_slot : (start slot : ℕ) → start < 32 → slot < 32 → (start + 1 + turns_after start slot) % 32 ≡ slot
+pub place_of_slot : (start slot : ℕ) → start < 32 → slot < 32
+    → (start + 1 + turns_after start slot) % 32 ≡ slot
 place_of_slot start slot from lt = omega (arith, from, lt)
 
-slot_of_place : (start place : ℕ) → start < 32 → place < 32 → turns_after start ((start + 1 + place) % 32) ≡ place
+slot_of_place : (start place : ℕ) → start < 32 → place < 32
+    → turns_after start ((start + 1 + place) % 32) ≡ place
 slot_of_place start place from lt = omega (arith, from, lt)
 
 turns_within : (start slot : ℕ) → turns_after start slot < 32
@@ -120,7 +125,8 @@ pub next_first : (mask start found : ℕ) → start < 32 → next_of mask start 
     → IsFirst 32 (slot_asks mask) (turns_after start) found
 next_first mask start found from is =
     let f = found_from mask start 32 0 start found (omega arith) (omega (arith, from)) is in
-    let at : turns_after start found ≡ f.place = ap (turns_after start) f.is ∙ slot_of_place start f.place from f.within in
+    let at : turns_after start found ≡ f.place = ap (turns_after start) f.is
+    ∙ slot_of_place start f.place from f.within in
     record {
       within = omega (arith, f.is);
       chosen = f.asks;
@@ -136,7 +142,8 @@ next_first mask start found from is =
 pub next_none : (mask start slot : ℕ) → start < 32 → slot < 32 → next_of mask start 32 ≡ None
     → slot_asks mask slot ≡ false
 next_none mask start slot from lt is =
-    let silent = none_from mask start 32 0 start (omega arith) (omega (arith, from)) is (turns_after start slot)
+    let silent =
+    none_from mask start 32 0 start (omega arith) (omega (arith, from)) is (turns_after start slot)
     (omega arith) (turns_within start slot) in
     rw (place_of_slot start slot from lt) at silent
 
@@ -146,7 +153,8 @@ pub found_in_loop : (mask slot next k : ℕ) → k < 32 → next_of mask slot 32
 found_in_loop mask slot next k lt same asks = same ∙ next_of-hit mask next (32 - k) (omega (arith, lt)) asks
 
 pub on_in_loop : (mask slot next k : ℕ) → k < 32 → next_of mask slot 32 ≡ next_of mask next (32 - k)
-    → slot_asks mask ((next + 1) % 32) ≡ false → next_of mask slot 32 ≡ next_of mask ((next + 1) % 32) (32 - (k + 1))
+    → slot_asks mask ((next + 1) % 32) ≡ false
+    → next_of mask slot 32 ≡ next_of mask ((next + 1) % 32) (32 - (k + 1))
 on_in_loop mask slot next k lt same silent =
     let left : 32 - k ≡ suc (32 - (k + 1)) = omega (arith, lt) in
     same ∙ ap (next_of mask next) left ∙ next_of-miss mask next (32 - (k + 1)) silent

@@ -47,7 +47,8 @@ impl Rr {
     /// The slot of the turn where it goes on, else the next that asks.
     fn next(&self) -> Option<u32>
         requires { IsConfigured self.now.keeper }
-        ensures value { result ≡ choice_of (config_of self.now.keeper) self.now.keeper.book self.now.keeper.mask }
+        ensures value { result
+            ≡ choice_of (config_of self.now.keeper) self.now.keeper.book self.now.keeper.mask }
         ensures within { IfSome result (λ slot. slot < 32) }
     {
         let mask = self.keeper.mask();
@@ -88,7 +89,7 @@ impl Scheduler for Rr {
     }
 
     fn fits(&self, terms: &Terms) -> Option<SeatFault> {
-        self.keeper.fits(terms)
+        self.keeper.fits(terms, self.keeper.room_used())
     }
 
     fn free_slot(&self) -> Option<u32> {

@@ -6,11 +6,11 @@ ghost use Rattle.hls_keeper.specs.Sound.{IsSound};
 ghost use Rattle.hls_keeper.proofs.Props.{sound_prop};
 ghost use Rattle.hls_places.specs.Places.{frame_of, KeepsPlaces};
 ghost use Rattle.hls_places.proofs.WheelLaws.{wheel_of};
-ghost use Rattle.hls_wheel.specs.Owners.{choice_of};
+ghost use Rattle.hls_wheel.specs.Owners.{IsTable, choice_of};
 
-use hls_chron::{Book, Config, Kind, Terms};
+use crate::owners::{Owners, PLACES, after_event, owned_below};
+use hls_chron::{Book, Config, Event, Kind, Terms};
 use hls_keeper::{Keeper, has_slot};
-use hls_kinds::owner_now;
 use hls_sched::{Scheduler, SeatFault};
 use std::alloc::{AllocError, Global};
 
@@ -19,8 +19,10 @@ use std::alloc::{AllocError, Global};
 #[derive(Drop)]
 pub struct Wheel {
     keeper: Keeper,
+    owners: Owners,
     ghost sound: { IsSound Kind.Wheel keeper } by { sound_prop Kind.Wheel keeper },
     ghost places: { KeepsPlaces (frame_of (config_of keeper)) keeper.book },
+    ghost table: { IsTable owners keeper.book },
 }
 
 impl Wheel {
@@ -30,6 +32,7 @@ impl Wheel {
     {
         Wheel {
             keeper: Keeper::blank(alloc, Kind::Wheel),
+            owners: [None; PLACES],
         }
     }
 
@@ -49,11 +52,14 @@ impl Wheel {
     /// The owner of the present tick's place, where it asks.
     fn owner(&self) -> Option<u32>
         requires { IsConfigured self.now.keeper }
-        ensures value { result ≡ choice_of (config_of self.now.keeper) self.now.keeper.book self.now.keeper.mask }
+        ensures value { result
+            ≡ choice_of (config_of self.now.keeper) self.now.keeper.book self.now.keeper.mask }
         ensures within { IfSome result (λ slot. slot < 32) }
     {
         let mask = self.keeper.mask();
-        match owner_now(self.keeper.book(), self.frame()) {
+        let place = self.keeper.book().now() % self.frame();
+        let owner = self.owners[place as usize];
+        match owner {
             Some(owner) if has_slot(mask, u32::from(owner)) => Some(u32::from(owner)),
             _ => None,
         }
@@ -85,11 +91,13 @@ impl Scheduler for Wheel {
         horizon: u32,
         commands: u32,
     ) -> Result<(), AllocError> {
-        self.keeper.setup(config, now, horizon, commands)
+        self.keeper.setup(config, now, horizon, commands)?;
+        self.owners = [None; PLACES];
+        Ok(())
     }
 
     fn fits(&self, terms: &Terms) -> Option<SeatFault> {
-        self.keeper.fits(terms)
+        self.keeper.fits(terms, self.parts_used())
     }
 
     fn free_slot(&self) -> Option<u32> {
@@ -97,10 +105,16 @@ impl Scheduler for Wheel {
     }
 
     fn seat(&mut self, slot: u32, terms: &Terms) {
+        let event = Event::Seat {
+            slot: slot as u8,
+            terms: *terms,
+        };
+        self.owners = after_event(&self.owners, event);
         self.keeper.seat(slot, terms);
     }
 
     fn leave(&mut self, slot: u32) {
+        self.owners = after_event(&self.owners, Event::Leave { slot: slot as u8 });
         self.keeper.leave(slot);
     }
 
@@ -138,6 +152,6 @@ impl Scheduler for Wheel {
     }
 
     fn parts_used(&self) -> u128 {
-        self.keeper.room_used()
+        u128::from(owned_below(&self.owners, self.frame()))
     }
 }
