@@ -1,0 +1,6 @@
+use Rattle.hls_keeper.proofs.Calls.{after_leave}
+use Rattle.hls_join.proofs.join.JoinScheduler.leave.Goals as goal
+
+pub invariant_of-self : goal.invariant_of-self
+invariant_of-self c =
+    record { sound = after_leave _ _ _ _ c.leave.ensures c.args.self.now.sound c.requires.taken }

@@ -1,0 +1,6 @@
+use Rattle.hls_keeper.proofs.Calls.{after_request}
+use Rattle.hls_join.proofs.join.JoinScheduler.request.Goals as goal
+
+pub invariant_of-self : goal.invariant_of-self
+invariant_of-self c =
+    record { sound = after_request _ _ _ _ c.request.ensures c.args.self.now.sound c.requires.taken }

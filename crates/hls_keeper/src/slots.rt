@@ -1,0 +1,40 @@
+// The slots that ask, a bit each, and the row of a tick.
+ghost use Rattle.std.specs.Prelude.{◌≡◌, ◌^◌, ◌<◌, IfSome};
+ghost use Rattle.hls_kinds.specs.Asks.{slot_asks};
+ghost use Rattle.hls_sched.specs.Seen.{tick_row};
+
+use hls_chron::TickRow;
+
+/// The bit of a slot.
+pub fn bit(slot: u32) -> u32
+    requires { slot < 32 }
+    ensures { result ≡ 2 ^ slot }
+{
+    1 << slot
+}
+
+/// Whether a slot is among those that ask.
+pub fn has_slot(mask: u32, slot: u32) -> bool
+    ensures { result ≡ slot_asks mask slot }
+{
+    slot < 32 && (mask >> slot) & 1 == 1
+}
+
+/// The row of a tick.
+pub fn row(mask: u32, grant: Option<u8>, choice: Option<u32>) -> TickRow
+    requires { IfSome choice (λ slot. slot < 32) }
+    ensures { result ≡ tick_row mask grant choice }
+{
+    match (grant, choice) {
+        (Some(port), Some(slot)) => TickRow {
+            mask,
+            to: Some(slot as u8),
+            port,
+        },
+        _ => TickRow {
+            mask,
+            to: None,
+            port: 0,
+        },
+    }
+}

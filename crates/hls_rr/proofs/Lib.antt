@@ -1,0 +1,3 @@
+pub mod Nexts
+pub mod Bounds
+pub mod Choices

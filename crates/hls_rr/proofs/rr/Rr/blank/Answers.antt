@@ -1,0 +1,10 @@
+use Rattle.hls_keeper.proofs.Sounds.{sound_blank}
+use Rattle.hls_rr.proofs.rr.Rr.blank.Goals as goal
+
+pub invariant_of-result : goal.invariant_of-result
+invariant_of-result c =
+    record {
+      sound =
+          sound_blank _ _ c.blank.ensures.blank c.blank.ensures.rows c.blank.ensures.marks
+          c.blank.ensures.silent;
+    }

@@ -1,0 +1,157 @@
+// A box of a frame of slots.
+ghost use Rattle.std.specs.Prelude.{◌≡◌, ◌<◌, ◌≤◌, IfSome};
+ghost use Rattle.hls_chron.specs.declared.plain.Kind.{Kind};
+ghost use Rattle.hls_sched.specs.Seen.{IsBlank, IsConfigured, config_of};
+ghost use Rattle.hls_keeper.specs.Sound.{IsSound};
+ghost use Rattle.hls_keeper.proofs.Props.{sound_prop};
+ghost use Rattle.hls_places.specs.Places.{frame_of, KeepsPlaces};
+ghost use Rattle.hls_places.proofs.WheelLaws.{wheel_of};
+ghost use Rattle.hls_wheel.specs.Owners.{IsTable, choice_of};
+
+use crate::owners::{Owners, PLACES, after_event, owned_below};
+use hls_chron::{Book, Config, Event, Kind, Terms};
+use hls_keeper::{Keeper, has_slot};
+use hls_sched::{Scheduler, SeatFault};
+use std::alloc::{AllocError, Global};
+
+/// A frame of places that comes round again and again, one place a tick (after Regehr 2001). Each
+/// place belongs to a seat or to nobody, and a tick is its owner's alone.
+#[derive(Drop)]
+pub struct Wheel {
+    keeper: Keeper,
+    owners: Owners,
+    ghost sound: { IsSound Kind.Wheel keeper } by { sound_prop Kind.Wheel keeper },
+    ghost places: { KeepsPlaces (frame_of (config_of keeper)) keeper.book },
+    ghost table: { IsTable owners keeper.book },
+}
+
+impl Wheel {
+    /// A box that is not set up yet. Takes no memory.
+    pub fn blank(alloc: Global) -> Wheel
+        ensures { IsBlank Kind.Wheel (⟦<Wheel as Scheduler>⟧.seen result) }
+    {
+        Wheel {
+            keeper: Keeper::blank(alloc, Kind::Wheel),
+            owners: [None; PLACES],
+        }
+    }
+
+    /// The places of the frame.
+    fn frame(&self) -> u32
+        requires { IsConfigured self.now.keeper }
+        ensures value { result ≡ frame_of (config_of self.now.keeper) }
+        ensures some { 0 < result }
+        ensures most { result ≤ 1000 }
+    {
+        match self.keeper.config() {
+            Config::Wheel { frame } => frame,
+            _ => 1,
+        }
+    }
+
+    /// The owner of the present tick's place, where it asks.
+    fn owner(&self) -> Option<u32>
+        requires { IsConfigured self.now.keeper }
+        ensures value { result
+            ≡ choice_of (config_of self.now.keeper) self.now.keeper.book self.now.keeper.mask }
+        ensures within { IfSome result (λ slot. slot < 32) }
+    {
+        let mask = self.keeper.mask();
+        let place = self.keeper.book().now() % self.frame();
+        let owner = self.owners[place as usize];
+        match owner {
+            Some(owner) if has_slot(mask, u32::from(owner)) => Some(u32::from(owner)),
+            _ => None,
+        }
+    }
+}
+
+impl Scheduler for Wheel {
+    ghost seen = { λ s. s.keeper };
+
+    ghost choice = { λ s. choice_of (config_of s.keeper) s.keeper.book s.keeper.mask };
+
+    ghost keeps = { λ s configured. s.sound.discipline };
+
+    ghost promises = { λ s configured. wheel_of (config_of s.keeper) s.keeper.book
+        (s.sound.configured configured) s.sound.admission s.sound.discipline s.places };
+
+    fn kind(&self) -> Kind {
+        self.keeper.kind()
+    }
+
+    fn book(&self) -> &Book {
+        self.keeper.book()
+    }
+
+    fn setup(
+        &mut self,
+        config: &Config,
+        now: u32,
+        horizon: u32,
+        commands: u32,
+    ) -> Result<(), AllocError> {
+        self.keeper.setup(config, now, horizon, commands)?;
+        self.owners = [None; PLACES];
+        Ok(())
+    }
+
+    fn fits(&self, terms: &Terms) -> Option<SeatFault> {
+        self.keeper.fits(terms, self.parts_used())
+    }
+
+    fn free_slot(&self) -> Option<u32> {
+        self.keeper.free_slot()
+    }
+
+    fn seat(&mut self, slot: u32, terms: &Terms) {
+        let event = Event::Seat {
+            slot: slot as u8,
+            terms: *terms,
+        };
+        self.owners = after_event(&self.owners, event);
+        self.keeper.seat(slot, terms);
+    }
+
+    fn leave(&mut self, slot: u32) {
+        self.owners = after_event(&self.owners, Event::Leave { slot: slot as u8 });
+        self.keeper.leave(slot);
+    }
+
+    fn request(&mut self, slot: u32) {
+        self.keeper.request(slot);
+    }
+
+    fn release(&mut self, slot: u32) {
+        self.keeper.release(slot);
+    }
+
+    fn asks(&self) -> bool {
+        self.owner().is_some()
+    }
+
+    fn grant(&mut self, port: u8) {
+        self.keeper.grant(port);
+    }
+
+    fn revoke(&mut self) {
+        self.keeper.revoke();
+    }
+
+    fn choice(&self) -> Option<u32> {
+        self.owner()
+    }
+
+    fn turn(&mut self) {
+        let choice = self.owner();
+        self.keeper.turn(choice);
+    }
+
+    fn settle(&mut self) {
+        self.keeper.settle();
+    }
+
+    fn parts_used(&self) -> u128 {
+        u128::from(owned_below(&self.owners, self.frame()))
+    }
+}
