@@ -97,13 +97,21 @@ head_lines horizon depth = codes "hls-report 1" ∷ (codes "horizon " ++ decimal
 abbrev pub end_lines : (idle : ℕ) → List Text
 end_lines idle = (codes "idle " ++ decimal idle) ∷ codes "end" ∷ []
 
+abbrev pub schedule_lines : List Stretch → List Text
+schedule_lines stretches = codes "schedule" ∷ map stretch_text stretches
+
+abbrev pub accounts_lines : List Account → List Text
+accounts_lines accounts = codes "accounts" ∷ map account_text accounts
+
 abbrev pub content_lines : Content → List Text
-content_lines c = head_lines c.horizon c.depth ++ flat_map answered_lines c.answered
-    ++ codes "schedule" ∷ map stretch_text c.stretches ++ codes "accounts" ∷ map account_text c.accounts
-    ++ end_lines c.idle
+content_lines c = head_lines c.horizon c.depth ++ (flat_map answered_lines c.answered
+    ++ (schedule_lines c.stretches ++ (accounts_lines c.accounts ++ end_lines c.idle)))
+
+abbrev pub with_end : Text → Text
+with_end line = line ++ 10 ∷ []
 
 abbrev pub ended : List Text → Text
-ended lines = flat_map (λ line. line ++ codes "\n") lines
+ended lines = flat_map with_end lines
 
 -- the text of a report, each line with its end
 unfoldable pub report_text : Report → Text
