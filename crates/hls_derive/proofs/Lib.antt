@@ -1,5 +1,5 @@
 mod Appends
 mod Options
-mod Spaces
-mod Fronts
-mod Parses
+pub mod Spaces
+pub mod Fronts
+pub mod Parses

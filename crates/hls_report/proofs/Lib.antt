@@ -1,2 +1,4 @@
 pub mod Writings
 pub mod Marks
+pub mod RefusalTexts
+pub mod LineTexts

@@ -1,6 +1,8 @@
 -- Marks that texts lack, and texts that are cut at their first mark.
 use Rattle.std.proofs.Common.{◌≡◌, ◌≢◌, ℕ, ◌+◌, ◌-◌, ◌*◌, ◌/◌, ◌%◌, ◌^◌, ◌<◌, ◌≤◌, Bool, true, false, List}
 use Rattle.std.proofs.Common.{[], ◌∷◌, ◌++◌, length, refl, sym, ap, ◌∙◌, subst, arith, inl, inr, ◌⊎◌}
+use Rattle.std.proofs.Common.{append_assoc, flat_map}
+use Rattle.std.proofs.lemmas.List.{append-nil}
 use Rattle.std.specs.Prelude.{◌==◌, ◌||◌, ◌&&◌, nat_le, codes, decimal, fold, Option, Some, None}
 use Rattle.std.specs.List.{list_any, list_all, AllByRecursion}
 use Rattle.std.proofs.lemmas.Bool.{leb-true, eqb-true}
@@ -12,6 +14,7 @@ use Rattle.hls_chron.specs.Name.{IsName, is_letter, may_follow}
 use Rattle.hls_guarantee.proofs.Spellings.{decimal-lacks}
 use Rattle.hls_guarantee.proofs.Texts.{position_first, parts_first}
 use Rattle.hls_print.proofs.CanonicalLines.{Plain}
+use Rattle.hls_report.specs.Reading.{digit_step, value}
 
 abbrev pub Lacks : ℕ → Text → Type 0
 Lacks m text = list_any (λ b. b == m) text ≡ false
@@ -92,18 +95,11 @@ name_lacks m (b ∷ bs) lt is =
 pub number_lacks : (m n : ℕ) → m < 48 → n < 10 ^ 64 → Lacks m (decimal n)
 number_lacks m n lt fits = decimal-lacks m n lt fits
 
-digit_step : ℕ → ℕ → ℕ
-digit_step v b = 10 * v + (b - 48)
-
-value : Text → ℕ
-value ds = fold digit_step 0 ds
-
 value_more : (v : ℕ) (ds : Text) (d : ℕ) → fold digit_step v (ds ++ d ∷ []) ≡ digit_step (fold digit_step v ds) d
 value_more v [] d = refl
 value_more v (b ∷ bs) d = value_more (digit_step v b) bs d
 
-value_decimal : (n : ℕ) → n < 10 ^ 64 → value (decimal n) ≡ n
-unfolding value digit_step
+pub value_decimal : (n : ℕ) → n < 10 ^ 64 → value (decimal n) ≡ n
 value_decimal n fits =
     decimal_by_steps_wide (λ k ds. value ds ≡ k) (λ k small. omega arith)
     (λ k ds big front. value_more 0 ds (48 + k % 10) ∙ (grind (arith, front))) n fits
@@ -117,3 +113,37 @@ pub plain_lacks : (bs : Text) → AllByRecursion Plain bs → Lacks 10 bs
 plain_lacks [] are = refl
 plain_lacks (b ∷ bs) are =
     let low = are.0.low in lacks_byte 10 b bs (λ same. omega arith) (plain_lacks bs are.1)
+
+-- ---- texts each with a mark behind it
+
+abbrev pub marked : ℕ → List Text → Text
+marked m texts = flat_map (λ t. t ++ m ∷ []) texts
+
+marked_cons : (m : ℕ) (x : Text) (xs : List Text) (rest : Text)
+    → marked m (x ∷ xs) ++ rest ≡ x ++ (m ∷ (marked m xs ++ rest))
+marked_cons m x xs rest =
+    append_assoc (x ++ m ∷ []) (marked m xs) rest ∙ append_assoc x (m ∷ []) (marked m xs ++ rest)
+
+-- what begins with marked texts are these texts, and more
+pub marked_front : (m : ℕ) (xs ys : List Text) (rest : Text) → AllByRecursion (Lacks m) xs
+    → AllByRecursion (Lacks m) ys → marked m ys ≡ marked m xs ++ rest
+    → (more : List Text) × (ys ≡ xs ++ more) × (rest ≡ marked m more)
+marked_front m [] ys rest a b e = (ys, refl, sym e)
+marked_front m ([] ∷ xs) [] rest a b e = absurd cc
+marked_front m ((c ∷ cs) ∷ xs) [] rest a b e = absurd cc
+marked_front m (x ∷ xs) (y ∷ ys) rest a b e =
+    let parts = cut_same m y (marked m ys) x (marked m xs ++ rest)
+    (sym (append_assoc y (m ∷ []) (marked m ys)) ∙ e ∙ marked_cons m x xs rest) b.0 a.0 in
+    let more = marked_front m xs ys rest a.1 b.1 parts.1 in
+    (more.0, ap (λ t. t ∷ ys) parts.0 ∙ ap (λ ts. x ∷ ts) more.1, more.2)
+
+none_marked : (m : ℕ) (more : List Text) → [] ≡ marked m more → more ≡ []
+none_marked m [] e = refl
+none_marked m ([] ∷ more) e = absurd cc
+none_marked m ((c ∷ cs) ∷ more) e = absurd cc
+
+pub marked_same : (m : ℕ) (xs ys : List Text) → AllByRecursion (Lacks m) xs → AllByRecursion (Lacks m) ys
+    → marked m xs ≡ marked m ys → xs ≡ ys
+marked_same m xs ys a b e =
+    let f = marked_front m xs ys [] a b (sym e ∙ sym (append-nil (marked m xs))) in
+    sym (f.1 ∙ ap (λ ts. xs ++ ts) (none_marked m f.0 f.2) ∙ append-nil xs)

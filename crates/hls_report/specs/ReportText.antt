@@ -24,6 +24,10 @@ item_text item = joined (item_forms item)
 abbrev pub item_of : Answered → Item
 item_of a = record { tick = a.tick; command = a.command }
 
+-- with a space between them
+abbrev pub two_words : Text → Text → Text
+two_words one two = one ++ 32 ∷ two
+
 -- ---- refusals
 
 abbrev pub kind_text : Kind → Text
@@ -46,23 +50,21 @@ refusal_text (refusals.NoSuchName name) = codes "11 NoSuchName " ++ name
 refusal_text (refusals.WrongSort name) = codes "12 WrongSort " ++ place_text name
 refusal_text (refusals.TooManyNodes most) = codes "13 TooManyNodes " ++ decimal most
 refusal_text (refusals.TooManyThreads most) = codes "14 TooManyThreads " ++ decimal most
-refusal_text (refusals.NotEmpty name seats) = codes "15 NotEmpty " ++ name ++ codes " " ++ decimal seats
+refusal_text (refusals.NotEmpty name seats) = codes "15 NotEmpty " ++ two_words name (decimal seats)
 refusal_text (refusals.TermsUnfit name) = codes "16 TermsUnfit " ++ name
 refusal_text (refusals.PriorityTaken priority) = codes "17 PriorityTaken " ++ decimal priority
-refusal_text (refusals.SeatsFull name seats) =
-    codes "18 SeatsFull " ++ place_text name ++ codes " " ++ decimal seats
+refusal_text (refusals.SeatsFull name seats) = codes "18 SeatsFull " ++ two_words (place_text name) (decimal seats)
 refusal_text (refusals.Cycle name) = codes "19 Cycle " ++ name
 refusal_text (refusals.TooDeep level) = codes "20 TooDeep " ++ decimal level
 refusal_text (refusals.TooManyShares count) = codes "21 TooManyShares " ++ decimal count
-refusal_text (refusals.KitEmpty kind used) = codes "22 KitEmpty " ++ kind_text kind ++ codes " " ++ decimal used
-refusal_text (refusals.NoRoom free asked) = codes "23 NoRoom " ++ decimal free ++ codes " " ++ decimal asked
-refusal_text (refusals.NoDerivation name depth) =
-    codes "24 NoDerivation " ++ name ++ codes " " ++ decimal depth
+refusal_text (refusals.KitEmpty kind used) = codes "22 KitEmpty " ++ two_words (kind_text kind) (decimal used)
+refusal_text (refusals.NoRoom free asked) = codes "23 NoRoom " ++ two_words (decimal free) (decimal asked)
+refusal_text (refusals.NoDerivation name depth) = codes "24 NoDerivation " ++ two_words name (decimal depth)
 
 -- ---- answers
 
 abbrev pub seat_text : Seated → Text
-seat_text s = codes "by " ++ s.name ++ codes " " ++ decimal s.port ++ codes " " ++ derivation_text s.derivation
+seat_text s = codes "by " ++ two_words s.name (two_words (decimal s.port) (derivation_text s.derivation))
 
 abbrev pub answer_lines : Answer → List Text
 answer_lines (Done seats) = codes "= done" ∷ map seat_text seats
@@ -75,18 +77,20 @@ answered_lines a = item_text (item_of a) ∷ answer_lines a.answer
 
 -- from the first tick to the last, both included
 abbrev pub span_text : ℕ → ℕ → Text
-span_text from to = decimal from ++ codes ".." ++ decimal to
+span_text from to = decimal from ++ (codes ".." ++ decimal to)
 
 abbrev pub path_text : Option (List Text) → Text
 path_text None = codes "idle"
 path_text (Some names) = codes "cpu" ++ flat_map (λ name. codes "/" ++ name) names
 
 abbrev pub stretch_text : Stretch → Text
-stretch_text s = span_text s.from s.to ++ codes " " ++ path_text s.path
+stretch_text s = two_words (span_text s.from s.to) (path_text s.path)
+
+abbrev pub ticks_text : (ready served : ℕ) → Text
+ticks_text ready served = codes " ready " ++ (decimal ready ++ (codes " served " ++ decimal served))
 
 abbrev pub account_text : Account → Text
-account_text a = a.name ++ codes " " ++ span_text a.from a.to ++ codes " " ++ spelling a.kept
-    ++ codes " ready " ++ decimal a.ready ++ codes " served " ++ decimal a.served
+account_text a = two_words a.name (two_words (span_text a.from a.to) (spelling a.kept ++ ticks_text a.ready a.served))
 
 -- ---- reports
 

@@ -1,6 +1,6 @@
 // The text of a refusal.
 ghost use Rattle.std.specs.Prelude.{◌≡◌, ◌++◌, OnOk, codes, decimal};
-ghost use Rattle.hls_report.specs.ReportText.{kind_text, place_text, refusal_text};
+ghost use Rattle.hls_report.specs.ReportText.{two_words, kind_text, place_text, refusal_text};
 
 use crate::Refusal;
 use crate::writing::{put, put_number};
@@ -65,7 +65,7 @@ fn put_counted(out: &mut Vec<u8>, words: &[u8], count: u32) -> Result<(), AllocE
 
 fn put_kind(out: &mut Vec<u8>, kind: Kind, used: u32) -> Result<(), AllocError>
     ensures { OnOk result (out.new.items
-        ≡ out.old.items ++ (codes "22 KitEmpty " ++ kind_text kind ++ codes " " ++ decimal used)) }
+        ≡ out.old.items ++ (codes "22 KitEmpty " ++ two_words (kind_text kind) (decimal used))) }
 {
     put(out, b"22 KitEmpty ")?;
     put(out, kind_word(kind))?;
@@ -88,7 +88,7 @@ fn kind_word(kind: Kind) -> &'static [u8]
 
 fn put_room(out: &mut Vec<u8>, free: u128, asked: u128) -> Result<(), AllocError>
     ensures { OnOk result (out.new.items
-        ≡ out.old.items ++ (codes "23 NoRoom " ++ decimal free ++ codes " " ++ decimal asked)) }
+        ≡ out.old.items ++ (codes "23 NoRoom " ++ two_words (decimal free) (decimal asked))) }
 {
     put(out, b"23 NoRoom ")?;
     put_number(out, free)?;

@@ -6,7 +6,7 @@ ghost use Rattle.hls_lang.specs.Grammar.{IsCommand};
 ghost use Rattle.hls_report.specs.Content.{path_names, stretch_of};
 ghost use Rattle.hls_report.specs.ReportText.{item_of, item_text, seat_text, answer_lines, answered_lines};
 ghost use Rattle.hls_report.specs.ReportText.{span_text, path_text, stretch_text, account_text};
-ghost use Rattle.hls_report.specs.ReportText.{head_lines, end_lines, with_end, ended, report_text};
+ghost use Rattle.hls_report.specs.ReportText.{ticks_text, head_lines, end_lines, with_end, ended, report_text};
 ghost use Rattle.hls_report.specs.WellFormed.{IsWellFormed, IsSeated, IsAnswer, HasShort, IsReportText};
 
 use crate::refusals::put_refusal;
@@ -194,11 +194,17 @@ fn put_account(out: &mut Vec<u8>, account: &Account) -> Result<(), AllocError>
     put_span(out, account.from, account.to)?;
     put(out, b" ")?;
     write_guarantee(&account.kept, out)?;
-    put(out, b" ready ")?;
-    put_number(out, u128::from(account.ready))?;
-    put(out, b" served ")?;
-    put_number(out, u128::from(account.served))?;
+    put_ticks(out, account.ready, account.served)?;
     put(out, b"\n")
+}
+
+fn put_ticks(out: &mut Vec<u8>, ready: u32, served: u32) -> Result<(), AllocError>
+    ensures { OnOk result (out.new.items ≡ out.old.items ++ ticks_text ready served) }
+{
+    put(out, b" ready ")?;
+    put_number(out, u128::from(ready))?;
+    put(out, b" served ")?;
+    put_number(out, u128::from(served))
 }
 
 fn put_end(out: &mut Vec<u8>, idle: u32) -> Result<(), AllocError>
