@@ -1,10 +1,14 @@
 -- One line's text is of one item, one seat, one stretch and one account, and is one line.
 use Rattle.std.proofs.Common.{◌≡◌, ℕ, ◌^◌, ◌<◌, ◌≤◌, ◌+◌, ◌++◌, Bool, true, false, List, [], ◌∷◌, refl, sym, ap}
-use Rattle.std.proofs.Common.{◌∙◌, subst, arith, append_assoc, drop, get_or, inl, inr}
+use Rattle.std.proofs.Common.{◌∙◌, subst, arith, append_assoc, drop, get_or, inl, inr, length}
 use Rattle.std.proofs.lemmas.List.Elements.{All-head, All-tail}
-use Rattle.std.specs.Prelude.{codes, decimal, flat_map, map, Option, Some, None, Ok}
+use Rattle.std.specs.Prelude.{◌==◌, ◌&&◌, nat_le, codes, decimal, flat_map, map, Option, Some, None, Ok}
 use Rattle.std.specs.List.{AllByRecursion, All}
 use Rattle.hls_text.specs.Lines.{Text}
+use Rattle.std.proofs.lemmas.Bool.{eq-eqb, leb-true}
+use Rattle.std.proofs.lemmas.Fmt.{decimal_nonempty}
+use Rattle.hls_text.specs.Numbers.{is_digit, are_digits}
+use Rattle.hls_text.proofs.NumberLaws.{digits_of_decimal}
 use Rattle.hls_text.specs.Tokens.{tokens_of}
 use Rattle.hls_frac.specs.declared.Frac.{Frac}
 use Rattle.hls_frac.specs.Frac.{IsWithin}
@@ -43,7 +47,7 @@ use Rattle.hls_report.specs.ReportText.{item_text, two_words, seat_text, span_te
 use Rattle.hls_report.specs.ReportText.{ticks_text, account_text}
 use Rattle.hls_report.specs.WellFormed.{IsSeated, IsPath, IsAccount}
 use Rattle.hls_report.proofs.Marks.{Lacks, lacks_both, cut_same, name_lacks, number_lacks, number_same}
-use Rattle.hls_report.proofs.Marks.{plain_lacks, lacks_byte, marked, marked_same, named}
+use Rattle.hls_report.proofs.Marks.{plain_lacks, lacks_byte, marked, marked_same, named, both}
 
 -- ---- items
 
@@ -230,10 +234,15 @@ names_same xs ys are are_too e =
 abbrev pub first_byte : Text → ℕ
 first_byte text = get_or text 0 0
 
+pub apart : (x y : Text) → (first_byte x == first_byte y) ≡ false → x ≡ y → ⊥
+apart x y ne e =
+    let same : (first_byte x == first_byte y) ≡ true = eq-eqb (first_byte x) (first_byte y) (ap first_byte e) in
+    let f : false ≡ true = sym ne ∙ same in cc
+
 pub path_same : (p q : Option (List Text)) → IsPath p → IsPath q → path_text p ≡ path_text q → p ≡ q
 path_same None None a b e = refl
-path_same None (Some names) a b e = let f : 105 ≡ 99 = ap first_byte e in absurd (omega arith)
-path_same (Some names) None a b e = let f : 99 ≡ 105 = ap first_byte e in absurd (omega arith)
+path_same None (Some names) a b e = absurd (apart (path_text None) (path_text (Some names)) refl e)
+path_same (Some names) None a b e = absurd (apart (path_text (Some names)) (path_text None) refl e)
 path_same (Some xs) (Some ys) a b e =
     ap (λ (ns : List Text). Some ns) (names_same xs ys a.1 b.1 (ap (λ (t : Text). drop 3 t) e))
 
@@ -371,9 +380,15 @@ account_line horizon a fits is =
 
 -- ---- lines that are told apart by their first bytes
 
+digits_first : (ds rest : Text) → 0 < length ds → are_digits ds ≡ true → first_byte (ds ++ rest) < 58
+digits_first [] rest some are = absurd (omega arith)
+digits_first (b ∷ bs) rest some are =
+    let high : b ≤ 57 = leb-true b 57 (both (nat_le 48 b) (nat_le b 57)
+    (both (is_digit b) (are_digits bs) are).0).1 in omega arith
+
 -- a number begins with a digit
 pub digit_first : (n : ℕ) (rest : Text) → n < 2 ^ 64 → first_byte (decimal n ++ rest) < 58
-digit_first n rest lt = ?
+digit_first n rest lt = digits_first (decimal n) rest (decimal_nonempty n lt) (digits_of_decimal n lt)
 
 -- a name begins with a letter
 pub letter_first : (name rest : Text) → IsName name → 97 ≤ first_byte (name ++ rest)
