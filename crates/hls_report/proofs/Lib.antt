@@ -3,3 +3,7 @@ pub mod Marks
 pub mod RefusalTexts
 pub mod LineTexts
 pub mod Sections
+pub mod WordLaws
+pub mod Stuck
+pub mod RestLaws
+pub mod LineReadings

@@ -1,9 +1,9 @@
 -- One line's text is of one item, one seat, one stretch and one account, and is one line.
-use Rattle.std.proofs.Common.{◌≡◌, ℕ, ◌^◌, ◌<◌, ◌≤◌, ◌+◌, ◌++◌, Bool, true, false, List, [], ◌∷◌, refl, sym, ap}
+use Rattle.std.proofs.Common.{◌≡◌, ℕ, ◌^◌, ◌<◌, ◌≤◌, ◌++◌, true, false, List, [], ◌∷◌, refl, sym, ap}
 use Rattle.std.proofs.Common.{◌∙◌, subst, arith, append_assoc, drop, get_or, inl, inr, length}
 use Rattle.std.proofs.lemmas.List.Elements.{All-head, All-tail}
-use Rattle.std.specs.Prelude.{◌==◌, ◌&&◌, nat_le, codes, decimal, flat_map, map, Option, Some, None, Ok}
-use Rattle.std.specs.List.{AllByRecursion, All}
+use Rattle.std.specs.Prelude.{◌==◌, nat_le, codes, decimal, flat_map, Option, Some, None, Ok}
+use Rattle.std.specs.List.{AllByRecursion}
 use Rattle.hls_text.specs.Lines.{Text}
 use Rattle.std.proofs.lemmas.Bool.{eq-eqb, leb-true}
 use Rattle.std.proofs.lemmas.Fmt.{decimal_nonempty}
@@ -31,9 +31,8 @@ use Rattle.hls_derive.specs.DerivationText.{derivation_text}
 use Rattle.hls_derive.specs.Reading.{Stands}
 use Rattle.hls_derive.proofs.Fronts.{one_guarantee}
 use Rattle.hls_derive.proofs.Parses.{derivation-same}
-use Rattle.hls_lang.specs.declared.scenario.Command.{Command}
 use Rattle.hls_lang.specs.declared.scenario.Item.{Item}
-use Rattle.hls_lang.specs.Forms.{the, number, joined, command_forms, item_forms}
+use Rattle.hls_lang.specs.Forms.{item_forms}
 use Rattle.hls_lang.specs.Grammar.{IsCommand, IsLine}
 use Rattle.hls_lang.specs.Reading.{item_at}
 use Rattle.hls_lang.proofs.CommandLaws.{item_next}
@@ -42,7 +41,7 @@ use Rattle.hls_print.proofs.CanonicalWords.{ArePrintable, forms_words, canonical
 use Rattle.hls_print.proofs.CanonicalForms.{command_printable}
 use Rattle.hls_report.specs.declared.report.Seated.{Seated}
 use Rattle.hls_report.specs.declared.report.Account.{Account}
-use Rattle.hls_report.specs.Content.{Stretch}
+use Rattle.hls_report.specs.declared.stretch.Stretch.{Stretch}
 use Rattle.hls_report.specs.ReportText.{item_text, two_words, seat_text, span_text, path_text, stretch_text}
 use Rattle.hls_report.specs.ReportText.{ticks_text, account_text}
 use Rattle.hls_report.specs.WellFormed.{IsSeated, IsPath, IsAccount}
@@ -101,7 +100,7 @@ fraction_line f w =
       | inl one ↦ subst (Lacks 10) (sym (text_of_whole f one)) num
       | inr more ↦
           subst (Lacks 10) (sym (text_of_ratio f more))
-              (lacks_both 10 (decimal f.num) (47 ∷ decimal f.den) num den)
+          (lacks_both 10 (decimal f.num) (47 ∷ decimal f.den) num den)
     ]
 
 reserved_line : (x y : ℕ) → IsReservation x y → Lacks 10 (decimal x ++ codes " " ++ decimal y)
@@ -258,7 +257,7 @@ path_line (Some names) is = names_line names is.1
 
 -- ---- spans
 
-span_lacks : (m from to : ℕ) → m < 46 → from < 2 ^ 32 → to < 2 ^ 32 → Lacks m (span_text from to)
+pub span_lacks : (m from to : ℕ) → m < 46 → from < 2 ^ 32 → to < 2 ^ 32 → Lacks m (span_text from to)
 span_lacks m from to lt a b =
     lacks_both m (decimal from) (codes ".." ++ decimal to) (number_lacks m from (omega arith) (omega arith))
     (lacks_byte m 46 (46 ∷ decimal to) (λ e. omega arith) (lacks_byte m 46 (decimal to) (λ e. omega arith)

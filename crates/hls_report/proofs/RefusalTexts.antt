@@ -1,7 +1,7 @@
 -- The text of a refusal is read as that refusal, and is one line.
-use Rattle.std.proofs.Common.{◌≡◌, ℕ, ◌^◌, ◌<◌, ◌≤◌, ◌++◌, Bool, true, false, cond, [], ◌∷◌, refl, sym, ap, ◌∙◌}
+use Rattle.std.proofs.Common.{◌≡◌, ℕ, ◌^◌, ◌<◌, ◌≤◌, ◌++◌, Bool, true, false, ◌∷◌, refl, sym, ap, ◌∙◌}
 use Rattle.std.proofs.Common.{arith, length, take}
-use Rattle.std.specs.Prelude.{◌+◌, ◌==◌, ◌&&◌, nat_lt, if◌then◌else◌, codes, decimal, drop, Option, Some, None, option_map}
+use Rattle.std.specs.Prelude.{◌+◌, ◌==◌, if◌then◌else◌, codes, decimal, drop, Option, Some, None, option_map}
 use Rattle.std.specs.Str.{bytes_eq}
 use Rattle.std.proofs.lemmas.Bool.{lt-ltb}
 use Rattle.std.proofs.lemmas.Slice.Eq.{bytes_eq-Decides}
@@ -17,8 +17,8 @@ use Rattle.hls_report.specs.declared.refusal.Refusal.{Refusal}
 use Rattle.hls_report.specs.declared.refusal.Refusal.TheVariants as refusals
 use Rattle.hls_report.specs.ReportText.{kind_text, place_text, refusal_text}
 use Rattle.hls_report.specs.WellFormed.{IsPlace, HasBoxes, IsRefusal}
-use Rattle.hls_report.specs.Reading.{name_at, place_at, value, number_below, kind_at, refusal_at}
-use Rattle.hls_report.specs.Reading.{seat_refusal_at, late_refusal_at, named_at, counted_at, count_at}
+use Rattle.hls_report.specs.Reading.{name_at, place_at, number_below, kind_at, refusal_at}
+use Rattle.hls_report.specs.Reading.{seat_refusal_at, late_refusal_at, count_at}
 use Rattle.hls_report.proofs.Marks.{Lacks, lacks_both, name_lacks, number_lacks, value_decimal}
 
 -- ---- words
@@ -93,7 +93,7 @@ two_again read_one read_two make one two a b lacks e f =
     ∙ ap (λ o. o >>= λ x. read_two two >>= λ y. Some (make x y)) e
     ∙ ap (λ o. o >>= λ y. Some (make a y)) f
 
-count_again : (n : ℕ) → n < 2 ^ 32 → count_at (decimal n) ≡ Some n
+pub count_again : (n : ℕ) → n < 2 ^ 32 → count_at (decimal n) ≡ Some n
 count_again n lt = number_again (2 ^ 32) n lt (omega arith)
 
 -- ---- refusals

@@ -1,9 +1,8 @@
 -- The lines of a report stand for one content.
-use Rattle.std.proofs.Common.{◌≡◌, ℕ, ◌^◌, ◌<◌, ◌≤◌, ◌+◌, ◌++◌, Bool, true, false, List, [], ◌∷◌, refl, sym, ap}
-use Rattle.std.proofs.Common.{◌∙◌, subst, arith, append_assoc, drop, get_or, flat_map}
+use Rattle.std.proofs.Common.{◌≡◌, ℕ, ◌^◌, ◌<◌, ◌≤◌, ◌+◌, ◌++◌, true, false, List, [], ◌∷◌, refl, sym, ap}
+use Rattle.std.proofs.Common.{◌∙◌, subst, arith, append_assoc, drop, flat_map}
 use Rattle.std.specs.Prelude.{◌==◌, codes, decimal, map, Option, Some, None}
 use Rattle.std.specs.List.{AllByRecursion, list_any}
-use Rattle.std.proofs.lemmas.Bool.{eq-eqb}
 use Rattle.hls_text.specs.Lines.{Text}
 use Rattle.hls_guarantee.proofs.Spellings.{has_mark}
 use Rattle.hls_lang.specs.declared.scenario.Command.{Command}
@@ -15,15 +14,16 @@ use Rattle.hls_report.specs.declared.report.Answered.{Answered}
 use Rattle.hls_report.specs.declared.report.Account.{Account}
 use Rattle.hls_report.specs.declared.refusal.Refusal.{Refusal}
 use Rattle.hls_report.specs.declared.report.Report.{Report}
-use Rattle.hls_report.specs.Content.{Stretch, Content, content_of}
+use Rattle.hls_report.specs.declared.stretch.Stretch.{Stretch}
+use Rattle.hls_report.specs.Content.{Content, content_of}
 use Rattle.hls_report.specs.ReportText.{item_text, item_of, refusal_text, seat_text, answer_lines, answered_lines}
-use Rattle.hls_report.specs.ReportText.{two_words, span_text, stretch_text, account_text, head_lines, end_lines}
-use Rattle.hls_report.specs.ReportText.{schedule_lines, accounts_lines, content_lines, report_text}
-use Rattle.hls_report.specs.WellFormed.{IsSeated, AreSeats, IsAnswer, AreAnswered, Cover, IsAccount, IsContent}
+use Rattle.hls_report.specs.ReportText.{two_words, span_text, stretch_text, account_text, end_lines}
+use Rattle.hls_report.specs.ReportText.{accounts_lines, content_lines, report_text}
+use Rattle.hls_report.specs.WellFormed.{IsSeated, IsAnswer, AreAnswered, Cover, IsAccount, IsContent}
 use Rattle.hls_report.specs.WellFormed.{IsWellFormed}
 use Rattle.hls_report.proofs.Marks.{Lacks, cut_same, name_lacks, number_lacks, number_same, marked_same}
 use Rattle.hls_report.proofs.RefusalTexts.{refusal_same, refusal_line}
-use Rattle.hls_report.proofs.LineTexts.{IsItem, item_same, item_line, seat_same, seat_line, first_byte, apart}
+use Rattle.hls_report.proofs.LineTexts.{item_same, item_line, seat_same, seat_line, first_byte, apart}
 use Rattle.hls_report.proofs.LineTexts.{IsStretch, stretch_same, stretch_line, account_same, account_line}
 use Rattle.hls_report.proofs.LineTexts.{digit_first}
 use Rattle.hls_report.proofs.Writings.{seats_all}

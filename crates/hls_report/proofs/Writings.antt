@@ -1,5 +1,5 @@
 -- What is written, piece after piece.
-use Rattle.std.proofs.Common.{◌≡◌, ℕ, ◌≤◌, List, [], ◌∷◌, ◌++◌, refl, sym, ap, ◌∙◌, append_assoc}
+use Rattle.std.proofs.Common.{◌≡◌, ℕ, List, [], ◌∷◌, ◌++◌, refl, sym, ap, ◌∙◌, append_assoc}
 use Rattle.std.specs.Prelude.{map, flat_map, get_or, codes, decimal}
 use Rattle.std.specs.List.{AllByRecursion}
 use Rattle.std.proofs.lemmas.Grind.{flat_map-append}
@@ -12,9 +12,9 @@ use Rattle.hls_report.specs.declared.report.Seated.{Seated}
 use Rattle.hls_report.specs.declared.report.Answered.{Answered}
 use Rattle.hls_report.specs.declared.report.Account.{Account}
 use Rattle.hls_report.specs.declared.report.Report.{Report}
-use Rattle.hls_report.specs.Content.{content_of, stretch_of}
-use Rattle.hls_report.specs.ReportText.{answered_lines, stretch_text, account_text, seat_text, head_lines}
-use Rattle.hls_report.specs.ReportText.{end_lines, with_end, ended, content_lines, report_text}
+use Rattle.hls_report.specs.Content.{stretch_of}
+use Rattle.hls_report.specs.ReportText.{answered_lines, stretch_text, account_text, head_lines}
+use Rattle.hls_report.specs.ReportText.{end_lines, with_end, ended, report_text}
 use Rattle.hls_report.specs.WellFormed.{AreAnswered, IsAnswer, IsAccount, AreSeats, IsSeated}
 use Rattle.hls_lang.specs.declared.scenario.Command.{Command}
 
@@ -33,7 +33,7 @@ pub seats_all : (command : Command) (seats : List Seated) → AreSeats command s
 seats_all command [] are = tt
 seats_all command (seat ∷ seats) are = are.1
 
-ended-append : (xs ys : List Text) → ended (xs ++ ys) ≡ ended xs ++ ended ys
+pub ended-append : (xs ys : List Text) → ended (xs ++ ys) ≡ ended xs ++ ended ys
 ended-append xs ys = flat_map-append with_end xs ys
 
 ended-answered : (answered : List Answered)

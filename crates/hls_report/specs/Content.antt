@@ -1,17 +1,12 @@
 -- What a report tells, with the names that its paths stand for.
-use Rattle.std.specs.Prelude.{ℕ, List, [], Option, option_map, map, take, slice_get, get_or}
+use Rattle.std.specs.Prelude.{ℕ, List, [], option_map, map, take, get_or}
 use Rattle.hls_text.specs.Lines.{Text}
 use Rattle.hls_report.specs.declared.report.Answered.{Answered}
 use Rattle.hls_report.specs.declared.report.Path.{Path}
 use Rattle.hls_report.specs.declared.report.Run.{Run}
+use Rattle.hls_report.specs.declared.stretch.Stretch.{Stretch}
 use Rattle.hls_report.specs.declared.report.Account.{Account}
 use Rattle.hls_report.specs.declared.report.Report.{Report}
-
--- ticks in a row, and the names from the processor down to the thread that they were given to
-pub record Stretch : Type 0 where
-  pub from : ℕ
-  pub to : ℕ
-  pub path : Option (List Text)
 
 pub record Content : Type 0 where
   pub horizon : ℕ

@@ -2,3 +2,4 @@ pub mod Content
 pub mod ReportText
 pub mod WellFormed
 pub mod Reading
+pub mod Rests

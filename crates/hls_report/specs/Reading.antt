@@ -1,5 +1,5 @@
 -- What stands in a line, as the reader's private functions read it. ReportText says which lines there are.
-use Rattle.std.specs.Prelude.{◌≡◌, ℕ, ◌+◌, ◌-◌, ◌*◌, ◌^◌, ◌==◌, ◌&&◌, nat_lt, Bool, List, [], ◌∷◌, codes, decimal}
+use Rattle.std.specs.Prelude.{ℕ, ◌+◌, ◌-◌, ◌*◌, ◌^◌, ◌==◌, ◌&&◌, nat_lt, Bool, codes, decimal}
 use Rattle.std.specs.Prelude.{fold, Option, Some, None, if◌then◌else◌}
 use Rattle.std.specs.Str.{bytes_eq}
 use Rattle.hls_text.specs.Lines.{Text}
@@ -106,3 +106,29 @@ refusal_at text =
     (constant_at 64 refusals.TooManyNodes)
     (first_of_two (after_words (codes "14 TooManyThreads ") text)
     (constant_at 256 refusals.TooManyThreads) (seat_refusal_at text)))))
+
+-- ---- the parts of lines
+
+-- the name and the port of a seat, and what stands behind them
+unfoldable pub seat_front_at : Text → Option (Text × ℕ × Text)
+seat_front_at text = after_words (codes "by ") text >>= λ rest. cut_at 32 rest >>= λ p.
+    name_at p.0 >>= λ name. cut_at 32 p.1 >>= λ q. number_below 4 q.0 >>= λ port. Some (name, port, q.1)
+
+-- the first tick and the last
+unfoldable pub span_at : Text → Option (ℕ × ℕ)
+span_at text = cut_at 46 text >>= λ p. count_at p.0 >>= λ from. after_words (codes ".") p.1 >>= λ rest.
+    count_at rest >>= λ to. Some (from, to)
+
+-- a span, and what stands behind it and a space
+unfoldable pub spanned_at : Text → Option (ℕ × ℕ × Text)
+spanned_at text = cut_at 32 text >>= λ p. span_at p.0 >>= λ span. Some (span.0, span.1, p.1)
+
+-- a name and a span, and what stands behind them
+abbrev pub account_front_at : Text → Option (Text × ℕ × ℕ × Text)
+account_front_at text = cut_at 32 text >>= λ p. name_at p.0 >>= λ name. spanned_at p.1 >>= λ s.
+    Some (name, s.0, s.1, s.2)
+
+-- how many ticks were ready and were served
+unfoldable pub ticks_at : Text → Option (ℕ × ℕ)
+ticks_at text = after_words (codes " ready ") text >>= λ rest. cut_at 32 rest >>= λ p. count_at p.0 >>= λ ready.
+    after_words (codes "served ") p.1 >>= λ more. count_at more >>= λ served. Some (ready, served)

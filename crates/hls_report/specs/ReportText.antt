@@ -15,7 +15,8 @@ use Rattle.hls_report.specs.declared.report.Answer.TheVariants.{Done, Refused}
 use Rattle.hls_report.specs.declared.report.Answered.{Answered}
 use Rattle.hls_report.specs.declared.report.Account.{Account}
 use Rattle.hls_report.specs.declared.report.Report.{Report}
-use Rattle.hls_report.specs.Content.{Stretch, Content, content_of}
+use Rattle.hls_report.specs.declared.stretch.Stretch.{Stretch}
+use Rattle.hls_report.specs.Content.{Content, content_of}
 
 -- at T and the command's canonical spelling
 abbrev pub item_text : Item → Text

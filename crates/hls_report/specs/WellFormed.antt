@@ -1,5 +1,5 @@
 -- Which reports have a text, and which texts are theirs.
-use Rattle.std.specs.Prelude.{◌≡◌, ℕ, ◌+◌, ◌^◌, ◌≤◌, ◌<◌, ◌==◌, false, List, [], ◌∷◌, ◌++◌, length, codes}
+use Rattle.std.specs.Prelude.{◌≡◌, ℕ, ◌+◌, ◌^◌, ◌≤◌, ◌<◌, ◌==◌, false, List, [], ◌∷◌, ◌++◌, length}
 use Rattle.std.specs.Prelude.{Option, Some, None, if◌then◌else◌}
 use Rattle.std.specs.List.{AllByRecursion, list_any}
 use Rattle.std.specs.Str.{bytes_eq}
@@ -11,7 +11,7 @@ use Rattle.hls_chron.specs.declared.plain.Kind.TheVariants as kinds
 use Rattle.hls_guarantee.specs.Limits.{IsValid}
 use Rattle.hls_derive.specs.Derivation.{IsWithinGrammar}
 use Rattle.hls_lang.specs.declared.scenario.Command.{Command}
-use Rattle.hls_lang.specs.declared.scenario.Command.TheVariants.{Load, Thread, End, Unload, Move, Wake, Block}
+use Rattle.hls_lang.specs.declared.scenario.Command.TheVariants.{Load, Thread, Move}
 use Rattle.hls_lang.specs.Grammar.{IsCommand}
 use Rattle.hls_report.specs.declared.refusal.Refusal.{Refusal}
 use Rattle.hls_report.specs.declared.refusal.Refusal.TheVariants as refusals
@@ -20,10 +20,10 @@ use Rattle.hls_report.specs.declared.report.Answer.{Answer}
 use Rattle.hls_report.specs.declared.report.Answer.TheVariants.{Done, Refused}
 use Rattle.hls_report.specs.declared.report.Answered.{Answered}
 use Rattle.hls_report.specs.declared.report.Path.{Path}
-use Rattle.hls_report.specs.declared.report.Run.{Run}
 use Rattle.hls_report.specs.declared.report.Account.{Account}
 use Rattle.hls_report.specs.declared.report.Report.{Report}
-use Rattle.hls_report.specs.Content.{Stretch, Content, content_of}
+use Rattle.hls_report.specs.declared.stretch.Stretch.{Stretch}
+use Rattle.hls_report.specs.Content.{Content, content_of}
 use Rattle.hls_report.specs.ReportText.{ended, report_text}
 
 -- ---- answers

@@ -3,9 +3,16 @@
 
 mod fault;
 pub mod laws;
+mod line_reading;
+mod lines;
 mod refusal;
-mod report;
+mod refusal_reading;
 mod refusals;
+mod report;
+mod stretch;
+#[cfg(test)]
+mod tests;
+mod words;
 mod writing;
 
 pub use fault::ReportFault;

@@ -14,6 +14,7 @@ use crate::{Account, Answer, Answered, Path, Report, Run, Seated};
 use hls_chron::Name;
 use hls_derive::write_derivation;
 use hls_guarantee::write_guarantee;
+use hls_lang::Command;
 use hls_print::print_command;
 use itoa::{Buffer, Integer};
 use std::alloc::{AllocError, Global};
@@ -45,7 +46,11 @@ fn put_head(out: &mut Vec<u8>, horizon: u32, depth: u8) -> Result<(), AllocError
     put(out, b"\n")
 }
 
-fn put_all_answered(alloc: Global, out: &mut Vec<u8>, answered: &[Answered]) -> Result<(), AllocError>
+fn put_all_answered(
+    alloc: Global,
+    out: &mut Vec<u8>,
+    answered: &[Answered],
+) -> Result<(), AllocError>
     requires { AllByRecursion (λ a. IsCommand a.command × IsAnswer a.command a.answer) answered.now }
     ensures { OnOk result (out.new.items
         ≡ out.old.items ++ flat_map (λ a. ended (answered_lines a)) answered.now) }
@@ -61,12 +66,26 @@ fn put_item(alloc: Global, out: &mut Vec<u8>, answered: &Answered) -> Result<(),
     requires { IsCommand answered.now.command }
     ensures { OnOk result (out.new.items ≡ out.old.items ++ with_end (item_text (item_of answered.now))) }
 {
-    let command = print_command(alloc, &answered.command)?;
-    put(out, b"at ")?;
-    put_number(out, u128::from(answered.tick))?;
-    put(out, b" ")?;
-    put(out, &command)?;
+    put_command(alloc, out, answered.tick, &answered.command)?;
     put(out, b"\n")
+}
+
+/// Appends a tick and a command.
+pub fn put_command(
+    alloc: Global,
+    out: &mut Vec<u8>,
+    tick: u32,
+    command: &Command,
+) -> Result<(), AllocError>
+    requires { IsCommand command.now }
+    ensures { OnOk result (out.new.items
+        ≡ out.old.items ++ item_text (record { tick = tick; command = command.now })) }
+{
+    let command = print_command(alloc, command)?;
+    put(out, b"at ")?;
+    put_number(out, u128::from(tick))?;
+    put(out, b" ")?;
+    put(out, &command)
 }
 
 fn put_answer(out: &mut Vec<u8>, answered: &Answered) -> Result<(), AllocError>

@@ -1,4 +1,3 @@
-use Rattle.hls_report.specs.ReportText.{report_text}
 use Rattle.hls_report.proofs.Writings.{commands_answers, accounts_kept, whole_report}
 use Rattle.hls_report.proofs.writing.write_report.Goals as goal
 
@@ -10,7 +9,18 @@ put_accounts-requires c = rw c.items-4.ensures (accounts_kept _ _ c.requires.con
 
 pub returns : goal.returns
 returns c =
-    rw (c.in_ok-put_end.ensures, c.in_ok-put_accounts.ensures, c.in_ok-put-2.ensures, c.in_ok-put_runs.ensures,
-    c.in_ok-put.ensures, c.in_ok-put_all_answered.ensures, c.in_ok-put_head.ensures, c.items.ensures,
-    c.items-2.ensures, c.items-3.ensures, c.items-4.ensures, c.new-out.ensures.items)
+    rw (
+      c.in_ok-put_end.ensures,
+      c.in_ok-put_accounts.ensures,
+      c.in_ok-put-2.ensures,
+      c.in_ok-put_runs.ensures,
+      c.in_ok-put.ensures,
+      c.in_ok-put_all_answered.ensures,
+      c.in_ok-put_head.ensures,
+      c.items.ensures,
+      c.items-2.ensures,
+      c.items-3.ensures,
+      c.items-4.ensures,
+      c.new-out.ensures.items,
+    )
     (whole_report c.args.report.now)
