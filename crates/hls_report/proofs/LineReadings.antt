@@ -32,8 +32,13 @@ pub item_is_line : (h last : ℕ) (item : Item) (line : Text) → h ≤ 100000 �
     → line ≡ item_text item → IsItemLine h last (tokens_of line) item
 item_is_line h last item line fits n e =
     let lt : item.tick < h = n.2 in
-    let is : IsItem item = (n.0, omega arith) in
-    (n.0, n.1, n.2, subst (λ (t : Text). IsLine (item_forms item) (tokens_of t)) (sym e) (item_stands item is))
+    let is : IsItem item = (n.0, omega arith) in (
+      n.0,
+      n.1,
+      n.2,
+      subst (λ (t : Text). IsLine (item_forms item) (tokens_of t)) (sym e)
+          (item_stands item is),
+    )
 
 pub none_some : {A : Type 0} (x : A) → None ≡ Some x → ⊥
 none_some x e = absurd cc
@@ -79,14 +84,16 @@ seat_parts s line name port rest is e read =
 seat_of : Text → ℕ → Derivation → Seated
 seat_of name port derivation = record { name = name; port = port; derivation = derivation }
 
-pub seat_is : (s : Seated) (name : Text) (port : ℕ) (rest : Text) (d : Derivation) → SeatParts s name port rest
+pub seat_is : (s : Seated) (name : Text) (port : ℕ) (rest : Text) (d : Derivation)
+    → SeatParts s name port rest
     → s.derivation ≡ d → s ≡ record { name = name; port = port; derivation = d }
 unfolding seat_of
 seat_is s name port rest d p e =
     ap (λ x. seat_of x s.port s.derivation) p.name ∙ ap (λ x. seat_of name x s.derivation) p.port
     ∙ ap (λ x. seat_of name port x) e
 
-pub no_seat_front : (s : Seated) (line : Text) → IsSeated s → line ≡ seat_text s → seat_front_at line ≡ None → ⊥
+pub no_seat_front : (s : Seated) (line : Text) → IsSeated s → line ≡ seat_text s → seat_front_at line ≡ None
+    → ⊥
 no_seat_front s line is e none =
     none_some (s.name, s.port, derivation_text s.derivation)
     (sym none ∙ ap seat_front_at e ∙ seat_front_again s is)
@@ -97,7 +104,8 @@ pub span_again : (from to : ℕ) → from < 2 ^ 32 → to < 2 ^ 32 → span_at (
 unfolding span_at
 span_again from to a b =
     ap (λ o. o >>= λ p. count_at p.0 >>= λ f. after_words (codes ".") p.1 >>= λ rest. count_at rest >>= λ t.
-    Some (f, t)) (cut_again 46 (decimal from) (46 ∷ decimal to) (number_lacks 46 from (omega arith) (omega arith)))
+    Some (f, t)) (cut_again 46 (decimal from) (46 ∷ decimal to) (number_lacks 46 from (omega arith)
+    (omega arith)))
     ∙ ap (λ o. o >>= λ f. count_at (decimal to) >>= λ t. Some (f, t)) (count_again from a)
     ∙ ap (λ o. o >>= λ t. Some (from, t)) (count_again to b)
 
@@ -115,7 +123,8 @@ pub ticks_again : (ready served : ℕ) → ready < 2 ^ 32 → served < 2 ^ 32
     → ticks_at (ticks_text ready served) ≡ Some (ready, served)
 unfolding ticks_at
 ticks_again ready served a b =
-    ap (λ o. o >>= λ p. count_at p.0 >>= λ r. after_words (codes "served ") p.1 >>= λ more. count_at more >>= λ s.
+    ap (λ o. o >>= λ p. count_at p.0 >>= λ r. after_words
+    (codes "served ") p.1 >>= λ more. count_at more >>= λ s.
     Some (r, s)) (cut_again 32 (decimal ready) (codes "served " ++ decimal served)
     (number_lacks 32 ready (omega arith) (omega arith)))
     ∙ ap (λ o. o >>= λ r. count_at (decimal served) >>= λ s. Some (r, s)) (count_again ready a)
@@ -158,7 +167,8 @@ account_parts h a line name from to rest fits is e read =
       rest = sym (ap (λ (p : Text × ℕ × ℕ × Text). p.3) same);
     }
 
-pub no_account_front : (h : ℕ) (a : Account) (line : Text) → h ≤ 100000 → IsAccount h a → line ≡ account_text a
+pub no_account_front : (h : ℕ) (a : Account) (line : Text) → h ≤ 100000 → IsAccount h a → line
+    ≡ account_text a
     → account_front_at line ≡ None → ⊥
 no_account_front h a line fits is e none =
     none_some (a.name, a.from, a.to, account_rest a)
@@ -201,7 +211,8 @@ some_back : (a b : Guarantee × ℕ × ℕ) → Some a ≡ Some b → a ≡ b
 some_back a b e = cc
 
 -- the account of the parts that were read
-pub account_is : (a : Account) (name : Text) (from to : ℕ) (kept : Guarantee) (ready served : ℕ) → a.name ≡ name
+pub account_is : (a : Account) (name : Text) (from to : ℕ) (kept : Guarantee) (ready served : ℕ) → a.name
+    ≡ name
     → a.from ≡ from → a.to ≡ to → SameBack (kept, ready, served) (a.kept, a.ready, a.served)
     → record { name = name; from = from; to = to; kept = kept; ready = ready; served = served } ≡ a
 unfolding stay

@@ -151,7 +151,8 @@ step_line s is =
 steps_line : (steps : List Step) → AreValid steps → Lacks 10 (steps_text steps)
 steps_line [] are = refl
 steps_line (s ∷ steps) are =
-    lacks_both 10 (step_text s) (steps_text steps) (step_line s (All-head (λ (t : Step). IsValid t.to) s steps are))
+    lacks_both 10 (step_text s) (steps_text steps) (step_line s (All-head (λ
+    (t : Step). IsValid t.to) s steps are))
     (steps_line steps (All-tail (λ (t : Step). IsValid t.to) s steps are))
 
 sched_line : (s : SchedStep) → IsValid s.to → PortFits s.kind s.port → Lacks 10 (sched_text s)
@@ -217,7 +218,8 @@ slashed (name ∷ names) =
     ap (λ (t : Text). 47 ∷ t) (append_assoc name (more_names names) (47 ∷ [])
     ∙ ap (λ (t : Text). name ++ t) (slashed names) ∙ sym (append_assoc name (47 ∷ []) (marked 47 names)))
 
-names_lack : (m : ℕ) (names : List Text) → m < 48 → AllByRecursion IsName names → AllByRecursion (Lacks m) names
+names_lack : (m : ℕ) (names : List Text) → m < 48 → AllByRecursion IsName names → AllByRecursion
+    (Lacks m) names
 names_lack m [] lt are = tt
 names_lack m (name ∷ names) lt are = (name_lacks m name lt are.0, names_lack m names lt are.1)
 
@@ -235,7 +237,8 @@ first_byte text = get_or text 0 0
 
 pub apart : (x y : Text) → (first_byte x == first_byte y) ≡ false → x ≡ y → ⊥
 apart x y ne e =
-    let same : (first_byte x == first_byte y) ≡ true = eq-eqb (first_byte x) (first_byte y) (ap first_byte e) in
+    let same : (first_byte x == first_byte y) ≡ true = eq-eqb (first_byte x) (first_byte y)
+    (ap first_byte e) in
     let f : false ≡ true = sym ne ∙ same in cc
 
 pub path_same : (p q : Option (List Text)) → IsPath p → IsPath q → path_text p ≡ path_text q → p ≡ q
@@ -267,7 +270,8 @@ span_same : (from to other more : ℕ) → from < 2 ^ 32 → to < 2 ^ 32 → oth
     → span_text from to ≡ span_text other more → (from ≡ other) × (to ≡ more)
 span_same from to other more a b c d e =
     let cut = cut_same 46 (decimal from) (46 ∷ decimal to) (decimal other) (46 ∷ decimal more) e
-    (number_lacks 46 from (omega arith) (omega arith)) (number_lacks 46 other (omega arith) (omega arith)) in (
+    (number_lacks 46 from (omega arith) (omega arith)) (number_lacks 46 other (omega arith)
+    (omega arith)) in (
       number_same from other (omega arith) (omega arith) cut.0,
       number_same to more (omega arith) (omega arith) (ap (λ (t : Text). drop 1 t) cut.1),
     )
@@ -286,10 +290,12 @@ stretch_same a b is is_too e =
     let forward_too = is_too.forward in
     let within = is.within in
     let within_too = is_too.within in
-    let cut = cut_same 32 (span_text a.from a.to) (path_text a.path) (span_text b.from b.to) (path_text b.path) e
+    let cut = cut_same 32 (span_text a.from a.to) (path_text a.path) (span_text b.from b.to)
+    (path_text b.path) e
     (span_lacks 32 a.from a.to (omega arith) (omega arith) (omega arith))
     (span_lacks 32 b.from b.to (omega arith) (omega arith) (omega arith)) in
-    let span = span_same a.from a.to b.from b.to (omega arith) (omega arith) (omega arith) (omega arith) cut.0 in
+    let span = span_same a.from a.to b.from b.to (omega arith) (omega arith) (omega arith)
+    (omega arith) cut.0 in
     let path = path_same a.path b.path is.path is_too.path cut.1 in
     let p : over a.from a.to a.path ≡ over b.from a.to a.path = ap (λ (n : ℕ). over n a.to a.path) span.0 in
     let q : over b.from a.to a.path ≡ over b.from b.to a.path = ap (λ (n : ℕ). over b.from n a.path) span.1 in
@@ -312,7 +318,8 @@ ticks_same : (ready served other more : ℕ) → ready < 2 ^ 32 → served < 2 ^
 ticks_same ready served other more a b c d e =
     let cut = cut_same 32 (decimal ready) (codes "served " ++ decimal served) (decimal other)
     (codes "served " ++ decimal more) (ap (λ (t : Text). drop 7 t) e)
-    (number_lacks 32 ready (omega arith) (omega arith)) (number_lacks 32 other (omega arith) (omega arith)) in (
+    (number_lacks 32 ready (omega arith) (omega arith)) (number_lacks 32 other (omega arith)
+    (omega arith)) in (
       number_same ready other (omega arith) (omega arith) cut.0,
       number_same served more (omega arith) (omega arith) (ap (λ (t : Text). drop 7 t) cut.1),
     )
@@ -321,7 +328,8 @@ ticks_same ready served other more a b c d e =
 kept_text : Account → Text
 kept_text a = spelling a.kept ++ ticks_text a.ready a.served
 
-kept_same : (horizon : ℕ) (a b : Account) → IsAccount horizon a → IsAccount horizon b → kept_text a ≡ kept_text b
+kept_same : (horizon : ℕ) (a b : Account) → IsAccount horizon a → IsAccount horizon b → kept_text a
+    ≡ kept_text b
     → (a.kept ≡ b.kept) × (ticks_text a.ready a.served ≡ ticks_text b.ready b.served)
 unfolding kept_text
 kept_same horizon a b is is_too e =
@@ -329,13 +337,15 @@ kept_same horizon a b is is_too e =
     record { valid = is.kept; spelled = refl; ends = refl } in
     let two : Stands (kept_text a) b.kept (ticks_text b.ready b.served) =
     record { valid = is_too.kept; spelled = e; ends = refl } in
-    one_guarantee (kept_text a) a.kept b.kept (ticks_text a.ready a.served) (ticks_text b.ready b.served) one two
+    one_guarantee (kept_text a) a.kept b.kept (ticks_text a.ready a.served)
+    (ticks_text b.ready b.served) one two
 
 stay : Text → (from to : ℕ) → Guarantee → (ready served : ℕ) → Account
 stay name from to kept ready served =
     record { name = name; from = from; to = to; kept = kept; ready = ready; served = served }
 
-pub account_same : (horizon : ℕ) (a b : Account) → horizon ≤ 100000 → IsAccount horizon a → IsAccount horizon b
+pub account_same : (horizon : ℕ) (a b : Account) → horizon ≤ 100000 → IsAccount horizon a
+    → IsAccount horizon b
     → account_text a ≡ account_text b → a ≡ b
 unfolding kept_text stay
 account_same horizon a b fits is is_too e =
@@ -345,7 +355,8 @@ account_same horizon a b fits is is_too e =
     let within_too = is_too.within in
     let first = cut_same 32 a.name _ b.name _ e (name_lacks 32 a.name (omega arith) is.named)
     (name_lacks 32 b.name (omega arith) is_too.named) in
-    let second = cut_same 32 (span_text a.from a.to) (kept_text a) (span_text b.from b.to) (kept_text b) first.1
+    let second = cut_same 32 (span_text a.from a.to) (kept_text a) (span_text b.from b.to)
+    (kept_text b) first.1
     (span_lacks 32 a.from a.to (omega arith) (omega arith) (omega arith))
     (span_lacks 32 b.from b.to (omega arith) (omega arith) (omega arith)) in
     let span = span_same a.from a.to b.from b.to (omega arith) (omega arith) (omega arith) (omega arith)
@@ -366,11 +377,13 @@ ticks_line ready served a b =
     lacks_both 10 (decimal ready) (codes " served " ++ decimal served) (number_lacks 10 ready (omega arith)
     (omega arith)) (number_lacks 10 served (omega arith) (omega arith))
 
-pub account_line : (horizon : ℕ) (a : Account) → horizon ≤ 100000 → IsAccount horizon a → Lacks 10 (account_text a)
+pub account_line : (horizon : ℕ) (a : Account) → horizon ≤ 100000 → IsAccount horizon a → Lacks 10
+    (account_text a)
 account_line horizon a fits is =
     let forward = is.forward in
     let within = is.within in
-    lacks_both 10 a.name (32 ∷ two_words (span_text a.from a.to) (spelling a.kept ++ ticks_text a.ready a.served))
+    lacks_both 10 a.name (32 ∷ two_words (span_text a.from a.to) (spelling a.kept
+    ++ ticks_text a.ready a.served))
     (name_lacks 10 a.name (omega arith) is.named)
     (lacks_both 10 (span_text a.from a.to) (32 ∷ (spelling a.kept ++ ticks_text a.ready a.served))
     (span_lacks 10 a.from a.to (omega arith) (omega arith) (omega arith))

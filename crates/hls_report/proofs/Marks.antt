@@ -95,7 +95,8 @@ name_lacks m (b ∷ bs) lt is =
 pub number_lacks : (m n : ℕ) → m < 48 → n < 10 ^ 64 → Lacks m (decimal n)
 number_lacks m n lt fits = decimal-lacks m n lt fits
 
-value_more : (v : ℕ) (ds : Text) (d : ℕ) → fold digit_step v (ds ++ d ∷ []) ≡ digit_step (fold digit_step v ds) d
+value_more : (v : ℕ) (ds : Text) (d : ℕ) → fold digit_step v (ds ++ d ∷ []) ≡ digit_step
+    (fold digit_step v ds) d
 value_more v [] d = refl
 value_more v (b ∷ bs) d = value_more (digit_step v b) bs d
 

@@ -58,7 +58,8 @@ kind_again kinds.Join is = refl
 cut_by : ℕ → Text → Text × Text
 cut_by at text = (take at text, drop (at + 1) text)
 
-pub cut_again : (m : ℕ) (front rest : Text) → Lacks m front → cut_at m (front ++ m ∷ rest) ≡ Some (front, rest)
+pub cut_again : (m : ℕ) (front rest : Text) → Lacks m front → cut_at m (front ++ m ∷ rest) ≡ Some
+    (front, rest)
 unfolding cut_by
 cut_again m front rest lacks =
     let found = position_first m (front ++ m ∷ rest) front rest refl lacks in
@@ -89,7 +90,8 @@ pub two_again : {A B C : Type 0} (read_one : Text → Option A) (read_two : Text
     → (cut_at 32 (one ++ 32 ∷ two) >>= λ p. read_one p.0 >>= λ x. read_two p.1 >>= λ y. Some (make x y))
     ≡ Some (make a b)
 two_again read_one read_two make one two a b lacks e f =
-    ap (λ o. o >>= λ p. read_one p.0 >>= λ x. read_two p.1 >>= λ y. Some (make x y)) (cut_again 32 one two lacks)
+    ap (λ o. o >>= λ p. read_one p.0 >>= λ x. read_two p.1 >>= λ y. Some (make x y))
+    (cut_again 32 one two lacks)
     ∙ ap (λ o. o >>= λ x. read_two two >>= λ y. Some (make x y)) e
     ∙ ap (λ o. o >>= λ y. Some (make a y)) f
 
@@ -107,7 +109,8 @@ refusal_again (refusals.NoSuchName name) is =
 refusal_again (refusals.WrongSort place) is =
     ap (λ o. o >>= λ n. Some (refusals.WrongSort n)) (place_again place is)
 refusal_again (refusals.TooManyNodes most) is =
-    rw is (ap (λ o. o >>= λ n. if n == 64 then Some (refusals.TooManyNodes n) else None) (count_again 64 (omega arith)))
+    rw is (ap (λ o. o >>= λ n. if n == 64 then Some (refusals.TooManyNodes n) else None) (count_again 64
+    (omega arith)))
 refusal_again (refusals.TooManyThreads most) is =
     rw is (ap (λ o. o >>= λ n. if n == 256 then Some (refusals.TooManyThreads n) else None)
     (count_again 256 (omega arith)))

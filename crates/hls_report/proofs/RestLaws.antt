@@ -18,9 +18,11 @@ use Rattle.hls_report.specs.declared.report.Answer.TheVariants.{Done, Refused}
 use Rattle.hls_report.specs.declared.report.Answered.{Answered}
 use Rattle.hls_report.specs.declared.report.Account.{Account}
 use Rattle.hls_report.specs.declared.stretch.Stretch.{Stretch}
-use Rattle.hls_report.specs.ReportText.{item_text, item_of, refusal_text, seat_text, answer_lines, answered_lines}
+use Rattle.hls_report.specs.ReportText.{item_text, item_of, refusal_text, seat_text, answer_lines}
+use Rattle.hls_report.specs.ReportText.{answered_lines}
 use Rattle.hls_report.specs.ReportText.{stretch_text, account_text}
-use Rattle.hls_report.specs.WellFormed.{IsRefusal, IsSeated, TakesSeats, AreSeats, IsAnswer, AreAnswered, IsPath}
+use Rattle.hls_report.specs.WellFormed.{IsRefusal, IsSeated, TakesSeats, AreSeats, IsAnswer, AreAnswered}
+use Rattle.hls_report.specs.WellFormed.{IsPath}
 use Rattle.hls_report.specs.WellFormed.{Cover, with_name, with_path, FewNames, IsAccount}
 use Rattle.hls_report.specs.Rests.{EndRest, AccountRest, RunRest, CommandRest, SeatRest, AnswerRest}
 use Rattle.hls_report.specs.Rests.{DepthRest, HorizonRest, HeaderRest, NextStretch, IsNext}
@@ -298,7 +300,8 @@ pub record LastItem (h : ℕ) (line : Text) (lines : List Text) : Type 0 where
   pub text : line ≡ codes "schedule"
   pub rest : RunRest h 0 None [] lines
 
-pub command_next : (h last left : ℕ) (line : Text) (lines : List Text) → CommandRest h last left (line ∷ lines)
+pub command_next : (h last left : ℕ) (line : Text) (lines : List Text) → CommandRest h last left
+    (line ∷ lines)
     → LastItem h line lines ⊎ NextItem h last left line lines
 command_next h last left line lines r = by_answered r.answered r.are r.few r.text
   where
@@ -414,12 +417,14 @@ seat_next command h last left line lines r = by_seats r.seats r.are r.text
       };
     })
 
-all_of_seats : (command : Command) (seats : List Seated) → AreSeats command seats → AllByRecursion IsSeated seats
+all_of_seats : (command : Command) (seats : List Seated) → AreSeats command seats
+    → AllByRecursion IsSeated seats
 all_of_seats command [] are = tt
 all_of_seats command (s ∷ ss) are = are.1
 
 pub seat_onto : (command : Command) (h last left : ℕ) (seat : Seated) (lines : List Text) → TakesSeats command
-    → IsSeated seat → SeatRest command h last left lines → SeatRest command h last left (seat_text seat ∷ lines)
+    → IsSeated seat → SeatRest command h last left lines → SeatRest command h last left
+    (seat_text seat ∷ lines)
 seat_onto command h last left seat lines takes is r = record {
   seats = seat ∷ r.seats;
   rest = r.rest;
@@ -478,7 +483,8 @@ answer_next command h last left line lines r = by_answer r.answer r.is r.text
     })
 
 done_not_refused : (r : Refusal) → codes "= done" ≡ codes "= refused " ++ refusal_text r → ⊥
-done_not_refused r e = apart (codes "done") (codes "refused " ++ refusal_text r) refl (ap (λ (t : Text). drop 2 t) e)
+done_not_refused r e = apart (codes "done") (codes "refused " ++ refusal_text r) refl (ap (λ
+    (t : Text). drop 2 t) e)
 
 pub done_onto : (command : Command) (h last left : ℕ) (lines : List Text) → SeatRest command h last left lines
     → AnswerRest command h last left (codes "= done" ∷ lines)
@@ -518,7 +524,8 @@ refused_off command h last left r lines rest =
       | inr m ↦ m.rest
     ]
 
-pub some_answer : (command : Command) (h last left : ℕ) → (lines : List Text) × AnswerRest command h last left lines
+pub some_answer : (command : Command) (h last left : ℕ) →
+    (lines : List Text) × AnswerRest command h last left lines
 some_answer command h last left =
     let c = some_command h last left in (
       codes "= done" ∷ c.0,
@@ -554,8 +561,10 @@ pub horizon_off : (h : ℕ) (lines : List Text) → IsWithin 1 100000 h → Hori
 horizon_off h lines is r =
     let le : h ≤ 100000 = is.1 in
     let le_too : r.horizon ≤ 100000 = r.is.1 in
-    let same = number_same h r.horizon (omega arith) (omega arith) (ap (λ ls. drop 8 (first_line ls)) r.text) in
-    subst (DepthRest h) (sym (ap later_lines r.text)) (subst (λ (n : ℕ). DepthRest n r.rest) (sym same) r.more)
+    let same = number_same h r.horizon (omega arith) (omega arith) (ap (λ ls. drop 8
+    (first_line ls)) r.text) in
+    subst (DepthRest h) (sym (ap later_lines r.text)) (subst (λ (n : ℕ). DepthRest n r.rest)
+    (sym same) r.more)
 
 pub some_horizon : (lines : List Text) × HorizonRest lines
 some_horizon =

@@ -16,7 +16,8 @@ use Rattle.hls_report.specs.declared.refusal.Refusal.{Refusal}
 use Rattle.hls_report.specs.declared.report.Report.{Report}
 use Rattle.hls_report.specs.declared.stretch.Stretch.{Stretch}
 use Rattle.hls_report.specs.Content.{Content, content_of}
-use Rattle.hls_report.specs.ReportText.{item_text, item_of, refusal_text, seat_text, answer_lines, answered_lines}
+use Rattle.hls_report.specs.ReportText.{item_text, item_of, refusal_text, seat_text, answer_lines}
+use Rattle.hls_report.specs.ReportText.{answered_lines}
 use Rattle.hls_report.specs.ReportText.{two_words, span_text, stretch_text, account_text, end_lines}
 use Rattle.hls_report.specs.ReportText.{accounts_lines, content_lines, report_text}
 use Rattle.hls_report.specs.WellFormed.{IsSeated, IsAnswer, AreAnswered, Cover, IsAccount, IsContent}
@@ -52,7 +53,8 @@ pub seats_front : (ss ts : List Seated) (xs ys : List Text) → AllByRecursion I
     → (ss ≡ ts) × (xs ≡ ys)
 seats_front [] [] xs ys a b free free_too e = (refl, e)
 seats_front [] (t ∷ ts) xs ys a b free free_too e = absurd (seat_first t xs (map seat_text ts ++ ys) free e)
-seats_front (s ∷ ss) [] xs ys a b free free_too e = absurd (seat_first s ys (map seat_text ss ++ xs) free_too (sym e))
+seats_front (s ∷ ss) [] xs ys a b free free_too e = absurd (seat_first s ys (map seat_text ss
+    ++ xs) free_too (sym e))
 seats_front (s ∷ ss) (t ∷ ts) xs ys a b free free_too e =
     let first = seat_same s t a.0 b.0 (ap first_line e) in
     let more = seats_front ss ts xs ys a.1 b.1 free free_too (ap later_lines e) in
@@ -60,15 +62,19 @@ seats_front (s ∷ ss) (t ∷ ts) xs ys a b free free_too e =
 
 -- ---- answers
 
-pub answer_front : (c d : Command) (p q : Answer) (xs ys : List Text) → IsAnswer c p → IsAnswer d q → NoSeat xs
+pub answer_front : (c d : Command) (p q : Answer) (xs ys : List Text) → IsAnswer c p → IsAnswer d q
+    → NoSeat xs
     → NoSeat ys → answer_lines p ++ xs ≡ answer_lines q ++ ys → (p ≡ q) × (xs ≡ ys)
 answer_front c d (Done ss) (Done ts) xs ys a b free free_too e =
-    let more = seats_front ss ts xs ys (seats_all c ss a) (seats_all d ts b) free free_too (ap later_lines e) in
+    let more = seats_front ss ts xs ys (seats_all c ss a) (seats_all d ts b) free free_too
+    (ap later_lines e) in
     (ap (λ (us : List Seated). Done us) more.0, more.1)
 answer_front c d (Done ss) (Refused r) xs ys a b free free_too e =
-    absurd (apart (codes "done") (codes "refused " ++ refusal_text r) refl (ap (λ ls. drop 2 (first_line ls)) e))
+    absurd (apart (codes "done") (codes "refused " ++ refusal_text r) refl (ap (λ ls. drop 2
+    (first_line ls)) e))
 answer_front c d (Refused r) (Done ts) xs ys a b free free_too e =
-    absurd (apart (codes "refused " ++ refusal_text r) (codes "done") refl (ap (λ ls. drop 2 (first_line ls)) e))
+    absurd (apart (codes "refused " ++ refusal_text r) (codes "done") refl (ap (λ ls. drop 2
+    (first_line ls)) e))
 answer_front c d (Refused r) (Refused s) xs ys a b free free_too e =
     let same = refusal_same r s a b (ap (λ ls. drop 10 (first_line ls)) e) in
     (ap (λ (t : Refusal). Refused t) same, ap later_lines e)
@@ -101,7 +107,8 @@ answered_front h l m (s ∷ ss) (t ∷ ts) xs ys fits a b e =
     let t_below : t.tick < h = b.3 in
     let item = item_same (item_of s) (item_of t) (a.0, omega arith) (b.0, omega arith) (ap first_line e) in
     let f = sym (append_assoc (answer_lines s.answer) (flat_map answered_lines ss) (then_schedule xs))
-    ∙ ap later_lines e ∙ append_assoc (answer_lines t.answer) (flat_map answered_lines ts) (then_schedule ys) in
+    ∙ ap later_lines e ∙ append_assoc (answer_lines t.answer) (flat_map answered_lines ts)
+    (then_schedule ys) in
     let answer = answer_front s.command t.command s.answer t.answer _ _ a.1 b.1 (no_seat_next ss xs)
     (no_seat_next ts ys) f in
     let more = answered_front h s.tick t.tick ss ts xs ys fits a.4 b.4 answer.1 in
@@ -142,7 +149,8 @@ stretch_not_accounts s is e =
     let within = is.within in
     let low : first_byte (stretch_text s) < 58 =
     subst (λ (t : Text). first_byte t < 58)
-    (sym (append_assoc (decimal s.from) (codes ".." ++ decimal s.to) _)) (digit_first s.from _ (omega arith)) in
+    (sym (append_assoc (decimal s.from) (codes ".." ++ decimal s.to) _)) (digit_first s.from _
+    (omega arith)) in
     let high : first_byte (codes "accounts") < 58 = subst (λ (t : Text). first_byte t < 58) e low in
     absurd (too_low high)
   where
@@ -151,7 +159,8 @@ stretch_not_accounts s is e =
 
 pub stretches_front : (ss ts : List Stretch) (xs ys : List Text) → AllByRecursion IsStretch ss
     → AllByRecursion IsStretch ts
-    → map stretch_text ss ++ then_accounts xs ≡ map stretch_text ts ++ then_accounts ys → (ss ≡ ts) × (xs ≡ ys)
+    → map stretch_text ss ++ then_accounts xs ≡ map stretch_text ts ++ then_accounts ys → (ss ≡ ts) × (xs
+    ≡ ys)
 stretches_front [] [] xs ys a b e = (refl, ap later_lines e)
 stretches_front [] (t ∷ ts) xs ys a b e = absurd (stretch_not_accounts t b.0 (sym (ap first_line e)))
 stretches_front (s ∷ ss) [] xs ys a b e = absurd (stretch_not_accounts s a.0 (ap first_line e))

@@ -1,5 +1,6 @@
 -- A reading that is stuck behind lines that were read is stuck.
-use Rattle.std.proofs.Common.{◌≡◌, ℕ, suc, zero, ◌+◌, ◌-◌, ◌<◌, ◌≤◌, false, List, [], ◌∷◌, ◌++◌, length, take, drop}
+use Rattle.std.proofs.Common.{◌≡◌, ℕ, suc, zero, ◌+◌, ◌-◌, ◌<◌, ◌≤◌, false, List, [], ◌∷◌, ◌++◌, length}
+use Rattle.std.proofs.Common.{take, drop}
 use Rattle.std.proofs.Common.{refl, sym, ap, ◌∙◌, subst, arith, append_assoc, inl, inr, ◌⊎◌}
 use Rattle.std.proofs.Common.{Bool, true}
 use Rattle.std.specs.Prelude.{◌==◌, ◌||◌}
@@ -19,7 +20,8 @@ use Rattle.hls_report.proofs.Writings.{ended-append}
 abbrev pub AreOneLine : List Text → Type 0
 AreOneLine lines = AllByRecursion IsOneLine lines
 
-ended_cons : (x : Text) (xs : List Text) (rest : Text) → ended (x ∷ xs) ++ rest ≡ x ++ (10 ∷ (ended xs ++ rest))
+ended_cons : (x : Text) (xs : List Text) (rest : Text) → ended (x ∷ xs) ++ rest ≡ x ++ (10 ∷ (ended xs
+    ++ rest))
 ended_cons x xs rest =
     append_assoc (x ++ 10 ∷ []) (ended xs) rest ∙ append_assoc x (10 ∷ []) (ended xs ++ rest)
 
@@ -35,7 +37,8 @@ pub lines_agree : (xs ys : List Text) (r s : Text) → AreOneLine xs → AreOneL
 lines_agree [] ys r s a b le e = record { more = ys; is = refl; behind = e; whole = b }
 lines_agree (x ∷ xs) [] r s a b le e = absurd (omega arith)
 lines_agree (x ∷ xs) (y ∷ ys) r s a b le e =
-    let parts = cut_same 10 x (ended xs ++ r) y (ended ys ++ s) (sym (ended_cons x xs r) ∙ e ∙ ended_cons y ys s)
+    let parts = cut_same 10 x (ended xs ++ r) y (ended ys ++ s) (sym (ended_cons x xs r) ∙ e
+    ∙ ended_cons y ys s)
     a.0 b.0 in
     let l = lines_agree xs ys r s a.1 b.1 (omega arith) parts.1 in record {
       more = l.more;
@@ -56,7 +59,8 @@ length_take (suc k) (x ∷ xs) le = ap suc (length_take k xs (omega arith))
 
 -- a prefix of what may come may come
 shorter : (May : List Text → Type 0) (text : Text) (front : List Text) (rest : Text) (z : List Text) (k : ℕ)
-    → AreOneLine front → text ≡ ended front ++ rest → May (front ++ z) → k ≤ length front → BeginsIn May text k
+    → AreOneLine front → text ≡ ended front ++ rest → May (front ++ z) → k ≤ length front
+    → BeginsIn May text k
 shorter May text front rest z k whole is may le = record {
   lines = take k front;
   rest = ended (drop k front) ++ rest;
@@ -91,7 +95,8 @@ some_line Then text (suc k) stuck z is = omega arith
 
 -- behind lines that were read
 pub stuck_behind : (May Then : List Text → Type 0) (text rest : Text) (front z : List Text) (k : ℕ)
-    → AreOneLine front → text ≡ ended front ++ rest → Then z → ((ls : List Text) → Then ls → May (front ++ ls))
+    → AreOneLine front → text ≡ ended front ++ rest → Then z → ((ls : List Text) → Then ls → May (front
+    ++ ls))
     → ((ls : List Text) → May (front ++ ls) → Then ls) → IsStuck Then rest k
     → IsStuck May text (length front + k)
 stuck_behind May Then text rest front z k whole is some onto off stuck = record {
@@ -194,7 +199,8 @@ fail_behind May Then f a b (faults.At line) p fails =
 fail_behind May Then f a b (faults.Memory error) p fails = tt
 
 -- one line that was read
-pub pass_line : (May Then : List Text → Type 0) (line : Text) (old new : Lines) (z : List Text) → IsOneLine line
+pub pass_line : (May Then : List Text → Type 0) (line : Text) (old new : Lines) (z : List Text)
+    → IsOneLine line
     → old.rest.now ≡ line ++ (10 ∷ new.rest.now) → new.count ≡ old.count + 1 → Then z
     → ((ls : List Text) → Then ls → May (line ∷ ls)) → ((ls : List Text) → May (line ∷ ls) → Then ls)
     → Passes May Then (line ∷ []) old new
@@ -204,12 +210,14 @@ pass_line May Then line old new z whole is next some onto off =
       read = read;
       counted = next;
       room = omega (arith, len);
-      lift = λ k stuck. stuck_behind May Then old.rest.now new.rest.now (line ∷ []) z k (whole, tt) read some onto
+      lift = λ k stuck. stuck_behind May Then old.rest.now new.rest.now (line ∷ []) z k
+          (whole, tt) read some onto
           off stuck;
     }
 
 -- one line that may not come
-pub fail_line : (May : List Text → Type 0) (line rest : Text) (old : Lines) (z : List Text) (fault : ReportFault)
+pub fail_line : (May : List Text → Type 0) (line rest : Text) (old : Lines) (z : List Text)
+    (fault : ReportFault)
     → May z → IsOneLine line → old.rest.now ≡ line ++ (10 ∷ rest) → ((ls : List Text) → May (line ∷ ls) → ⊥)
     → fault ≡ faults.At (old.count + 1) → FailsAt May old fault
 fail_line May line rest old z fault some whole is none at =

@@ -23,7 +23,8 @@ lacks_before m (b ∷ bs) (suc at) le h =
     let more = lacks_before m bs at (omega arith) (λ k lt. h (suc k) (omega arith)) in
     let first = h 0 (omega arith) in rw (first) more
 
-pub lacks_front : (m : ℕ) (text : Text) (at : ℕ) → Some at ≡ position (λ b. b == m) text → Lacks m (take at text)
+pub lacks_front : (m : ℕ) (text : Text) (at : ℕ) → Some at ≡ position (λ b. b == m) text → Lacks m
+    (take at text)
 lacks_front m text at found =
     let p = position-Some (λ b. b == m) text at 0 (sym found) in
     let lt : at < length text = p.0 in lacks_before m text at (omega arith) p.2

@@ -42,7 +42,8 @@ ended-answered [] = refl
 ended-answered (a ∷ more) = ended-append (answered_lines a) (flat_map answered_lines more)
     ∙ ap (λ (t : Text). ended (answered_lines a) ++ t) (ended-answered more)
 
-pub ended-map : {A : Type 0} (f : A → Text) (xs : List A) → ended (map f xs) ≡ flat_map (λ x. with_end (f x)) xs
+pub ended-map : {A : Type 0} (f : A → Text) (xs : List A) → ended (map f xs) ≡ flat_map (λ x. with_end
+    (f x)) xs
 ended-map f xs = flat_map-map with_end f xs
 
 -- the parts of a report's text
@@ -68,9 +69,11 @@ ended-runs r = ended-map stretch_text (map (stretch_of r.names) r.runs)
     ∙ flat_map-map (λ s. with_end (stretch_text s)) (stretch_of r.names) r.runs
 
 pub whole_report : (r : Report)
-    → (((((([] ++ ended (head_lines r.horizon r.depth)) ++ flat_map (λ a. ended (answered_lines a)) r.answered)
+    → (((((([] ++ ended (head_lines r.horizon r.depth)) ++ flat_map (λ a. ended
+    (answered_lines a)) r.answered)
     ++ codes "schedule\n") ++ flat_map (λ run. with_end (stretch_text (stretch_of r.names run))) r.runs)
-    ++ codes "accounts\n") ++ flat_map (λ a. with_end (account_text a)) r.accounts) ++ ended (end_lines r.idle)
+    ++ codes "accounts\n") ++ flat_map (λ a. with_end (account_text a)) r.accounts) ++ ended
+    (end_lines r.idle)
     ≡ report_text r
 unfolding report_text
 whole_report r =
@@ -96,11 +99,13 @@ head_join : (h d : Text) → h ++ (10 ∷ (codes "depth " ++ (d ++ 10 ∷ [])))
 head_join h d = sym (append_assoc h (10 ∷ []) _
     ∙ ap (λ (t : Text). h ++ (10 ∷ (codes "depth " ++ t))) (append-nil (d ++ 10 ∷ [])))
 
-regroup_head : (out a b c d e : Text) → ((((out ++ a) ++ b) ++ c) ++ d) ++ e ≡ out ++ (a ++ (b ++ (c ++ (d ++ e))))
+regroup_head : (out a b c d e : Text) → ((((out ++ a) ++ b) ++ c) ++ d) ++ e ≡ out ++ (a ++ (b ++ (c ++ (d
+    ++ e))))
 regroup_head out a b c d e = simp append_assoc
 
 pub head_text : (out : Text) (h d : ℕ)
-    → ((((out ++ codes "hls-report 1\nhorizon ") ++ decimal h) ++ codes "\ndepth ") ++ decimal d) ++ codes "\n"
+    → ((((out ++ codes "hls-report 1\nhorizon ") ++ decimal h) ++ codes "\ndepth ") ++ decimal d)
+    ++ codes "\n"
     ≡ out ++ ended (head_lines h d)
 head_text out h d =
     regroup_head out (codes "hls-report 1\nhorizon ") (decimal h) (codes "\ndepth ") (decimal d) (codes "\n")

@@ -130,5 +130,6 @@ account_front_at text = cut_at 32 text >>= λ p. name_at p.0 >>= λ name. spanne
 
 -- how many ticks were ready and were served
 unfoldable pub ticks_at : Text → Option (ℕ × ℕ)
-ticks_at text = after_words (codes " ready ") text >>= λ rest. cut_at 32 rest >>= λ p. count_at p.0 >>= λ ready.
+ticks_at text = after_words (codes " ready ") text >>= λ rest. cut_at 32 rest >>= λ p. count_at p.0 >>= λ
+    ready.
     after_words (codes "served ") p.1 >>= λ more. count_at more >>= λ served. Some (ready, served)

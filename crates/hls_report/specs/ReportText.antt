@@ -54,7 +54,8 @@ refusal_text (refusals.TooManyThreads most) = codes "14 TooManyThreads " ++ deci
 refusal_text (refusals.NotEmpty name seats) = codes "15 NotEmpty " ++ two_words name (decimal seats)
 refusal_text (refusals.TermsUnfit name) = codes "16 TermsUnfit " ++ name
 refusal_text (refusals.PriorityTaken priority) = codes "17 PriorityTaken " ++ decimal priority
-refusal_text (refusals.SeatsFull name seats) = codes "18 SeatsFull " ++ two_words (place_text name) (decimal seats)
+refusal_text (refusals.SeatsFull name seats) = codes "18 SeatsFull " ++ two_words (place_text name)
+    (decimal seats)
 refusal_text (refusals.Cycle name) = codes "19 Cycle " ++ name
 refusal_text (refusals.TooDeep level) = codes "20 TooDeep " ++ decimal level
 refusal_text (refusals.TooManyShares count) = codes "21 TooManyShares " ++ decimal count
@@ -91,7 +92,8 @@ abbrev pub ticks_text : (ready served : ℕ) → Text
 ticks_text ready served = codes " ready " ++ (decimal ready ++ (codes " served " ++ decimal served))
 
 abbrev pub account_text : Account → Text
-account_text a = two_words a.name (two_words (span_text a.from a.to) (spelling a.kept ++ ticks_text a.ready a.served))
+account_text a = two_words a.name (two_words (span_text a.from a.to) (spelling a.kept
+    ++ ticks_text a.ready a.served))
 
 -- ---- reports
 

@@ -1,5 +1,6 @@
 -- What may still come in a report's text, line by line, and how far a reading has come.
-use Rattle.std.specs.Prelude.{◌≡◌, ℕ, ◌+◌, ◌-◌, ◌^◌, ◌≤◌, ◌<◌, List, [], ◌∷◌, ◌++◌, length, codes, decimal, map}
+use Rattle.std.specs.Prelude.{◌≡◌, ℕ, ◌+◌, ◌-◌, ◌^◌, ◌≤◌, ◌<◌, List, [], ◌∷◌, ◌++◌, length, codes, decimal}
+use Rattle.std.specs.Prelude.{map}
 use Rattle.std.specs.Prelude.{flat_map, Option, Some, None}
 use Rattle.std.specs.List.{AllByRecursion}
 use Rattle.hls_text.specs.Lines.{Text}
@@ -13,7 +14,8 @@ use Rattle.hls_report.specs.declared.report.Answer.{Answer}
 use Rattle.hls_report.specs.declared.report.Answered.{Answered}
 use Rattle.hls_report.specs.declared.report.Account.{Account}
 use Rattle.hls_report.specs.declared.stretch.Stretch.{Stretch}
-use Rattle.hls_report.specs.ReportText.{answer_lines, answered_lines, seat_text, stretch_text, account_text, ended}
+use Rattle.hls_report.specs.ReportText.{answer_lines, answered_lines, seat_text, stretch_text, account_text}
+use Rattle.hls_report.specs.ReportText.{ended}
 use Rattle.hls_report.specs.WellFormed.{IsAnswer, AreSeats, AreAnswered, IsPath, Cover, FewNames, IsAccount}
 use Rattle.hls_report.specs.WellFormed.{with_path, IsOneLine}
 use Rattle.hls_lang.specs.declared.scenario.Item.{Item}

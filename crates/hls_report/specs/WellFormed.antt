@@ -112,7 +112,8 @@ with_path known (Some names) = with_names known names
 -- so many different names are in all paths
 abbrev pub FewNames : (known : List Text) → List Stretch → Type 0
 FewNames known [] = Unit {0}
-FewNames known (s ∷ more) = (length (with_path known s.path) ≤ 2 ^ 16) × FewNames (with_path known s.path) more
+FewNames known (s ∷ more) = (length (with_path known s.path) ≤ 2 ^ 16) × FewNames
+    (with_path known s.path) more
 
 -- ---- accounts
 

@@ -138,7 +138,8 @@ fn no_room(text: &[u8]) -> Option<Refusal>
 
 fn no_derivation(text: &[u8]) -> Option<Refusal>
     ensures read { result ≡ no_derivation_at text.now }
-    ensures found { IfSome result (λ r. IsRefusal r × (codes "24 NoDerivation " ++ text.now ≡ refusal_text r)) }
+    ensures found { IfSome result (λ r.
+        IsRefusal r × (codes "24 NoDerivation " ++ text.now ≡ refusal_text r)) }
 {
     let (front, rest) = cut(text, b' ')?;
     let name = name(front)?;

@@ -5,17 +5,9 @@ use crate::{Path, Refusal, Run};
 use hls_chron::{Kind, Name};
 use std::test::Fail;
 
-fn named(text: &[u8]) -> Result<Name, Fail> {
-    match Name::read(text) {
-        Some(name) => Ok(name),
-        None => Err(Fail),
-    }
-}
-
 /// Each refusal with its text.
-fn refusals() -> Result<[(Refusal, &'static [u8]); 17], Fail> {
-    let name = named(b"player")?;
-    Ok([
+fn refusals(name: Name) -> [(Refusal, &'static [u8]); 17] {
+    [
         (Refusal::NameTaken { name }, b"10 NameTaken player"),
         (Refusal::NoSuchName { name }, b"11 NoSuchName player"),
         (
@@ -72,12 +64,13 @@ fn refusals() -> Result<[(Refusal, &'static [u8]); 17], Fail> {
             Refusal::NoDerivation { name, depth: 3 },
             b"24 NoDerivation player 3",
         ),
-    ])
+    ]
 }
 
 #[test]
 fn writes_and_reads_each_refusal(rt: HostRuntime) -> Result<(), Fail> {
-    for (one, text) in refusals()? {
+    let name = Name::read(b"player").expect(&rt, "a name");
+    for (one, text) in refusals(name) {
         let mut out = Vec::new(rt.alloc());
         put_refusal(&mut out, &one)?;
         assert_eq!(rt; out.as_slice(), text);
@@ -110,7 +103,8 @@ fn reads_no_other_refusal(rt: HostRuntime) {
 
 #[test]
 fn writes_head_runs_and_end(rt: HostRuntime) -> Result<(), Fail> {
-    let names = [named(b"root")?, named(b"a")?];
+    let root = Name::read(b"root").expect(&rt, "a name");
+    let names = [root, Name::read(b"a").expect(&rt, "a name")];
     let path = Path {
         len: 2,
         names: [0, 1, 0, 0, 0, 0, 0, 0, 0],

@@ -1,5 +1,6 @@
 // The words of a line.
-ghost use Rattle.std.specs.Prelude.{◌≡◌, ℕ, ◌^◌, ◌<◌, ◌≤◌, ◌==◌, ◌↔◌, ◌∷◌, ◌++◌, false, decimal, Some, IfSome};
+ghost use Rattle.std.specs.Prelude.{◌≡◌, ℕ, ◌^◌, ◌<◌, ◌≤◌, ◌==◌, ◌↔◌, ◌∷◌, ◌++◌, false, decimal};
+ghost use Rattle.std.specs.Prelude.{Some, IfSome};
 ghost use Rattle.std.specs.Prelude.{MatchOption, IsTrue, position};
 ghost use Rattle.hls_chron.specs.Name.{IsName};
 ghost use Rattle.hls_report.specs.WellFormed.{IsPlace, HasBoxes};

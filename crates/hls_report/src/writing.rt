@@ -6,7 +6,8 @@ ghost use Rattle.hls_lang.specs.Grammar.{IsCommand};
 ghost use Rattle.hls_report.specs.Content.{path_names, stretch_of};
 ghost use Rattle.hls_report.specs.ReportText.{item_of, item_text, seat_text, answer_lines, answered_lines};
 ghost use Rattle.hls_report.specs.ReportText.{span_text, path_text, stretch_text, account_text};
-ghost use Rattle.hls_report.specs.ReportText.{ticks_text, head_lines, end_lines, with_end, ended, report_text};
+ghost use Rattle.hls_report.specs.ReportText.{ticks_text, head_lines, end_lines, with_end, ended};
+ghost use Rattle.hls_report.specs.ReportText.{report_text};
 ghost use Rattle.hls_report.specs.WellFormed.{IsWellFormed, IsSeated, IsAnswer, HasShort, IsReportText};
 
 use crate::refusals::put_refusal;
@@ -36,7 +37,7 @@ pub fn write_report(alloc: Global, report: &Report) -> Result<Vec<u8>, AllocErro
     Ok(out)
 }
 
-fn put_head(out: &mut Vec<u8>, horizon: u32, depth: u8) -> Result<(), AllocError>
+pub fn put_head(out: &mut Vec<u8>, horizon: u32, depth: u8) -> Result<(), AllocError>
     ensures { OnOk result (out.new.items ≡ out.old.items ++ ended (head_lines horizon depth)) }
 {
     put(out, b"hls-report 1\nhorizon ")?;
@@ -129,7 +130,7 @@ fn put_seat(out: &mut Vec<u8>, seat: &Seated) -> Result<(), AllocError>
     put(out, b"\n")
 }
 
-fn put_runs(out: &mut Vec<u8>, names: &[Name], runs: &[Run]) -> Result<(), AllocError>
+pub fn put_runs(out: &mut Vec<u8>, names: &[Name], runs: &[Run]) -> Result<(), AllocError>
     requires { AllByRecursion (λ run. HasShort run.path) runs.now }
     ensures { OnOk result (out.new.items ≡ out.old.items
         ++ flat_map (λ run. with_end (stretch_text (stretch_of names.now run))) runs.now) }
@@ -226,7 +227,7 @@ fn put_ticks(out: &mut Vec<u8>, ready: u32, served: u32) -> Result<(), AllocErro
     put_number(out, u128::from(served))
 }
 
-fn put_end(out: &mut Vec<u8>, idle: u32) -> Result<(), AllocError>
+pub fn put_end(out: &mut Vec<u8>, idle: u32) -> Result<(), AllocError>
     ensures { OnOk result (out.new.items ≡ out.old.items ++ ended (end_lines idle)) }
 {
     put(out, b"idle ")?;

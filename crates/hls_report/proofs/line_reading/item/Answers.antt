@@ -19,4 +19,5 @@ returns-else-branch-clause-exact c = λ item n e.
 pub returns-in-None-clause-exact : goal.returns-in-None-clause-exact
 returns-in-None-clause-exact c = λ item n e.
     let found = rw c.in-None.is at (c.in_ok-item.ensures.exact item
-    (item_is_line c.args.horizon c.args.last item c.args.line.now c.requires n e)) in absurd (none_some item found)
+    (item_is_line c.args.horizon c.args.last item c.args.line.now c.requires n e)) in absurd
+    (none_some item found)
