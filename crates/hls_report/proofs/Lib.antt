@@ -7,3 +7,4 @@ pub mod WordLaws
 pub mod Stuck
 pub mod RestLaws
 pub mod LineReadings
+pub mod Heads

@@ -5,6 +5,7 @@ mod fault;
 pub mod laws;
 mod line_reading;
 mod lines;
+mod reader;
 mod refusal;
 mod refusal_reading;
 mod refusals;
