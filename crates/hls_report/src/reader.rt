@@ -36,7 +36,8 @@ pub fn header(lines: &mut Lines<'_>) -> Result<(), ReportFault>
 /// The horizon that a line spells.
 fn horizon_of(line: &[u8]) -> Option<u32>
     ensures found { IfSome result (λ n. IsWithin 1 100000 n × (line.now ≡ codes "horizon " ++ decimal n)) }
-    ensures exact { (n : ℕ) → IsWithin 1 100000 n → line.now ≡ codes "horizon " ++ decimal n → result ≡ Some n }
+    ensures exact { (n : ℕ) → IsWithin 1 100000 n → line.now ≡ codes "horizon " ++ decimal n →
+        result ≡ Some n }
 {
     match count(after(line, b"horizon ")?) {
         Some(n) if 1 <= n && n <= MOST_TICKS => Some(n),

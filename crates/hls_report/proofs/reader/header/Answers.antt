@@ -16,7 +16,8 @@ pub returns-then-eq-clause-ok : goal.returns-then-eq-clause-ok
 returns-then-eq-clause-ok c =
     let same = (bytes_eq-Decides c.in-Some.line.now c.as_slice.result.now).0 (sym c.if-eq.ensures)
     ∙ c.as_slice.ensures in
-    pass_line HeaderRest HorizonRest (codes "hls-report 1") c.args.lines.now c.next.new.self some_horizon.0 refl
+    pass_line HeaderRest HorizonRest (codes "hls-report 1") c.args.lines.now c.next.new.self
+    some_horizon.0 refl
     (c.in-Some.ensures.line.1 ∙ ap (λ t. t ++ (10 ∷ c.next.new.self.rest.now)) same) c.next.ensures.count
     some_horizon.1 (λ ls r. header_onto ls r) (λ ls r. header_off ls r)
 

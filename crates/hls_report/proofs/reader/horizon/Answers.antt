@@ -10,7 +10,8 @@ use Rattle.hls_report.proofs.reader.horizon.Goals as goal
 
 pub returns-in_default-clause-err : goal.returns-in_default-clause-err
 returns-in_default-clause-err c =
-    fail_end HorizonRest c.args.lines.now some_horizon.0 c.fault.result some_horizon.1 c.in_default.ensures.line
+    fail_end HorizonRest c.args.lines.now some_horizon.0 c.fault.result some_horizon.1
+    c.in_default.ensures.line
     (c.fault.ensures ∙ ap faults.At c.next.ensures.count)
 
 pub returns-in-Some-horizon_of-clause-ok : goal.returns-in-Some-horizon_of-clause-ok
