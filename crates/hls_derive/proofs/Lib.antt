@@ -1,6 +1,6 @@
 mod Appends
 mod Options
-mod Spaces
-mod Fronts
-mod Parses
+pub mod Spaces
+pub mod Fronts
+pub mod Parses
 pub mod Derivings

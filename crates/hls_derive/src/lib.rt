@@ -10,5 +10,5 @@ mod words;
 mod writing;
 
 pub use derivation::{Derivation, Place, SchedStep, Step};
-pub use reading::read_derivation;
+pub use reading::{guarantee, read_derivation};
 pub use writing::write_derivation;

@@ -25,8 +25,8 @@ fn guarantee_of(text: &[u8], spaces: usize) -> Option<(Guarantee, &[u8])>
     }
 }
 
-/// The guarantee at the front of the text, and what stands behind it.
-fn guarantee(text: &[u8]) -> Option<(Guarantee, &[u8])>
+/// The guarantee at the front of a text, before a space or the text's end, and what stands behind it.
+pub fn guarantee(text: &[u8]) -> Option<(Guarantee, &[u8])>
     ensures { MatchOption result
         ((g : Guarantee) (rest : List ℕ) → ¬ Stands text.now g rest)
         (λ p. Stands text.now p.0 p.1.now) }

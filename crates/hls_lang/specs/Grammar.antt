@@ -22,7 +22,7 @@ use Rattle.hls_lang.specs.declared.scenario.Command.{Command}
 use Rattle.hls_lang.specs.declared.scenario.Command.TheVariants.{Load, Thread, End, Unload, Move, Wake, Block}
 use Rattle.hls_lang.specs.declared.scenario.Item.{Item}
 use Rattle.hls_lang.specs.declared.scenario.Scenario.{Scenario}
-use Rattle.hls_lang.specs.Forms.{Form, the, fraction, scenario_lines}
+use Rattle.hls_lang.specs.Forms.{Form, the, fraction, item_forms, scenario_lines}
 
 -- ---- which scenarios have texts
 
@@ -112,6 +112,11 @@ abbrev pub IsLine : List Form → List Text → Type 0
 IsLine [] [] = Unit {0}
 IsLine (form ∷ forms) (token ∷ tokens) = IsToken form token × IsLine forms tokens
 IsLine _ _ = ⊥
+
+-- the line's tokens are an item's, of a tick from the last one on and below the horizon
+abbrev pub IsItemLine : (horizon last : ℕ) → List Text → Item → Type 0
+IsItemLine horizon last tokens item =
+    IsCommand item.command × (last ≤ item.tick) × (item.tick < horizon) × IsLine (item_forms item) tokens
 
 abbrev pub AreLines : List (List Form) → List (List Text) → Type 0
 AreLines [] [] = Unit {0}

@@ -1,5 +1,6 @@
 // Commands and items.
-ghost use Rattle.std.specs.Prelude.{◌≡◌, ◌∷◌, [], IfOk};
+ghost use Rattle.std.specs.Prelude.{◌≡◌, ◌∷◌, [], IfOk, IfSome, Some};
+ghost use Rattle.hls_lang.specs.Grammar.{IsItemLine};
 ghost use Rattle.hls_text.specs.Tokens.{tokens_of};
 ghost use Rattle.hls_lang.specs.Words.{Gives, Keeps};
 ghost use Rattle.hls_lang.specs.Reading.{join_at, one_perch_at, load_by, load_at, thread_at, move_at};
@@ -193,4 +194,24 @@ pub fn item(alloc: Global, line: &[u8], horizon: u32, last: u32) -> Result<Item,
     let (tick, rest) = tick(rest, horizon, last)?;
     let command = command(alloc, rest)?;
     Ok(Item { tick, command })
+}
+
+/// The item that is all of a line, of a tick from `last` on and below the horizon. `None` for every other
+/// line.
+pub fn read_item(
+    alloc: Global,
+    line: &[u8],
+    horizon: u32,
+    last: u32,
+) -> Result<Option<Item>, AllocError>
+    ensures found { IfOk result (λ found.
+        IfSome found (λ item. IsItemLine horizon last (tokens_of line.now) item)) }
+    ensures exact { IfOk result (λ found.
+        (item : Item) → IsItemLine horizon last (tokens_of line.now) item → found ≡ Some item) }
+{
+    match item(alloc, line, horizon, last) {
+        Ok(item) => Ok(Some(item)),
+        Err(LineError::Fault(_)) => Ok(None),
+        Err(LineError::Memory(wanting)) => Err(wanting),
+    }
 }

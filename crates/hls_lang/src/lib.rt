@@ -14,6 +14,7 @@ mod seats;
 mod tests;
 mod words;
 
+pub use commands::read_item;
 pub use fault::{Cause, ScenarioFault};
 pub use reading::read_scenario;
 pub use scenario::{Command, Item, Perch, Scenario, Spot};

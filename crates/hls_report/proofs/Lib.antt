@@ -1,0 +1,10 @@
+pub mod Writings
+pub mod Marks
+pub mod RefusalTexts
+pub mod LineTexts
+pub mod Sections
+pub mod WordLaws
+pub mod Stuck
+pub mod RestLaws
+pub mod LineReadings
+pub mod Heads

@@ -1,0 +1,18 @@
+use Rattle.std.proofs.Common.{◌^◌, sym, arith}
+use Rattle.hls_report.proofs.WordLaws.{below_again, above_limit, no_lesser, below_is}
+use Rattle.hls_report.proofs.words.count.Goals as goal
+
+pub returns-in-Some-clause-read : goal.returns-in-Some-clause-read
+returns-in-Some-clause-read c =
+    below_again (2 ^ 32) c.in-Some.n c.args.text.now (omega arith) (omega arith) c.in-Some.ensures.found
+
+pub returns-in_default-clause-read : goal.returns-in_default-clause-read
+returns-in_default-clause-read c =
+    let b = below_is (2 ^ 128) c.in-Some.n c.args.text.now (sym c.in-Some.ensures.read) in
+    let lt = b.below in
+    above_limit (2 ^ 32) c.in-Some.n c.args.text.now (omega arith) (omega arith) (omega arith)
+    c.in-Some.ensures.found
+
+pub returns-in_default-2-clause-read : goal.returns-in_default-2-clause-read
+returns-in_default-2-clause-read c =
+    no_lesser (2 ^ 128) (2 ^ 32) c.args.text.now (omega arith) (omega arith) c.in_default.ensures.read

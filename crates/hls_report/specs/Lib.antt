@@ -1,0 +1,5 @@
+pub mod Content
+pub mod ReportText
+pub mod WellFormed
+pub mod Reading
+pub mod Rests

@@ -1,0 +1,22 @@
+//! Reports, and their text.
+#![tactic(auto)]
+
+mod fault;
+pub mod laws;
+mod line_reading;
+mod lines;
+mod reader;
+mod refusal;
+mod refusal_reading;
+mod refusals;
+mod report;
+mod stretch;
+#[cfg(test)]
+mod tests;
+mod words;
+mod writing;
+
+pub use fault::ReportFault;
+pub use refusal::Refusal;
+pub use report::{Account, Answer, Answered, Path, Report, Run, Seated};
+pub use writing::write_report;

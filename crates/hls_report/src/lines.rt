@@ -1,0 +1,36 @@
+// Whole lines of a text, and their numbers.
+ghost use Rattle.std.specs.Prelude.{◌≡◌, ◌+◌, ◌∷◌, ◌++◌, MatchOption, length};
+ghost use Rattle.hls_report.specs.WellFormed.{IsOneLine};
+ghost use Rattle.hls_report.specs.Rests.{HasRoom};
+
+use crate::ReportFault;
+use crate::words::cut;
+
+/// The rest of a text, and the number of the line that was asked for last.
+#[derive(Debug, Drop)]
+pub struct Lines<'a> {
+    pub rest: &'a [u8],
+    pub count: u32,
+}
+
+impl<'a> Lines<'a> {
+    /// The next line, without its end. `None` where no whole line is left.
+    pub fn next(&mut self) -> Option<&'a [u8]>
+        requires { HasRoom self.old }
+        ensures line { MatchOption result (IsOneLine self.old.rest.now)
+            (λ line. IsOneLine line.now × (self.old.rest.now ≡ line.now ++ (10 ∷ self.new.rest.now))) }
+        ensures count { self.new.count ≡ self.old.count + 1 }
+    {
+        self.count += 1;
+        let (line, rest) = cut(self.rest, b'\n')?;
+        self.rest = rest;
+        Some(line)
+    }
+
+    /// The line that was asked for last is wrong.
+    pub fn fault(&self) -> ReportFault
+        ensures { result ≡ ReportFault.At self.now.count }
+    {
+        ReportFault::At { line: self.count }
+    }
+}
