@@ -26,9 +26,8 @@ abbrev pub owner_asks : (mask : ℕ) → Option ℕ → Bool
 owner_asks mask None = false
 owner_asks mask (Some slot) = slot_asks mask slot
 
--- Reservations ask where an asking seat has budget or is soft, a wheel where the owner of the tick's place
--- asks,
--- and the others where some seat asks.
+-- Reservations ask where an asking seat has budget or is soft, a wheel where the owner of the tick's
+-- place asks, and the others where some seat asks.
 abbrev pub asks : Config → Ledger → ℕ → Bool
 asks Fp b mask = some_slot_asks mask
 asks Edf b mask = any_below (λ slot. asks_in_budget b mask slot || asks_softly b mask slot) 32

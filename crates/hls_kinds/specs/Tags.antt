@@ -27,9 +27,8 @@ abbrev pub slot_or : Option ℕ → ℕ
 slot_or None = 0
 slot_or (Some slot) = slot
 
--- Virtual time, finish tags and start tags go by the start tags of earlier ticks: start is the start tag by
--- tick
--- and slot.
+-- Virtual time, finish tags and start tags go by the start tags of earlier ticks: start is the start tag
+-- by tick and slot.
 abbrev pub tag_served : Ledger → (start : ℕ → ℕ → ℕ) → Option ℕ → ℕ
 tag_served b start None = 0
 tag_served b start (Some t) = start t (slot_or (row_at b t).to)
@@ -43,8 +42,7 @@ finish_after b start share slot None = time_by b start share.since + tag_step sh
 finish_after b start share slot (Some t) = start t slot + tag_step share.weight
 
 -- the finish tag at t: a step after the tick that served the seat last, or after the virtual time of its
--- seating
--- or settling
+-- seating or settling
 abbrev pub finish_by : Ledger → (start : ℕ → ℕ → ℕ) → Share → (slot t : ℕ) → ℕ
 finish_by b start share slot t =
     finish_after b start share slot (last_of (served b slot) share.since (t - share.since))
