@@ -1,4 +1,2 @@
 //! What the book of a scheduler promises to its seats, in guarantees.
 #![tactic(auto)]
-
-
