@@ -1,6 +1,5 @@
--- The claim of a seat, as the kinds of schedulers define it, is that of its account after the replenishments
--- of
--- the present tick.
+-- The claim of a seat, as the kinds of schedulers define it, is that of its account after the
+-- replenishments of the present tick.
 use Rattle.std.proofs.Common.{◌≡◌, ◌≢◌, ℕ, ◌+◌, ◌-◌, ◌≤◌, suc, refl, sym, arith, inl, inr, ap, ◌∙◌, Bool}
 use Rattle.std.proofs.Common.{true}
 use Rattle.std.proofs.Common.{Some, None}

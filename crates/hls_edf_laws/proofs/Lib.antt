@@ -23,3 +23,4 @@ pub mod Keeping
 pub mod Promises
 pub mod Occupants
 pub mod Admitting
+pub mod Histories

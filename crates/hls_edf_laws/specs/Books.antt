@@ -59,11 +59,10 @@ pub record IsGiven (b : Ledger) : Type 0 where
   pub given : (t : ℕ) → settled_at b ≤ t → t < now_of b → asked_by Edf b t ≡ true → is_some (row_at b t).to
       ≡ true
 
--- What the calls of a scheduler leave in its book. The seats and what is held fit the parts of the processor,
--- each seat has a reservation, only seats that ask are served, and hard ones from their budget alone. Where
--- the
--- scheduler was given all that it asked for, what the slots may still use fits the ticks to come, and no tick
--- left a seat with more budget than ticks to its deadline.
+-- What the calls of a scheduler leave in its book. The seats and what is held fit the parts of the
+-- processor, each seat has a reservation, only seats that ask are served, and hard ones from their budget
+-- alone. Where the scheduler was given all that it asked for, what the slots may still use fits the ticks
+-- to come, and no tick left a seat with more budget than ticks to its deadline.
 pub record KeepsReservations (b : Ledger) : Type 0 where
   pub dated : IsDated b
   pub settled : settled_at b ≤ now_of b
@@ -79,8 +78,7 @@ pub record KeepsReservations (b : Ledger) : Type 0 where
       (now_of b)
 
 -- A seat asks in tick t, and this is its deadline or later: the deadline by its last replenishment in the
--- ticks
--- from its seating or settling on.
+-- ticks from its seating or settling on.
 pub record ReachesDeadline (b : Ledger) (slot : ℕ) (r : Reservation) (t last : ℕ) : Type 0 where
   pub hard : Bool
   pub sits : tenant_at b slot ≡ Sits (Res hard r.x r.y) r.since

@@ -5,3 +5,4 @@ pub mod Recomputed
 pub mod Stays
 pub mod Books
 pub mod Props
+pub mod Histories
