@@ -137,7 +137,7 @@ start_by-same : (a b : Ledger) (f g : ℕ → ℕ → ℕ) (t z slot : ℕ) → 
 start_by-same a b f g t z slot same le agree =
     ap (λ tenant. start_of a f (share_in tenant) z slot) (same.tenants z slot le)
     ∙ start_of-same a b f g t z (share_in (tenant_then b slot z)) slot same.before le (since-then b slot z)
-        agree
+    agree
 
 pub start_tags-same : (a b : Ledger) (t n z slot : ℕ) → SameUpTo a b t → z ≤ t
     → start_tags a n z slot ≡ start_tags b n z slot
