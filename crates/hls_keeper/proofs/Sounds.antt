@@ -236,7 +236,7 @@ answer_fits config b terms none = record {
 }
 
 -- the row of a tick serves the choice or nobody
-row_serves : (mask : ℕ) (grant choice : Option ℕ) (slot : ℕ)
+pub row_serves : (mask : ℕ) (grant choice : Option ℕ) (slot : ℕ)
     → (tick_row mask grant choice).to ≡ Some slot → choice ≡ Some slot
 row_serves mask (Some port) (Some at) slot is = is
 row_serves mask (Some port) None slot is = absurd cc

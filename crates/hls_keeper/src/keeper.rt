@@ -1,6 +1,6 @@
 // What a box keeps.
 ghost use Rattle.std.specs.Prelude.{◌≡◌, ◌≢◌, ℕ, ◌<◌, ◌≤◌, ◌↔◌, [], None, true, false};
-ghost use Rattle.std.specs.Prelude.{OnOk, OnErr, IsNone, IfSome, is_some};
+ghost use Rattle.std.specs.Prelude.{OnOk, OnErr, IsNone, IfSome};
 ghost use Rattle.hls_chron.specs.declared.plain.Config.TheVariants as configs;
 ghost use Rattle.hls_chron.specs.declared.plain.Kind.{Kind};
 ghost use Rattle.hls_chron.specs.Kinds.{kind_of};
@@ -10,6 +10,7 @@ ghost use Rattle.hls_kinds.specs.Fits.{Exceeds};
 ghost use Rattle.hls_kinds.specs.Room.{room_used as room_of, occupant_at, LacksRoom, IsFree, IsFull};
 ghost use Rattle.hls_sched.specs.Seen.{config_of, IsConfigured, IsSetUp, IsBlank};
 ghost use Rattle.hls_sched.specs.Seen.{requested, released, seated, left, settled, granted, revoked, turned};
+ghost use Rattle.hls_sched.specs.Seen.{tick_row};
 ghost use Rattle.hls_sched.specs.Fits.{Applies, fault_number, IsAnswer};
 
 use crate::slots::{bit, row};
@@ -143,11 +144,14 @@ impl Keeper {
         Ok(())
     }
 
-    /// Whether it is granted.
-    pub fn is_granted(&self) -> bool
-        ensures { result ≡ is_some self.now.grant }
+    /// The slot that the present tick serves: the choice, where it is granted.
+    pub fn served(&self, choice: Option<u32>) -> Option<u32>
+        ensures { result ≡ (tick_row self.now.mask self.now.grant choice).to }
     {
-        self.grant.is_some()
+        match (self.grant, choice) {
+            (Some(_), Some(slot)) => Some(slot),
+            _ => None,
+        }
     }
 
     /// The least free slot, or `None` where every seat is taken.

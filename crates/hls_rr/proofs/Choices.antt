@@ -16,7 +16,7 @@ use Rattle.hls_sched.specs.Seen.{Seen, IsConfigured, config_of}
 use Rattle.hls_sched.proofs.Masks.{some_slot, some_if_asks}
 use Rattle.hls_keeper.specs.Sound.{IsSound}
 use Rattle.hls_keeper.proofs.Choosing.{IsRight}
-use Rattle.hls_rr.specs.Turns.{next_of, choice_of}
+use Rattle.hls_rr.specs.Turns.{quantum_of, next_of, choice_of}
 use Rattle.hls_rr.proofs.Nexts.{next_first, next_none}
 use Rattle.hls_rr.proofs.Bounds.{turn_within, goes_on_asks}
 
@@ -97,3 +97,20 @@ slot_of (Join ports) b is kept discipline = absurd cc
 pub turn_slot_within : (s : Seen) → IsSound kinds.Rr s → IsConfigured s → turn_slot s.book < 32
 turn_slot_within s sound configured =
     slot_of (config_of s) s.book (sound.configured configured) sound.admission sound.discipline
+
+asks_by : (quantum : ℕ) (b : Ledger) (mask slot : ℕ) (on : Bool) → turn_slot b < 32
+    → turn_goes_on quantum b mask ≡ on
+    → choice_by on (turn_slot b) (next_of mask (turn_slot b) 32) ≡ Some slot
+    → slot_asks mask slot ≡ true
+asks_by quantum b mask slot true lt on is =
+    let here : turn_slot b ≡ slot = cc in
+    rw (← here) (eq-eqb (bit_at mask (turn_slot b)) 1 (goes_on_asks quantum b mask on))
+asks_by quantum b mask slot false lt off is = (next_first mask (turn_slot b) slot lt is).chosen
+
+-- the choice asks
+pub choice_asks : (s : Seen) (slot : ℕ) → IsSound kinds.Rr s → IsConfigured s
+    → choice_of (config_of s) s.book s.mask ≡ Some slot → slot_asks s.mask slot ≡ true
+choice_asks s slot sound configured is =
+    asks_by (quantum_of (config_of s)) s.book s.mask slot
+    (turn_goes_on (quantum_of (config_of s)) s.book s.mask)
+    (turn_slot_within s sound configured) refl is

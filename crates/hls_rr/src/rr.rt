@@ -1,16 +1,16 @@
 // A box of round robin.
 ghost use Rattle.std.specs.Prelude.{◌≡◌, ◌<◌, IfSome};
 ghost use Rattle.hls_chron.specs.declared.plain.Kind.{Kind};
+ghost use Rattle.hls_kinds.specs.Turns.{turn_goes_on};
 ghost use Rattle.hls_sched.specs.Seen.{IsBlank, IsConfigured, config_of};
 ghost use Rattle.hls_keeper.specs.Sound.{IsSound};
 ghost use Rattle.hls_keeper.proofs.Props.{sound_prop};
 ghost use Rattle.hls_keeper.proofs.Promises.{turns_promise};
-ghost use Rattle.hls_rr.specs.Turns.{quantum_of, choice_of};
+ghost use Rattle.hls_rr.specs.Turns.{quantum_of, choice_of, KeepsTurn};
 
-use crate::turns::next_asking;
+use crate::turns::{NO_TURN, Turn, next_asking, turn_after, turn_left};
 use hls_chron::{Book, Config, Kind, Terms};
 use hls_keeper::{Keeper, has_slot};
-use hls_kinds::{turn_slot, turn_ticks};
 use hls_sched::{Scheduler, SeatFault};
 use std::alloc::{AllocError, Global};
 
@@ -19,7 +19,9 @@ use std::alloc::{AllocError, Global};
 #[derive(Drop)]
 pub struct Rr {
     keeper: Keeper,
+    turn: Turn,
     ghost sound: { IsSound Kind.Rr keeper } by { sound_prop Kind.Rr keeper },
+    ghost kept: { KeepsTurn (quantum_of (config_of keeper)) keeper.book turn },
 }
 
 impl Rr {
@@ -29,6 +31,7 @@ impl Rr {
     {
         Rr {
             keeper: Keeper::blank(alloc, Kind::Rr),
+            turn: NO_TURN,
         }
     }
 
@@ -44,6 +47,13 @@ impl Rr {
         }
     }
 
+    /// Whether the turn goes on, where these slots ask.
+    fn goes_on(&self, mask: u32) -> bool
+        ensures { result ≡ turn_goes_on (quantum_of (config_of self.now.keeper)) self.now.keeper.book mask }
+    {
+        has_slot(mask, self.turn.slot) && self.turn.ticks != 0
+    }
+
     /// The slot of the turn where it goes on, else the next that asks.
     fn next(&self) -> Option<u32>
         requires { IsConfigured self.now.keeper }
@@ -52,11 +62,10 @@ impl Rr {
         ensures within { IfSome result (λ slot. slot < 32) }
     {
         let mask = self.keeper.mask();
-        let slot = turn_slot(self.keeper.book());
-        if has_slot(mask, slot) && turn_ticks(self.keeper.book(), slot) % self.quantum() != 0 {
-            Some(slot)
+        if self.goes_on(mask) {
+            Some(self.turn.slot)
         } else {
-            next_asking(mask, slot)
+            next_asking(mask, self.turn.slot)
         }
     }
 }
@@ -85,7 +94,9 @@ impl Scheduler for Rr {
         horizon: u32,
         commands: u32,
     ) -> Result<(), AllocError> {
-        self.keeper.setup(config, now, horizon, commands)
+        self.keeper.setup(config, now, horizon, commands)?;
+        self.turn = NO_TURN;
+        Ok(())
     }
 
     fn fits(&self, terms: &Terms) -> Option<SeatFault> {
@@ -101,6 +112,7 @@ impl Scheduler for Rr {
     }
 
     fn leave(&mut self, slot: u32) {
+        self.turn = turn_left(self.turn, slot);
         self.keeper.leave(slot);
     }
 
@@ -130,10 +142,13 @@ impl Scheduler for Rr {
 
     fn turn(&mut self) {
         let choice = self.next();
+        let served = self.keeper.served(choice);
+        self.turn = turn_after(self.quantum(), self.keeper.mask(), self.turn, served);
         self.keeper.turn(choice);
     }
 
     fn settle(&mut self) {
+        self.turn = NO_TURN;
         self.keeper.settle();
     }
 

@@ -12,7 +12,7 @@ use Rattle.hls_chron.specs.Kinds.{kind_of}
 use Rattle.hls_chron.specs.Ledger.{Ledger, with_mark}
 use Rattle.hls_kinds.specs.Fits.{Fits}
 use Rattle.hls_kinds.specs.Room.{IsFree}
-use Rattle.std.proofs.Common.{◌+◌, ◌%◌, ◌<◌, ◌≤◌, ap, is_some, sym, ◌∙◌, arith, [], List}
+use Rattle.std.proofs.Common.{◌%◌, ◌<◌, ◌≤◌, ap, is_some, sym, ◌∙◌, arith, [], List}
 use Rattle.std.specs.Prelude.{replicate}
 use Rattle.std.proofs.lemmas.List.{get_or-replicate}
 use Rattle.hls_chron.specs.declared.book.Event.{Event}

@@ -1,4 +1,5 @@
 use Rattle.hls_keeper.proofs.Sounds.{sound_blank}
+use Rattle.hls_rr.proofs.Keeping.{turn_unwritten}
 use Rattle.hls_rr.proofs.rr.Rr.blank.Goals as goal
 
 pub invariant_of-result : goal.invariant_of-result
@@ -7,4 +8,5 @@ invariant_of-result c =
       sound =
           sound_blank _ _ c.blank.ensures.blank c.blank.ensures.rows c.blank.ensures.marks
           c.blank.ensures.silent;
+      kept = turn_unwritten _ _ c.blank.ensures.rows c.blank.ensures.marks;
     }

@@ -3,4 +3,8 @@ use Rattle.hls_rr.proofs.rr.RrScheduler.request.Goals as goal
 
 pub invariant_of-self : goal.invariant_of-self
 invariant_of-self c =
-    record { sound = after_request _ _ _ _ c.request.ensures c.args.self.now.sound c.requires.taken }
+    record {
+      sound = after_request _ _ _ _ c.request.ensures c.args.self.now.sound c.requires.taken;
+      kept =
+          rw c.request.ensures c.args.self.now.kept;
+    }

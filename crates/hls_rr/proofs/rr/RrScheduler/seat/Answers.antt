@@ -1,4 +1,5 @@
 use Rattle.hls_keeper.proofs.Calls.{after_seat}
+use Rattle.hls_rr.proofs.Keeping.{turn_seat}
 use Rattle.hls_rr.proofs.rr.RrScheduler.seat.Goals as goal
 
 pub invariant_of-self : goal.invariant_of-self
@@ -6,4 +7,6 @@ invariant_of-self c =
     record {
       sound =
           after_seat _ _ _ _ _ c.seat.ensures c.args.self.now.sound c.requires.free c.requires.fits;
+      kept =
+          rw c.seat.ensures (turn_seat _ _ _ _ _ c.args.self.now.kept);
     }
