@@ -3,5 +3,7 @@
 
 mod sfq;
 mod slots;
+#[cfg(test)]
+mod tests;
 
 pub use sfq::Sfq;
