@@ -1,0 +1,5 @@
+//! Boxes of turns, of frames and of joins, driven through their trait.
+#![tactic(auto)]
+
+#[cfg(test)]
+mod tests;
