@@ -194,8 +194,7 @@ may_mark T M b (Leave slot) may = tt
 may_mark T M b Settle may = tt
 
 ranged_seat : (T M : ℕ) (b : Ledger) (at : ℕ) (new : Terms) → HasWeights T M b → TermsInRange new
-    → (slot weight : ℕ) → terms_at (with_mark b (Seat at new)) slot ≡ Some (Weight weight)
-        → IsWithin 1 20 weight
+    → (slot weight : ℕ) → terms_at (with_mark b (Seat at new)) slot ≡ Some (Weight weight) → IsWithin 1 20 weight
 ranged_seat T M b at new had range slot weight is = elim (cases_eq at slot) [
   | inl same ↦
       let one = seat_here b at slot new same in
