@@ -1,6 +1,6 @@
 // What no clause says of the boxes: that their calls can succeed, worked schedules by hand, and drawn calls
 // against the definitions.
-ghost use Rattle.std.specs.Prelude.{◌≡◌, ◌≢◌, ◌+◌, ◌<◌, ◌≤◌, None, true, false};
+ghost use Rattle.std.specs.Prelude.{◌≡◌, ◌≢◌, ◌+◌, ◌^◌, ◌<◌, ◌≤◌, None, true, false};
 ghost use Rattle.hls_chron.specs.Kinds.{kind_of};
 ghost use Rattle.hls_chron.specs.Ranges.{ConfigInRange, TermsInRange};
 ghost use Rattle.hls_chron.specs.Seats.{SlotAsks, terms_at as seated_at};
@@ -44,8 +44,10 @@ fn is_asking(mask: u32, slot: u32) -> bool
     (mask >> slot) & 1 == 1
 }
 
+/// The bit of a slot.
 fn bit(slot: u32) -> u32
     requires { slot < 32 }
+    ensures { result ≡ 2 ^ slot }
 {
     1 << slot
 }
