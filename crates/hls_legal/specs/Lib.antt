@@ -8,6 +8,7 @@ pub mod Supplied
 pub mod Orderly
 pub mod Readings
 pub mod Example
+pub mod Moves
 pub mod Alike
 pub mod Lists
 pub mod Seated
