@@ -19,6 +19,7 @@ pub mod Orders
 pub mod Promises
 pub mod Readings
 pub mod Absent
+pub mod Small
 pub mod Example
 pub mod Sitters
 pub mod Unique
