@@ -1,13 +1,10 @@
 -- The example is a legal run.
-use Rattle.std.proofs.Common.{◌≡◌, ◌≢◌, ℕ, inl, inr, ◌<◌, ◌^◌, [], ◌∷◌, Option, Some, None, Bool, false}
+use Rattle.std.proofs.Common.{◌≡◌, ◌≢◌, ℕ, inl, inr, ◌<◌, [], ◌∷◌, Option, Some, None, Bool, false}
 use Rattle.std.proofs.Common.{refl, sym, ap, ◌∙◌, ◌==◌, slice_get, arith}
 use Rattle.std.specs.Prelude.{codes}
 use Rattle.std.proofs.lemmas.Bool.{cases_eq, ne_eqb, eqb-true}
-use Rattle.std.proofs.lemmas.Nat.Bits.{bit_at-pow_other, bit_at-pow_same}
-use Rattle.hls_chron.specs.Ledger.{Ledger}
 use Rattle.hls_chron.specs.Seats.{terms_at, priority_at}
 use Rattle.hls_chron.specs.Ticks.{count}
-use Rattle.hls_kinds.specs.Discipline.{HasLeastPriority}
 use Rattle.hls_guarantee.specs.declared.Guarantee.TheVariants.{All}
 use Rattle.hls_legal.specs.Hierarchy.{Hierarchy, start, Node, Loaded, Scheduler, At, Seat, seat_of, book_of}
 use Rattle.hls_legal.specs.Hierarchy.{name_of}
@@ -19,7 +16,7 @@ use Rattle.hls_legal.specs.Example.{last_tick, all_ask, first_slots, two_ask, se
 use Rattle.hls_legal.proofs.Small.{Few, few_after, each_of_three, beyond, placed, same_slot, root_all, later_nothing}
 use Rattle.hls_legal.proofs.Small.{fits_number, first_seat, take_one, take_first, LowSeats, low_seat, no_low}
 use Rattle.hls_legal.proofs.Small.{thread_low, flat, zero_off, SeatsAsk, seat_asks, root_asks_so, FreeSilent}
-use Rattle.hls_legal.proofs.Small.{one_silent, all_silent, the}
+use Rattle.hls_legal.proofs.Small.{one_silent, all_silent, the, lone_least}
 
 -- the hierarchy after each step
 abbrev one : Hierarchy
@@ -124,18 +121,6 @@ can_admit_player = record {
 
 can_wake_player : Can three wake_player
 can_wake_player = record { thread = _; there = refl }
-
--- the one slot that asks is served
-lone_least : (b : Ledger) (place : ℕ) → priority_at b place ≢ None → HasLeastPriority b (2 ^ place) place
-lone_least b place seated = record {
-  asks = bit_at-pow_same place;
-  seated = seated;
-  least = λ other priority rival asks mine theirs. elim (cases_eq other place) [
-    | inl e ↦ let same : Some priority ≡ Some rival = sym mine ∙ ap (priority_at b) (sym e)
-        ∙ theirs in let number : priority ≡ rival = cc in omega (arith, number)
-    | inr ne ↦ absurd (let off = bit_at-pow_other place other ne in omega (arith, off, asks))
-  ];
-}
 
 asking_four : IsAsking four all_ask first_slots
 unfolding terms_at count

@@ -21,6 +21,9 @@ pub mod Readings
 pub mod Absent
 pub mod Small
 pub mod Example
+pub mod Awake
+pub mod Moved
+pub mod Moves
 pub mod Sitters
 pub mod Unique
 pub mod Determined

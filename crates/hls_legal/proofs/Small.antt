@@ -2,12 +2,13 @@
 use Rattle.std.proofs.Common.{◌≡◌, ◌≢◌, ℕ, zero, suc, inl, inr, ◌<◌, ◌≤◌, ◌^◌, List, [], ◌∷◌, Option, Some}
 use Rattle.std.proofs.Common.{None, Bool, false, ◌==◌, slice_get, refl, sym, ap, ◌∙◌, subst, arith}
 use Rattle.std.proofs.lemmas.Bool.{cases_eq, ne_eqb}
-use Rattle.std.proofs.lemmas.Nat.Bits.{bit_at-zero, bit_at-pow_other}
+use Rattle.std.proofs.lemmas.Nat.Bits.{bit_at-zero, bit_at-pow_other, bit_at-pow_same}
 use Rattle.hls_chron.specs.declared.plain.Config.TheVariants as configs
 use Rattle.hls_chron.specs.declared.plain.Terms.TheVariants as variants
 use Rattle.hls_chron.specs.Ledger.{Ledger}
 use Rattle.hls_chron.specs.Seats.{terms_at, priority_at}
 use Rattle.hls_kinds.specs.Asks.{slot_asks}
+use Rattle.hls_kinds.specs.Discipline.{HasLeastPriority}
 use Rattle.hls_kinds.specs.Fits.{Fits}
 use Rattle.hls_guarantee.specs.declared.Guarantee.{Guarantee}
 use Rattle.hls_guarantee.specs.declared.Guarantee.TheVariants.{All, Null}
@@ -207,6 +208,18 @@ bit_off place slot ne = let zero = bit_at-pow_other place slot ne in rw zero ref
 
 pub zero_off : (slot : ℕ) → slot_asks 0 slot ≡ false
 zero_off slot = let zero = bit_at-zero slot in rw zero refl
+
+-- the one slot that asks is served
+pub lone_least : (b : Ledger) (place : ℕ) → priority_at b place ≢ None → HasLeastPriority b (2 ^ place) place
+lone_least b place seated = record {
+  asks = bit_at-pow_same place;
+  seated = seated;
+  least = λ other priority rival asks mine theirs. elim (cases_eq other place) [
+    | inl e ↦ let same : Some priority ≡ Some rival = sym mine ∙ ap (priority_at b) (sym e)
+        ∙ theirs in let number : priority ≡ rival = cc in omega (arith, number)
+    | inr ne ↦ absurd (let off = bit_at-pow_other place other ne in omega (arith, off, asks))
+  ];
+}
 
 -- what asks in a tick: each seat by its child
 abbrev pub SeatsAsk : (asking : ℕ → Bool) (masks : ℕ → ℕ) → (c : ℕ) → Option Node → Type 0

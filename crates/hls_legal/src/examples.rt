@@ -22,6 +22,7 @@ pub fn the_example_is_legal()
 /// below which it sits does, with the thread on it. Each tick serves whom the seats of that tick put
 /// first, and each move ends a stay of the thread and begins the next.
 pub fn the_moves_are_legal()
+    ensures legal { IsLegal start moves }
     ensures ticks { map (λ (t : ℕ). ((state start moves).past t).to) (0 ∷ 1 ∷ 2 ∷ 3 ∷ 4 ∷ 5 ∷ []) ≡
         moves_ticks }
     ensures stays { (state start moves).stays ≡ moves_stays }
