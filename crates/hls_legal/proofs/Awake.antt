@@ -1,4 +1,4 @@
--- What stands in the ticks of the run of moves, when all are awake: its ticks, its moves, and what they leave.
+-- What stands in the ticks of the run of moves, when all are awake, and how its ticks elapse.
 use Rattle.std.proofs.Common.{◌≡◌, ◌≢◌, ℕ, zero, suc, ◌≤◌, [], ◌∷◌, Option, Some, None}
 use Rattle.std.proofs.Common.{false, refl, sym, ap, ◌∙◌, arith}
 use Rattle.std.specs.Prelude.{codes}
@@ -38,8 +38,8 @@ pub record IsAwake (h : Hierarchy) (first second : ℕ) (kept have : Guarantee) 
   pub helper_stay : ℕ
   pub root_there : h.nodes 0 ≡ Some
       (Loaded (record { name = codes "root"; config = configs.Fp; book = top; ports = root_seat ∷ [] }))
-  pub branch_there : h.nodes 1 ≡ Some
-      (Loaded (record { name = codes "f"; config = configs.Fp; book = low; ports = branch_on first kept ∷ [] }))
+  pub branch_there : h.nodes 1 ≡ Some (Loaded (record
+      { name = codes "f"; config = configs.Fp; book = low; ports = branch_on first kept ∷ [] }))
   pub worker_there : h.nodes 2 ≡ Some
       (Admitted (record { name = codes "a"; seat = worker_on second have; wake = Awake; stay = worker_stay }))
   pub helper_there : h.nodes 3 ≡ Some

@@ -13,7 +13,8 @@ use Rattle.hls_legal.specs.Legal.{IsAsking, Can, IsLegal, asks_now}
 use Rattle.hls_legal.specs.Example.{desk_seat, media_seat, player_seat, moved_seat, load_desk, load_media}
 use Rattle.hls_legal.specs.Example.{admit_player, wake_player, first_tick, move_player, second_tick}
 use Rattle.hls_legal.specs.Example.{last_tick, all_ask, first_slots, two_ask, second_slot, example}
-use Rattle.hls_legal.proofs.Small.{Few, few_after, each_of_three, beyond, placed, same_slot, root_all, later_nothing}
+use Rattle.hls_legal.proofs.Small.{Few, few_after, each_of_three, beyond, placed, same_slot, root_all}
+use Rattle.hls_legal.proofs.Small.{later_nothing}
 use Rattle.hls_legal.proofs.Small.{fits_number, first_seat, take_one, take_first, LowSeats, low_seat, no_low}
 use Rattle.hls_legal.proofs.Small.{thread_low, flat, zero_off, SeatsAsk, seat_asks, root_asks_so, FreeSilent}
 use Rattle.hls_legal.proofs.Small.{one_silent, all_silent, the, lone_least}
@@ -93,7 +94,8 @@ can_load_media = (
       unused = refl;
       named = refl;
       fresh =
-          each_of_three one few_one (λ k node. name_of node ≢ Some (codes "media")) (λ e. cc) (λ e. cc) (λ e. cc)
+          each_of_three one few_one (λ k node. name_of node ≢ Some (codes "media")) (λ e. cc)
+          (λ e. cc) (λ e. cc)
           (λ k le e. cc);
     };
     few = omega arith;
@@ -102,7 +104,9 @@ can_load_media = (
     ports = refl;
     places = take_first one 0 (first_seat one 0 _ _ _ _ desk_seat refl refl);
   },
-  flat two (each_of_three two few_two LowSeats (desk_low _ refl) (media_low _ refl) (no_low 2) (λ k le. no_low k)),
+  flat two
+      (each_of_three two few_two LowSeats (desk_low _ refl) (media_low _ refl) (no_low 2)
+      (λ k le. no_low k)),
 )
 
 can_admit_player : Can two admit_player
@@ -111,7 +115,8 @@ can_admit_player = record {
     unused = refl;
     named = refl;
     fresh =
-        each_of_three two few_two (λ k node. name_of node ≢ Some (codes "player")) (λ e. cc) (λ e. cc) (λ e. cc)
+        each_of_three two few_two (λ k node. name_of node ≢ Some (codes "player")) (λ e. cc)
+        (λ e. cc) (λ e. cc)
         (λ k le e. cc);
   };
   few = omega arith;
@@ -125,10 +130,16 @@ can_wake_player = record { thread = _; there = refl }
 asking_four : IsAsking four all_ask first_slots
 unfolding terms_at count
 asking_four = record {
-  nodes = each_of_three four few_four (λ k node. all_ask k ≡ asks_now four k (first_slots k) node) refl refl refl
-      (λ k le. rw (beyond k 0 (omega (arith, le)), beyond k 1 (omega (arith, le)), beyond k 2 (omega (arith, le)))
+  nodes = each_of_three four few_four (λ k node. all_ask k ≡ asks_now four k (first_slots k) node) refl refl
+      refl
+      (λ k le. rw (
+        beyond k 0 (omega (arith, le)),
+        beyond k 1 (omega (arith, le)),
+        beyond k 2 (omega (arith, le)),
+      )
       refl);
-  seats = each_of_three four few_four (SeatsAsk all_ask first_slots) (root_asks_so all_ask first_slots 0 desk_seat refl)
+  seats = each_of_three four few_four (SeatsAsk all_ask first_slots)
+      (root_asks_so all_ask first_slots 0 desk_seat refl)
       (seat_asks all_ask first_slots 1 0 0 media_seat refl refl)
       (seat_asks all_ask first_slots 2 1 0 player_seat refl refl) (λ k le port seat p slot e is. cc);
   free = each_of_three four few_four (FreeSilent first_slots)
@@ -235,7 +246,9 @@ can_move = (
     acyclic = refl;
     rederived = λ c port on_it slot e is. absurd (nobody_on_it c port on_it 2 slot e is refl);
   },
-  flat six (each_of_three six few_six LowSeats (desk_low _ refl) (media_low _ refl) (thread_low 2 _) (λ k le. no_low k)),
+  flat six
+      (each_of_three six few_six LowSeats (desk_low _ refl) (media_low _ refl) (thread_low 2 _)
+      (λ k le. no_low k)),
 )
 
 asking_six : IsAsking six two_ask second_slot
@@ -243,7 +256,8 @@ unfolding terms_at count
 asking_six = record {
   nodes = each_of_three six few_six (λ k node. two_ask k ≡ asks_now six k (second_slot k) node) refl refl refl
       (λ k le. rw (beyond k 0 (omega (arith, le)), beyond k 2 (omega (arith, le))) refl);
-  seats = each_of_three six few_six (SeatsAsk two_ask second_slot) (root_asks_so two_ask second_slot 0 desk_seat refl)
+  seats = each_of_three six few_six (SeatsAsk two_ask second_slot)
+      (root_asks_so two_ask second_slot 0 desk_seat refl)
       (seat_asks two_ask second_slot 1 0 0 media_seat refl refl)
       (seat_asks two_ask second_slot 2 0 1 moved_seat refl refl) (λ k le port seat p slot e is. cc);
   free = each_of_three six few_six (FreeSilent second_slot)
@@ -285,7 +299,8 @@ can_tick_last = (
   record {
     nodes = each_of_three seven few_seven (λ k node. false ≡ asks_now seven k 0 node) refl refl refl
         (λ k le. refl);
-    seats = each_of_three seven few_seven (SeatsAsk no_node no_slots) (root_asks_so no_node no_slots 0 desk_seat refl)
+    seats = each_of_three seven few_seven (SeatsAsk no_node no_slots)
+        (root_asks_so no_node no_slots 0 desk_seat refl)
         (seat_asks no_node no_slots 1 0 0 media_seat refl (zero_off 0))
         (seat_asks no_node no_slots 2 0 1 moved_seat refl (zero_off 1)) (λ k le port seat p slot e is. cc);
     free = λ p slot none. zero_off slot;

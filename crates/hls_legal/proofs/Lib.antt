@@ -24,6 +24,7 @@ pub mod Example
 pub mod Awake
 pub mod Moved
 pub mod Moves
+pub mod Refused
 pub mod Sitters
 pub mod Unique
 pub mod Determined

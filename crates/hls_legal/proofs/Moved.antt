@@ -74,11 +74,12 @@ left_free b = record {
 below_worker : (h : Hierarchy) → IsAwake h 0 0 All All → IsBelow h 2 (λ k. k == 2)
 below_worker h awake = record {
   itself = refl;
-  down = λ c p on is. absurd (elim (sits h 0 0 All All awake c on.port on.seat p on.slot on.sits on.at_place) [
-    | inl one ↦ omega (arith, one.1, eqb-true p 2 is)
-    | inr (inl two) ↦ omega (arith, two.1, eqb-true p 2 is)
-    | inr (inr three) ↦ omega (arith, three.1, eqb-true p 2 is)
-  ]);
+  down = λ c p on is. absurd
+      (elim (sits h 0 0 All All awake c on.port on.seat p on.slot on.sits on.at_place) [
+        | inl one ↦ omega (arith, one.1, eqb-true p 2 is)
+        | inr (inl two) ↦ omega (arith, two.1, eqb-true p 2 is)
+        | inr (inr three) ↦ omega (arith, three.1, eqb-true p 2 is)
+      ]);
   up = λ c is. inl (eqb-true c 2 is);
 }
 
@@ -175,6 +176,21 @@ three_unused b first second free (suc zero) has =
 three_unused b first second free (suc (suc slot)) has =
     numberless _ 3 (ap priority_in (free (suc (suc slot)) (omega arith))) has
 
+pub may_take_behind : (h : Hierarchy) (second : ℕ) (have : Guarantee) → IsAwake h 0 second All have
+    → MayTake h (branch_on 0 All ∷ []) later_branch_seat
+may_take_behind h second have awake = record {
+  in_range = record { terms = omega arith; kept = tt };
+  free = record {
+    scheduler = _;
+    there = awake.root_there;
+    fits = fits_number awake.top 3
+        (three_unused awake.top awake.branch_terms awake.helper_terms awake.top_free);
+    room = λ full. full 2 (omega arith) (awake.top_free 2 (omega arith));
+    free = left_free awake.top;
+    derived = rw awake.root_there (later_nothing 3 All tt);
+  };
+}
+
 abbrev Rederived : (c : ℕ) → Option Node → Type 0
 Rederived c node = (port : ℕ) (on_it : Seat) (slot : ℕ) → seat_of node port ≡ Some on_it
     → on_it.place ≡ At 1 slot → Follows configs.Fp on_it.terms (Null ∷ []) on_it.kept
@@ -203,18 +219,7 @@ can_move_branch h awake next = (
     sort = subst (MayMoveTo later_branch_seat.place) (sym awake.branch_there) (λ e. cc);
     under = below_branch h awake;
     take = subst (λ node. MayTake h (seats_of node) later_branch_seat) (sym awake.branch_there)
-        (record {
-          in_range = record { terms = omega arith; kept = tt };
-          free = record {
-            scheduler = _;
-            there = awake.root_there;
-            fits = fits_number awake.top 3
-                (three_unused awake.top awake.branch_terms awake.helper_terms awake.top_free);
-            room = λ full. full 2 (omega arith) (awake.top_free 2 (omega arith));
-            free = left_free awake.top;
-            derived = rw awake.root_there (later_nothing 3 All tt);
-          };
-        });
+        (may_take_behind h 1 Null awake);
     acyclic = refl;
     rederived = λ c port on_it slot e is. subst
         (λ node. Follows (config_of node) on_it.terms (haves_of (reseated later_branch_seat node)) on_it.kept)

@@ -165,7 +165,8 @@ awake_all = record {
   branch_terms = refl;
   helper_terms = refl;
   top_free =
-      λ slot le. rw (ne_eqb 0 slot (λ e. omega (arith, le, e)), ne_eqb 1 slot (λ e. omega (arith, le, e))) refl;
+      λ slot le. rw (ne_eqb 0 slot (λ e. omega (arith, le, e)), ne_eqb 1 slot (λ e. omega (arith, le, e)))
+      refl;
   worker_terms = refl;
   low_free = λ slot le. rw (ne_eqb 0 slot (λ e. omega (arith, le, e))) refl;
 }
@@ -247,7 +248,10 @@ moves_legal = (
     can_load_branch,
     (
       can_admit_worker,
-      (can_admit_helper, (record { thread = _; there = refl }, (record { thread = _; there = refl }, all_run))),
+      (
+        can_admit_helper,
+        (record { thread = _; there = refl }, (record { thread = _; there = refl }, all_run)),
+      ),
     ),
   ),
 )

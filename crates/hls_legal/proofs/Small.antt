@@ -15,8 +15,8 @@ use Rattle.hls_guarantee.specs.declared.Guarantee.TheVariants.{All, Null}
 use Rattle.hls_guarantee.specs.Limits.{IsValid}
 use Rattle.hls_legal.specs.Ledgers.{empty_book}
 use Rattle.hls_legal.specs.Derived.{Yields, Follows}
-use Rattle.hls_legal.specs.Hierarchy.{Hierarchy, Node, Loaded, Admitted, Scheduler, Thread, Processor, At, Seat}
-use Rattle.hls_legal.specs.Hierarchy.{seat_of, book_of}
+use Rattle.hls_legal.specs.Hierarchy.{Hierarchy, Node, Loaded, Admitted, Scheduler, Thread, Processor, At}
+use Rattle.hls_legal.specs.Hierarchy.{Seat, seat_of, book_of}
 use Rattle.hls_legal.specs.Steps.{Step, after}
 use Rattle.hls_legal.specs.Legal.{SitsUnder, IsShallow, MayTake, MayTakeEach, MaySit, scheduler_at}
 use Rattle.hls_legal.proofs.Seatings.{lone_port}

@@ -2,8 +2,10 @@
 -- with the worker a, and behind the branch the helper b. The worker moves to a later seat on the branch,
 -- and then the branch, with the worker on it, moves behind the helper, which runs from then on.
 use Rattle.std.specs.Prelude.{ℕ, ◌==◌, ◌||◌, List, [], ◌∷◌, Option, Some, None, Bool, if◌then◌else◌, codes}
+use Rattle.std.specs.Prelude.{take}
 use Rattle.hls_chron.specs.declared.plain.Config.TheVariants.{Fp}
 use Rattle.hls_chron.specs.declared.plain.Terms.TheVariants.{Cpu, Prio}
+use Rattle.hls_guarantee.specs.declared.Guarantee.{Guarantee}
 use Rattle.hls_guarantee.specs.declared.Guarantee.TheVariants.{All, Null}
 use Rattle.hls_legal.specs.Hierarchy.{Processor, At, Seat, Stay}
 use Rattle.hls_legal.specs.Steps.{Step, Refuse, Load, Admit, Move, Rouse, Elapse, Hop}
@@ -36,8 +38,11 @@ helper_seat = record { place = At root 1; terms = Prio 2; kept = Null }
 abbrev pub later_worker_seat : Seat
 later_worker_seat = record { place = At branch 0; terms = Prio 1; kept = Null }
 
+abbrev pub behind_helper : (slot : ℕ) → Guarantee → Seat
+behind_helper slot kept = record { place = At root slot; terms = Prio 3; kept = kept }
+
 abbrev pub later_branch_seat : Seat
-later_branch_seat = record { place = At root 0; terms = Prio 3; kept = Null }
+later_branch_seat = behind_helper 0 Null
 
 abbrev pub load_root : Step
 load_root = Load root (codes "root") Fp 6 8 (root_seat ∷ [])
@@ -80,12 +85,19 @@ worker_tick = Elapse all_ask taken_slots
 abbrev pub helper_tick : Step
 helper_tick = Elapse all_ask taken_slots (Some (record { hops = helper_hop ∷ []; thread = helper }))
 
--- The branch is refused a later seat twice before the worker moves: such a seat does not give every tick,
--- neither to the branch nor to the worker on it.
+-- The branch is refused the seat behind the helper twice before the worker moves: as one that gives every
+-- tick, and then as one that gives nothing, since the worker on it still has every tick.
 abbrev pub moves : List Step
 moves = load_root ∷ load_branch ∷ admit_worker ∷ admit_helper ∷ Rouse worker None ∷ Rouse helper None
     ∷ worker_tick ∷ worker_tick ∷ Refuse ∷ worker_tick ∷ Refuse ∷ worker_tick ∷ move_worker ∷ worker_tick
     ∷ move_branch ∷ helper_tick ∷ []
+
+-- the steps before the one refusal, and before the other
+abbrev pub before_first : List Step
+before_first = take 8 moves
+
+abbrev pub before_second : List Step
+before_second = take 10 moves
 
 -- whom each tick served, and the stays with what was guaranteed for them
 abbrev pub moves_ticks : List (Option ℕ)
