@@ -200,7 +200,8 @@ module _ (T M : ℕ) (b : Ledger) (kept : KeepsShareBook T M b) where
       (share_at b t slot).weight) [
         | None ↦ λ none. absurd (taken none)
         | Some m ↦ λ e.
-            let some = weighs m ((seats-at t le).of_kind slot m e) (λ weight same. (weights-at t le).ranged slot weight (e ∙ same)) in
+            let of_kind = (seats-at t le).of_kind slot m e in
+            let some = weighs m of_kind (λ weight same. (weights-at t le).ranged slot weight (e ∙ same)) in
             let same = ap weight_in e in
             omega (arith, is, some, same)
       ] refl
