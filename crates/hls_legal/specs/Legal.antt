@@ -136,7 +136,8 @@ pub record SitsOn (h : Hierarchy) (c p : ℕ) : Type 0 where
   pub sits : seat_of (h.nodes c) port ≡ Some seat
   pub at_place : seat.place ≡ At p slot
 
--- a test tells which nodes are k or below it
+-- A test tells which nodes are k or below it. Seats have ranks in a legal run, so that no nodes sit on
+-- each other in a ring.
 pub record IsBelow (h : Hierarchy) (k : ℕ) (below : ℕ → Bool) : Type 0 where
   pub itself : below k ≡ true
   pub down : (c p : ℕ) → SitsOn h c p → below p ≡ true → below c ≡ true

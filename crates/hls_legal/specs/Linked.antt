@@ -33,8 +33,9 @@ asking_at h k t = asking_of h.past k (h.nodes k) t
 abbrev pub given_at : Hierarchy → (k port : ℕ) → ℕ → Bool
 given_at h k port t = given_of h.past k (h.nodes k) port t
 
--- A port of c sits at a slot of p. The book of p has the seat, since no later than the accounts of c
--- run, and tells the same of it as those. Ranks rise along seats.
+-- A port of c sits at a slot of p. The book of p has had the seat from a tick on that is no later than
+-- the one since which the accounts of c run, and in every tick since then the slot asks where c asks and
+-- is served where c is given the tick through the port. Ranks rise along seats.
 pub record Attends (h : Hierarchy) (rank : ℕ → ℕ) (c port : ℕ) (seat : Seat) (p slot : ℕ) : Type 0 where
   pub below : rank p < rank c
   pub now : now_of (book_at h p) ≡ h.now

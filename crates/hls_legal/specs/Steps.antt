@@ -136,8 +136,9 @@ opened now nodes begins [] = []
 opened now nodes begins (k ∷ threads) =
     (if begins k then stay_of now k (nodes k) else []) ++ opened now nodes begins threads
 
--- The effect of a command on node k. The seats of k are left, those of what it becomes are taken, and
--- then the accounts of all that is below begin anew.
+-- The effect of a command on node k, which becomes the node that is given: none where it goes. The seats
+-- of k are left, those of what it becomes are taken, and then the accounts of all that is below begin
+-- anew. A thread that k becomes begins a stay, also where it is new and nothing is below.
 abbrev pub nodes_after : Hierarchy → (k : ℕ) → Option Node → (below : ℕ → Bool) → ℕ → Option Node
 nodes_after h k node below c = renewed (below c) h.now
     (if c == k then node else marked (leavings (seats_of (h.nodes k)) c ++ seatings (seats_of node) c)
