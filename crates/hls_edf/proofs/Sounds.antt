@@ -4,7 +4,7 @@ use Rattle.std.proofs.Common.{arith, inl, inr}
 use Rattle.std.proofs.Common.{ap, ◌∙◌, Bool, true, false, Option, Some, None, subst, get_or, get_or-set_same}
 use Rattle.std.proofs.Common.{get_or-set_other}
 use Rattle.std.specs.Prelude.{slice_set, replicate, is_some, ◌==◌}
-use Rattle.std.proofs.lemmas.Bool.{cases_lt, cases_eq, cases_Bool, eqb-true, eq-eqb}
+use Rattle.std.proofs.lemmas.Bool.{cases_eq, cases_Bool, eqb-true, eq-eqb}
 use Rattle.hls_chron.specs.declared.book.TickRow.{TickRow}
 use Rattle.hls_chron.specs.declared.book.Event.TheVariants.{Seat, Leave, Settle}
 use Rattle.hls_chron.specs.declared.plain.Config.TheVariants.{Edf}
@@ -13,20 +13,16 @@ use Rattle.hls_chron.specs.declared.plain.Terms.TheVariants.{Res}
 use Rattle.hls_chron.specs.Ledger.{Ledger, now_of, before, with_row, with_mark}
 use Rattle.hls_chron.specs.Seats.{SlotAsks, terms_at, is_slot}
 use Rattle.hls_chron.proofs.BookLaws.{terms_at-mark, terms_at-row, terms_at-unmarked}
-use Rattle.hls_kinds.specs.declared.tenant.Tenant.{Tenant}
-use Rattle.hls_kinds.specs.declared.tenant.Tenant.TheVariants.{Vacant, Sits, Left}
-use Rattle.hls_kinds.specs.Tenants.{tenant_at}
 use Rattle.hls_kinds.specs.Reservations.{all_parts, parts}
 use Rattle.hls_kinds.specs.Asks.{asks, slot_asks}
 use Rattle.hls_kinds.specs.Discipline.{Serves}
-use Rattle.hls_kinds.proofs.TenantLaws.{seated_in, seated-terms}
 use Rattle.hls_kinds.proofs.DisciplineLaws.{discipline-mark, discipline-row}
 use Rattle.hls_kinds.proofs.DisciplineLaws.{discipline-unwritten}
 use Rattle.hls_sched.specs.Seen.{with_slot, without_slot, tick_row}
 use Rattle.hls_sched.proofs.Masks.{asks_with, asks_without, silent_without, silent_zero}
 use Rattle.hls_edf_laws.specs.declared.account.Account.{Account}
 use Rattle.hls_edf_laws.specs.Accounts.{vacant, fresh, offered, parts_in}
-use Rattle.hls_edf_laws.specs.Books.{held, account_at, IsRow, IsReservation, KeepsReservations}
+use Rattle.hls_edf_laws.specs.Books.{held, account_at, IsRow, IsReservation}
 use Rattle.hls_edf_laws.proofs.Admitting.{tenant_there, taken_within}
 use Rattle.hls_edf_laws.proofs.Bare.{before-last, asks-bare, serves-bare}
 use Rattle.hls_edf_laws.proofs.Choices.{is-asking}

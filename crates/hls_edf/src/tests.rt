@@ -69,7 +69,7 @@ pub fn is_asking(mask: u32, slot: u32) -> bool
 }
 
 /// The least slot that nothing takes up, by the definition.
-fn free_in(book: &Book) -> Option<u32> {
+pub fn free_in(book: &Book) -> Option<u32> {
     for slot in 0..32 {
         if occupant(book, &Config::Edf, slot).is_none() {
             return Some(slot);
@@ -94,12 +94,7 @@ pub fn compare(scheduler: &dyn Scheduler, mask: u32, rt: &impl Abort)
 }
 
 /// Lets a tick pass, granted where the scheduler asks and this is wanted, and tells the slot that is served.
-pub fn pass_tick(
-    scheduler: &mut dyn Scheduler,
-    mask: u32,
-    grant: bool,
-    rt: &impl Abort,
-) -> Option<u32>
+pub fn pass_tick(scheduler: &mut dyn Scheduler, grant: bool) -> Option<u32>
     requires configured { IsConfigured (seen scheduler.old) }
     requires ungranted { (seen scheduler.old).grant ≡ None }
     requires room { 0 < (seen scheduler.old).book.spare_ticks }
@@ -109,7 +104,6 @@ pub fn pass_tick(
     ensures ticks { (seen scheduler.old).book.spare_ticks ≡ (seen scheduler.new).book.spare_ticks + 1 }
     ensures marks { (seen scheduler.new).book.spare_marks ≡ (seen scheduler.old).book.spare_marks }
 {
-    compare(scheduler, mask, rt);
     let choice = scheduler.choice();
     if grant && scheduler.asks() {
         scheduler.grant(0);
@@ -150,12 +144,9 @@ fn pass_byte(scheduler: &mut dyn Scheduler, known: Known, byte: u8, rt: &impl Ab
         _ => None,
     };
     let at = scheduler.book().now();
+    compare(scheduler, mask, rt);
     assert_eq!(rt; scheduler.asks(), byte != b'.', "in tick {at}");
-    assert_eq!(rt;
-        pass_tick(scheduler, mask, byte != b'-', rt),
-        slot,
-        "in tick {at}"
-    );
+    assert_eq!(rt; pass_tick(scheduler, byte != b'-'), slot, "in tick {at}");
     Known {
         mask,
         ticks: ticks - 1,
@@ -320,6 +311,8 @@ const SCHEDULES: &[&[Step]] = &[
         Step::Request(1),
         Step::Pass(b"000001111111100000"),
     ],
+    // a budget is filled at its deadline
+    &[Step::Hard(2, 4, 0), Step::Request(0), Step::Pass(b"00..0")],
     // blocked and woken in one tick
     &[
         Step::Hard(2, 4, 0),
