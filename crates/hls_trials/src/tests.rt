@@ -1,5 +1,5 @@
-// What no clause says of the boxes: that their calls can succeed, worked schedules by hand, and drawn calls
-// against the definitions.
+// What no clause says of the boxes: that their calls can succeed; and worked schedules, each step against the
+// definitions as plain functions of the book.
 ghost use Rattle.std.specs.Prelude.{◌≡◌, ◌≢◌, ◌+◌, ◌^◌, ◌<◌, ◌≤◌, None, true, false};
 ghost use Rattle.hls_chron.specs.Kinds.{kind_of};
 ghost use Rattle.hls_chron.specs.Ranges.{ConfigInRange, TermsInRange};
@@ -7,13 +7,12 @@ ghost use Rattle.hls_chron.specs.Seats.{SlotAsks, terms_at as seated_at};
 ghost use Rattle.hls_sched.specs.Seen.{IsBlank, IsConfigured, seated};
 
 use hls_chron::{Book, Config, Terms};
-use hls_guarantee::{Guarantee, holds};
 use hls_join::Join;
-use hls_kinds::{Tenant, asks_at, discipline_choice, room_used, tenant_at, terms_at};
+use hls_kinds::{asks_at, discipline_choice, occupant, room_used, terms_at};
 use hls_rr::Rr;
 use hls_sched::{Scheduler, SeatFault};
 use hls_wheel::Wheel;
-use std::alloc::{AllocError, Global};
+use std::alloc::AllocError;
 use std::process::Abort;
 use std::test::Fail;
 
@@ -23,7 +22,7 @@ const COMMANDS: u32 = 1000;
 
 /// What is done to a box.
 #[derive(Clone, Copy, Debug, PartialEq, Eq)]
-enum Step {
+pub enum Step {
     /// A seat is taken on terms, at this slot.
     Seat(Terms, u32),
     /// Terms are refused.
@@ -36,7 +35,7 @@ enum Step {
     Tick(Option<u8>),
 }
 
-fn is_asking(mask: u32, slot: u32) -> bool
+pub fn is_asking(mask: u32, slot: u32) -> bool
     requires { slot < 32 }
     ensures asking { result ≡ true → SlotAsks mask slot }
     ensures silent { result ≢ true → ¬ SlotAsks mask slot }
@@ -54,23 +53,46 @@ fn bit(slot: u32) -> u32
 
 /// What is known of a box: the slots that ask, and the room that is left in its book.
 #[derive(Clone, Copy, Debug)]
-struct Known {
-    mask: u32,
-    ticks: u32,
-    marks: u32,
+pub struct Known {
+    pub mask: u32,
+    pub ticks: u32,
+    pub marks: u32,
 }
 
-/// Compares the choice with the definitions, and lets a tick pass, granted through a port where
-/// the scheduler asks.
-fn pass_tick(
-    scheduler: &mut dyn Scheduler,
-    config: &Config,
-    mask: u32,
-    port: Option<u8>,
-    rt: &impl Abort,
-)
-    requires configured { IsConfigured (seen scheduler.old) }
+/// How many seats a scheduler has.
+pub fn most_seats(config: &Config) -> u32 {
+    match config {
+        Config::Join { .. } => 1,
+        _ => 32,
+    }
+}
+
+/// The least free slot, by the definition.
+pub fn free_in(book: &Book, config: &Config) -> Option<u32> {
+    for slot in 0..most_seats(config) {
+        if occupant(book, config, slot).is_none() {
+            return Some(slot);
+        }
+    }
+    None
+}
+
+/// Compares the answers of a box with the definitions.
+pub fn compare(scheduler: &dyn Scheduler, config: &Config, mask: u32, rt: &impl Abort)
+    requires configured { IsConfigured (seen scheduler.now) }
     requires ranges { ConfigInRange config.now }
+{
+    let book = scheduler.book();
+    assert!(rt; book.now() < 1_000_000);
+    assert_eq!(rt; scheduler.choice(), discipline_choice(book, config, mask));
+    assert_eq!(rt; scheduler.asks(), asks_at(book, config, mask));
+    assert_eq!(rt; scheduler.parts_used(), room_used(book, config));
+    assert_eq!(rt; scheduler.free_slot(), free_in(book, config));
+}
+
+/// Lets a tick pass, granted through a port where the scheduler asks.
+fn pass_tick(scheduler: &mut dyn Scheduler, port: Option<u8>)
+    requires configured { IsConfigured (seen scheduler.old) }
     requires ungranted { (seen scheduler.old).grant ≡ None }
     requires room { 0 < (seen scheduler.old).book.spare_ticks }
     ensures configured { IsConfigured (seen scheduler.new) }
@@ -79,11 +101,6 @@ fn pass_tick(
     ensures ticks { (seen scheduler.old).book.spare_ticks ≡ (seen scheduler.new).book.spare_ticks + 1 }
     ensures marks { (seen scheduler.new).book.spare_marks ≡ (seen scheduler.old).book.spare_marks }
 {
-    assert!(rt; scheduler.book().now() < 1_000_000);
-    let slot = discipline_choice(scheduler.book(), config, mask);
-    assert_eq!(rt; scheduler.choice(), slot);
-    assert_eq!(rt; scheduler.asks(), asks_at(scheduler.book(), config, mask));
-    assert_eq!(rt; scheduler.parts_used(), room_used(scheduler.book(), config));
     match port {
         Some(port) if scheduler.asks() => {
             scheduler.grant(port);
@@ -138,8 +155,8 @@ fn check_slot(book: &Book, mask: u32, slot: u32, asks: bool, rt: &impl Abort)
     assert!(rt; is_asking(mask, slot) == asks);
 }
 
-/// Takes a step.
-fn take(
+/// Takes a step, and compares the answers of the box before it with the definitions.
+pub fn take(
     scheduler: &mut dyn Scheduler,
     config: &Config,
     known: Known,
@@ -160,6 +177,7 @@ fn take(
 {
     let Known { mask, ticks, marks } = known;
     assert!(rt; ticks > 0 && marks > 0);
+    compare(scheduler, config, mask, rt);
     match step {
         Step::Seat(terms, slot) => {
             take_seat(scheduler, &terms, slot, rt);
@@ -215,7 +233,7 @@ fn take(
             }
         }
         Step::Tick(port) => {
-            pass_tick(scheduler, config, mask, port, rt);
+            pass_tick(scheduler, port);
             Known {
                 mask,
                 ticks: ticks - 1,
@@ -223,170 +241,6 @@ fn take(
             }
         }
     }
-}
-
-/// The next of a fixed series of numbers below a bound.
-fn draw(series: &mut u32, bound: u32) -> u32
-    requires { 0 < bound }
-    ensures { result < bound }
-{
-    *series = series.wrapping_mul(1_103_515_245).wrapping_add(12_345);
-    (*series >> 16) % bound
-}
-
-/// A step for a slot that has a seat, by whether it asks: mostly it begins or ends to ask.
-fn step_of_seat(drawn: u32, slot: u32, asks: bool) -> Step {
-    match (drawn, asks) {
-        (0, true) => Step::Leave(slot),
-        (_, true) => Step::Release(slot),
-        (_, false) => Step::Request(slot),
-    }
-}
-
-/// Terms of the kind of a configuration.
-fn draw_terms(config: &Config, series: &mut u32) -> Terms
-    ensures { TermsInRange result }
-{
-    match config {
-        Config::Wheel { .. } => Terms::Slots(1 + draw(series, 4)),
-        Config::Join { .. } => Terms::Sole,
-        _ => Terms::Turn,
-    }
-}
-
-/// A seat where it fits, else a tick.
-fn draw_seat(scheduler: &dyn Scheduler, terms: Terms) -> Step
-    requires configured { IsConfigured (seen scheduler.now) }
-    requires ranges { TermsInRange terms }
-{
-    if scheduler.fits(&terms).is_some() {
-        return Step::Tick(Some(0));
-    }
-    match scheduler.free_slot() {
-        Some(slot) => Step::Seat(terms, slot),
-        None => Step::Tick(Some(0)),
-    }
-}
-
-/// A step that the box can take in its present state, drawn from a series.
-fn draw_step(scheduler: &dyn Scheduler, config: &Config, mask: u32, series: &mut u32) -> Step
-    requires { IsConfigured (seen scheduler.now) }
-{
-    let slot = draw(series, 5);
-    let drawn = draw(series, 12);
-    match drawn {
-        0..=5 => Step::Tick(Some(0)),
-        6 => {
-            if draw(series, 6) == 0 {
-                Step::Settle
-            } else {
-                Step::Tick(Some(0))
-            }
-        }
-        7 | 8 => {
-            let terms = draw_terms(config, series);
-            draw_seat(scheduler, terms)
-        }
-        _ if terms_at(scheduler.book(), slot).is_some() => {
-            step_of_seat(draw(series, 8), slot, is_asking(mask, slot))
-        }
-        _ => Step::Tick(Some(0)),
-    }
-}
-
-/// Checks that the runs of ticks in which a slot asked keep a guarantee.
-fn check_promise(
-    alloc: Global,
-    book: &Book,
-    seat: Seat,
-    promised: &Guarantee,
-    rt: &impl Abort,
-) -> Result<(), AllocError>
-    requires { seat.slot < 32 }
-{
-    let mut served: Vec<bool> = Vec::new(alloc);
-    let mut tick = 0_u32;
-    for row in book.rows() {
-        if seat.since <= tick && is_asking(row.mask, seat.slot) {
-            served.push(row.to == Some(seat.slot as u8))?;
-        } else {
-            check_run(&served, promised, rt);
-            served.clear();
-        }
-        tick = tick.saturating_add(1);
-    }
-    check_run(&served, promised, rt);
-    Ok(())
-}
-
-/// A seat that is to be looked at from a tick on.
-#[derive(Clone, Copy, Debug)]
-struct Seat {
-    slot: u32,
-    since: u32,
-}
-
-fn check_run(served: &Vec<bool>, promised: &Guarantee, rt: &impl Abort) {
-    assert!(rt; served.len() <= 1_000_000);
-    assert!(rt; hls_guarantee::valid(promised));
-    assert!(rt; holds(promised, served), "{promised:?}");
-}
-
-/// What a seat is promised of every tick.
-fn promise_of(config: &Config, terms: &Terms) -> Guarantee {
-    match (*config, *terms) {
-        (Config::Wheel { frame }, Terms::Slots(places)) => Guarantee::Resc {
-            hard: true,
-            x: places,
-            y: frame,
-        },
-        (Config::Join { .. }, _) => Guarantee::All,
-        _ => Guarantee::Null,
-    }
-}
-
-/// Checks the promise to each seat, where the scheduler got each tick that it asked for.
-fn check_promises(
-    alloc: Global,
-    book: &Book,
-    config: &Config,
-    rt: &impl Abort,
-) -> Result<(), AllocError> {
-    for slot in 0..32 {
-        if let Tenant::Sits { terms, since } = tenant_at(book, slot) {
-            let promised = promise_of(config, &terms);
-            check_promise(alloc, book, Seat { slot, since }, &promised, rt)?;
-        }
-    }
-    Ok(())
-}
-
-/// Sets a box up and takes so many drawn steps, and checks the promises after every few.
-fn take_drawn(
-    alloc: Global,
-    scheduler: &mut dyn Scheduler,
-    config: &Config,
-    steps: u32,
-    rt: &impl Abort,
-) -> Result<(), AllocError>
-    requires blank { IsBlank (kind_of config.now) (seen scheduler.old) }
-    requires ranges { ConfigInRange config.now }
-{
-    scheduler.setup(config, 0, HORIZON, COMMANDS)?;
-    let mut series = 7;
-    let mut known = Known {
-        mask: 0,
-        ticks: HORIZON,
-        marks: 2 * COMMANDS,
-    };
-    for taken in 0..steps {
-        let step = draw_step(scheduler, config, known.mask, &mut series);
-        known = take(scheduler, config, known, step, rt);
-        if taken % 16 == 0 {
-            check_promises(alloc, scheduler.book(), config, rt)?;
-        }
-    }
-    Ok(())
 }
 
 /// Sets a box up, and takes steps.
@@ -408,6 +262,7 @@ fn take_all(
     for step in steps {
         known = take(scheduler, config, known, *step, rt);
     }
+    compare(scheduler, config, known.mask, rt);
     Ok(())
 }
 
@@ -479,6 +334,100 @@ fn serves_owners_of_places_alone(rt: HostRuntime) -> Result<(), Fail> {
     Ok(())
 }
 
+/// Checks through which port each tick served.
+fn check_ports(book: &Book, ports: &[Option<u8>], rt: &impl Abort) {
+    assert_eq!(rt; book.rows().len(), ports.len());
+    for (row, port) in book.rows().iter().zip(ports) {
+        assert_eq!(rt; row.to.map(|_| row.port), *port);
+    }
+}
+
+/// A join asks at a reservation of two ticks in ten, its port 0, and at turns of a tick, its port 1, where a
+/// thread has the other turns.
+#[test]
+fn serves_its_seat_by_reservation_and_by_turns(rt: HostRuntime) -> Result<(), Fail> {
+    let reserved = Step::Tick(Some(0));
+    let turn = Step::Tick(Some(1));
+    let passed = Step::Tick(None);
+    let steps = [
+        Step::Seat(Terms::Sole, 0),
+        Step::Request(0),
+        reserved,
+        reserved,
+        turn,
+        passed,
+        turn,
+        passed,
+        turn,
+        passed,
+        turn,
+        passed,
+        reserved,
+        reserved,
+    ];
+    let ports = [
+        Some(0),
+        Some(0),
+        Some(1),
+        None,
+        Some(1),
+        None,
+        Some(1),
+        None,
+        Some(1),
+        None,
+        Some(0),
+        Some(0),
+    ];
+    let mut join = Join::blank(rt.alloc());
+    take_all(&mut join, &Config::Join { ports: 2 }, &steps, &rt)?;
+    check_ports(join.book(), &ports, &rt);
+    Ok(())
+}
+
+/// The turns of that join, at slot 0, and of the thread.
+#[test]
+fn waits_with_its_turns_while_it_is_not_granted(rt: HostRuntime) -> Result<(), Fail> {
+    let turn = Step::Tick(Some(0));
+    let passed = Step::Tick(None);
+    let steps = [
+        Step::Seat(Terms::Turn, 0),
+        Step::Seat(Terms::Turn, 1),
+        Step::Request(0),
+        Step::Request(1),
+        passed,
+        passed,
+        turn,
+        turn,
+        turn,
+        turn,
+        turn,
+        turn,
+        turn,
+        turn,
+        passed,
+        passed,
+    ];
+    let served = [
+        None,
+        None,
+        Some(0),
+        Some(1),
+        Some(0),
+        Some(1),
+        Some(0),
+        Some(1),
+        Some(0),
+        Some(1),
+        None,
+        None,
+    ];
+    let mut rr = Rr::blank(rt.alloc());
+    take_all(&mut rr, &Config::Rr { quantum: 1 }, &steps, &rt)?;
+    check_served(rr.book(), &served, &rt);
+    Ok(())
+}
+
 #[test]
 fn serves_its_seat_through_any_port(rt: HostRuntime) -> Result<(), Fail> {
     let steps = [
@@ -496,22 +445,5 @@ fn serves_its_seat_through_any_port(rt: HostRuntime) -> Result<(), Fail> {
     let mut join = Join::blank(rt.alloc());
     take_all(&mut join, &Config::Join { ports: 2 }, &steps, &rt)?;
     check_served(join.book(), &served, &rt);
-    Ok(())
-}
-
-#[test]
-fn keep_their_promises_in_drawn_calls(rt: HostRuntime) -> Result<(), Fail> {
-    let mut rr = Rr::blank(rt.alloc());
-    take_drawn(rt.alloc(), &mut rr, &Config::Rr { quantum: 3 }, 400, &rt)?;
-    let mut wheel = Wheel::blank(rt.alloc());
-    take_drawn(
-        rt.alloc(),
-        &mut wheel,
-        &Config::Wheel { frame: 7 },
-        400,
-        &rt,
-    )?;
-    let mut join = Join::blank(rt.alloc());
-    take_drawn(rt.alloc(), &mut join, &Config::Join { ports: 2 }, 400, &rt)?;
     Ok(())
 }

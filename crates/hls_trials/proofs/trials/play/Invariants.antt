@@ -1,9 +1,9 @@
 use Rattle.std.proofs.Common.{◌≡◌, ◌≤◌, None}
 use Rattle.hls_sched.specs.Seen.{IsConfigured}
-use Rattle.hls_trials.proofs.tests.take_drawn.Given as goal
+use Rattle.hls_trials.proofs.trials.play.Given as goal
 
-abbrev pub invariant-loop-taken : goal.invariant-loop-taken
-invariant-loop-taken g l = record {
+abbrev pub invariant-loop-step : goal.invariant-loop-step
+invariant-loop-step g l = record {
   configured : IsConfigured ((goal.Scheduler-dyn g l.scheduler.now).seen l.scheduler.now.1);
   ungranted : ((goal.Scheduler-dyn g l.scheduler.now).seen l.scheduler.now.1).grant ≡ None;
   mask : ((goal.Scheduler-dyn g l.scheduler.now).seen l.scheduler.now.1).mask ≡ l.known.mask;
