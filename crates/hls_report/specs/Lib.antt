@@ -3,3 +3,5 @@ pub mod ReportText
 pub mod WellFormed
 pub mod Reading
 pub mod Rests
+pub mod AccountLines
+pub mod CommandLines
