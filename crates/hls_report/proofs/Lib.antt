@@ -1,4 +1,6 @@
 pub mod Writings
+pub mod NameLaws
+pub mod Contents
 pub mod Marks
 pub mod RefusalTexts
 pub mod LineTexts

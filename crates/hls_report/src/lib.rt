@@ -7,6 +7,7 @@ mod fault;
 pub mod laws;
 mod line_reading;
 mod lines;
+mod places;
 mod reader;
 mod refusal;
 mod refusal_reading;
