@@ -8,6 +8,7 @@ use Rattle.hls_report.specs.ReportText.{answered_lines, stretch_text, account_te
 use Rattle.hls_report.specs.ReportText.{content_lines, ended, report_text}
 use Rattle.hls_report.specs.WellFormed.{IsContent, IsWellFormed, IsReportText, Begins, IsFirstBad}
 use Rattle.hls_report.specs.Rests.{HeaderRest, BeginsIn, IsStuck}
+use Rattle.hls_report.proofs.Contents.{some_report}
 use Rattle.hls_report.proofs.Sections.{content_one}
 use Rattle.hls_report.proofs.RestLaws.{depth_line, horizon_line}
 use Rattle.hls_report.proofs.Stuck.{front_of}
@@ -102,30 +103,21 @@ content_header c is = record {
 
 -- ---- from lists of lines to reports
 
--- a well-formed report of these contents
-pub record Reported (c : Content) : Type 0 where
-  pub report : Report
-  pub formed : IsWellFormed report
-  pub same : content_of report ≡ c
-
-abbrev pub AllReported : Type 0
-AllReported = (c : Content) → IsContent c → Reported c
-
-pub begins_report : AllReported → (text : Text) (count : ℕ) → BeginsIn HeaderRest text count
+pub begins_report : (text : Text) (count : ℕ) → BeginsIn HeaderRest text count
     → Begins text count
 unfolding report_text
-begins_report all text count b =
+begins_report text count b =
     let a = header_content (b.lines ++ b.more) b.may in
-    let r = all a.content a.is in record {
+    let r = some_report a.content a.is in record {
       lines = b.lines;
       rest = b.rest;
       whole = b.whole;
       counted = b.counted;
       front = b.front;
-      report = r.report;
-      formed = r.formed;
+      report = r.0;
+      formed = r.1;
       more = ended b.more;
-      begun = ap (λ c. ended (content_lines c)) r.same ∙ ap ended (sym a.text)
+      begun = ap (λ c. ended (content_lines c)) r.2 ∙ ap ended (sym a.text)
           ∙ ended-append b.lines b.more;
     }
 
@@ -145,9 +137,9 @@ report_begins text count b =
       may = subst HeaderRest l.is (content_header c b.formed.content);
     }
 
-pub first_bad : AllReported → (text : Text) (line : ℕ) → IsStuck HeaderRest text line → IsFirstBad text line
-first_bad all text line stuck = record {
-  before = λ count lt. begins_report all text count (stuck.before count lt);
+pub first_bad : (text : Text) (line : ℕ) → IsStuck HeaderRest text line → IsFirstBad text line
+first_bad text line stuck = record {
+  before = λ count lt. begins_report text count (stuck.before count lt);
   here = λ b. stuck.here (report_begins text line b);
 }
 

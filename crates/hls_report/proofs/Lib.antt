@@ -13,3 +13,4 @@ pub mod Heads
 pub mod ContentLaws
 pub mod AccountSteps
 pub mod CommandSteps
+pub mod Reports

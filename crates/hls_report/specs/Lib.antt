@@ -5,3 +5,4 @@ pub mod Reading
 pub mod Rests
 pub mod AccountLines
 pub mod CommandLines
+pub mod Reports

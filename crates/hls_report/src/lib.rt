@@ -13,6 +13,7 @@ mod refusal;
 mod refusal_reading;
 mod refusals;
 mod report;
+mod report_reading;
 mod stretch;
 #[cfg(test)]
 mod tests;
@@ -22,4 +23,5 @@ mod writing;
 pub use fault::ReportFault;
 pub use refusal::Refusal;
 pub use report::{Account, Answer, Answered, Path, Report, Run, Seated};
+pub use report_reading::read_report;
 pub use writing::write_report;
