@@ -1,6 +1,7 @@
 pub mod Writings
 pub mod NameLaws
 pub mod Contents
+pub mod PathLaws
 pub mod Marks
 pub mod RefusalTexts
 pub mod LineTexts

@@ -3,3 +3,4 @@ pub mod ReportText
 pub mod WellFormed
 pub mod Reading
 pub mod Rests
+pub mod Paths

@@ -5,6 +5,7 @@ mod fault;
 pub mod laws;
 mod line_reading;
 mod lines;
+mod path_reading;
 mod places;
 mod reader;
 mod refusal;
