@@ -11,3 +11,6 @@ pub mod Stuck
 pub mod RestLaws
 pub mod LineReadings
 pub mod Heads
+pub mod ContentLaws
+pub mod AccountSteps
+pub mod CommandSteps

@@ -1,6 +1,8 @@
 //! Reports, and their text.
 #![tactic(auto)]
 
+mod account_reading;
+mod command_reading;
 mod fault;
 pub mod laws;
 mod line_reading;
