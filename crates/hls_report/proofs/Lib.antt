@@ -14,3 +14,4 @@ pub mod Heads
 pub mod ContentLaws
 pub mod AccountSteps
 pub mod CommandSteps
+pub mod RunSteps

@@ -6,3 +6,4 @@ pub mod Rests
 pub mod AccountLines
 pub mod CommandLines
 pub mod Paths
+pub mod RunLines

@@ -14,6 +14,7 @@ mod refusal;
 mod refusal_reading;
 mod refusals;
 mod report;
+mod run_reading;
 mod stretch;
 #[cfg(test)]
 mod tests;
