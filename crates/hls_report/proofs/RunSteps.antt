@@ -2,6 +2,8 @@
 use Rattle.std.proofs.Common.{◌≡◌, ℕ, ◌+◌, ◌^◌, ◌<◌, ◌≤◌, List, [], ◌∷◌, ◌++◌, length, take, refl, sym, ap, ◌∙◌}
 use Rattle.std.proofs.Common.{subst, arith, inl, inr}
 use Rattle.std.specs.Prelude.{codes, map, option_map, Option, Some, None}
+use Rattle.std.specs.Prelude.{Result, Ok, Err, IfErr}
+use Rattle.std.specs.Result.{IsErrAnd}
 use Rattle.std.specs.List.{AllByRecursion}
 use Rattle.std.proofs.lemmas.List.{map-append}
 use Rattle.hls_text.specs.Lines.{Text}
@@ -284,6 +286,10 @@ no_runs h at = record {
   passes = none_passed (RunRest h 0 None []) at;
 }
 
+pub nothing : (known : List Text) → length known ≡ 0 → [] ≡ known
+nothing [] e = refl
+nothing (name ∷ known) e = absurd (omega (arith, e))
+
 stretches_more : (known new : List Text) (runs : List Run) (run : Run) → Grows known new
     → AreInside known runs
     → map (stretch_of new) (runs ++ run ∷ []) ≡ map (stretch_of known) runs ++ stretch_of new run ∷ []
@@ -309,8 +315,11 @@ one_run_more h known new runs from last words run start old now r m =
       path = moved (λ ts. IsLast (last_path None ts) words) (subst (λ p. IsLast p words)
           (sym (last_more None ss s)) (m.path.is, m.path.words));
       le = omega arith;
-      names = record { named = subst (AllByRecursion IsName) (sym m.path.added) (path_named known s.path
-          r.names.named n.path); few = m.path.few };
+      names = record {
+        named = subst (AllByRecursion IsName) (sym m.path.added) (path_named known s.path
+            r.names.named n.path);
+        few = m.path.few;
+      };
       short = all_append (λ one. HasShort one.path) runs (run ∷ []) r.short (m.path.short, tt);
       inside = all_append (λ one. IsInside new one.path) runs (run ∷ []) (runs_inside known new runs g r.inside)
           (m.path.inside, tt);
@@ -373,3 +382,8 @@ whole_schedule h known names runs from last start old now fits r reached account
           (subst (λ (n : ℕ). Passes (RunRest h n (last_path None ss) known) (AccountRest h)
           (codes "accounts" ∷ []) old now) (sym at) (accounts h (last_path None ss) known fits)),
     )
+
+pub err_gives : (A : Type 0) (r : Result A ReportFault) (fault : ReportFault) (P : ReportFault → Type 0)
+    → IsErrAnd r (λ given. given ≡ fault) → P fault → IfErr r P
+err_gives A (Ok x) fault P is holds = tt
+err_gives A (Err given) fault P is holds = subst P (sym is) holds

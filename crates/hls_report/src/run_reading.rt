@@ -41,7 +41,7 @@ fn run_front(line: &[u8], from: u32, horizon: u32) -> Option<RunFront<'_>>
     ensures { MatchOption result
         ((s : Stretch) → s.from ≡ from → from ≤ s.to → s.to < horizon → line.now ≡ stretch_text s → ⊥)
         (λ f. (from ≤ f.to) × (f.to < horizon)
-            × (line.now ≡ two_words (span_text from f.to) f.words.now)) }
+        × (line.now ≡ two_words (span_text from f.to) f.words.now)) }
 {
     let Some((first, to, words)) = spanned(line) else {
         return None;
@@ -54,10 +54,7 @@ fn run_front(line: &[u8], from: u32, horizon: u32) -> Option<RunFront<'_>>
 }
 
 /// The path that words tell, or `None` for `idle`.
-fn told_path(
-    known: &mut IndexSet<Name>,
-    words: &[u8],
-) -> Result<Option<Option<Path>>, AllocError>
+fn told_path(known: &mut IndexSet<Name>, words: &[u8]) -> Result<Option<Option<Path>>, AllocError>
     requires { length known.old.keys ≤ 2 ^ 16 }
     ensures { IfOk result (λ found. MatchOption found
         ((p : Option (List Text)) → FitsPath known.old.keys p → words.now ≡ path_text p → ⊥)
@@ -94,9 +91,9 @@ fn told_run<'a>(
     requires known { length known.old.keys ≤ 2 ^ 16 }
     ensures { IfOk result (λ found. MatchOption found
         ((s : Stretch) → IsNextRun horizon from last.now known.old.keys s →
-            line.now ≡ stretch_text s → ⊥)
+        line.now ≡ stretch_text s → ⊥)
         (λ t. IsRunTold horizon from last.now known.old.keys known.new.keys line.now t.words.now
-            t.run)) }
+        t.run)) }
 {
     let Some(front) = run_front(line, from, horizon) else {
         return Ok(None);
@@ -174,11 +171,7 @@ fn names_of(alloc: Global, known: &IndexSet<Name>) -> Result<List<Name>, AllocEr
 }
 
 /// Reads the runs, and the line behind them.
-pub fn runs(
-    alloc: Global,
-    lines: &mut Lines<'_>,
-    horizon: u32,
-) -> Result<Schedule, ReportFault>
+pub fn runs(alloc: Global, lines: &mut Lines<'_>, horizon: u32) -> Result<Schedule, ReportFault>
     requires room { HasRoom lines.old }
     requires few { horizon ≤ 100000 }
     ensures ok { IfOk result (λ s. IsSchedule horizon s
