@@ -6,7 +6,7 @@ use Rattle.hls_report.specs.declared.report.Report.{Report}
 use Rattle.hls_report.specs.Content.{Content, content_of}
 use Rattle.hls_report.specs.ReportText.{answered_lines, stretch_text, account_text, end_lines}
 use Rattle.hls_report.specs.ReportText.{content_lines, ended, report_text}
-use Rattle.hls_report.specs.WellFormed.{IsContent, IsWellFormed, IsReportText, Begins, IsFirstBad}
+use Rattle.hls_report.specs.WellFormed.{IsContent, IsReportText, Begins, IsFirstBad}
 use Rattle.hls_report.specs.Rests.{HeaderRest, BeginsIn, IsStuck}
 use Rattle.hls_report.proofs.Contents.{some_report}
 use Rattle.hls_report.proofs.Sections.{content_one}

@@ -12,13 +12,9 @@ use Rattle.hls_report.specs.declared.report.Report.{Report}
 use Rattle.hls_report.specs.declared.stretch.Stretch.{Stretch}
 use Rattle.hls_report.specs.Content.{Content, path_names, stretch_of, content_of}
 use Rattle.hls_report.specs.WellFormed.{IsPath, Cover, with_path, HasShort, IsContent, IsWellFormed}
+use Rattle.hls_report.specs.RunLines.{names_after}
 use Rattle.hls_report.proofs.NameLaws.{Grows, grows_none, grows_on, names_grow, AreKnownIn, all_known}
 use Rattle.hls_report.proofs.NameLaws.{grown_known, place_of, found_places}
-
--- the names that are known behind these stretches
-abbrev pub names_after : List Text → List Stretch → List Text
-names_after known [] = known
-names_after known (s ∷ more) = names_after (with_path known s.path) more
 
 pub path_grows : (known : List Text) (path : Option (List Text)) → Grows known (with_path known path)
 path_grows known None = grows_none known

@@ -1,6 +1,7 @@
 pub mod Writings
 pub mod NameLaws
 pub mod Contents
+pub mod PathLaws
 pub mod Marks
 pub mod RefusalTexts
 pub mod LineTexts
@@ -14,3 +15,4 @@ pub mod ContentLaws
 pub mod AccountSteps
 pub mod CommandSteps
 pub mod Reports
+pub mod RunSteps

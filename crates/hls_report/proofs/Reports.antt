@@ -1,14 +1,12 @@
 -- A whole report is read.
-use Rattle.std.proofs.Common.{◌≡◌, ℕ, ◌+◌, List, [], ◌∷◌, ◌++◌, length, refl, sym, ap, ◌∙◌, subst}
+use Rattle.std.proofs.Common.{◌≡◌, List, [], ◌∷◌, ◌++◌, sym, ap, ◌∙◌, subst}
 use Rattle.std.proofs.Common.{append_assoc, arith, flat_map}
 use Rattle.std.specs.Prelude.{codes, map, None, Result, Ok, Err, IfOk, IfErr}
 use Rattle.std.specs.List.{AllByRecursion}
 use Rattle.hls_text.specs.Lines.{Text}
-use Rattle.hls_chron.specs.Ranges.{IsWithin}
 use Rattle.hls_report.specs.declared.fault.ReportFault.{ReportFault}
 use Rattle.hls_report.specs.declared.fault.ReportFault.TheVariants as faults
 use Rattle.hls_report.specs.declared.lines.Lines.{Lines}
-use Rattle.hls_report.specs.declared.report.Account.{Account}
 use Rattle.hls_report.specs.declared.report.Answered.{Answered}
 use Rattle.hls_report.specs.declared.report.Report.{Report}
 use Rattle.hls_report.specs.declared.stretch.Stretch.{Stretch}

@@ -7,6 +7,7 @@ mod fault;
 pub mod laws;
 mod line_reading;
 mod lines;
+mod path_reading;
 mod places;
 mod reader;
 mod refusal;
@@ -14,6 +15,7 @@ mod refusal_reading;
 mod refusals;
 mod report;
 mod report_reading;
+mod run_reading;
 mod stretch;
 #[cfg(test)]
 mod tests;

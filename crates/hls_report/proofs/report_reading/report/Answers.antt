@@ -1,7 +1,7 @@
-use Rattle.std.proofs.Common.{◌++◌, ◌∷◌, [], sym, ◌∙◌, refl}
+use Rattle.std.proofs.Common.{◌++◌, []}
 use Rattle.std.specs.Prelude.{map, None}
 use Rattle.std.proofs.lemmas.Result.{err_from_is_err_and}
-use Rattle.hls_report.specs.Content.{stretch_of, content_of}
+use Rattle.hls_report.specs.Content.{stretch_of}
 use Rattle.hls_report.specs.ReportText.{head_lines}
 use Rattle.hls_report.specs.Rests.{HeaderRest, CommandRest, RunRest, AccountRest}
 use Rattle.hls_report.proofs.Reports.{command_lines, run_lines, report_told}
