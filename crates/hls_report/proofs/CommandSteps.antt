@@ -201,40 +201,33 @@ unfolding last_tick
 last_of last [] a = refl
 last_of last (p ∷ ps) a = last_of p.tick ps a
 
--- these commands with their answers were read
-pub record CommandsRead (h : ℕ) (ps : List Answered) (last : ℕ) (old new : Lines) : Type 0 where
+-- these commands with their answers were read, and so many more may come
+pub record CommandsRead (h : ℕ) (ps : List Answered) (last left : ℕ) (old new : Lines) : Type 0 where
   pub are : AreAnswered h 0 ps
   pub tick : last_tick 0 ps ≡ last
-  pub few : length ps ≤ 65536
-  pub read : Passes (CommandRest h 0 65536) (CommandRest h last (65536 - length ps))
-      (flat_map answered_lines ps) old new
+  pub few : length ps + left ≡ 65536
+  pub read : Passes (CommandRest h 0 65536) (CommandRest h last left) (flat_map answered_lines ps) old new
 
-pub no_commands : (h : ℕ) (at : Lines) → CommandsRead h [] 0 at at
+pub no_commands : (h : ℕ) (at : Lines) → CommandsRead h [] 0 65536 at at
 unfolding last_tick
 no_commands h at = record {
   are = tt;
   tick = refl;
-  few = omega arith;
+  few = refl;
   read = none_passed (CommandRest h 0 65536) at;
 }
 
-one_less : (ps : List Answered) (a : Answered) → 65536 - length ps - 1 ≡ 65536 - length (ps ++ a ∷ [])
-one_less ps a = omega (arith, length-append ps (a ∷ []))
-
-pub one_more_command : (h last : ℕ) (ps : List Answered) (a : Answered) (start old new : Lines)
-    → CommandsRead h ps last start old → CommandPasses h last (65536 - length ps) (Some a) old new
-    → CommandsRead h (ps ++ a ∷ []) a.tick start new
-one_more_command h last ps a start old new r p =
-    let read = pass_on (CommandRest h 0 65536) (CommandRest h last (65536 - length ps))
-    (CommandRest h a.tick (65536 - length ps - 1)) (flat_map answered_lines ps) (answered_lines a) start old
-    new r.read p.3 in
-    let some : 0 < 65536 - length ps = p.2 in record {
+pub one_more_command : (h last left : ℕ) (ps : List Answered) (a : Answered) (start old new : Lines)
+    → CommandsRead h ps last left start old → CommandPasses h last left (Some a) old new
+    → CommandsRead h (ps ++ a ∷ []) a.tick (left - 1) start new
+one_more_command h last left ps a start old new r p =
+    let read = pass_on (CommandRest h 0 65536) (CommandRest h last left) (CommandRest h a.tick (left - 1))
+    (flat_map answered_lines ps) (answered_lines a) start old new r.read p.3 in
+    let some : 0 < left = p.2 in record {
       are = answered_more h 0 ps a r.are (subst (λ n. IsNext h n (item_of a)) (sym r.tick) p.0) p.1;
       tick = last_of 0 ps a;
-      few = omega (arith, length-append ps (a ∷ []));
-      read = subst (λ n. Passes (CommandRest h 0 65536) (CommandRest h a.tick n)
-          (flat_map answered_lines (ps ++ a ∷ [])) start new) (one_less ps a)
-          (subst (λ ls. Passes (CommandRest h 0 65536) (CommandRest h a.tick (65536 - length ps - 1)) ls start
-          new) (sym (flat_map-append answered_lines ps (a ∷ [])
-          ∙ ap (λ ls. flat_map answered_lines ps ++ ls) (append-nil (answered_lines a)))) read);
+      few = omega (arith, length-append ps (a ∷ []), r.few);
+      read = subst (λ ls. Passes (CommandRest h 0 65536) (CommandRest h a.tick (left - 1)) ls start new)
+          (sym (flat_map-append answered_lines ps (a ∷ [])
+          ∙ ap (λ ls. flat_map answered_lines ps ++ ls) (append-nil (answered_lines a)))) read;
     }

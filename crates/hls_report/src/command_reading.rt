@@ -17,7 +17,7 @@ use hls_lang::{Command, Item};
 use std::alloc::{AllocError, Global};
 
 /// How many commands a report has at most.
-const MOST_COMMANDS: usize = 65_536;
+const MOST_COMMANDS: u32 = 65_536;
 
 /// Whether seats may be told behind the command.
 fn takes_seats(command: &Command) -> bool
@@ -113,7 +113,7 @@ fn next_item(
     lines: &mut Lines<'_>,
     horizon: u32,
     last: u32,
-    left: usize,
+    left: u32,
 ) -> Result<Option<Item>, ReportFault>
     requires room { HasRoom lines.old }
     requires few { horizon ≤ 100000 }
@@ -141,7 +141,7 @@ fn next_command(
     lines: &mut Lines<'_>,
     horizon: u32,
     last: u32,
-    left: usize,
+    left: u32,
 ) -> Result<Option<Answered>, ReportFault>
     requires room { HasRoom lines.old }
     requires few { horizon ≤ 100000 }
@@ -184,14 +184,10 @@ pub fn commands(
 {
     let mut answered = Vec::new(alloc);
     let mut last = 0;
-    while let Some(one) = next_command(
-        alloc,
-        lines,
-        horizon,
-        last,
-        MOST_COMMANDS - answered.len(),
-    )? {
+    let mut left = MOST_COMMANDS;
+    while let Some(one) = next_command(alloc, lines, horizon, last, left)? {
         last = one.tick;
+        left -= 1;
         keep_answered(&mut answered, one)?;
     }
     Ok(answered)
