@@ -92,16 +92,23 @@ def report(commands, runs, names, accounts, seed):
 def main():
     folder = tempfile.mkdtemp()
     program = sys.argv[1] if len(sys.argv) > 1 else build(folder)
-    print(f"{'commands':>8} {'runs':>6} {'names':>6} {'accounts':>8} {'MB':>6} {'read MB/s':>9} {'write MB/s':>10}")
-    sizes = [(0, 100000, 65536, 0), (0, 100000, 8, 0), (65536, 1, 8, 0), (0, 1, 8, 600000), (65536, 100000, 65536, 400000)]
+    heads = ["commands", "runs", "names", "accounts", "MB", "read MB/s", "write MB/s"]
+    print(" ".join(f"{head:>10}" for head in heads))
+    sizes = [
+        (0, 100000, 65536, 0),
+        (0, 100000, 8, 0),
+        (65536, 1, 8, 0),
+        (0, 1, 8, 600000),
+        (65536, 100000, 65536, 400000),
+    ]
     for commands, runs, names, accounts in sizes:
         text = report(commands, runs, names, accounts, 1)
         done = subprocess.run([program], input=text, capture_output=True)
         if done.returncode:
             sys.exit(f"the program ended with status {done.returncode}")
         reading, writing = (len(text) / int(time) for time in done.stdout.split())
-        size = len(text) / 1e6
-        print(f"{commands:>8} {runs:>6} {names:>6} {accounts:>8} {size:>6.1f} {reading:>9.1f} {writing:>10.1f}")
+        rates = " ".join(f"{number:>10.1f}" for number in [len(text) / 1e6, reading, writing])
+        print(f"{commands:>10} {runs:>10} {names:>10} {accounts:>10} {rates}")
     shutil.rmtree(folder)
 
 
