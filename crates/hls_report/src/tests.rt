@@ -1,8 +1,12 @@
+mod rows;
+
 use crate::refusal_reading::refusal;
 use crate::refusals::put_refusal;
 use crate::writing::{put_end, put_head, put_runs};
-use crate::{Path, Refusal, Run};
+use crate::{Path, Refusal, ReportFault, Run, read_report, write_report};
 use hls_chron::{Kind, Name};
+use rows::{ROWS, SMALLEST};
+use std::alloc::{AllocError, Global};
 use std::test::Fail;
 
 /// Each refusal with its text.
@@ -127,5 +131,148 @@ fn writes_head_runs_and_end(rt: HostRuntime) -> Result<(), Fail> {
     put_end(&mut out, 1)?;
     let wanted = b"hls-report 1\nhorizon 11\ndepth 3\n0..9 cpu/root/a\n10..10 idle\nidle 1\nend\n";
     assert_eq!(rt; out.as_slice(), wanted.as_slice());
+    Ok(())
+}
+
+/// What is written for the report that a text is of.
+fn written_again(alloc: Global, text: &[u8]) -> Option<Vec<u8>> {
+    if text.len() > 4_000_000 {
+        return None;
+    }
+    match read_report(alloc, text) {
+        Ok(report) => write_report(alloc, &report).ok(),
+        Err(_) => None,
+    }
+}
+
+/// The first line of a text that cannot stand.
+fn bad_line(alloc: Global, text: &[u8]) -> Option<u32> {
+    if text.len() > 4_000_000 {
+        return None;
+    }
+    match read_report(alloc, text) {
+        Err(ReportFault::At { line }) => Some(line),
+        _ => None,
+    }
+}
+
+#[test]
+fn reads_and_writes_the_worked_examples(rt: HostRuntime) {
+    for (name, text) in &ROWS {
+        let again = written_again(rt.alloc(), text);
+        assert!(rt; again.is_some(), "at {name}");
+        assert_eq!(rt; again.as_deref(), Some(*text), "at {name}");
+    }
+}
+
+/// The first so many lines of the smallest report, and one line behind them.
+fn with_line(alloc: Global, kept: u32, line: &[u8]) -> Result<Vec<u8>, AllocError> {
+    let mut text = Vec::new(alloc);
+    let mut left = kept;
+    for byte in SMALLEST {
+        if left == 0 {
+            break;
+        }
+        text.push(*byte)?;
+        if *byte == b'\n' {
+            left -= 1;
+        }
+    }
+    text.extend_from_slice(line)?;
+    text.push(b'\n')?;
+    Ok(text)
+}
+
+#[test]
+fn finds_the_bad_line(rt: HostRuntime) -> Result<(), Fail> {
+    let table = [
+        (0, b"hls-report 2".as_slice()),
+        (0, b"hls-report 1 ".as_slice()),
+        (1, b"horizon 0".as_slice()),
+        (1, b"horizon 100001".as_slice()),
+        (1, b"horizon 01".as_slice()),
+        (2, b"depth 7".as_slice()),
+        (3, b"at 1 wake a".as_slice()),
+        (3, b"at 0  wake a".as_slice()),
+        (3, b"at 0 wake a for 0".as_slice()),
+        (4, b"= gone".as_slice()),
+        (4, b"= refused 10 NameTaken cpu".as_slice()),
+        (4, b"schedule".as_slice()),
+        (5, b"by root 4 ALL CPU ALL".as_slice()),
+        (5, b"by root 0 ALL CPU".as_slice()),
+        (5, b"by cpu 0 ALL CPU ALL".as_slice()),
+        (11, b"by a 0 ALL FP ALL".as_slice()),
+        (12, b"0..1 cpu/root/a".as_slice()),
+        (12, b"1..1 idle".as_slice()),
+        (12, b"0..0 cpu".as_slice()),
+        (12, b"0..0 cpu/".as_slice()),
+        (12, b"0..0 root/a".as_slice()),
+        (12, b"0..0 cpu/a/".as_slice()),
+        (12, b"0..0 cpu/a/b/c/d/e/f/g/h/i/j".as_slice()),
+        (12, b"0..0 Idle".as_slice()),
+        (12, b"accounts".as_slice()),
+        (13, b"0..0 idle".as_slice()),
+        (14, b"a 0..1 ALL ready 1 served 1".as_slice()),
+        (14, b"a 0..0 ALL ready 1 served 4294967296".as_slice()),
+        (14, b"a 0..0 PSBE 2/4 1 ready 1 served 1".as_slice()),
+        (15, b"idle 4294967296".as_slice()),
+        (16, b"end ".as_slice()),
+        (17, b"end".as_slice()),
+    ];
+    for (kept, line) in table {
+        let text = with_line(rt.alloc(), kept, line)?;
+        assert_eq!(rt;
+            bad_line(rt.alloc(), &text),
+            kept.checked_add(1),
+            "at {line:?}"
+        );
+    }
+    Ok(())
+}
+
+#[test]
+fn finds_where_a_text_ends_too_early(rt: HostRuntime) {
+    let whole = SMALLEST.len();
+    assert_eq!(rt; bad_line(rt.alloc(), b""), Some(1));
+    assert_eq!(rt;
+        bad_line(rt.alloc(), &SMALLEST[..whole - 4]),
+        Some(17),
+        "without the last line"
+    );
+    assert_eq!(rt;
+        bad_line(rt.alloc(), &SMALLEST[..whole - 1]),
+        Some(17),
+        "without the last end"
+    );
+    assert_eq!(rt;
+        bad_line(rt.alloc(), &SMALLEST[..12]),
+        Some(1),
+        "without the first end"
+    );
+}
+
+const THREE_TICKS: &[u8] = b"hls-report 1\n\
+    horizon 3\n\
+    depth 0\n\
+    schedule\n\
+    0..0 cpu/a/b\n\
+    1..1 idle\n";
+
+#[test]
+fn finds_the_bad_run(rt: HostRuntime) -> Result<(), Fail> {
+    let table = [
+        (b"2..2 cpu/a/b\n".as_slice(), 8),
+        (b"2..2 cpu/c\n".as_slice(), 8),
+        (b"2..2 idle\n".as_slice(), 7),
+        (b"3..3 cpu/a\n".as_slice(), 7),
+        (b"1..2 cpu/a\n".as_slice(), 7),
+        (b"2..1 cpu/a\n".as_slice(), 7),
+        (b"2..3 cpu/a\n".as_slice(), 7),
+        (b"accounts\n".as_slice(), 7),
+    ];
+    for (line, bad) in table {
+        let text = [THREE_TICKS, line].concat(rt.alloc())?;
+        assert_eq!(rt; bad_line(rt.alloc(), &text), Some(bad), "at {line:?}");
+    }
     Ok(())
 }
