@@ -1,0 +1,6 @@
+pub mod Commands
+pub mod Schedule
+pub mod Ready
+pub mod Under
+pub mod Stays
+pub mod Accounts
