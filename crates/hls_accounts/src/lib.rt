@@ -6,5 +6,6 @@ mod commands;
 mod readiness;
 mod schedule;
 mod stay;
+mod under;
 
 pub use stay::Stay;
