@@ -1,3 +1,4 @@
 pub mod ScheduleLaws
 pub mod CountLaws
 pub mod UnderLaws
+pub mod StayLaws

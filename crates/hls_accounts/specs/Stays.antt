@@ -64,10 +64,13 @@ stay_of commands after since name = record {
   until = closed commands after name;
 }
 
+-- the stays that a command opens, between the commands before and after it
+abbrev pub stays_with : (before after : List Answered) → Answered → List Stay
+stays_with before after a = map (stay_of (before ++ a ∷ []) after a.tick) (opened before a)
+
 unfoldable pub stays_from : (before after : List Answered) → List Stay
 stays_from before [] = []
-stays_from before (a ∷ after) =
-    map (stay_of (before ++ a ∷ []) after a.tick) (opened before a) ++ stays_from (before ++ a ∷ []) after
+stays_from before (a ∷ after) = stays_with before after a ++ stays_from (before ++ a ∷ []) after
 
 -- all stays, in the order in which they are opened
 abbrev pub stays : List Answered → List Stay

@@ -2,10 +2,16 @@
 //! their stays, and the accounts that the report ought to print. Slow and plain.
 #![tactic(auto)]
 
+mod accounts;
 mod commands;
 mod readiness;
 mod schedule;
 mod stay;
+mod stays;
 mod under;
 
+pub use accounts::{accounts_of, idle_of};
+pub use readiness::is_ready;
+pub use schedule::{is_idle, is_served};
 pub use stay::Stay;
+pub use stays::stays_of;
