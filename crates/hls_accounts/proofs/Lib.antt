@@ -2,3 +2,8 @@ pub mod ScheduleLaws
 pub mod CountLaws
 pub mod UnderLaws
 pub mod StayLaws
+pub mod Rousings
+pub mod Alike
+pub mod Told
+pub mod Reached
+pub mod ToldSteps

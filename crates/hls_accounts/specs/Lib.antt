@@ -4,3 +4,4 @@ pub mod Ready
 pub mod Under
 pub mod Stays
 pub mod Accounts
+pub mod Tells
