@@ -7,3 +7,5 @@ pub mod Alike
 pub mod Told
 pub mod Reached
 pub mod ToldSteps
+pub mod ToldRuns
+pub mod Agreements

@@ -5,3 +5,4 @@ pub mod Under
 pub mod Stays
 pub mod Accounts
 pub mod Tells
+pub mod Agrees

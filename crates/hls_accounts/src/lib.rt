@@ -4,6 +4,7 @@
 
 mod accounts;
 mod commands;
+pub mod laws;
 mod readiness;
 mod schedule;
 mod stay;
