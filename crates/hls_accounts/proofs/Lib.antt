@@ -9,3 +9,4 @@ pub mod Reached
 pub mod ToldSteps
 pub mod ToldRuns
 pub mod Agreements
+pub mod StaySnoc
