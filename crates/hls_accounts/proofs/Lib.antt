@@ -10,3 +10,4 @@ pub mod ToldSteps
 pub mod ToldRuns
 pub mod Agreements
 pub mod StaySnoc
+pub mod Seatings
