@@ -11,3 +11,5 @@ pub mod ToldRuns
 pub mod Agreements
 pub mod StaySnoc
 pub mod Seatings
+pub mod Depths
+pub mod Orders
