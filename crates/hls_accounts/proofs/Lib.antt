@@ -13,3 +13,5 @@ pub mod StaySnoc
 pub mod Seatings
 pub mod Depths
 pub mod Orders
+pub mod OrderSteps
+pub mod OrderRuns

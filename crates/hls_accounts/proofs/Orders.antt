@@ -57,7 +57,7 @@ spot_kept h g Processor (Under sched terms) stay is = absurd is
 spot_kept h g (At p slot) Cpu stay is = absurd is
 spot_kept h g (At p slot) (Under sched terms) stay is = stay p slot refl sched is
 
-kept_perches : (h g : Hierarchy) (held : List Seat) (perches : List Perch)
+pub kept_perches : (h g : Hierarchy) (held : List Seat) (perches : List Perch)
     → ((port : ℕ) (seat : Seat) (p slot : ℕ) → slice_get held port ≡ Some seat → seat.place ≡ At p slot
     → (name : Text) → HasName h p name → HasName g p name)
     → ArePerches h held perches → ArePerches g held perches
@@ -151,7 +151,7 @@ paired_filter nodes later test keeps (k ∷ ks) (name ∷ names) same on pairs =
     (cond (keeps name) (name ∷ filter keeps names) (filter keeps names))) (sym (same k name pairs.0))
     (paired_if later k name (filter test ks) (filter keeps names) (keeps name) (on k name pairs.0) rest)
 
-filter_all : (keeps : Text → Bool) (names : List Text) → ((name : Text) → keeps name ≡ true)
+pub filter_all : (keeps : Text → Bool) (names : List Text) → ((name : Text) → keeps name ≡ true)
     → filter keeps names ≡ names
 filter_all keeps [] all = refl
 filter_all keeps (name ∷ names) all =

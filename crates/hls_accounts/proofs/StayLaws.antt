@@ -56,7 +56,7 @@ unfolding closed
 closed-first before after a name b e =
     ap (λ (t : Bool). if t then Some a.tick else closed (before ++ a ∷ []) after name) e
 
-closed-nil : (before : List Answered) (name : Text) → closed before [] name ≡ None
+pub closed-nil : (before : List Answered) (name : Text) → closed before [] name ≡ None
 unfolding closed
 closed-nil before name = refl
 

@@ -228,15 +228,15 @@ since_woken : (ticks : Option ℕ) (now : ℕ) → wake_since now (wake_by ticks
 since_woken None now = refl
 since_woken (Some n) now = refl
 
-old_name : (h : Hierarchy) → Unique h.nodes → (k : ℕ) (mine : Text) → HasName h k mine → (d : ℕ) (name : Text)
+pub old_name : (h : Hierarchy) → Unique h.nodes → (k : ℕ) (mine : Text) → HasName h k mine → (d : ℕ) (name : Text)
     → d ≢ k → name_of (h.nodes d) ≡ Some name → mine ≢ name
 old_name h unique k mine has d name ne named e = ne (unique d k name named (has ∙ ap (λ (n : Text). Some n) e))
 
-new_name : (h : Hierarchy) (k : ℕ) (new mine : Text) → IsNew h k new → new ≡ mine → (d : ℕ) (name : Text)
+pub new_name : (h : Hierarchy) (k : ℕ) (new mine : Text) → IsNew h k new → new ≡ mine → (d : ℕ) (name : Text)
     → d ≢ k → name_of (h.nodes d) ≡ Some name → mine ≢ name
 new_name h k new mine is same d name ne named e = is.fresh d (named ∙ ap (λ (n : Text). Some n) (sym (same ∙ e)))
 
-step_told : (c : Content) (h : Hierarchy) (before : List Answered) (tick : ℕ) (command : Command)
+pub step_told : (c : Content) (h : Hierarchy) (before : List Answered) (tick : ℕ) (command : Command)
     (answer : Answer) (step : Step) → Can h step → Answers h command answer step → tick ≡ h.now
     → Unique h.nodes → IsTold c before h
     → IsTold c (before ++ (record { tick = tick; command = command; answer = answer }) ∷ []) (after h step)
@@ -282,7 +282,7 @@ step_told c h before tick (said.Block name) (Done by) (Block k) can does at uniq
     (each_wake c h k Asleep a unique does (ap is_thread can.there) (names_same name name refl) refl refl)
 step_told c h before tick _ (Done by) _ can does at unique told = absurd does
 
-one_more : (c : Content) (before left : List Answered) (a : Answered) → c.answered ≡ before ++ (a ∷ left)
+pub one_more : (c : Content) (before left : List Answered) (a : Answered) → c.answered ≡ before ++ (a ∷ left)
     → c.answered ≡ (before ++ a ∷ []) ++ left
 one_more c before left a all = all ∙ sym (append_assoc before (a ∷ []) left)
 
@@ -302,7 +302,7 @@ run_told (step ∷ steps) c h before (a ∷ left) all reached legal tells told =
     (step_told c h before a.tick a.command a.answer step legal.0 tells.1 tells.0 (listed h reached).names told)
 run_told (step ∷ steps) c h before [] all reached legal tells told = absurd tells
 
-start_told : (c : Content) → IsTold c [] start
+pub start_told : (c : Content) → IsTold c [] start
 start_told c = record {
   early = tt;
   wakes = λ k name t. absurd (let is = t.is in cc);

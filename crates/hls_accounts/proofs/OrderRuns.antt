@@ -1,0 +1,255 @@
+-- The stays of a legal run are those that its report tells.
+use Rattle.std.proofs.Common.{◌≡◌, ◌≢◌, ℕ, inl, inr, ◌+◌, ◌<◌, ◌≤◌, List, [], ◌∷◌, ◌++◌, ◌||◌, ◌==◌}
+use Rattle.std.proofs.Common.{Bool, true, false, not, if◌then◌else◌, cond, length, slice_get, map, filter, refl}
+use Rattle.std.proofs.Common.{sym, ap, ◌∙◌, subst, arith}
+use Rattle.std.specs.Prelude.{Option, Some, None}
+use Rattle.std.specs.Str.{bytes_eq}
+use Rattle.std.proofs.lemmas.Bool.{cases_eq, cases_Bool, eq-eqb, ne_eqb}
+use Rattle.std.proofs.lemmas.List.{append-nil, append_assoc, length_push}
+use Rattle.hls_text.specs.Lines.{Text}
+use Rattle.hls_chron.specs.declared.plain.Config.{Config}
+use Rattle.hls_chron.specs.declared.plain.Terms.{Terms}
+use Rattle.hls_chron.specs.Seats.{terms_at}
+use Rattle.hls_guarantee.specs.declared.Guarantee.{Guarantee}
+use Rattle.hls_lang.specs.declared.scenario.Perch.{Perch}
+use Rattle.hls_lang.specs.declared.scenario.Command.{Command}
+use Rattle.hls_lang.specs.declared.scenario.Command.TheVariants as said
+use Rattle.hls_report.specs.declared.report.Seated.{Seated}
+use Rattle.hls_report.specs.declared.report.Answer.{Answer}
+use Rattle.hls_report.specs.declared.report.Answer.TheVariants.{Done, Refused}
+use Rattle.hls_report.specs.declared.report.Answered.{Answered}
+use Rattle.hls_report.specs.Content.{Content}
+use Rattle.hls_legal.specs.Hierarchy.{Hierarchy, Node, Loaded, Admitted, Place, At, Seat, Wake, Asleep, name_of}
+use Rattle.hls_legal.specs.Hierarchy.{seats_of, seat_of, book_of, start}
+use Rattle.hls_legal.specs.Hierarchy as legal
+use Rattle.hls_legal.specs.Steps.{Step, Refuse, Load, Admit, End, Unload, Move, Rouse, Block, Elapse, Path}
+use Rattle.hls_legal.specs.Steps.{is_thread, is_scheduler, listed, nobody, stay_of as stay_at, opened as opened_at}
+use Rattle.hls_legal.specs.Steps.{nodes_after, effect, with_wake, roused, reseated, wake_by, loaded, admitted, after}
+use Rattle.hls_legal.specs.Steps.{state, hop_at, hops_of, elapsed, marked, leavings, seatings}
+use Rattle.hls_legal.specs.Legal.{Can, IsLegal, CanLoad, CanAdmit, CanUnload, IsThread, CanMove, IsNew, SitsOn, IsBelow}
+use Rattle.hls_legal.specs.Lists.{IsListed}
+use Rattle.hls_legal.specs.Seated.{SitsThere, IsSeated}
+use Rattle.hls_legal.proofs.Kept.{at_same, at_other}
+use Rattle.hls_legal.proofs.Runs.{Kept}
+use Rattle.hls_legal.proofs.Nodes.{seats-reseated}
+use Rattle.hls_accounts.specs.declared.stay.Stay.{Stay}
+use Rattle.hls_accounts.specs.Commands.{has_done, seats, ends, last_seating}
+use Rattle.hls_accounts.specs.Under.{is_under}
+use Rattle.hls_accounts.specs.Stays.{threads, closes, stays, stays_with, stay_of, closed, want_in, want_of}
+use Rattle.hls_accounts.specs.Tells.{HasName, IsPerch, ArePerches, Does, Answers, TellsFrom, Tells}
+use Rattle.hls_accounts.proofs.Rousings.{name_in, missed, names_differ, names_same}
+use Rattle.hls_accounts.proofs.Alike.{IsAlike, alike_other, alike_same, alike-ticked, almost-roused, moved-reseated}
+use Rattle.hls_accounts.proofs.Told.{IsThreadNamed, Unique}
+use Rattle.hls_accounts.proofs.ToldSteps.{AreStaysTold, IsTold}
+use Rattle.hls_accounts.proofs.ToldRuns.{step_told, told_tick, old_name, new_name, one_more, start_told}
+use Rattle.hls_accounts.proofs.StayLaws.{stands_by, closed-nil}
+use Rattle.hls_accounts.proofs.StaySnoc.{goes_on, threads_snoc}
+use Rattle.hls_accounts.proofs.Seatings.{perches_in, kept_in, AreSeatedBy, seating_hit}
+use Rattle.hls_accounts.proofs.Depths.{sits_on_scheduler, under_told}
+use Rattle.hls_accounts.proofs.Orders.{Paired, told_stay, IsOrdered, kept_perches, NamesStay, Seats, SeatsLeft}
+use Rattle.hls_accounts.proofs.Orders.{SeatsMade, seated_step, paired_on, paired_push, paired_filter, filter_all}
+use Rattle.hls_accounts.proofs.Orders.{threads_same, listed_same, ClosesAlike, stays_step, stays_same, opened_none}
+use Rattle.hls_accounts.proofs.Orders.{opened_push, opened_without, opened_paired}
+use Rattle.hls_accounts.proofs.OrderSteps.{same_node, named_other, names_stay, all_stay, seats_each, few_later}
+use Rattle.hls_accounts.proofs.OrderSteps.{quiet_effect}
+use Rattle.hls_accounts.proofs.Reached.{IsReached, listed as lists_of, seated as seated_of, kept as kept_of}
+use Rattle.hls_accounts.proofs.Reached.{reached_next, reached_start}
+
+-- ---- the stay that begins with a node
+
+abbrev a_stay : (name : Text) → Guarantee → (since : ℕ) → (until : Option ℕ) → Stay
+a_stay name kept since until = record { name = name; kept = kept; since = since; until = until }
+
+one_stay : (name other : Text) (kept mine : Guarantee) (since at : ℕ) (until end : Option ℕ) → name ≡ other
+    → kept ≡ mine → since ≡ at → until ≡ end
+    → a_stay name kept since until ∷ [] ≡ a_stay other mine at end ∷ []
+one_stay name other kept mine since at until end e f g u = cc
+
+stay_of_node : (now k : ℕ) (node : Option Node) (name : Text) (commands : List Answered) (tick : ℕ)
+    → is_thread node ≡ true → name_of node ≡ Some name
+    → kept_in (seats_of node) ≡ want_of (last_seating name commands) → tick ≡ now
+    → map told_stay (stay_at now k node) ≡ stay_of commands [] tick name ∷ []
+stay_of_node now k None name commands tick is named kept at = absurd (cc)
+stay_of_node now k (Some (Loaded s)) name commands tick is named kept at = absurd (cc)
+stay_of_node now k (Some (Admitted t)) name commands tick is named kept at =
+    let mine : t.name ≡ name = cc in
+    one_stay t.name name t.seat.kept (want_of (last_seating name commands)) now tick None (closed commands [] name)
+    mine kept (sym at) (sym (closed-nil commands name))
+
+-- ---- nobody is there
+
+no_name : (h : Hierarchy) (k : ℕ) → h.nodes k ≡ None → (name : Text) → HasName h k name → ⊥
+no_name h k none name has = let wrong : None ≡ Some name = sym (ap name_of none) ∙ has in cc
+
+not_thread : (h : Hierarchy) (k : ℕ) → is_thread (h.nodes k) ≡ false → (d : ℕ) (name : Text)
+    → IsThreadNamed h.nodes d name → d ≢ k
+not_thread h k off d name t e =
+    let wrong : true ≡ false = sym t.is ∙ ap (λ x. is_thread (h.nodes x)) e ∙ off in cc
+
+module _ (c : Content) (h : Hierarchy) (before : List Answered) (reached : IsReached h) (told : IsTold c before h)
+    (ord : IsOrdered before h) (tick : ℕ) (at : tick ≡ h.now) where
+  unique : Unique h.nodes
+  unique = (lists_of h reached).names
+
+  empty_seat : (d port : ℕ) (seat : Seat) (slot k : ℕ) → CanUnload (h.nodes k)
+      → seat_of (h.nodes d) port ≡ Some seat → seat.place ≡ At k slot → ⊥
+  empty_seat d port seat slot k can sits on =
+      let taken = (seated_of h reached).taken d port k slot (record { seat = seat; sits = sits; at_place = on }) in
+      let wrong : None ≡ Some seat.terms =
+      sym (can.empty slot) ∙ ap (λ n. terms_at (book_of n) slot) (sym can.there) ∙ taken in cc
+
+  no_seat : (d port : ℕ) (seat : Seat) (slot k : ℕ) → IsThread (h.nodes k)
+      → seat_of (h.nodes d) port ≡ Some seat → seat.place ≡ At k slot → ⊥
+  no_seat d port seat slot k can sits on =
+      let is = sits_on_scheduler h (seated_of h reached) d k
+      (record { port = port; seat = seat; slot = slot; sits = sits; at_place = on }) in
+      let wrong : false ≡ true = sym (ap is_scheduler can.there) ∙ is in cc
+
+  gone : (k : ℕ) (name : Text) → HasName (effect h k None nobody) k name → ⊥
+  gone k name has =
+      let wrong : None ≡ Some name = sym (alike_same h k None nobody k refl).name ∙ has in cc
+
+  quiet : (k : ℕ) (node : Option Node) (a : Answered) → a.tick ≡ tick → is_thread (h.nodes k) ≡ false
+      → is_thread node ≡ false → NamesStay h (effect h k node nobody)
+      → ((d : ℕ) (name : Text) → HasName (effect h k node nobody) d name
+      → Seats h (effect h k node nobody) a d name)
+      → ((name : Text) → has_done (ends name) a ≡ false) → stands_by a [] ≡ []
+      → ((name : Text) → has_done (closes before name) a ≡ false) → stays_with before [] a ≡ []
+      → IsOrdered (before ++ a ∷ []) (effect h k node nobody)
+  quiet k node a same was is stay each on lone shut opens =
+      quiet_effect h k node nobody c before a ord told.stays (same ∙ at) stay each
+      (listed_same (is_thread (h.nodes k)) (is_thread node) false k h.threads was is)
+      (not_thread h k was) (λ d. refl) on lone shut opens
+
+  new_stay : (k : ℕ) (node : Option Node) → h.nodes k ≡ None → NamesStay h (effect h k node nobody)
+  new_stay k node none = names_stay h k node nobody
+      (λ d port seat slot sits on name has. absurd (no_name h k none name has))
+
+  new_all : (k : ℕ) (node : Option Node) → h.nodes k ≡ None → (p : ℕ) (name : Text) → HasName h p name
+      → HasName (effect h k node nobody) p name
+  new_all k node none = all_stay h k node nobody (λ name has. absurd (no_name h k none name has))
+
+  new_perches : (k : ℕ) (node : Option Node) (held : List Seat) (perches : List Perch) → h.nodes k ≡ None
+      → seats_of node ≡ held → ArePerches h held perches
+      → ArePerches (effect h k node nobody) (seats_of ((effect h k node nobody).nodes k)) perches
+  new_perches k node held perches none e are =
+      subst (λ l. ArePerches (effect h k node nobody) l perches)
+      (sym ((alike_same h k node nobody k refl).seats ∙ e))
+      (kept_perches h (effect h k node nobody) held perches
+      (λ port seat p slot sits on. new_all k node none p) are)
+
+  made_name : (k : ℕ) (node : Option Node) (below : ℕ → Bool) (mine name : Text) → name_of node ≡ Some mine
+      → HasName (effect h k node below) k name → mine ≡ name
+  made_name k node below mine name e has =
+      let both : Some mine ≡ Some name = sym e ∙ sym (alike_same h k node below k refl).name ∙ has in cc
+
+  -- a load
+  load_ordered : (name : Text) (config : Config) (perches : List Perch) (by : List Seated) (k : ℕ) (new : Text)
+      (set : Config) (spare_ticks spare_marks : ℕ) (held : List Seat) → IsNew h k new → new ≡ name
+      → ArePerches h held perches
+      → IsOrdered
+      (before ++ (record { tick = tick; command = said.Load name config perches; answer = Done by }) ∷ [])
+      (effect h k (Some (Loaded (loaded h.now new set spare_ticks spare_marks held))) nobody)
+  load_ordered name config perches by k new set spare_ticks spare_marks held is same are =
+      let a : Answered = record { tick = tick; command = said.Load name config perches; answer = Done by } in
+      let node : Option Node = Some (Loaded (loaded h.now new set spare_ticks spare_marks held)) in
+      quiet k node a refl (ap is_thread is.unused) refl (new_stay k node is.unused)
+      (seats_each h k node nobody a (new_name h k new name is same)
+      (λ n has. SeatsMade (names_same n name (sym same ∙ made_name k node nobody new n refl has))
+      (new_perches k node held perches is.unused refl are)
+      (λ thread. (let wrong : false ≡ true = sym (alike_same h k node nobody k refl).sort ∙ thread in
+      absurd (cc)))))
+      (λ n. refl) refl (λ n. refl) refl
+
+  -- an unload
+  unload_ordered : (name : Text) (by : List Seated) (k : ℕ) → CanUnload (h.nodes k) → HasName h k name
+      → IsOrdered (before ++ (record { tick = tick; command = said.Unload name; answer = Done by }) ∷ [])
+      (effect h k None nobody)
+  unload_ordered name by k can has =
+      let a : Answered = record { tick = tick; command = said.Unload name; answer = Done by } in
+      quiet k None a refl (ap is_thread can.there) refl
+      (names_stay h k None nobody (λ d port seat slot sits on n named. absurd (empty_seat d port seat slot k can sits on)))
+      (seats_each h k None nobody a (old_name h unique k name has)
+      (λ n named. absurd (gone k n named)))
+      (λ n. refl) refl (λ n. refl) refl
+
+  -- an admission
+  admit_ordered : (name : Text) (perch : Perch) (by : List Seated) (k : ℕ) (new : Text) (seat : Seat)
+      → IsNew h k new → new ≡ name → IsPerch h seat perch
+      → IsOrdered (before ++ (record { tick = tick; command = said.Thread name perch; answer = Done by }) ∷ [])
+      (effect h k (Some (Admitted (admitted h.now new seat))) nobody)
+  admit_ordered name perch by k new seat is same asked =
+      let a : Answered = record { tick = tick; command = said.Thread name perch; answer = Done by } in
+      let node : Option Node = Some (Admitted (admitted h.now new seat)) in
+      let made = effect h k node nobody in
+      let there : made.nodes k ≡ node = at_same k k node
+      (marked (leavings (seats_of (h.nodes k)) k ++ seatings (seats_of node) k) (h.nodes k)) refl in
+      let was : is_thread (h.nodes k) ≡ false = ap is_thread is.unused in
+      let list : made.threads ≡ h.threads ++ k ∷ [] =
+      ap (λ x. listed x true k h.threads) was in
+      let names : threads (before ++ a ∷ []) ≡ threads before ++ name ∷ [] =
+      threads_snoc before a
+      ∙ ap (λ l. l ++ name ∷ []) (filter_all (goes_on a) (threads before) (λ n. refl)) in
+      let off : (d : ℕ) (n : Text) → IsThreadNamed h.nodes d n → (nobody d || d == k) ≡ false =
+      λ d n t. ne_eqb d k (not_thread h k was d n t) in
+      let hit = names_same name name refl in
+      let new_one : map told_stay (stay_at h.now k node) ≡ stay_of (before ++ a ∷ []) [] tick name ∷ [] =
+      stay_of_node h.now k node name (before ++ a ∷ []) tick refl (ap (λ (n : Text). Some n) same)
+      (asked.kept ∙ ap want_of (sym (seating_hit name before a hit))) at in
+      record {
+        seated = seated_step h made before a (new_stay k node is.unused) ord.seated
+            (seats_each h k node nobody a (new_name h k new name is same)
+            (λ n has. SeatsMade (names_same n name (sym same ∙ made_name k node nobody new n refl has))
+            (new_perches k node (seat ∷ []) (perch ∷ []) is.unused refl (asked, tt))
+            (λ thread. ap kept_in (alike_same h k node nobody k refl).seats ∙ asked.kept)));
+        order = subst (λ (ks : List ℕ). Paired made.nodes ks (threads (before ++ a ∷ []))) (sym list)
+            (subst (Paired made.nodes (h.threads ++ k ∷ [])) (sym names)
+            (paired_push made.nodes h.threads (threads before) k name
+            (paired_on h.nodes made.nodes h.threads (threads before)
+            (λ d n t. named_other h k node nobody d n (not_thread h k was d n t) t) ord.order)
+            (record { is = ap is_thread there; named = ap name_of there ∙ ap (λ (n : Text). Some n) same })));
+        few = few_later h k node nobody before a ord.few;
+        stays = stays_step c h before a (λ d. nobody d || d == k)
+            (opened_at h.now made.nodes (λ d. nobody d || d == k) made.threads) at
+            (λ d n t. off d n t) told.stays ord.stays
+            (ap (λ ks. map told_stay (opened_at h.now made.nodes (λ d. nobody d || d == k) ks)) list
+            ∙ ap (map told_stay) (opened_push h.now made.nodes (λ d. nobody d || d == k) h.threads k
+            (opened_none h.now h.nodes made.nodes (λ d. nobody d || d == k) h.threads (threads before) ord.order off)
+            (eq-eqb k k refl))
+            ∙ ap (λ n. map told_stay (stay_at h.now k n)) there
+            ∙ new_one);
+      }
+
+  -- an end
+  end_ordered : (name : Text) (by : List Seated) (k : ℕ) → IsThread (h.nodes k) → HasName h k name
+      → IsOrdered (before ++ (record { tick = tick; command = said.End name; answer = Done by }) ∷ [])
+      (effect h k None nobody)
+  end_ordered name by k can has =
+      let a : Answered = record { tick = tick; command = said.End name; answer = Done by } in
+      let made = effect h k None nobody in
+      let was : is_thread (h.nodes k) ≡ true = ap is_thread can.there in
+      let list : made.threads ≡ filter (λ d. not (d == k)) h.threads = ap (λ x. listed x false k h.threads) was in
+      let names : threads (before ++ a ∷ []) ≡ filter (goes_on a) (threads before) =
+      threads_snoc before a ∙ append-nil (filter (goes_on a) (threads before)) in
+      let same : (d : ℕ) (n : Text) → IsThreadNamed h.nodes d n → (d == k) ≡ bytes_eq name n =
+      λ d n t. same_node h.nodes unique k d name n has t.named in
+      record {
+        seated = seated_step h made before a
+            (names_stay h k None nobody (λ d port seat slot sits on n named. absurd (no_seat d port seat slot k can sits on)))
+            ord.seated
+            (seats_each h k None nobody a (old_name h unique k name has) (λ n named. absurd (gone k n named)));
+        order = subst (λ (ks : List ℕ). Paired made.nodes ks (threads (before ++ a ∷ []))) (sym list)
+            (subst (Paired made.nodes (filter (λ d. not (d == k)) h.threads)) (sym names)
+            (paired_filter h.nodes made.nodes (λ d. not (d == k)) (goes_on a) h.threads (threads before)
+            (λ d n t. ap not (same d n t))
+            (λ d n t keeps. named_other h k None nobody d n
+            (λ e. (let on = eq-eqb d k e in let it = same d n t in
+            let wrong : not (bytes_eq name n) ≡ true = keeps in
+            let not_true : not true ≡ true = sym (ap not (sym it ∙ on)) ∙ wrong in cc)) t) ord.order));
+        few = few_later h k None nobody before a ord.few;
+        stays = stays_step c h before a (λ d. nobody d || d == k)
+            (opened_at h.now made.nodes (λ d. nobody d || d == k) made.threads) at
+            (λ d n t. same d n t) told.stays ord.stays
+            (ap (λ ks. map told_stay (opened_at h.now made.nodes (λ d. nobody d || d == k) ks)) list
+            ∙ ap (map told_stay) (opened_without h.now made.nodes k h.threads));
+      }
