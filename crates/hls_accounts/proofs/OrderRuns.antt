@@ -38,13 +38,14 @@ use Rattle.hls_accounts.specs.Under.{is_under}
 use Rattle.hls_accounts.specs.Stays.{threads, closes, stays, stays_with, stay_of, closed, want_in, want_of}
 use Rattle.hls_accounts.specs.Tells.{HasName, IsPerch, ArePerches, Does, Answers, TellsFrom, Tells}
 use Rattle.hls_accounts.proofs.Rousings.{name_in, missed, names_differ, names_same}
-use Rattle.hls_accounts.proofs.Alike.{IsAlike, alike_other, alike_same, alike-ticked, almost-roused, moved-reseated}
+use Rattle.hls_accounts.proofs.Alike.{IsAlmost, IsAlike, alike_other, alike_same, alike-ticked, almost-roused, moved-reseated}
 use Rattle.hls_accounts.proofs.Told.{IsThreadNamed, Unique}
 use Rattle.hls_accounts.proofs.ToldSteps.{AreStaysTold, IsTold}
 use Rattle.hls_accounts.proofs.ToldRuns.{step_told, told_tick, old_name, new_name, one_more, start_told}
 use Rattle.hls_accounts.proofs.StayLaws.{stands_by, closed-nil}
 use Rattle.hls_accounts.proofs.StaySnoc.{goes_on, threads_snoc}
-use Rattle.hls_accounts.proofs.Seatings.{perches_in, kept_in, AreSeatedBy, seating_hit}
+use Rattle.hls_accounts.proofs.Seatings.{perches_in, perches_from, kept_in, AreSeatedBy, seating_hit}
+use Rattle.hls_accounts.proofs.Seatings.{seating_miss}
 use Rattle.hls_accounts.proofs.Depths.{sits_on_scheduler, under_told}
 use Rattle.hls_accounts.proofs.Orders.{Paired, told_stay, IsOrdered, kept_perches, NamesStay, Seats, SeatsLeft}
 use Rattle.hls_accounts.proofs.Orders.{SeatsMade, seated_step, paired_on, paired_push, paired_filter, filter_all}
@@ -75,6 +76,16 @@ stay_of_node now k (Some (Admitted t)) name commands tick is named kept at =
     let mine : t.name ≡ name = cc in
     one_stay t.name name t.seat.kept (want_of (last_seating name commands)) now tick None (closed commands [] name)
     mine kept (sym at) (sym (closed-nil commands name))
+
+or_off : (b : Bool) → (b || false) ≡ b
+or_off true = refl
+or_off false = refl
+
+or_itself : (below : ℕ → Bool) (k : ℕ) → below k ≡ true → (d : ℕ) → (below d || d == k) ≡ below d
+or_itself below k itself d = elim (cases_eq d k) [
+  | inl e ↦ (let on : below d ≡ true = ap below e ∙ itself in ap (λ b. b || d == k) on ∙ sym on)
+  | inr ne ↦ ap (λ b. below d || b) (ne_eqb d k ne) ∙ or_off (below d)
+]
 
 -- ---- nobody is there
 
@@ -253,3 +264,105 @@ module _ (c : Content) (h : Hierarchy) (before : List Answered) (reached : IsRea
             (ap (λ ks. map told_stay (opened_at h.now made.nodes (λ d. nobody d || d == k) ks)) list
             ∙ ap (map told_stay) (opened_without h.now made.nodes k h.threads));
       }
+
+  moved_named : (k : ℕ) (node : Option Node) (below : ℕ → Bool) → name_of node ≡ name_of (h.nodes k)
+      → is_thread node ≡ is_thread (h.nodes k) → (d : ℕ) (n : Text) → IsThreadNamed h.nodes d n
+      → IsThreadNamed (effect h k node below).nodes d n
+  moved_named k node below name sort d n t = elim (cases_eq d k) [
+    | inl e ↦
+        let like = alike_same h k node below d e in
+        record {
+          is = like.sort ∙ sort ∙ ap (λ x. is_thread (h.nodes x)) (sym e) ∙ t.is;
+          named = like.name ∙ name ∙ ap (λ x. name_of (h.nodes x)) (sym e) ∙ t.named;
+        }
+    | inr ne ↦ named_other h k node below d n ne t
+  ]
+
+  -- a move
+  move_ordered : (name : Text) (perch : Perch) (by : List Seated) (k : ℕ) (seat : Seat) (below : ℕ → Bool)
+      → CanMove h k seat below → HasName h k name → IsPerch h seat perch
+      → IsOrdered (before ++ (record { tick = tick; command = said.Move name perch; answer = Done by }) ∷ [])
+      (effect h k (reseated seat (h.nodes k)) below)
+  move_ordered name perch by k seat below can has asked =
+      let a : Answered = record { tick = tick; command = said.Move name perch; answer = Done by } in
+      let node : Option Node = reseated seat (h.nodes k) in
+      let made = effect h k node below in
+      let moved = moved-reseated seat (h.nodes k) in
+      let like = alike_same h k node below k refl in
+      let held : seats_of (made.nodes k) ≡ seat ∷ [] =
+      like.seats ∙ seats-reseated seat seat.place (h.nodes k) can.sort in
+      let all : (p : ℕ) (n : Text) → HasName h p n → HasName made p n =
+      all_stay h k node below (λ n named. moved.name ∙ named) in
+      let list : made.threads ≡ h.threads =
+      listed_same (is_thread (h.nodes k)) (is_thread node) (is_thread (h.nodes k)) k h.threads refl moved.sort in
+      let named_on : (d : ℕ) (n : Text) → IsThreadNamed h.nodes d n → IsThreadNamed made.nodes d n =
+      moved_named k node below moved.name moved.sort in
+      let seated_now : AreSeatedBy made (before ++ a ∷ []) =
+      seated_step h made before a (λ d port s p slot sits on. all p) ord.seated
+      (seats_each h k node below a (old_name h unique k name has)
+      (λ n named. SeatsMade (names_same n name (made_name k node below name n (moved.name ∙ has) named))
+      (subst (λ l. ArePerches made l (perch ∷ [])) (sym held)
+      (kept_perches h made (seat ∷ []) (perch ∷ []) (λ port s p slot sits on. all p) (asked, tt)))
+      (λ thread. ap kept_in held ∙ asked.kept))) in
+      let alike : (d : ℕ) (n : Text) → IsThreadNamed h.nodes d n → (below d || d == k) ≡ is_under before name n =
+      λ d n t. or_itself below k can.under.itself d
+      ∙ under_told h (kept_of h reached).rank (kept_of h reached).sound (seated_of h reached)
+      (lists_of h reached).schedulers k before unique ord.seated ord.few name has below can.under d n t.named in
+      record {
+        seated = seated_now;
+        order = subst (λ (ks : List ℕ). Paired made.nodes ks (threads (before ++ a ∷ []))) (sym list)
+            (subst (Paired made.nodes h.threads) (sym (threads_same before a (λ n. refl) refl))
+            (paired_on h.nodes made.nodes h.threads (threads before) named_on ord.order));
+        few = few_later h k node below before a ord.few;
+        stays = stays_step c h before a (λ d. below d || d == k)
+            (opened_at h.now made.nodes (λ d. below d || d == k) made.threads) at
+            (λ d n t. alike d n t) told.stays ord.stays
+            (ap (λ ks. map told_stay (opened_at h.now made.nodes (λ d. below d || d == k) ks)) list
+            ∙ opened_paired h.now h.nodes made.nodes (λ d. below d || d == k) (is_under before name)
+            (stay_of (before ++ a ∷ []) [] tick) h.threads (threads before) ord.order alike
+            (λ d n t on. let u = named_on d n t in
+            stay_of_node h.now d (made.nodes d) n (before ++ a ∷ []) tick u.is u.named
+            ((seated_now d n u.named).kept u.is) at));
+      }
+
+  -- what leaves names, sorts and seats
+  almost_seated : (g : Hierarchy) → ((d : ℕ) → IsAlmost (g.nodes d) (h.nodes d)) → AreSeatedBy g before
+  almost_seated g like d name has =
+      let was = ord.seated d name (sym (like d).name ∙ has) in
+      record {
+        perches = subst (λ l. ArePerches g l (perches_from (last_seating name before))) (sym (like d).seats)
+            (kept_perches h g (seats_of (h.nodes d)) (perches_from (last_seating name before))
+            (λ port seat p slot sits on n named. (like p).name ∙ named) was.perches);
+        kept = λ is. ap kept_in (like d).seats ∙ was.kept (sym (like d).sort ∙ is);
+      }
+
+  almost_ordered : (g : Hierarchy) → ((d : ℕ) → IsAlmost (g.nodes d) (h.nodes d)) → g.threads ≡ h.threads
+      → g.schedulers ≡ h.schedulers → g.stays ≡ h.stays → IsOrdered before g
+  almost_ordered g like threads_are schedulers_are stays_are = record {
+    seated = almost_seated g like;
+    order = subst (λ (ks : List ℕ). Paired g.nodes ks (threads before)) (sym threads_are)
+        (paired_on h.nodes g.nodes h.threads (threads before)
+        (λ d n t. record { is = (like d).sort ∙ t.is; named = (like d).name ∙ t.named }) ord.order);
+    few = subst (λ (ks : List ℕ). length ks ≤ length before) (sym schedulers_are) ord.few;
+    stays = ap (map told_stay) stays_are ∙ ord.stays;
+  }
+
+-- a command that says nothing of seats, ends or stays
+idle_ordered : (h : Hierarchy) (before : List Answered) (a : Answered) → IsOrdered before h
+    → ((name : Text) → has_done (seats name) a ≡ false)
+    → ((name : Text) → has_done (ends name) a ≡ false) → stands_by a [] ≡ []
+    → ((name : Text) → has_done (closes before name) a ≡ false) → stays_with before [] a ≡ []
+    → IsOrdered (before ++ a ∷ []) h
+idle_ordered h before a ord seatless on lone shut opens = record {
+  seated = λ d name has.
+      let was = ord.seated d name has in
+      let found = sym (seating_miss name before a (seatless name)) in
+      record {
+        perches = subst (λ (f : Option Answered). ArePerches h (seats_of (h.nodes d)) (perches_from f)) found
+            was.perches;
+        kept = λ is. was.kept is ∙ ap want_of found;
+      };
+  order = subst (Paired h.nodes h.threads) (sym (threads_same before a on lone)) ord.order;
+  few = (let le = ord.few in omega (arith, length_push before a));
+  stays = ord.stays ∙ sym (stays_same before a shut opens);
+}
