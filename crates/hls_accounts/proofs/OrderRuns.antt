@@ -2,7 +2,7 @@
 use Rattle.std.proofs.Common.{◌≡◌, ◌≢◌, ℕ, inl, inr, ◌+◌, ◌<◌, ◌≤◌, List, [], ◌∷◌, ◌++◌, ◌||◌, ◌==◌}
 use Rattle.std.proofs.Common.{Bool, true, false, not, if◌then◌else◌, cond, length, slice_get, map, filter, refl}
 use Rattle.std.proofs.Common.{sym, ap, ◌∙◌, subst, arith}
-use Rattle.std.specs.Prelude.{Option, Some, None}
+use Rattle.std.specs.Prelude.{Option, Some, None, is_none}
 use Rattle.std.specs.Str.{bytes_eq}
 use Rattle.std.proofs.lemmas.Bool.{cases_eq, cases_Bool, eq-eqb, ne_eqb}
 use Rattle.std.proofs.lemmas.List.{append-nil, append_assoc, length_push}
@@ -19,13 +19,13 @@ use Rattle.hls_report.specs.declared.report.Answer.{Answer}
 use Rattle.hls_report.specs.declared.report.Answer.TheVariants.{Done, Refused}
 use Rattle.hls_report.specs.declared.report.Answered.{Answered}
 use Rattle.hls_report.specs.Content.{Content}
-use Rattle.hls_legal.specs.Hierarchy.{Hierarchy, Node, Loaded, Admitted, Place, At, Seat, Wake, Asleep, name_of}
+use Rattle.hls_legal.specs.Hierarchy.{Hierarchy, Node, Loaded, Admitted, Place, At, Seat, Tick, Wake, Asleep, name_of}
 use Rattle.hls_legal.specs.Hierarchy.{seats_of, seat_of, book_of, start}
 use Rattle.hls_legal.specs.Hierarchy as legal
 use Rattle.hls_legal.specs.Steps.{Step, Refuse, Load, Admit, End, Unload, Move, Rouse, Block, Elapse, Path}
 use Rattle.hls_legal.specs.Steps.{is_thread, is_scheduler, listed, nobody, stay_of as stay_at, opened as opened_at}
 use Rattle.hls_legal.specs.Steps.{nodes_after, effect, with_wake, roused, reseated, wake_by, loaded, admitted, after}
-use Rattle.hls_legal.specs.Steps.{state, hop_at, hops_of, elapsed, marked, leavings, seatings}
+use Rattle.hls_legal.specs.Steps.{thread_of, state, hop_at, hops_of, elapsed, marked, leavings, seatings}
 use Rattle.hls_legal.specs.Legal.{Can, IsLegal, CanLoad, CanAdmit, CanUnload, IsThread, CanMove, IsNew, SitsOn, IsBelow}
 use Rattle.hls_legal.specs.Lists.{IsListed}
 use Rattle.hls_legal.specs.Seated.{SitsThere, IsSeated}
@@ -34,9 +34,10 @@ use Rattle.hls_legal.proofs.Runs.{Kept}
 use Rattle.hls_legal.proofs.Nodes.{seats-reseated}
 use Rattle.hls_accounts.specs.declared.stay.Stay.{Stay}
 use Rattle.hls_accounts.specs.Commands.{has_done, seats, ends, last_seating}
+use Rattle.hls_accounts.specs.Schedule.{path_at}
 use Rattle.hls_accounts.specs.Under.{is_under}
-use Rattle.hls_accounts.specs.Stays.{threads, closes, stays, stays_with, stay_of, closed, want_in, want_of}
-use Rattle.hls_accounts.specs.Tells.{HasName, IsPerch, ArePerches, Does, Answers, TellsFrom, Tells}
+use Rattle.hls_accounts.specs.Stays.{threads, closes, stays, stays_from, stays_with, stay_of, closed, want_in, want_of}
+use Rattle.hls_accounts.specs.Tells.{HasName, IsPerch, ArePerches, Does, Answers, Names, TellsFrom, Tells}
 use Rattle.hls_accounts.proofs.Rousings.{name_in, missed, names_differ, names_same}
 use Rattle.hls_accounts.proofs.Alike.{IsAlmost, IsAlike, alike_other, alike_same, alike-ticked, almost-roused, moved-reseated}
 use Rattle.hls_accounts.proofs.Told.{IsThreadNamed, Unique}
@@ -366,3 +367,154 @@ idle_ordered h before a ord seatless on lone shut opens = record {
   few = (let le = ord.few in omega (arith, length_push before a));
   stays = ord.stays ∙ sym (stays_same before a shut opens);
 }
+
+almost_if : (b : Bool) (how : Wake) (node : Option Node) → IsAlmost (if b then roused how node else node) node
+almost_if true how any = almost-roused how any
+almost_if false how any = record { name = refl; sort = refl; seats = refl }
+
+-- ---- a step, and a run
+
+wake_ordered : (c : Content) (h : Hierarchy) (before : List Answered) → IsReached h → IsTold c before h
+    → IsOrdered before h → (k : ℕ) (how : Wake) → IsOrdered before (with_wake h k how)
+wake_ordered c h before reached told ord k how =
+    almost_ordered c h before reached told ord h.now refl (with_wake h k how)
+    (λ d. almost_if (d == k) how (h.nodes d)) refl refl refl
+
+tick_ordered : (c : Content) (h : Hierarchy) (before : List Answered) → IsReached h → IsTold c before h
+    → IsOrdered before h → (asking : ℕ → Bool) (masks : ℕ → ℕ) (path : Option Path)
+    → IsOrdered before (elapsed h asking masks path)
+tick_ordered c h before reached told ord asking masks path =
+    almost_ordered c h before reached told ord h.now refl (elapsed h asking masks path)
+    (λ d. let like = alike-ticked (masks d) (hop_at (hops_of path) d) (h.nodes d) in
+    record { name = like.name; sort = like.sort; seats = like.seats }) refl refl refl
+
+step_ordered : (c : Content) (h : Hierarchy) (before : List Answered) (tick : ℕ) (command : Command)
+    (answer : Answer) (step : Step) → IsReached h → Can h step → Answers h command answer step → tick ≡ h.now
+    → IsTold c before h → IsOrdered before h
+    → IsOrdered (before ++ (record { tick = tick; command = command; answer = answer }) ∷ []) (after h step)
+step_ordered c h before tick command (Refused refusal) step reached can does at told ord =
+    let a : Answered = record { tick = tick; command = command; answer = Refused refusal } in
+    subst (λ (s : Step). IsOrdered (before ++ a ∷ []) (after h s)) (sym does)
+    (idle_ordered h before a ord (λ n. refl) (λ n. refl) refl (λ n. refl) refl)
+step_ordered c h before tick (said.Load name config perches) (Done by)
+    (Load k new set spare_ticks spare_marks held) reached can does at told ord =
+    load_ordered c h before reached told ord tick at name config perches by k new set spare_ticks spare_marks held
+    can.0.new does.0 does.2
+step_ordered c h before tick (said.Thread name perch) (Done by) (Admit k new seat) reached can does at told ord =
+    admit_ordered c h before reached told ord tick at name perch by k new seat can.new does.0 does.1
+step_ordered c h before tick (said.End name) (Done by) (End k) reached can does at told ord =
+    end_ordered c h before reached told ord tick at name by k can does
+step_ordered c h before tick (said.Unload name) (Done by) (Unload k) reached can does at told ord =
+    unload_ordered c h before reached told ord tick at name by k can does
+step_ordered c h before tick (said.Move name perch) (Done by) (Move k seat below) reached can does at told ord =
+    move_ordered c h before reached told ord tick at name perch by k seat below can.0 does.0 does.1
+step_ordered c h before tick (said.Wake name burst) (Done by) (Rouse k ticks) reached can does at told ord =
+    let a : Answered = record { tick = tick; command = said.Wake name burst; answer = Done by } in
+    idle_ordered (with_wake h k (wake_by ticks h.now)) before a
+    (wake_ordered c h before reached told ord k (wake_by ticks h.now)) (λ n. refl) (λ n. refl) refl (λ n. refl) refl
+step_ordered c h before tick (said.Block name) (Done by) (Block k) reached can does at told ord =
+    let a : Answered = record { tick = tick; command = said.Block name; answer = Done by } in
+    idle_ordered (with_wake h k Asleep) before a (wake_ordered c h before reached told ord k Asleep)
+    (λ n. refl) (λ n. refl) refl (λ n. refl) refl
+step_ordered c h before tick _ (Done by) _ reached can does at told ord = absurd does
+
+-- ticks that are idle
+abbrev pub IdleTold : Content → Hierarchy → Type 0
+IdleTold c h = (x : ℕ) → x < h.now → is_none (path_at c.stretches x) ≡ is_none (h.past x).to
+
+idle_names : (h : Hierarchy) (path : Option Path) (names : Option (List Text)) → Names h path names
+    → is_none names ≡ is_none (thread_of path)
+idle_names h None None told = refl
+idle_names h None (Some names) told = absurd told
+idle_names h (Some path) None told = absurd told
+idle_names h (Some path) (Some names) told = refl
+
+tick_idle : (c : Content) (h : Hierarchy) (asking : ℕ → Bool) (masks : ℕ → ℕ) (path : Option Path)
+    → Names h path (path_at c.stretches h.now) → IdleTold c h → IdleTold c (elapsed h asking masks path)
+tick_idle c h asking masks path told idle x lt = elim (cases_eq x h.now) [
+  | inl e ↦ ap (λ t. is_none (path_at c.stretches t)) e
+      ∙ idle_names h path (path_at c.stretches h.now) told
+      ∙ sym (ap (λ (w : Tick). is_none w.to)
+      (at_same x h.now (record { asking = asking; to = thread_of path }) (h.past x) e))
+  | inr ne ↦ idle x (omega arith)
+      ∙ sym (ap (λ (w : Tick). is_none w.to)
+      (at_other x h.now (record { asking = asking; to = thread_of path }) (h.past x) ne))
+]
+
+no_elapse : (h : Hierarchy) (command : Command) (asking : ℕ → Bool) (masks : ℕ → ℕ) (path : Option Path)
+    → Does h command (Elapse asking masks path) → ⊥
+no_elapse h (said.Load name config perches) asking masks path does = does
+no_elapse h (said.Thread name perch) asking masks path does = does
+no_elapse h (said.End name) asking masks path does = does
+no_elapse h (said.Unload name) asking masks path does = does
+no_elapse h (said.Move name perch) asking masks path does = does
+no_elapse h (said.Wake name burst) asking masks path does = does
+no_elapse h (said.Block name) asking masks path does = does
+
+step_idle : (c : Content) (h : Hierarchy) (command : Command) (answer : Answer) (step : Step)
+    → Answers h command answer step → IdleTold c h → IdleTold c (after h step)
+step_idle c h command (Refused refusal) step does idle =
+    subst (λ (s : Step). IdleTold c (after h s)) (sym does) idle
+step_idle c h command (Done by) Refuse does idle = idle
+step_idle c h command (Done by) (Load k new set spare_ticks spare_marks held) does idle = idle
+step_idle c h command (Done by) (Admit k new seat) does idle = idle
+step_idle c h command (Done by) (End k) does idle = idle
+step_idle c h command (Done by) (Unload k) does idle = idle
+step_idle c h command (Done by) (Move k seat below) does idle = idle
+step_idle c h command (Done by) (Rouse k ticks) does idle = idle
+step_idle c h command (Done by) (Block k) does idle = idle
+step_idle c h command (Done by) (Elapse asking masks path) does idle = absurd (no_elapse h command asking masks path does)
+
+-- all of it, at the end of a run
+pub record IsTelling (c : Content) (before : List Answered) (h : Hierarchy) : Type 0 where
+  pub told : IsTold c before h
+  pub ordered : IsOrdered before h
+  pub idle : IdleTold c h
+
+pub record IsTellingAll (c : Content) (h : Hierarchy) : Type 0 where
+  pub now : h.now ≡ c.horizon
+  pub all : IsTelling c c.answered h
+
+run_telling : (steps : List Step) (c : Content) (h : Hierarchy) (before left : List Answered)
+    → c.answered ≡ before ++ left → IsReached h → IsLegal h steps → TellsFrom c h steps left
+    → IsTelling c before h → IsTellingAll c (state h steps)
+run_telling [] c h before [] all reached legal tells t = record {
+  now = tells;
+  all = subst (λ (b : List Answered). IsTelling c b h) (sym (all ∙ append-nil before)) t;
+}
+run_telling [] c h before (a ∷ left) all reached legal tells t = absurd tells
+run_telling (Elapse asking masks path ∷ steps) c h before left all reached legal tells t =
+    run_telling steps c (after h (Elapse asking masks path)) before left all
+    (reached_next h (Elapse asking masks path) reached legal.0) legal.1 tells.2
+    (record {
+      told = told_tick c h asking masks path legal.0.0 (lists_of h reached).names tells.1 before left all tells.0
+          t.told;
+      ordered = tick_ordered c h before reached t.told t.ordered asking masks path;
+      idle = tick_idle c h asking masks path tells.1 t.idle;
+    })
+run_telling (step ∷ steps) c h before (a ∷ left) all reached legal tells t =
+    run_telling steps c (after h step) (before ++ a ∷ []) left (one_more c before left a all)
+    (reached_next h step reached legal.0) legal.1 tells.2
+    (record {
+      told = step_told c h before a.tick a.command a.answer step legal.0 tells.1 tells.0
+          (lists_of h reached).names t.told;
+      ordered = step_ordered c h before a.tick a.command a.answer step reached legal.0 tells.1 tells.0 t.told
+          t.ordered;
+      idle = step_idle c h a.command a.answer step tells.1 t.idle;
+    })
+run_telling (step ∷ steps) c h before [] all reached legal tells t = absurd tells
+
+start_ordered : IsOrdered [] start
+unfolding threads stays_from
+start_ordered = record {
+  seated = λ k name has. absurd (cc);
+  order = tt;
+  few = omega arith;
+  stays = refl;
+}
+
+pub telling_run : (c : Content) (steps : List Step) → IsLegal start steps → Tells c steps
+    → IsTellingAll c (state start steps)
+telling_run c steps legal tells =
+    run_telling steps c start [] c.answered refl reached_start legal tells
+    (record { told = start_told c; ordered = start_ordered; idle = λ x lt. absurd (omega arith) })
