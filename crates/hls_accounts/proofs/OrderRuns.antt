@@ -37,6 +37,7 @@ use Rattle.hls_accounts.specs.Commands.{has_done, seats, ends, last_seating}
 use Rattle.hls_accounts.specs.Schedule.{path_at}
 use Rattle.hls_accounts.specs.Under.{is_under}
 use Rattle.hls_accounts.specs.Stays.{threads, closes, stays, stays_from, stays_with, stay_of, closed, want_in, want_of}
+use Rattle.hls_accounts.specs.Agrees.{told_stay}
 use Rattle.hls_accounts.specs.Tells.{HasName, IsPerch, ArePerches, Does, Answers, Names, TellsFrom, Tells}
 use Rattle.hls_accounts.proofs.Rousings.{name_in, missed, names_differ, names_same}
 use Rattle.hls_accounts.proofs.Alike.{IsAlmost, IsAlike, alike_other, alike_same, alike-ticked, almost-roused, moved-reseated}
@@ -48,7 +49,7 @@ use Rattle.hls_accounts.proofs.StaySnoc.{goes_on, threads_snoc}
 use Rattle.hls_accounts.proofs.Seatings.{perches_in, perches_from, kept_in, AreSeatedBy, seating_hit}
 use Rattle.hls_accounts.proofs.Seatings.{seating_miss}
 use Rattle.hls_accounts.proofs.Depths.{sits_on_scheduler, under_told}
-use Rattle.hls_accounts.proofs.Orders.{Paired, told_stay, IsOrdered, kept_perches, NamesStay, Seats, SeatsLeft}
+use Rattle.hls_accounts.proofs.Orders.{Paired, IsOrdered, kept_perches, NamesStay, Seats, SeatsLeft}
 use Rattle.hls_accounts.proofs.Orders.{SeatsMade, seated_step, paired_on, paired_push, paired_filter, filter_all}
 use Rattle.hls_accounts.proofs.Orders.{threads_same, listed_same, ClosesAlike, stays_step, stays_same, opened_none}
 use Rattle.hls_accounts.proofs.Orders.{opened_push, opened_without, opened_paired}

@@ -22,6 +22,7 @@ use Rattle.hls_legal.proofs.Kept.{at_same, at_other}
 use Rattle.hls_accounts.specs.declared.stay.Stay.{Stay}
 use Rattle.hls_accounts.specs.Commands.{has_done, seats, ends}
 use Rattle.hls_accounts.specs.Stays.{threads, closes, stays, stays_with, stay_of, closed, want_in}
+use Rattle.hls_accounts.specs.Agrees.{told_stay}
 use Rattle.hls_accounts.specs.Tells.{HasName, ArePerches}
 use Rattle.hls_accounts.proofs.Rousings.{name_in, missed, names_differ, names_same}
 use Rattle.hls_accounts.proofs.Alike.{IsAlike, alike_other, alike_same, almost-roused}
@@ -29,7 +30,7 @@ use Rattle.hls_accounts.proofs.Told.{IsThreadNamed, Unique}
 use Rattle.hls_accounts.proofs.ToldSteps.{AreStaysTold}
 use Rattle.hls_accounts.proofs.StayLaws.{stands_by}
 use Rattle.hls_accounts.proofs.Seatings.{perches_in, kept_in, AreSeatedBy}
-use Rattle.hls_accounts.proofs.Orders.{Paired, told_stay, IsOrdered, kept_perches, NamesStay, Seats, SeatsLeft}
+use Rattle.hls_accounts.proofs.Orders.{Paired, IsOrdered, kept_perches, NamesStay, Seats, SeatsLeft}
 use Rattle.hls_accounts.proofs.Orders.{SeatsMade, seated_step, paired_on, threads_same, ClosesAlike, stays_step}
 use Rattle.hls_accounts.proofs.Orders.{stays_same, opened_none}
 

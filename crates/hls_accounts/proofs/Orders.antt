@@ -22,6 +22,7 @@ use Rattle.hls_legal.specs.Steps.{nobody}
 use Rattle.hls_accounts.specs.declared.stay.Stay.{Stay}
 use Rattle.hls_accounts.specs.Commands.{has_done, seats, ends, last_seating}
 use Rattle.hls_accounts.specs.Stays.{threads, closes, stays, stays_with, want_in, want_of}
+use Rattle.hls_accounts.specs.Agrees.{told_stay}
 use Rattle.hls_accounts.specs.Tells.{HasName, IsSpot, IsPerch, ArePerches}
 use Rattle.hls_accounts.proofs.Rousings.{names_differ, names_same}
 use Rattle.hls_accounts.proofs.Told.{IsThreadNamed, Unique}
@@ -36,10 +37,6 @@ abbrev pub Paired : (ℕ → Option Node) → List ℕ → List Text → Type 0
 Paired nodes [] [] = Unit {0}
 Paired nodes (k ∷ ks) (name ∷ names) = IsThreadNamed nodes k name × Paired nodes ks names
 Paired nodes _ _ = ⊥
-
--- a stay of the run, as a report tells it
-abbrev pub told_stay : legal.Stay → Stay
-told_stay stay = record { name = stay.name; kept = stay.kept; since = stay.since; until = stay.until }
 
 pub record IsOrdered (before : List Answered) (h : Hierarchy) : Type 0 where
   pub seated : AreSeatedBy h before

@@ -1,17 +1,34 @@
 //! What a report tells of the legal run that it tells: each function's contract is a law, and its body does
 //! nothing.
 
-ghost use Rattle.std.specs.Prelude.{List, All};
+ghost use Rattle.std.specs.Prelude.{◌≡◌, List, All, map};
 ghost use Rattle.hls_report.specs.Content.{Content};
 ghost use Rattle.hls_legal.specs.Hierarchy.{start};
 ghost use Rattle.hls_legal.specs.Steps.{Step, state};
 ghost use Rattle.hls_legal.specs.Legal.{IsLegal};
+ghost use Rattle.hls_accounts.specs.Stays.{stays};
+ghost use Rattle.hls_accounts.specs.Accounts.{accounts_of, idle_of};
 ghost use Rattle.hls_accounts.specs.Tells.{Tells};
-ghost use Rattle.hls_accounts.specs.Agrees.{AgreesIn};
+ghost use Rattle.hls_accounts.specs.Agrees.{AgreesIn, told_stay, accounts_in, idle_in};
 
 /// In each tick of each stay of a legal run, the thread is ready by the report exactly where it was
 /// ready in the run, and served exactly where the tick was given to it.
 pub fn reports_tell_who_is_ready_and_served()
     ensures { (c : Content) (steps : List Step) → IsLegal start steps → Tells c steps →
         All (AgreesIn c (state start steps)) (state start steps).stays }
+{}
+
+/// The stays by the report are those of the run, in the order in which they were opened, and with
+/// what was guaranteed for them.
+pub fn reports_tell_the_stays()
+    ensures { (c : Content) (steps : List Step) → IsLegal start steps → Tells c steps →
+        stays c.answered ≡ map told_stay (state start steps).stays }
+{}
+
+/// The accounts and the idle ticks that the report ought to print are those of the run.
+pub fn reports_tell_the_accounts()
+    ensures accounts { (c : Content) (steps : List Step) → IsLegal start steps → Tells c steps →
+        accounts_of c ≡ accounts_in (state start steps) }
+    ensures idle { (c : Content) (steps : List Step) → IsLegal start steps → Tells c steps →
+        idle_of c ≡ idle_in (state start steps) }
 {}
