@@ -9,7 +9,7 @@ use Rattle.hls_report.specs.Rests.{HorizonRest, DepthRest}
 use Rattle.hls_report.proofs.Sections.{first_line}
 use Rattle.hls_report.proofs.RefusalTexts.{number_again, count_again}
 
-some_text : (a b : Text) → Some a ≡ Some b → a ≡ b
+pub some_text : (a b : Text) → Some a ≡ Some b → a ≡ b
 some_text a b e = cc
 
 pub horizon_read : (line rest : Text) (n : ℕ) → IsWithin 1 100000 n → line ≡ codes "horizon " ++ decimal n

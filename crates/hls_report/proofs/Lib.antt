@@ -1,4 +1,7 @@
 pub mod Writings
+pub mod NameLaws
+pub mod Contents
+pub mod PathLaws
 pub mod Marks
 pub mod RefusalTexts
 pub mod LineTexts
@@ -8,3 +11,8 @@ pub mod Stuck
 pub mod RestLaws
 pub mod LineReadings
 pub mod Heads
+pub mod ContentLaws
+pub mod AccountSteps
+pub mod CommandSteps
+pub mod Reports
+pub mod RunSteps

@@ -578,3 +578,47 @@ header_off lines r = subst HorizonRest (sym (ap later_lines r.text)) r.more
 
 pub some_header : (lines : List Text) × HeaderRest lines
 some_header = (codes "hls-report 1" ∷ some_horizon.0, header_onto some_horizon.0 some_horizon.1)
+
+-- ---- a line has to come
+
+none_behind : (xs : List Text) (y : Text) (ys : List Text) → [] ≡ xs ++ y ∷ ys → ⊥
+none_behind [] y ys e = cc
+none_behind (x ∷ xs) y ys e = cc
+
+pub no_last_account : (h : ℕ) → AccountRest h [] → ⊥
+no_last_account h r =
+    none_behind (map account_text r.accounts) (idle_text r.idle) (codes "end" ∷ []) r.text
+
+pub no_last_run : (h from : ℕ) (last : Option (Option (List Text))) (known : List Text)
+    → RunRest h from last known [] → ⊥
+no_last_run h from last known r =
+    none_behind (map stretch_text r.stretches) (codes "accounts") r.rest r.text
+
+pub no_last_command : (h last left : ℕ) → CommandRest h last left [] → ⊥
+no_last_command h last left r =
+    none_behind (flat_map answered_lines r.answered) (codes "schedule") r.rest r.text
+
+empty_behind : (xs ys : List Text) → [] ≡ xs ++ ys → ys ≡ []
+empty_behind [] ys e = sym e
+empty_behind (x ∷ xs) ys e = absurd cc
+
+pub no_last_seat : (command : Command) (h last left : ℕ) → SeatRest command h last left [] → ⊥
+no_last_seat command h last left r =
+    no_last_command h last left (subst (CommandRest h last left)
+    (empty_behind (map seat_text r.seats) r.rest r.text) r.more)
+
+pub no_last_answer : (command : Command) (h last left : ℕ) → AnswerRest command h last left [] → ⊥
+no_last_answer command h last left r = by_answer r.answer r.text
+  where
+    by_answer : (p : Answer) → [] ≡ answer_lines p ++ r.rest → ⊥
+    by_answer (Done seats) e = cc
+    by_answer (Refused refusal) e = cc
+
+pub no_last_depth : (h : ℕ) → DepthRest h [] → ⊥
+no_last_depth h r = let e = r.text in cc
+
+pub no_last_horizon : HorizonRest [] → ⊥
+no_last_horizon r = let e = r.text in cc
+
+pub no_last_header : HeaderRest [] → ⊥
+no_last_header r = let e = r.text in cc

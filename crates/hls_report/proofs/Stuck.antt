@@ -5,7 +5,7 @@ use Rattle.std.proofs.Common.{refl, sym, ap, ◌∙◌, subst, arith, append_ass
 use Rattle.std.proofs.Common.{Bool, true}
 use Rattle.std.specs.Prelude.{◌==◌, ◌||◌}
 use Rattle.std.specs.List.{AllByRecursion}
-use Rattle.std.proofs.lemmas.List.{take-append-drop, length-append}
+use Rattle.std.proofs.lemmas.List.{take-append-drop, length-append, append-nil}
 use Rattle.hls_text.specs.Lines.{Text}
 use Rattle.hls_print.proofs.CanonicalLines.{all_append}
 use Rattle.hls_report.specs.declared.lines.Lines.{Lines}
@@ -13,7 +13,7 @@ use Rattle.hls_report.specs.declared.fault.ReportFault.{ReportFault}
 use Rattle.hls_report.specs.declared.fault.ReportFault.TheVariants as faults
 use Rattle.hls_report.specs.ReportText.{ended}
 use Rattle.hls_report.specs.WellFormed.{IsOneLine}
-use Rattle.hls_report.specs.Rests.{BeginsIn, IsStuck, FailsAt, Passes}
+use Rattle.hls_report.specs.Rests.{BeginsIn, IsStuck, FailsAt, Passes, NoRest}
 use Rattle.hls_report.proofs.Marks.{cut_same}
 use Rattle.hls_report.proofs.Writings.{ended-append}
 
@@ -93,6 +93,31 @@ some_line Then text zero stuck z is =
     }))
 some_line Then text (suc k) stuck z is = omega arith
 
+no_byte : (x rest : Text) → [] ≡ x ++ (10 ∷ rest) → ⊥
+no_byte [] rest e = cc
+no_byte (b ∷ bs) rest e = cc
+
+none_behind : (ls : List Text) (rest : Text) → [] ≡ ended ls ++ rest → ls ≡ []
+none_behind [] rest e = refl
+none_behind (l ∷ ls) rest e = absurd (no_byte l (ended ls ++ rest) (e ∙ ended_cons l ls rest))
+
+-- the text is all of the lines
+whole_text : (text : Text) (lines : List Text) → text ≡ ended lines → text ≡ ended lines ++ []
+whole_text text lines e = e ∙ sym (append-nil (ended lines))
+
+-- lines that were read begin whatever list of lines the text is
+pub front_of : (text rest : Text) (front lines : List Text) → AreOneLine front → AreOneLine lines
+    → text ≡ ended front ++ rest → text ≡ ended lines → Longer front lines rest []
+front_of text rest front lines whole one is e = elim (le_cases (length front) (length lines)) [
+  | inl le ↦ lines_agree front lines rest [] whole one le (sym is ∙ whole_text text lines e)
+  | inr more ↦
+      let l = lines_agree lines front [] rest one whole (omega arith) (sym (whole_text text lines e) ∙ is) in
+      let none : l.more ≡ [] = none_behind l.more rest l.behind in
+      let len : length front ≡ length lines + length l.more =
+      ap (λ (ls : List Text). length ls) l.is ∙ length-append lines l.more in
+      absurd (omega (arith, len, ap (λ (ls : List Text). length ls) none))
+]
+
 -- behind lines that were read
 pub stuck_behind : (May Then : List Text → Type 0) (text rest : Text) (front z : List Text) (k : ℕ)
     → AreOneLine front → text ≡ ended front ++ rest → Then z → ((ls : List Text) → Then ls → May (front
@@ -130,6 +155,9 @@ stuck_behind May Then text rest front z k whole is some onto off stuck = record 
         front = l.behind;
         may = off (l.more ++ b.more) may;
       });
+  none = λ lines one may e.
+      let l = front_of text rest front lines whole one is e in
+      stuck.none l.more l.whole (off l.more (subst May l.is may)) (l.behind ∙ append-nil (ended l.more));
 }
 
 -- a first line that may not come
@@ -139,8 +167,16 @@ pub stuck_line : (May : List Text → Type 0) (text line rest : Text) (z : List 
 stuck_line May text line rest z may whole is none = record {
   before = λ j lt. shorter May text [] text z j tt refl may (omega arith);
   here = λ b. at_first b.lines b.rest b.more b.whole b.counted b.front b.may;
+  none = λ lines one may e. no_text lines one may e;
 }
   where
+    no_text : (lines : List Text) → AreOneLine lines → May lines → text ≡ ended lines → ⊥
+    no_text [] one may e = no_byte line rest (sym e ∙ is)
+    no_text (l ∷ ls) one may e =
+        let parts = cut_same 10 line rest l (ended ls) (sym is ∙ e ∙ append_assoc l (10 ∷ []) (ended ls))
+        whole one.0 in
+        none ls (subst (λ t. May (t ∷ ls)) (sym parts.0) may)
+
     at_first : (lines : List Text) (behind : Text) (more : List Text) → AreOneLine lines → length lines ≡ 1
         → text ≡ ended lines ++ behind → May (lines ++ more) → ⊥
     at_first [] behind more w n f m = absurd (omega arith)
@@ -153,18 +189,24 @@ or_right : (a b : Bool) → (a || b) ≡ false → b ≡ false
 or_right true b e = absurd cc
 or_right false b e = e
 
-has_end : (x rest : Text) → IsOneLine (x ++ (10 ∷ rest)) → ⊥
+pub has_end : (x rest : Text) → IsOneLine (x ++ (10 ∷ rest)) → ⊥
 has_end [] rest e = absurd cc
 has_end (b ∷ bs) rest e = has_end bs rest (or_right (b == 10) _ e)
 
 -- no whole line is left
 pub stuck_end : (May : List Text → Type 0) (text : Text) (z : List Text) → May z → IsOneLine text
-    → IsStuck May text 1
-stuck_end May text z may whole = record {
+    → (May [] → ⊥) → IsStuck May text 1
+stuck_end May text z may whole some = record {
   before = λ j lt. shorter May text [] text z j tt refl may (omega arith);
   here = λ b. at_first b.lines b.rest b.counted b.front;
+  none = λ lines one may e. no_text lines may e;
 }
   where
+    no_text : (lines : List Text) → May lines → text ≡ ended lines → ⊥
+    no_text [] may e = some may
+    no_text (l ∷ ls) may e =
+        has_end l (ended ls) (subst IsOneLine (e ∙ append_assoc l (10 ∷ []) (ended ls)) whole)
+
     at_first : (lines : List Text) (behind : Text) → length lines ≡ 1 → text ≡ ended lines ++ behind → ⊥
     at_first [] behind n f = absurd (omega arith)
     at_first (l ∷ ls) behind n f =
@@ -224,6 +266,90 @@ fail_line May line rest old z fault some whole is none at =
     subst (FailsAt May old) (sym at) (1, refl, stuck_line May old.rest.now line rest z some whole is none)
 
 pub fail_end : (May : List Text → Type 0) (old : Lines) (z : List Text) (fault : ReportFault) → May z
-    → IsOneLine old.rest.now → fault ≡ faults.At (old.count + 1) → FailsAt May old fault
-fail_end May old z fault some whole at =
-    subst (FailsAt May old) (sym at) (1, refl, stuck_end May old.rest.now z some whole)
+    → IsOneLine old.rest.now → fault ≡ faults.At (old.count + 1) → (May [] → ⊥) → FailsAt May old fault
+fail_end May old z fault some whole at none =
+    subst (FailsAt May old) (sym at) (1, refl, stuck_end May old.rest.now z some whole none)
+
+-- no line is read, and the next line may come only as it may come then
+pub pass_over : (May Then : List Text → Type 0) (at : Lines) (z : List Text) → Then z
+    → ((ls : List Text) → Then ls → May ls) → (May [] → ⊥)
+    → ((line rest : Text) (ls : List Text) → IsOneLine line → at.rest.now ≡ line ++ (10 ∷ rest)
+    → May (line ∷ ls) → Then (line ∷ ls)) → Passes May Then [] at at
+pass_over May Then at z some back empty turn = record {
+  read = refl;
+  counted = omega arith;
+  room = omega arith;
+  lift = λ k stuck. let e : k ≡ 0 + k = omega arith in subst (IsStuck May at.rest.now) e (lifted k stuck);
+}
+  where
+    first : (l : Text) (ls more : List Text) (rest : Text) → AreOneLine (l ∷ ls)
+        → at.rest.now ≡ ended (l ∷ ls) ++ rest → May (l ∷ (ls ++ more)) → Then (l ∷ (ls ++ more))
+    first l ls more rest one e may =
+        turn l (ended ls ++ rest) (ls ++ more) one.0 (e ∙ ended_cons l ls rest) may
+
+    at_line : (k : ℕ) → IsStuck Then at.rest.now k → (lines more : List Text) (rest : Text) → AreOneLine lines
+        → length lines ≡ k → at.rest.now ≡ ended lines ++ rest → May (lines ++ more) → ⊥
+    at_line k stuck [] more rest one n e may = stuck.here (record {
+      lines = [];
+      rest = at.rest.now;
+      more = z;
+      whole = tt;
+      counted = n;
+      front = refl;
+      may = some;
+    })
+    at_line k stuck (l ∷ ls) more rest one n e may = stuck.here (record {
+      lines = l ∷ ls;
+      rest = rest;
+      more = more;
+      whole = one;
+      counted = n;
+      front = e;
+      may = first l ls more rest one e may;
+    })
+
+    no_text : (k : ℕ) → IsStuck Then at.rest.now k → (lines : List Text) → AreOneLine lines → May lines
+        → at.rest.now ≡ ended lines → ⊥
+    no_text k stuck [] one may e = empty may
+    no_text k stuck (l ∷ ls) one may e =
+        stuck.none (l ∷ ls) one (turn l (ended ls) ls one.0 (e ∙ append_assoc l (10 ∷ []) (ended ls)) may) e
+
+    lifted : (k : ℕ) → IsStuck Then at.rest.now k → IsStuck May at.rest.now k
+    lifted k stuck = record {
+      before = λ j lt. let b = stuck.before j lt in record {
+        lines = b.lines;
+        rest = b.rest;
+        more = b.more;
+        whole = b.whole;
+        counted = b.counted;
+        front = b.front;
+        may = back (b.lines ++ b.more) b.may;
+      };
+      here = λ b. at_line k stuck b.lines b.more b.rest b.whole b.counted b.front b.may;
+      none = λ lines one may e. no_text k stuck lines one may e;
+    }
+
+-- behind the last line nothing may come
+pub fail_after : (old : Lines) (fault : ReportFault) → fault ≡ faults.At (old.count + 1)
+    → (old.rest.now ≡ [] → ⊥) → FailsAt NoRest old fault
+fail_after old fault at some = subst (FailsAt NoRest old) (sym at) (
+  1,
+  refl,
+  record {
+    before = λ j lt. record {
+      lines = [];
+      rest = old.rest.now;
+      more = [];
+      whole = tt;
+      counted = omega arith;
+      front = refl;
+      may = refl;
+    };
+    here = λ b. absurd (none_of_one b.lines b.more b.counted b.may);
+    none = λ lines one may e. some (e ∙ ap ended may);
+  },
+)
+  where
+    none_of_one : (lines more : List Text) → length lines ≡ 1 → lines ++ more ≡ [] → ⊥
+    none_of_one [] more n e = absurd (omega (arith, n))
+    none_of_one (l ∷ ls) more n e = cc

@@ -3,3 +3,8 @@ pub mod ReportText
 pub mod WellFormed
 pub mod Reading
 pub mod Rests
+pub mod AccountLines
+pub mod CommandLines
+pub mod Reports
+pub mod Paths
+pub mod RunLines

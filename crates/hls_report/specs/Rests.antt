@@ -23,6 +23,9 @@ use Rattle.hls_lang.specs.Grammar.{IsCommand}
 
 -- ---- lists of lines that may still come
 
+abbrev pub NoRest : List Text → Type 0
+NoRest lines = lines ≡ []
+
 abbrev pub EndRest : List Text → Type 0
 EndRest lines = lines ≡ codes "end" ∷ []
 
@@ -111,10 +114,11 @@ pub record BeginsIn (May : List Text → Type 0) (text : Text) (count : ℕ) : T
   pub front : text ≡ ended lines ++ rest
   pub may : May (lines ++ more)
 
--- with this line, counted from 1, it ends that the lines may come
+-- with this line, counted from 1, it ends that the lines may come, and the text is no list of lines that may
 pub record IsStuck (May : List Text → Type 0) (text : Text) (line : ℕ) : Type 0 where
   pub before : (count : ℕ) → count < line → BeginsIn May text count
   pub here : BeginsIn May text line → ⊥
+  pub none : (lines : List Text) → AllByRecursion IsOneLine lines → May lines → text ≡ ended lines → ⊥
 
 -- a line is wrong, of those behind the lines counted so far
 abbrev pub FailsAt : (List Text → Type 0) → Lines → ReportFault → Type 0

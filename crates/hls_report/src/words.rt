@@ -13,7 +13,8 @@ ghost use Rattle.hls_report.specs.ReportText.{place_text, kind_text};
 use hls_chron::{Kind, Name};
 use itoa::{Buffer, Integer};
 
-fn place_of(text: &[u8], byte: u8) -> Option<usize>
+/// The place of the first such byte.
+pub fn place_of(text: &[u8], byte: u8) -> Option<usize>
     ensures { result ≡ position (λ b. b == byte) text.now }
 {
     text.iter().position(|b| *b == byte)

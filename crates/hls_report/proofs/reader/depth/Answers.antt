@@ -4,7 +4,7 @@ use Rattle.hls_report.specs.WellFormed.{IsOneLine}
 use Rattle.hls_report.specs.Rests.{DepthRest, CommandRest}
 use Rattle.hls_report.proofs.Heads.{no_depth}
 use Rattle.hls_report.proofs.LineReadings.{none_some}
-use Rattle.hls_report.proofs.RestLaws.{some_depth, some_command, depth_onto, depth_off, depth_line}
+use Rattle.hls_report.proofs.RestLaws.{no_last_depth, some_depth, some_command, depth_onto, depth_off, depth_line}
 use Rattle.hls_report.proofs.Stuck.{pass_line, fail_line, fail_end}
 use Rattle.hls_report.proofs.reader.depth.Goals as goal
 
@@ -12,7 +12,7 @@ pub returns-in_default-clause-err : goal.returns-in_default-clause-err
 returns-in_default-clause-err c =
     fail_end (DepthRest c.args.horizon) c.args.lines.now (some_depth c.args.horizon).0 c.fault.result
     (some_depth c.args.horizon).1 c.in_default.ensures.line
-    (c.fault.ensures ∙ ap faults.At c.next.ensures.count)
+    (c.fault.ensures ∙ ap faults.At c.next.ensures.count) (no_last_depth c.args.horizon)
 
 pub returns-in-Some-depth_of-clause-ok : goal.returns-in-Some-depth_of-clause-ok
 returns-in-Some-depth_of-clause-ok c =

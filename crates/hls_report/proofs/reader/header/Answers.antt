@@ -3,14 +3,14 @@ use Rattle.hls_report.specs.declared.fault.ReportFault.TheVariants as faults
 use Rattle.std.proofs.lemmas.Slice.Eq.{bytes_eq-Decides}
 use Rattle.hls_report.specs.Rests.{HeaderRest, HorizonRest}
 use Rattle.hls_report.proofs.Sections.{first_line}
-use Rattle.hls_report.proofs.RestLaws.{some_header, some_horizon, header_onto, header_off}
+use Rattle.hls_report.proofs.RestLaws.{no_last_header, some_header, some_horizon, header_onto, header_off}
 use Rattle.hls_report.proofs.Stuck.{pass_line, fail_line, fail_end}
 use Rattle.hls_report.proofs.reader.header.Goals as goal
 
 pub returns-in_default-clause-err : goal.returns-in_default-clause-err
 returns-in_default-clause-err c =
     fail_end HeaderRest c.args.lines.now some_header.0 c.fault.result some_header.1 c.in_default.ensures.line
-    (c.fault.ensures ∙ ap faults.At c.next.ensures.count)
+    (c.fault.ensures ∙ ap faults.At c.next.ensures.count) no_last_header
 
 pub returns-then-eq-clause-ok : goal.returns-then-eq-clause-ok
 returns-then-eq-clause-ok c =

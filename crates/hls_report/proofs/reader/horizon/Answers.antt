@@ -4,7 +4,7 @@ use Rattle.hls_report.specs.WellFormed.{IsOneLine}
 use Rattle.hls_report.specs.Rests.{HorizonRest, DepthRest}
 use Rattle.hls_report.proofs.Heads.{no_horizon}
 use Rattle.hls_report.proofs.LineReadings.{none_some}
-use Rattle.hls_report.proofs.RestLaws.{some_horizon, some_depth, horizon_onto, horizon_off, horizon_line}
+use Rattle.hls_report.proofs.RestLaws.{no_last_horizon, some_horizon, some_depth, horizon_onto, horizon_off, horizon_line}
 use Rattle.hls_report.proofs.Stuck.{pass_line, fail_line, fail_end}
 use Rattle.hls_report.proofs.reader.horizon.Goals as goal
 
@@ -12,7 +12,7 @@ pub returns-in_default-clause-err : goal.returns-in_default-clause-err
 returns-in_default-clause-err c =
     fail_end HorizonRest c.args.lines.now some_horizon.0 c.fault.result some_horizon.1
     c.in_default.ensures.line
-    (c.fault.ensures ∙ ap faults.At c.next.ensures.count)
+    (c.fault.ensures ∙ ap faults.At c.next.ensures.count) no_last_horizon
 
 pub returns-in-Some-horizon_of-clause-ok : goal.returns-in-Some-horizon_of-clause-ok
 returns-in-Some-horizon_of-clause-ok c =
