@@ -9,6 +9,8 @@ mod readiness;
 mod schedule;
 mod stay;
 mod stays;
+#[cfg(test)]
+mod tests;
 mod under;
 
 pub use accounts::{accounts_of, idle_of};
