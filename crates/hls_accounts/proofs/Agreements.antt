@@ -1,8 +1,7 @@
 -- What is told of a run, in the words of the laws.
-use Rattle.std.proofs.Common.{◌≡◌, ℕ, inl, inr, ◌+◌, ◌-◌, ◌<◌, ◌≤◌, List, [], ◌∷◌, Bool, true, false, cond, refl}
-use Rattle.std.proofs.Common.{sym, ap, ◌∙◌, subst, arith}
+use Rattle.std.proofs.Common.{◌≡◌, ℕ, ◌-◌, ◌<◌, ◌≤◌, List, [], ◌∷◌, Bool, true, false, cond, refl}
+use Rattle.std.proofs.Common.{sym, ap, ◌∙◌, arith}
 use Rattle.std.specs.Prelude.{All, Option, Some, None, map, filter, nat_lt, is_none}
-use Rattle.std.specs.List.{AllByRecursion}
 use Rattle.std.proofs.lemmas.List.Elements.{All-from_recursion}
 use Rattle.hls_chron.specs.Ticks.{count}
 use Rattle.hls_chron.proofs.CountLaws.{count-agree}
@@ -22,7 +21,7 @@ use Rattle.hls_accounts.specs.Accounts as told
 use Rattle.hls_accounts.specs.Tells.{Tells}
 use Rattle.hls_accounts.specs.Agrees.{AgreesIn, told_stay, account_in, accounts_in, idle_in}
 use Rattle.hls_accounts.proofs.ToldSteps.{IsStayTold, AreStaysTold, each_same}
-use Rattle.hls_accounts.proofs.OrderRuns.{IsTellingAll, telling_run}
+use Rattle.hls_accounts.proofs.OrderRuns.{telling_run}
 
 agrees_in : (c : Content) (h : Hierarchy) (stay : run.Stay) → IsStayTold c h stay stay.until → AgreesIn c h stay
 agrees_in c h stay s = record {
@@ -44,7 +43,7 @@ stays_told c steps legal tells = sym (telling_run c steps legal tells).all.order
 
 -- ---- accounts
 
-end_same : (horizon now : ℕ) (until : Option ℕ) → now ≡ horizon → end_by horizon until ≡ end_of now until
+pub end_same : (horizon now : ℕ) (until : Option ℕ) → now ≡ horizon → end_by horizon until ≡ end_of now until
 end_same horizon now None e = sym e
 end_same horizon now (Some until) e = refl
 

@@ -1,8 +1,7 @@
 -- What a step leaves of a node: its name, its sort, its seats and its wake.
-use Rattle.std.proofs.Common.{◌≡◌, ◌≢◌, ℕ, ◌++◌, ◌==◌, ◌||◌, List, [], ◌∷◌, Bool, true, false, if◌then◌else◌, refl}
-use Rattle.std.proofs.Common.{sym, ap, ◌∙◌, subst}
+use Rattle.std.proofs.Common.{◌≡◌, ◌≢◌, ℕ, ◌++◌, ◌==◌, List, Bool, true, false, if◌then◌else◌, refl}
+use Rattle.std.proofs.Common.{ap, ◌∙◌}
 use Rattle.std.specs.Prelude.{Option, Some, None}
-use Rattle.hls_text.specs.Lines.{Text}
 use Rattle.hls_chron.specs.declared.book.Event.{Event}
 use Rattle.hls_legal.specs.Hierarchy.{Hierarchy, Node, Loaded, Admitted, Seat, Wake, Asleep, name_of, seats_of}
 use Rattle.hls_legal.specs.Steps.{Hop, marked, renewed, reseated, roused, ticked, is_thread, seatings, leavings}

@@ -8,7 +8,7 @@ use Rattle.hls_chron.specs.declared.plain.Terms.{Terms}
 use Rattle.hls_chron.specs.Seats.{terms_at}
 use Rattle.hls_chron.specs.Ticks.{one_if}
 use Rattle.hls_report.specs.declared.report.Answered.{Answered}
-use Rattle.hls_legal.specs.Hierarchy.{Hierarchy, Node, Loaded, Admitted, Seat, At, book_of}
+use Rattle.hls_legal.specs.Hierarchy.{Hierarchy, Node, Loaded, Admitted, At, book_of}
 use Rattle.hls_legal.specs.Steps.{is_scheduler}
 use Rattle.hls_legal.specs.Legal.{SitsOn, IsBelow}
 use Rattle.hls_legal.specs.Linked.{Attends, SitsAt}
@@ -16,7 +16,7 @@ use Rattle.hls_legal.specs.Lists.{Lists}
 use Rattle.hls_legal.specs.Readings.{IsUnderBy}
 use Rattle.hls_legal.specs.Seated.{SitsThere, IsSeated}
 use Rattle.hls_legal.proofs.Kept.{IsSound}
-use Rattle.hls_legal.proofs.Listings.{IsIn, First, Later, in_cases, none_in}
+use Rattle.hls_legal.proofs.Listings.{First, Later, in_cases, none_in}
 use Rattle.hls_legal.proofs.Readings.{below_rank}
 use Rattle.hls_accounts.specs.Under.{is_under}
 use Rattle.hls_accounts.specs.Tells.{HasName}
@@ -98,9 +98,12 @@ module _ (h : Hierarchy) (rank : ℕ → ℕ) (sound : IsSound h rank) (seated :
   chain_bound zero d under = omega arith
   chain_bound (suc count) d under =
       let p = under.0 in
-      omega (arith, chain_bound count p under.2,
-      lower-strict rank p (rank d) h.schedulers (rank_below d p under.1)
-      (lists.all p (sits_on_scheduler h seated d p under.1)))
+      omega (
+        arith,
+        chain_bound count p under.2,
+        lower-strict rank p (rank d) h.schedulers (rank_below d p under.1)
+            (lists.all p (sits_on_scheduler h seated d p under.1)),
+      )
 
   -- a node is below another in the run exactly where the commands tell it
   pub under_told : (before : List Answered) → Unique h.nodes → AreSeatedBy h before

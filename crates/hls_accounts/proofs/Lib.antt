@@ -1,5 +1,4 @@
 pub mod ScheduleLaws
-pub mod CountLaws
 pub mod UnderLaws
 pub mod StayLaws
 pub mod Rousings
@@ -15,3 +14,5 @@ pub mod Depths
 pub mod Orders
 pub mod OrderSteps
 pub mod OrderRuns
+pub mod Keeping
+pub mod TickLists

@@ -1,14 +1,13 @@
 -- The stays of a legal run are those that its report tells.
-use Rattle.std.proofs.Common.{◌≡◌, ◌≢◌, ℕ, inl, inr, ◌+◌, ◌<◌, ◌≤◌, List, [], ◌∷◌, ◌++◌, ◌||◌, ◌==◌}
-use Rattle.std.proofs.Common.{Bool, true, false, not, if◌then◌else◌, cond, length, slice_get, map, filter, refl}
+use Rattle.std.proofs.Common.{◌≡◌, ◌≢◌, ℕ, inl, inr, ◌<◌, ◌≤◌, List, [], ◌∷◌, ◌++◌, ◌||◌, ◌==◌}
+use Rattle.std.proofs.Common.{Bool, true, false, not, if◌then◌else◌, length, map, filter, refl}
 use Rattle.std.proofs.Common.{sym, ap, ◌∙◌, subst, arith}
 use Rattle.std.specs.Prelude.{Option, Some, None, is_none}
 use Rattle.std.specs.Str.{bytes_eq}
-use Rattle.std.proofs.lemmas.Bool.{cases_eq, cases_Bool, eq-eqb, ne_eqb}
-use Rattle.std.proofs.lemmas.List.{append-nil, append_assoc, length_push}
+use Rattle.std.proofs.lemmas.Bool.{cases_eq, eq-eqb, ne_eqb}
+use Rattle.std.proofs.lemmas.List.{append-nil, length_push}
 use Rattle.hls_text.specs.Lines.{Text}
 use Rattle.hls_chron.specs.declared.plain.Config.{Config}
-use Rattle.hls_chron.specs.declared.plain.Terms.{Terms}
 use Rattle.hls_chron.specs.Seats.{terms_at}
 use Rattle.hls_guarantee.specs.declared.Guarantee.{Guarantee}
 use Rattle.hls_lang.specs.declared.scenario.Perch.{Perch}
@@ -19,39 +18,35 @@ use Rattle.hls_report.specs.declared.report.Answer.{Answer}
 use Rattle.hls_report.specs.declared.report.Answer.TheVariants.{Done, Refused}
 use Rattle.hls_report.specs.declared.report.Answered.{Answered}
 use Rattle.hls_report.specs.Content.{Content}
-use Rattle.hls_legal.specs.Hierarchy.{Hierarchy, Node, Loaded, Admitted, Place, At, Seat, Tick, Wake, Asleep, name_of}
+use Rattle.hls_legal.specs.Hierarchy.{Hierarchy, Node, Loaded, Admitted, At, Seat, Tick, Wake, Asleep, name_of}
 use Rattle.hls_legal.specs.Hierarchy.{seats_of, seat_of, book_of, start}
-use Rattle.hls_legal.specs.Hierarchy as legal
 use Rattle.hls_legal.specs.Steps.{Step, Refuse, Load, Admit, End, Unload, Move, Rouse, Block, Elapse, Path}
 use Rattle.hls_legal.specs.Steps.{is_thread, is_scheduler, listed, nobody, stay_of as stay_at, opened as opened_at}
-use Rattle.hls_legal.specs.Steps.{nodes_after, effect, with_wake, roused, reseated, wake_by, loaded, admitted, after}
+use Rattle.hls_legal.specs.Steps.{effect, with_wake, roused, reseated, wake_by, loaded, admitted, after}
 use Rattle.hls_legal.specs.Steps.{thread_of, state, hop_at, hops_of, elapsed, marked, leavings, seatings}
-use Rattle.hls_legal.specs.Legal.{Can, IsLegal, CanLoad, CanAdmit, CanUnload, IsThread, CanMove, IsNew, SitsOn, IsBelow}
-use Rattle.hls_legal.specs.Lists.{IsListed}
-use Rattle.hls_legal.specs.Seated.{SitsThere, IsSeated}
+use Rattle.hls_legal.specs.Legal.{Can, IsLegal, CanUnload, IsThread, CanMove, IsNew}
 use Rattle.hls_legal.proofs.Kept.{at_same, at_other}
-use Rattle.hls_legal.proofs.Runs.{Kept}
 use Rattle.hls_legal.proofs.Nodes.{seats-reseated}
 use Rattle.hls_accounts.specs.declared.stay.Stay.{Stay}
 use Rattle.hls_accounts.specs.Commands.{has_done, seats, ends, last_seating}
 use Rattle.hls_accounts.specs.Schedule.{path_at}
 use Rattle.hls_accounts.specs.Under.{is_under}
-use Rattle.hls_accounts.specs.Stays.{threads, closes, stays, stays_from, stays_with, stay_of, closed, want_in, want_of}
+use Rattle.hls_accounts.specs.Stays.{threads, closes, stays_from, stays_with, stay_of, closed, want_of}
 use Rattle.hls_accounts.specs.Agrees.{told_stay}
 use Rattle.hls_accounts.specs.Tells.{HasName, IsPerch, ArePerches, Does, Answers, Names, TellsFrom, Tells}
-use Rattle.hls_accounts.proofs.Rousings.{name_in, missed, names_differ, names_same}
-use Rattle.hls_accounts.proofs.Alike.{IsAlmost, IsAlike, alike_other, alike_same, alike-ticked, almost-roused, moved-reseated}
+use Rattle.hls_accounts.proofs.Rousings.{names_same}
+use Rattle.hls_accounts.proofs.Alike.{IsAlmost, alike_same, alike-ticked, almost-roused, moved-reseated}
 use Rattle.hls_accounts.proofs.Told.{IsThreadNamed, Unique}
-use Rattle.hls_accounts.proofs.ToldSteps.{AreStaysTold, IsTold}
+use Rattle.hls_accounts.proofs.ToldSteps.{IsTold}
 use Rattle.hls_accounts.proofs.ToldRuns.{step_told, told_tick, old_name, new_name, one_more, start_told}
 use Rattle.hls_accounts.proofs.StayLaws.{stands_by, closed-nil}
 use Rattle.hls_accounts.proofs.StaySnoc.{goes_on, threads_snoc}
-use Rattle.hls_accounts.proofs.Seatings.{perches_in, perches_from, kept_in, AreSeatedBy, seating_hit}
+use Rattle.hls_accounts.proofs.Seatings.{perches_from, kept_in, AreSeatedBy, seating_hit}
 use Rattle.hls_accounts.proofs.Seatings.{seating_miss}
 use Rattle.hls_accounts.proofs.Depths.{sits_on_scheduler, under_told}
-use Rattle.hls_accounts.proofs.Orders.{Paired, IsOrdered, kept_perches, NamesStay, Seats, SeatsLeft}
+use Rattle.hls_accounts.proofs.Orders.{Paired, IsOrdered, kept_perches, NamesStay, Seats}
 use Rattle.hls_accounts.proofs.Orders.{SeatsMade, seated_step, paired_on, paired_push, paired_filter, filter_all}
-use Rattle.hls_accounts.proofs.Orders.{threads_same, listed_same, ClosesAlike, stays_step, stays_same, opened_none}
+use Rattle.hls_accounts.proofs.Orders.{threads_same, listed_same, stays_step, stays_same, opened_none}
 use Rattle.hls_accounts.proofs.Orders.{opened_push, opened_without, opened_paired}
 use Rattle.hls_accounts.proofs.OrderSteps.{same_node, named_other, names_stay, all_stay, seats_each, few_later}
 use Rattle.hls_accounts.proofs.OrderSteps.{quiet_effect}

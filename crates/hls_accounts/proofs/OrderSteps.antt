@@ -1,38 +1,32 @@
 -- Each command keeps the threads and the stays in the order that the report tells.
-use Rattle.std.proofs.Common.{◌≡◌, ◌≢◌, ℕ, zero, suc, inl, inr, ◌+◌, ◌<◌, ◌≤◌, List, [], ◌∷◌, ◌++◌, ◌||◌, ◌==◌}
-use Rattle.std.proofs.Common.{Bool, true, false, not, if◌then◌else◌, cond, length, slice_get, map, filter, refl}
+use Rattle.std.proofs.Common.{◌≡◌, ◌≢◌, ℕ, inl, inr, ◌+◌, ◌≤◌, List, [], ◌∷◌, ◌++◌, ◌||◌, ◌==◌}
+use Rattle.std.proofs.Common.{Bool, true, false, not, cond, length, map, filter, refl}
 use Rattle.std.proofs.Common.{sym, ap, ◌∙◌, subst, arith}
-use Rattle.std.specs.Prelude.{Option, Some, None}
+use Rattle.std.specs.Prelude.{Option, Some}
 use Rattle.std.specs.Str.{bytes_eq}
-use Rattle.std.proofs.lemmas.Bool.{cases_eq, cases_Bool, eq-eqb, ne_eqb}
-use Rattle.std.proofs.lemmas.List.{append-nil, length_push}
+use Rattle.std.proofs.lemmas.Bool.{cases_eq, eq-eqb, ne_eqb}
+use Rattle.std.proofs.lemmas.List.{length_push}
 use Rattle.hls_text.specs.Lines.{Text}
-use Rattle.hls_guarantee.specs.declared.Guarantee.{Guarantee}
-use Rattle.hls_lang.specs.declared.scenario.Perch.{Perch}
 use Rattle.hls_lang.specs.declared.scenario.Command.{Command}
 use Rattle.hls_lang.specs.declared.scenario.Command.TheVariants as said
 use Rattle.hls_report.specs.declared.report.Answered.{Answered}
 use Rattle.hls_report.specs.Content.{Content}
-use Rattle.hls_legal.specs.Hierarchy.{Hierarchy, Node, Loaded, Admitted, Place, At, Seat, Wake, name_of, seats_of}
+use Rattle.hls_legal.specs.Hierarchy.{Hierarchy, Node, At, Seat, name_of}
 use Rattle.hls_legal.specs.Hierarchy.{seat_of}
-use Rattle.hls_legal.specs.Hierarchy as legal
-use Rattle.hls_legal.specs.Steps.{is_thread, is_scheduler, listed, nobody, stay_of as stay_at, opened as opened_at}
-use Rattle.hls_legal.specs.Steps.{nodes_after, effect, with_wake, roused}
-use Rattle.hls_legal.proofs.Kept.{at_same, at_other}
-use Rattle.hls_accounts.specs.declared.stay.Stay.{Stay}
+use Rattle.hls_legal.specs.Steps.{is_scheduler, listed, opened as opened_at}
+use Rattle.hls_legal.specs.Steps.{effect}
 use Rattle.hls_accounts.specs.Commands.{has_done, seats, ends}
-use Rattle.hls_accounts.specs.Stays.{threads, closes, stays, stays_with, stay_of, closed, want_in}
+use Rattle.hls_accounts.specs.Stays.{threads, closes, stays_with}
 use Rattle.hls_accounts.specs.Agrees.{told_stay}
-use Rattle.hls_accounts.specs.Tells.{HasName, ArePerches}
+use Rattle.hls_accounts.specs.Tells.{HasName}
 use Rattle.hls_accounts.proofs.Rousings.{name_in, missed, names_differ, names_same}
-use Rattle.hls_accounts.proofs.Alike.{IsAlike, alike_other, alike_same, almost-roused}
+use Rattle.hls_accounts.proofs.Alike.{alike_other, alike_same}
 use Rattle.hls_accounts.proofs.Told.{IsThreadNamed, Unique}
 use Rattle.hls_accounts.proofs.ToldSteps.{AreStaysTold}
 use Rattle.hls_accounts.proofs.StayLaws.{stands_by}
-use Rattle.hls_accounts.proofs.Seatings.{perches_in, kept_in, AreSeatedBy}
-use Rattle.hls_accounts.proofs.Orders.{Paired, IsOrdered, kept_perches, NamesStay, Seats, SeatsLeft}
-use Rattle.hls_accounts.proofs.Orders.{SeatsMade, seated_step, paired_on, threads_same, ClosesAlike, stays_step}
-use Rattle.hls_accounts.proofs.Orders.{stays_same, opened_none}
+use Rattle.hls_accounts.proofs.Orders.{Paired, IsOrdered, NamesStay, Seats, SeatsLeft}
+use Rattle.hls_accounts.proofs.Orders.{seated_step, paired_on, threads_same, stays_step}
+use Rattle.hls_accounts.proofs.Orders.{opened_none}
 
 -- ---- whom a command seats
 

@@ -1,12 +1,9 @@
 -- The threads and the stays of a legal run are those that the commands of its report tell, in their order.
-use Rattle.std.proofs.Common.{◌≡◌, ◌≢◌, ℕ, zero, suc, inl, inr, ◌+◌, ◌<◌, ◌≤◌, List, [], ◌∷◌, ◌++◌, ◌||◌, ◌==◌}
+use Rattle.std.proofs.Common.{◌≡◌, ℕ, suc, ◌≤◌, List, [], ◌∷◌, ◌++◌, ◌||◌, ◌==◌}
 use Rattle.std.proofs.Common.{Bool, true, false, not, if◌then◌else◌, cond, length, slice_get, map, filter, refl}
-use Rattle.std.proofs.Common.{sym, ap, ◌∙◌, subst, arith}
+use Rattle.std.proofs.Common.{sym, ap, ◌∙◌, subst}
 use Rattle.std.specs.Prelude.{Option, Some, None}
 use Rattle.std.specs.Option.{option_or}
-use Rattle.std.specs.List.{AllByRecursion}
-use Rattle.std.specs.Str.{bytes_eq}
-use Rattle.std.proofs.lemmas.Bool.{cases_eq, cases_Bool, eq-eqb, ne_eqb}
 use Rattle.std.proofs.lemmas.List.{append-nil, append_assoc, map-append}
 use Rattle.hls_text.specs.Lines.{Text}
 use Rattle.hls_lang.specs.declared.scenario.Spot.{Spot}
@@ -23,10 +20,9 @@ use Rattle.hls_accounts.specs.declared.stay.Stay.{Stay}
 use Rattle.hls_accounts.specs.Commands.{has_done, seats, ends, last_seating}
 use Rattle.hls_accounts.specs.Stays.{threads, closes, stays, stays_with, want_in, want_of}
 use Rattle.hls_accounts.specs.Agrees.{told_stay}
-use Rattle.hls_accounts.specs.Tells.{HasName, IsSpot, IsPerch, ArePerches}
-use Rattle.hls_accounts.proofs.Rousings.{names_differ, names_same}
-use Rattle.hls_accounts.proofs.Told.{IsThreadNamed, Unique}
-use Rattle.hls_accounts.proofs.ToldSteps.{IsStayTold, AreStaysTold}
+use Rattle.hls_accounts.specs.Tells.{HasName, IsSpot, ArePerches}
+use Rattle.hls_accounts.proofs.Told.{IsThreadNamed}
+use Rattle.hls_accounts.proofs.ToldSteps.{AreStaysTold}
 use Rattle.hls_accounts.proofs.StayLaws.{stands_by}
 use Rattle.hls_accounts.proofs.StaySnoc.{goes_on, threads_snoc, end_by, close_by, stays_snoc}
 use Rattle.hls_accounts.proofs.Seatings.{perches_in, perches_from, seating_hit, seating_miss, kept_in, IsSeatedBy}
@@ -61,12 +57,14 @@ pub kept_perches : (h g : Hierarchy) (held : List Seat) (perches : List Perch)
 kept_perches h g [] [] stay are = tt
 kept_perches h g [] (perch ∷ perches) stay are = absurd are
 kept_perches h g (seat ∷ held) [] stay are = absurd are
-kept_perches h g (seat ∷ held) (perch ∷ perches) stay are =
-    (record {
-      place = spot_kept h g seat.place perch.spot (λ p slot e. stay 0 seat p slot refl e) are.0.place;
-      terms = are.0.terms;
-      kept = are.0.kept;
-    }, kept_perches h g held perches (λ port other p slot sits. stay (suc port) other p slot sits) are.1)
+kept_perches h g (seat ∷ held) (perch ∷ perches) stay are = (
+  record {
+    place = spot_kept h g seat.place perch.spot (λ p slot e. stay 0 seat p slot refl e) are.0.place;
+    terms = are.0.terms;
+    kept = are.0.kept;
+  },
+  kept_perches h g held perches (λ port other p slot sits. stay (suc port) other p slot sits) are.1,
+)
 
 -- the names of those on whom somebody sits stay
 abbrev pub NamesStay : (h g : Hierarchy) → Type 0

@@ -1,5 +1,5 @@
 -- The last command that rouses a thread, as commands come.
-use Rattle.std.proofs.Common.{◌≡◌, ◌≢◌, ℕ, ◌+◌, ◌-◌, ◌<◌, ◌≤◌, List, [], ◌∷◌, ◌++◌, Bool, true, false, ◌&&◌}
+use Rattle.std.proofs.Common.{◌≡◌, ◌≢◌, ℕ, ◌-◌, ◌<◌, ◌≤◌, List, [], ◌∷◌, ◌++◌, Bool, true, false, ◌&&◌}
 use Rattle.std.proofs.Common.{cond, refl, sym, ap, ◌∙◌, arith}
 use Rattle.std.specs.Prelude.{Option, Some, None, find, reverse, nat_le, nat_lt}
 use Rattle.std.specs.Option.{option_or}
@@ -10,7 +10,6 @@ use Rattle.std.proofs.lemmas.List.Folds.{find-append}
 use Rattle.std.proofs.lemmas.Slice.Eq.{bytes_eq-Decides}
 use Rattle.std.proofs.lemmas.Bool.{le-leb, lt-leb}
 use Rattle.hls_text.specs.Lines.{Text}
-use Rattle.hls_chron.specs.Ticks.{count}
 use Rattle.hls_chron.proofs.CountLaws.{count-agree}
 use Rattle.hls_lang.specs.declared.scenario.Command.{Command}
 use Rattle.hls_lang.specs.declared.scenario.Command.TheVariants.{Load, Thread, End, Unload, Move, Wake, Block}

@@ -1,8 +1,7 @@
 -- The run that has a tick, and the stretch that it spells.
 use Rattle.std.proofs.Common.{◌≡◌, ℕ, ◌-◌, List, [], ◌∷◌, Option, Some, None, Bool, true, false, ◌&&◌, nat_le}
-use Rattle.std.proofs.Common.{map, take, length, get_or, slice_get, is_none, cond, refl, sym, ap, ◌∙◌, subst}
+use Rattle.std.proofs.Common.{map, take, length, get_or, slice_get, is_none, cond, refl, sym, ap, ◌∙◌}
 use Rattle.std.specs.Prelude.{find, option_map, option_and_then}
-use Rattle.std.specs.Str.{bytes_eq}
 use Rattle.std.proofs.lemmas.Option.{slice_get-map}
 use Rattle.std.proofs.lemmas.List.{length-map}
 use Rattle.hls_text.specs.Lines.{Text}

@@ -1,10 +1,9 @@
 -- Who sits where in a legal run, and by the commands that a report tells of.
 use Rattle.std.proofs.Common.{◌≡◌, ◌⊎◌, ℕ, zero, suc, inl, inr, ◌≤◌, List, [], ◌∷◌, ◌++◌, ◌||◌}
-use Rattle.std.proofs.Common.{Bool, true, false, cond, slice_get, refl, sym, ap, ◌∙◌, subst, arith}
+use Rattle.std.proofs.Common.{Bool, true, false, slice_get, refl, sym, ap, ◌∙◌, arith}
 use Rattle.std.specs.Prelude.{Option, Some, None}
 use Rattle.std.specs.List.{list_any}
 use Rattle.std.specs.Str.{bytes_eq}
-use Rattle.std.proofs.lemmas.Bool.{cases_eq, cases_Bool}
 use Rattle.std.proofs.lemmas.Slice.Eq.{bytes_eq-Decides}
 use Rattle.hls_text.specs.Lines.{Text}
 use Rattle.hls_guarantee.specs.declared.Guarantee.{Guarantee}
@@ -15,15 +14,15 @@ use Rattle.hls_lang.specs.declared.scenario.Perch.{Perch}
 use Rattle.hls_lang.specs.declared.scenario.Command.{Command}
 use Rattle.hls_lang.specs.declared.scenario.Command.TheVariants.{Load, Thread, End, Unload, Move, Wake, Block}
 use Rattle.hls_report.specs.declared.report.Answered.{Answered}
-use Rattle.hls_legal.specs.Hierarchy.{Hierarchy, Node, Place, Processor, At, Seat, name_of, seats_of, seat_of}
+use Rattle.hls_legal.specs.Hierarchy.{Hierarchy, Place, Processor, At, Seat, name_of, seats_of}
 use Rattle.hls_legal.specs.Steps.{is_thread}
-use Rattle.hls_legal.specs.Legal.{SitsOn, IsBelow}
+use Rattle.hls_legal.specs.Legal.{IsBelow}
 use Rattle.hls_legal.specs.Readings.{IsUnderBy}
 use Rattle.hls_accounts.specs.Commands.{has_done, seats, last_seating}
 use Rattle.hls_accounts.specs.Under.{is_on, seats_on, sits_on, is_within}
-use Rattle.hls_accounts.specs.Stays.{want_in, want_of}
-use Rattle.hls_accounts.specs.Tells.{HasName, IsSpot, IsPerch, ArePerches}
-use Rattle.hls_accounts.proofs.Rousings.{find-snoc_hit, find-snoc_miss, names_differ, names_same}
+use Rattle.hls_accounts.specs.Stays.{want_of}
+use Rattle.hls_accounts.specs.Tells.{HasName, IsSpot, ArePerches}
+use Rattle.hls_accounts.proofs.Rousings.{find-snoc_hit, find-snoc_miss, names_same}
 use Rattle.hls_accounts.proofs.Told.{Unique}
 use Rattle.hls_accounts.proofs.UnderLaws.{within-same}
 

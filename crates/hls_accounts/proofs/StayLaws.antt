@@ -1,7 +1,7 @@
 -- The threads, the stays and their ends, one command after another.
 use Rattle.std.proofs.Common.{◌≡◌, ℕ, ◌+◌, ◌≤◌, ◌<◌, List, [], ◌∷◌, ◌++◌, Bool, true, false, length, take, drop}
-use Rattle.std.proofs.Common.{get_or, map, slice_get, if◌then◌else◌, refl, sym, ap, ◌∙◌, arith, append_assoc}
-use Rattle.std.specs.Prelude.{Option, Some, None}
+use Rattle.std.proofs.Common.{get_or, map, slice_get, if◌then◌else◌, refl, sym, ap, ◌∙◌, append_assoc}
+use Rattle.std.specs.Prelude.{Some, None}
 use Rattle.std.proofs.lemmas.List.{drop_more, drop_all, take_all, take_more, append-nil}
 use Rattle.std.proofs.lemmas.Option.{get_or_from_slice_get}
 use Rattle.hls_text.specs.Lines.{Text}
@@ -9,7 +9,6 @@ use Rattle.hls_report.specs.declared.report.Answered.{Answered}
 use Rattle.hls_accounts.specs.declared.stay.Stay.{Stay}
 use Rattle.hls_accounts.specs.Commands.{is_done, has_done}
 use Rattle.hls_accounts.specs.Stays.{admits, threads, opened, closes, closed, stay_of, stays_with, stays_from}
-use Rattle.hls_accounts.specs.Stays.{stays}
 
 -- the thread that is there because of a command
 abbrev pub stands_by : Answered → (after : List Answered) → List Text

@@ -1,18 +1,16 @@
 -- What a report tells of the threads of a legal run so far: their wakes, and who was served.
-use Rattle.std.proofs.Common.{◌≡◌, ◌≢◌, ℕ, inl, inr, ◌+◌, ◌-◌, ◌<◌, ◌≤◌, List, [], ◌∷◌, ◌++◌, ◌||◌, ◌==◌}
-use Rattle.std.proofs.Common.{Bool, true, false, if◌then◌else◌, length, slice_get, refl, sym, ap, ◌∙◌, subst, arith}
+use Rattle.std.proofs.Common.{◌≡◌, ◌≢◌, ℕ, inl, inr, ◌+◌, ◌-◌, ◌<◌, ◌≤◌, List, [], ◌∷◌, ◌++◌, ◌==◌}
+use Rattle.std.proofs.Common.{true, false, length, slice_get, refl, sym, ap, ◌∙◌, subst, arith}
 use Rattle.std.specs.Prelude.{Option, Some, None, map, option_map, option_and_then}
 use Rattle.std.proofs.lemmas.Option.{slice_get-map}
 use Rattle.std.proofs.lemmas.List.{length-map, length_push, map-append}
 use Rattle.std.specs.List.{AllByRecursion}
-use Rattle.std.specs.Str.{bytes_eq}
-use Rattle.std.proofs.lemmas.Bool.{cases_eq, cases_Bool, eq-eqb, eqb-true, ne_eqb}
+use Rattle.std.proofs.lemmas.Bool.{cases_eq, eq-eqb, ne_eqb}
 use Rattle.hls_text.specs.Lines.{Text}
-use Rattle.hls_lang.specs.declared.scenario.Command.{Command}
 use Rattle.hls_report.specs.declared.report.Answered.{Answered}
 use Rattle.hls_report.specs.Content.{Content}
-use Rattle.hls_legal.specs.Hierarchy.{Hierarchy, Node, Loaded, Admitted, Stay, Tick, name_of, is_ready as ready_legal}
-use Rattle.hls_legal.specs.Hierarchy.{is_just, was_served, had_asked}
+use Rattle.hls_legal.specs.Hierarchy.{Hierarchy, Node, Loaded, Admitted, Tick, name_of, is_ready as ready_legal}
+use Rattle.hls_legal.specs.Hierarchy.{is_just, was_served}
 use Rattle.hls_legal.specs.Steps.{Hop, Path, thread_of, is_thread}
 use Rattle.hls_legal.specs.Legal.{asks_now}
 use Rattle.hls_accounts.specs.Commands.{has_done, rouses, last_rousing}
@@ -21,7 +19,7 @@ use Rattle.hls_accounts.specs.Ready.{is_awake, is_ready}
 use Rattle.hls_accounts.specs.Tells.{nodes_on, Names}
 use Rattle.hls_accounts.proofs.Rousings.{rousing, rousing_at, find-snoc_hit, find-snoc_miss, names_differ}
 use Rattle.hls_accounts.proofs.Rousings.{names_same, wake_from, wake_since, awake_same}
-use Rattle.hls_accounts.proofs.Alike.{wake_of, IsAlike}
+use Rattle.hls_accounts.proofs.Alike.{wake_of}
 
 -- a thread and its name
 pub record IsThreadNamed (nodes : ℕ → Option Node) (k : ℕ) (name : Text) : Type 0 where

@@ -1,9 +1,9 @@
 -- A report tells who is ready and served in each tick of the legal run that it tells.
-use Rattle.std.proofs.Common.{◌≡◌, ◌≢◌, ℕ, inl, inr, ◌+◌, ◌<◌, ◌≤◌, List, [], ◌∷◌, ◌++◌, ◌||◌, ◌==◌}
-use Rattle.std.proofs.Common.{Bool, true, false, if◌then◌else◌, cond, refl, sym, ap, ◌∙◌, subst, arith}
-use Rattle.std.specs.Prelude.{Option, Some, None, map, option_and_then}
+use Rattle.std.proofs.Common.{◌≡◌, ◌≢◌, ℕ, inl, inr, ◌+◌, ◌<◌, ◌≤◌, List, [], ◌∷◌, ◌++◌, ◌==◌}
+use Rattle.std.proofs.Common.{Bool, true, false, if◌then◌else◌, refl, sym, ap, ◌∙◌, subst, arith}
+use Rattle.std.specs.Prelude.{Option, Some, None}
 use Rattle.std.specs.List.{AllByRecursion}
-use Rattle.std.proofs.lemmas.Bool.{cases_eq, cases_lt}
+use Rattle.std.proofs.lemmas.Bool.{cases_eq}
 use Rattle.std.proofs.lemmas.List.{append-nil, append_assoc}
 use Rattle.hls_text.specs.Lines.{Text}
 use Rattle.hls_lang.specs.declared.scenario.Command.{Command}
@@ -15,24 +15,21 @@ use Rattle.hls_report.specs.declared.report.Answered.{Answered}
 use Rattle.hls_report.specs.Content.{Content}
 use Rattle.hls_legal.specs.Hierarchy.{Hierarchy, Node, Loaded, Admitted, Stay, Tick, Wake, Asleep, name_of, start}
 use Rattle.hls_legal.specs.Hierarchy.{Awake, Awake_for, is_just, was_served, had_asked}
-use Rattle.hls_legal.specs.Steps.{Step, Refuse, Load, Admit, End, Unload, Move, Rouse, Block, Elapse}
-use Rattle.hls_legal.specs.Steps.{Path, thread_of, is_thread, closed, ended, stay_of, opened, nodes_after, effect}
+use Rattle.hls_legal.specs.Steps.{Step, Load, Admit, End, Unload, Move, Rouse, Block, Elapse}
+use Rattle.hls_legal.specs.Steps.{Path, thread_of, is_thread}
 use Rattle.hls_legal.specs.Steps.{with_wake, wake_by, roused, reseated, elapsed, nobody, loaded, admitted, after}
 use Rattle.hls_legal.specs.Steps.{state, hop_at, hops_of}
-use Rattle.hls_legal.specs.Legal.{Can, IsLegal, IsAsking, IsThread, IsNew}
-use Rattle.hls_legal.specs.Lists.{IsListed}
-use Rattle.hls_legal.specs.Supplied.{end_of}
+use Rattle.hls_legal.specs.Legal.{Can, IsLegal, IsAsking, IsNew}
 use Rattle.hls_legal.proofs.Kept.{at_same, at_other}
 use Rattle.hls_accounts.specs.Commands.{has_done, rouses}
 use Rattle.hls_accounts.specs.Schedule.{path_at, is_served}
 use Rattle.hls_accounts.specs.Ready.{is_ready}
-use Rattle.hls_accounts.specs.Tells.{HasName, Does, Answers, Names, TellsFrom, Tells}
-use Rattle.hls_accounts.proofs.Rousings.{name_in, missed, not_meant, names_same, rousing, wake_from, wake_since}
-use Rattle.hls_accounts.proofs.Alike.{wake_of, IsAlike, alike-ticked, almost-roused, wake-roused, moved-reseated}
-use Rattle.hls_accounts.proofs.Alike.{alike_other, alike_same}
-use Rattle.hls_accounts.proofs.Told.{IsThreadNamed, Wakes, Serves, Rouses, Leaves, Makes, RousesEach, wakes_step}
+use Rattle.hls_accounts.specs.Tells.{HasName, Answers, Names, TellsFrom, Tells}
+use Rattle.hls_accounts.proofs.Rousings.{name_in, not_meant, names_same, wake_from, wake_since}
+use Rattle.hls_accounts.proofs.Alike.{wake_of, alike-ticked, almost-roused, wake-roused, moved-reseated}
+use Rattle.hls_accounts.proofs.Told.{IsThreadNamed, Wakes, Serves, Leaves, Makes, RousesEach, wakes_step}
 use Rattle.hls_accounts.proofs.Told.{serves_step, Unique, served_now, is_served-at, ready_now}
-use Rattle.hls_accounts.proofs.ToldSteps.{IsStayTold, AreStaysTold, IsTold, each_same, told_effect, each_effect}
+use Rattle.hls_accounts.proofs.ToldSteps.{IsStayTold, IsTold, each_same, told_effect, each_effect}
 use Rattle.hls_accounts.proofs.Reached.{IsReached, listed, reached_next, reached_start}
 
 -- ---- a refusal

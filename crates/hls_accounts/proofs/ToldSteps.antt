@@ -1,36 +1,24 @@
 -- Each step keeps what a report tells of the threads.
-use Rattle.std.proofs.Common.{◌≡◌, ◌≢◌, ℕ, inl, inr, ◌+◌, ◌<◌, ◌≤◌, List, [], ◌∷◌, ◌++◌, ◌||◌, ◌==◌}
-use Rattle.std.proofs.Common.{Bool, true, false, if◌then◌else◌, cond, refl, sym, ap, ◌∙◌, subst, arith}
-use Rattle.std.specs.Prelude.{Option, Some, None, map, option_and_then}
+use Rattle.std.proofs.Common.{◌≡◌, ◌≢◌, ℕ, inl, inr, ◌<◌, ◌≤◌, List, [], ◌∷◌, ◌++◌, ◌||◌, ◌==◌}
+use Rattle.std.proofs.Common.{Bool, true, false, if◌then◌else◌, refl, sym, ap, ◌∙◌, subst, arith}
+use Rattle.std.specs.Prelude.{Option, Some, None, map}
 use Rattle.std.specs.List.{AllByRecursion}
 use Rattle.std.proofs.lemmas.Bool.{cases_eq, cases_lt}
 use Rattle.hls_text.specs.Lines.{Text}
-use Rattle.hls_lang.specs.declared.scenario.Command.{Command}
-use Rattle.hls_lang.specs.declared.scenario.Command.TheVariants as said
 use Rattle.hls_print.proofs.CanonicalLines.{all_append}
-use Rattle.hls_report.specs.declared.report.Answer.{Answer}
-use Rattle.hls_report.specs.declared.report.Answer.TheVariants.{Done, Refused}
 use Rattle.hls_report.specs.declared.report.Answered.{Answered}
 use Rattle.hls_report.specs.Content.{Content}
-use Rattle.hls_legal.specs.Hierarchy.{Hierarchy, Node, Loaded, Admitted, Stay, Tick, Wake, Asleep, name_of, start}
-use Rattle.hls_legal.specs.Hierarchy.{is_just, was_served, had_asked}
-use Rattle.hls_legal.specs.Steps.{Step, Refuse, Load, Admit, End, Unload, Move, Rouse, Block, Elapse}
-use Rattle.hls_legal.specs.Steps.{Path, thread_of, is_thread, closed, ended, stay_of, opened, nodes_after, effect}
-use Rattle.hls_legal.specs.Steps.{with_wake, wake_by, roused, reseated, elapsed, nobody, loaded, admitted, after}
-use Rattle.hls_legal.specs.Steps.{state}
-use Rattle.hls_legal.specs.Legal.{Can, IsLegal, IsAsking, IsThread}
+use Rattle.hls_legal.specs.Hierarchy.{Hierarchy, Node, Loaded, Admitted, Stay, name_of}
+use Rattle.hls_legal.specs.Hierarchy.{was_served, had_asked}
+use Rattle.hls_legal.specs.Steps.{is_thread, closed, ended, stay_of, opened, effect}
 use Rattle.hls_legal.specs.Supplied.{end_of}
-use Rattle.hls_legal.proofs.Kept.{at_same, at_other}
-use Rattle.hls_accounts.specs.Commands.{has_done, rouses}
-use Rattle.hls_accounts.specs.Schedule.{path_at, is_served}
+use Rattle.hls_accounts.specs.Schedule.{is_served}
 use Rattle.hls_accounts.specs.Ready.{is_ready}
-use Rattle.hls_accounts.specs.Tells.{HasName, Does, Answers, Names, TellsFrom}
-use Rattle.hls_accounts.proofs.Rousings.{name_in, missed, not_meant, names_same, rousing, wake_from, wake_since}
-use Rattle.hls_accounts.proofs.Alike.{wake_of, IsAlike, alike-ticked, almost-roused, wake-roused, moved-reseated}
+use Rattle.hls_accounts.proofs.Rousings.{name_in, missed, not_meant, wake_since}
+use Rattle.hls_accounts.proofs.Alike.{wake_of}
 use Rattle.hls_accounts.proofs.Alike.{alike_other, alike_same}
 use Rattle.hls_accounts.proofs.Told.{IsThreadNamed, Wakes, Serves, Rouses, Leaves, Makes, RousesEach, wakes_step}
-use Rattle.hls_accounts.proofs.Told.{serves_step, Unique, served_now, is_served-at, ready_now}
-use Rattle.hls_accounts.proofs.Reached.{IsReached, listed, reached_next}
+use Rattle.hls_accounts.proofs.Told.{serves_step}
 
 -- what a report tells of a stay up to its end
 pub record IsStayTold (c : Content) (h : Hierarchy) (stay : Stay) (until : Option ℕ) : Type 0 where
@@ -115,12 +103,15 @@ module _ (c : Content) (h : Hierarchy) (k : ℕ) (node : Option Node) (below : �
   begun_told : (d : ℕ) (there : Option Node) → made.nodes d ≡ there → AreStaysTold c made (stay_of h.now d there)
   begun_told d None e = tt
   begun_told d (Some (Loaded s)) e = tt
-  begun_told d (Some (Admitted t)) e = (record {
-    past = omega arith;
-    asked = λ x lo hi. absurd (omega arith);
-    served = λ x lo hi. absurd (omega arith);
-    open_yet = λ is. record { is = ap is_thread e; named = ap name_of e };
-  }, tt)
+  begun_told d (Some (Admitted t)) e = (
+    record {
+      past = omega arith;
+      asked = λ x lo hi. absurd (omega arith);
+      served = λ x lo hi. absurd (omega arith);
+      open_yet = λ is. record { is = ap is_thread e; named = ap name_of e };
+    },
+    tt,
+  )
 
   begun_if : (d : ℕ) (b : Bool) → AreStaysTold c made (if b then stay_of h.now d (made.nodes d) else [])
   begun_if d true = begun_told d (made.nodes d) refl

@@ -23,6 +23,11 @@ pub record IsWindow (c : Content) (stay : Stay) (from until : ℕ) : Type 0 wher
   pub ends : until ≤ end_of c stay
   pub ready : (t : ℕ) → from ≤ t → t < until → is_ready c stay.name t ≡ true
 
+-- the longest window that ends before a tick
+pub record IsLongestWindow (c : Content) (stay : Stay) (from until : ℕ) : Type 0 where
+  pub window : IsWindow c stay from until
+  pub longest : (earlier : ℕ) → IsWindow c stay earlier until → from ≤ earlier
+
 -- how many ticks of a stay pass a test
 abbrev pub ticks_in : Content → Stay → (ℕ → Bool) → ℕ
 ticks_in c stay test = count test stay.since (end_of c stay - stay.since)

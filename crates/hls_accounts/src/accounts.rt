@@ -54,7 +54,7 @@ pub fn accounts_of(alloc: Global, report: &Report) -> Result<Vec<Account>, Alloc
 }
 
 /// In how many ticks nobody is served, by the runs.
-#[tactic(auto, using(crate::proofs::CountLaws::count_steps))]
+#[tactic(auto, using(hls_kinds::proofs::TickLaws::tick_laws))]
 pub fn idle_of(report: &Report) -> u32
     ensures { result ≡ told.idle_of (content_of report.now) }
 {

@@ -84,8 +84,5 @@ pub fn last_seating<'a>(name: &Name, before: &'a [Answered]) -> Option<&'a Answe
 pub fn last_rousing<'a>(name: &Name, tick: u32, answered: &'a [Answered]) -> Option<&'a Answered>
     ensures { option_copied result ≡ said.last_rousing name.now tick answered.entry.now }
 {
-    answered
-        .iter()
-        .rev()
-        .find(|a| a.tick <= tick && is_done(&a.answer) && rouses(name, &a.command))
+    answered.iter().rev().find(|a| a.tick <= tick && is_done(&a.answer) && rouses(name, &a.command))
 }

@@ -12,9 +12,11 @@ mod stays;
 #[cfg(test)]
 mod tests;
 mod under;
+mod windows;
 
 pub use accounts::{accounts_of, idle_of};
 pub use readiness::is_ready;
 pub use schedule::{is_idle, is_served};
 pub use stay::Stay;
 pub use stays::stays_of;
+pub use windows::window_start;

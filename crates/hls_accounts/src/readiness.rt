@@ -12,7 +12,7 @@ use hls_lang::Command;
 use hls_report::{Answered, Report};
 
 /// In how many of so many ticks, from one on, the thread of a name is served.
-#[tactic(auto, using(crate::proofs::CountLaws::count_steps))]
+#[tactic(auto, using(hls_kinds::proofs::TickLaws::tick_laws))]
 pub fn count_served(report: &Report, name: &Name, from: u32, ticks: u32) -> u32
     requires { from + ticks < 2 ^ 32 }
     ensures { result ≡ count (spelled.is_served (content_of report.now).stretches name.now) from ticks }
@@ -34,7 +34,8 @@ fn lasts(report: &Report, name: &Name, since: u32, tick: u32, command: &Command)
     match command {
         Command::Wake { burst: None, .. } => true,
         Command::Wake {
-            burst: Some(ticks), ..
+            burst: Some(ticks),
+            ..
         } => count_served(report, name, since, tick.saturating_sub(since)) < *ticks,
         _ => false,
     }
@@ -52,7 +53,7 @@ pub fn is_ready(report: &Report, name: &Name, tick: u32) -> bool
 }
 
 /// In how many of so many ticks, from one on, the thread of a name is ready.
-#[tactic(auto, using(crate::proofs::CountLaws::count_steps))]
+#[tactic(auto, using(hls_kinds::proofs::TickLaws::tick_laws))]
 pub fn count_ready(report: &Report, name: &Name, from: u32, ticks: u32) -> u32
     requires { from + ticks < 2 ^ 32 }
     ensures { result ≡ count (told.is_ready (content_of report.now) name.now) from ticks }

@@ -20,7 +20,11 @@ fn last_place(path: &Path) -> Option<u16>
     ensures { result ≡ slice_get (take path.now.len path.now.names)
         (length (take path.now.len path.now.names) - 1) }
 {
-    path.names.iter().copied().take(usize::from(path.len)).last()
+    path.names
+        .iter()
+        .copied()
+        .take(usize::from(path.len))
+        .last()
 }
 
 /// The name at a place of a list, and nothing where there is none.

@@ -1,4 +1,4 @@
-use Rattle.std.proofs.Common.{sym, ap, ◌∙◌}
+use Rattle.std.proofs.Common.{sym}
 use Rattle.std.specs.Prelude.{None, Some}
 use Rattle.hls_accounts.proofs.ScheduleLaws.{ends_in_place}
 use Rattle.hls_accounts.proofs.schedule.ends_in.Goals as goal

@@ -1,4 +1,4 @@
-use Rattle.std.proofs.Common.{◌≡◌, is_none, sym, ap, ◌∙◌}
+use Rattle.std.proofs.Common.{is_none, sym, ap, ◌∙◌}
 use Rattle.std.specs.Prelude.{None}
 use Rattle.hls_accounts.proofs.ScheduleLaws.{path_of_run, idle_of_run}
 use Rattle.hls_accounts.proofs.schedule.is_idle.Goals as goal

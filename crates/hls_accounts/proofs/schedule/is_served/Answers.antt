@@ -1,4 +1,4 @@
-use Rattle.std.proofs.Common.{sym, ap, ◌∙◌}
+use Rattle.std.proofs.Common.{sym}
 use Rattle.hls_accounts.proofs.ScheduleLaws.{served_by_path, unserved_by_path, unserved_by_none}
 use Rattle.hls_accounts.proofs.schedule.is_served.Goals as goal
 

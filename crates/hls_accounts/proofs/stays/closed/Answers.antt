@@ -1,4 +1,4 @@
-use Rattle.std.proofs.Common.{◌≡◌, sym, ap, ◌∙◌}
+use Rattle.std.proofs.Common.{sym, ◌∙◌}
 use Rattle.hls_accounts.proofs.StayLaws.{closed-hit, closed-miss, closed-none}
 use Rattle.hls_accounts.proofs.stays.closed.Goals as goal
 

@@ -1,4 +1,3 @@
-use Rattle.std.proofs.Common.{◌≡◌, sym, ap, ◌∙◌}
 use Rattle.hls_accounts.proofs.StayLaws.{stays-more, stays-all}
 use Rattle.hls_accounts.proofs.stays.stays_of.Goals as goal
 
