@@ -23,7 +23,8 @@ use Rattle.hls_accounts.specs.Agrees.{AgreesIn, told_stay, account_in, accounts_
 use Rattle.hls_accounts.proofs.ToldSteps.{IsStayTold, AreStaysTold, each_same}
 use Rattle.hls_accounts.proofs.OrderRuns.{telling_run}
 
-agrees_in : (c : Content) (h : Hierarchy) (stay : run.Stay) → IsStayTold c h stay stay.until → AgreesIn c h stay
+agrees_in : (c : Content) (h : Hierarchy) (stay : run.Stay) → IsStayTold c h stay stay.until
+    → AgreesIn c h stay
 agrees_in c h stay s = record {
   ready = λ t lo hi. sym (s.asked t lo hi);
   served = λ t lo hi. sym (s.served t lo hi);
@@ -81,7 +82,8 @@ account_same c h stay now s =
     (ticks_same (is_served c.stretches stay.name) (was_served h.past stay.thread) stay.since
     (end_by c.horizon stay.until) (end_of h.now stay.until) end (λ t lo hi. sym (s.served t lo hi)))
 
-account_if : (one other : Account) (rest others : List Account) (a b : Bool) → a ≡ b → one ≡ other → rest ≡ others
+account_if : (one other : Account) (rest others : List Account) (a b : Bool) → a ≡ b → one ≡ other
+    → rest ≡ others
     → cond a (one ∷ rest) rest ≡ cond b (other ∷ others) others
 account_if one other rest others true true e f g = ap (λ x. x ∷ rest) f ∙ ap (λ l. other ∷ l) g
 account_if one other rest others true false e f g = absurd (cc)

@@ -1,5 +1,6 @@
 -- No chain of schedulers is longer than the commands that loaded them.
-use Rattle.std.proofs.Common.{◌≡◌, ℕ, zero, suc, inl, inr, ◌+◌, ◌<◌, ◌≤◌, List, [], ◌∷◌, Bool, true, false, length}
+use Rattle.std.proofs.Common.{◌≡◌, ℕ, zero, suc, inl, inr, ◌+◌, ◌<◌, ◌≤◌, List, [], ◌∷◌, Bool, true, false}
+use Rattle.std.proofs.Common.{length}
 use Rattle.std.proofs.Common.{refl, sym, ap, ◌∙◌, subst, arith}
 use Rattle.std.specs.Prelude.{Option, Some, None, Contains, nat_lt}
 use Rattle.std.proofs.lemmas.Bool.{cases_lt, cases_Bool, lt-ltb, le-ltb}
@@ -80,7 +81,8 @@ taken_scheduler None slot terms e = absurd (cc)
 taken_scheduler (Some (Loaded s)) slot terms e = refl
 taken_scheduler (Some (Admitted t)) slot terms e = absurd (cc)
 
-pub sits_on_scheduler : (h : Hierarchy) → IsSeated h → (d p : ℕ) → SitsOn h d p → is_scheduler (h.nodes p) ≡ true
+pub sits_on_scheduler : (h : Hierarchy) → IsSeated h → (d p : ℕ) → SitsOn h d p
+    → is_scheduler (h.nodes p) ≡ true
 sits_on_scheduler h seated d p on =
     let there : SitsThere h d on.port (At p on.slot) =
     record { seat = on.seat; sits = on.sits; at_place = on.at_place } in
@@ -114,11 +116,13 @@ module _ (h : Hierarchy) (rank : ℕ → ℕ) (sound : IsSound h rank) (seated :
         let under = below_rank h rank sound k below is (suc (rank d)) d (omega arith) on in
         let bound = chain_bound under.0 d under.1 in
         let most = lower-length rank (rank d) h.schedulers in
-        on ∙ sym (names_by_below h before unique told k top is_top below is under.0 d name (length before) named
+        on ∙ sym (names_by_below h before unique told k top is_top below is under.0 d name (length before)
+        named
         under.1 (omega arith))
     | inr off ↦ elim (cases_Bool (is_under before top name)) [
       | inl on ↦
-          (let wrong = below_by_names h before unique told k top is_top below is (length before) d name named on in
+          (let wrong = below_by_names h before unique told k top is_top below is (length before) d name
+          named on in
           absurd (cc))
       | inr away ↦ off ∙ sym away
     ]

@@ -1,5 +1,6 @@
 -- Windows, and what a run keeps in them.
-use Rattle.std.proofs.Common.{◌≡◌, ℕ, inl, inr, ◌⊎◌, ◌+◌, ◌-◌, ◌<◌, ◌≤◌, List, [], ◌∷◌, Bool, true, false, refl}
+use Rattle.std.proofs.Common.{◌≡◌, ℕ, inl, inr, ◌⊎◌, ◌+◌, ◌-◌, ◌<◌, ◌≤◌, List, [], ◌∷◌, Bool, true, false}
+use Rattle.std.proofs.Common.{refl}
 use Rattle.std.proofs.Common.{sym, ap, ◌∙◌, subst, arith}
 use Rattle.std.specs.Prelude.{All, map}
 use Rattle.std.specs.List.{AllByRecursion}
@@ -96,12 +97,14 @@ kept_by c h stay now s k =
       windows = λ from until w.
           let begins = w.begins in
           let ends : until ≤ end_of h.now stay.until = subst (λ n. until ≤ n) end w.ends in
-          satisfies-agree stay.kept (was_served h.past stay.thread) (is_served c.stretches stay.name) from until
+          satisfies-agree stay.kept (was_served h.past stay.thread) (is_served c.stretches stay.name) from
+          until
           (λ t lo hi. s.served t (omega arith) (omega arith))
           (k.windows from until begins ends
           (λ t lo hi. s.asked t (omega arith) (omega arith) ∙ w.ready t lo hi));
       cap = subst (λ n. KeepsCap stay.kept (is_served c.stretches stay.name) stay.since n) (sym end)
-          (keeps_cap-agree stay.kept (was_served h.past stay.thread) (is_served c.stretches stay.name) stay.since
+          (keeps_cap-agree stay.kept (was_served h.past stay.thread) (is_served c.stretches stay.name)
+          stay.since
           (end_of h.now stay.until) (λ t lo hi. s.served t lo hi) k.cap);
     }
 

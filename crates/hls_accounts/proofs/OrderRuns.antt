@@ -18,10 +18,12 @@ use Rattle.hls_report.specs.declared.report.Answer.{Answer}
 use Rattle.hls_report.specs.declared.report.Answer.TheVariants.{Done, Refused}
 use Rattle.hls_report.specs.declared.report.Answered.{Answered}
 use Rattle.hls_report.specs.Content.{Content}
-use Rattle.hls_legal.specs.Hierarchy.{Hierarchy, Node, Loaded, Admitted, At, Seat, Tick, Wake, Asleep, name_of}
+use Rattle.hls_legal.specs.Hierarchy.{Hierarchy, Node, Loaded, Admitted, At, Seat, Tick, Wake, Asleep}
+use Rattle.hls_legal.specs.Hierarchy.{name_of}
 use Rattle.hls_legal.specs.Hierarchy.{seats_of, seat_of, book_of, start}
 use Rattle.hls_legal.specs.Steps.{Step, Refuse, Load, Admit, End, Unload, Move, Rouse, Block, Elapse, Path}
-use Rattle.hls_legal.specs.Steps.{is_thread, is_scheduler, listed, nobody, stay_of as stay_at, opened as opened_at}
+use Rattle.hls_legal.specs.Steps.{is_thread, is_scheduler, listed, nobody, stay_of as stay_at}
+use Rattle.hls_legal.specs.Steps.{opened as opened_at}
 use Rattle.hls_legal.specs.Steps.{effect, with_wake, roused, reseated, wake_by, loaded, admitted, after}
 use Rattle.hls_legal.specs.Steps.{thread_of, state, hop_at, hops_of, elapsed, marked, leavings, seatings}
 use Rattle.hls_legal.specs.Legal.{Can, IsLegal, CanUnload, IsThread, CanMove, IsNew}
@@ -45,10 +47,12 @@ use Rattle.hls_accounts.proofs.Seatings.{perches_from, kept_in, AreSeatedBy, sea
 use Rattle.hls_accounts.proofs.Seatings.{seating_miss}
 use Rattle.hls_accounts.proofs.Depths.{sits_on_scheduler, under_told}
 use Rattle.hls_accounts.proofs.Orders.{Paired, IsOrdered, kept_perches, NamesStay, Seats}
-use Rattle.hls_accounts.proofs.Orders.{SeatsMade, seated_step, paired_on, paired_push, paired_filter, filter_all}
+use Rattle.hls_accounts.proofs.Orders.{SeatsMade, seated_step, paired_on, paired_push, paired_filter}
+use Rattle.hls_accounts.proofs.Orders.{filter_all}
 use Rattle.hls_accounts.proofs.Orders.{threads_same, listed_same, stays_step, stays_same, opened_none}
 use Rattle.hls_accounts.proofs.Orders.{opened_push, opened_without, opened_paired}
-use Rattle.hls_accounts.proofs.OrderSteps.{same_node, named_other, names_stay, all_stay, seats_each, few_later}
+use Rattle.hls_accounts.proofs.OrderSteps.{same_node, named_other, names_stay, all_stay, seats_each}
+use Rattle.hls_accounts.proofs.OrderSteps.{few_later}
 use Rattle.hls_accounts.proofs.OrderSteps.{quiet_effect}
 use Rattle.hls_accounts.proofs.Reached.{IsReached, listed as lists_of, seated as seated_of, kept as kept_of}
 use Rattle.hls_accounts.proofs.Reached.{reached_next, reached_start}
@@ -71,7 +75,8 @@ stay_of_node now k None name commands tick is named kept at = absurd (cc)
 stay_of_node now k (Some (Loaded s)) name commands tick is named kept at = absurd (cc)
 stay_of_node now k (Some (Admitted t)) name commands tick is named kept at =
     let mine : t.name ≡ name = cc in
-    one_stay t.name name t.seat.kept (want_of (last_seating name commands)) now tick None (closed commands [] name)
+    one_stay t.name name t.seat.kept (want_of (last_seating name commands)) now tick None
+    (closed commands [] name)
     mine kept (sym at) (sym (closed-nil commands name))
 
 or_off : (b : Bool) → (b || false) ≡ b
@@ -94,7 +99,8 @@ not_thread : (h : Hierarchy) (k : ℕ) → is_thread (h.nodes k) ≡ false → (
 not_thread h k off d name t e =
     let wrong : true ≡ false = sym t.is ∙ ap (λ x. is_thread (h.nodes x)) e ∙ off in cc
 
-module _ (c : Content) (h : Hierarchy) (before : List Answered) (reached : IsReached h) (told : IsTold c before h)
+module _ (c : Content) (h : Hierarchy) (before : List Answered) (reached : IsReached h)
+    (told : IsTold c before h)
     (ord : IsOrdered before h) (tick : ℕ) (at : tick ≡ h.now) where
   unique : Unique h.nodes
   unique = (lists_of h reached).names
@@ -102,7 +108,8 @@ module _ (c : Content) (h : Hierarchy) (before : List Answered) (reached : IsRea
   empty_seat : (d port : ℕ) (seat : Seat) (slot k : ℕ) → CanUnload (h.nodes k)
       → seat_of (h.nodes d) port ≡ Some seat → seat.place ≡ At k slot → ⊥
   empty_seat d port seat slot k can sits on =
-      let taken = (seated_of h reached).taken d port k slot (record { seat = seat; sits = sits; at_place = on }) in
+      let taken = (seated_of h reached).taken d port k slot
+      (record { seat = seat; sits = sits; at_place = on }) in
       let wrong : None ≡ Some seat.terms =
       sym (can.empty slot) ∙ ap (λ n. terms_at (book_of n) slot) (sym can.there) ∙ taken in cc
 
@@ -152,7 +159,8 @@ module _ (c : Content) (h : Hierarchy) (before : List Answered) (reached : IsRea
       let both : Some mine ≡ Some name = sym e ∙ sym (alike_same h k node below k refl).name ∙ has in cc
 
   -- a load
-  load_ordered : (name : Text) (config : Config) (perches : List Perch) (by : List Seated) (k : ℕ) (new : Text)
+  load_ordered : (name : Text) (config : Config) (perches : List Perch) (by : List Seated) (k : ℕ)
+      (new : Text)
       (set : Config) (spare_ticks spare_marks : ℕ) (held : List Seat) → IsNew h k new → new ≡ name
       → ArePerches h held perches
       → IsOrdered
@@ -176,7 +184,8 @@ module _ (c : Content) (h : Hierarchy) (before : List Answered) (reached : IsRea
   unload_ordered name by k can has =
       let a : Answered = record { tick = tick; command = said.Unload name; answer = Done by } in
       quiet k None a refl (ap is_thread can.there) refl
-      (names_stay h k None nobody (λ d port seat slot sits on n named. absurd (empty_seat d port seat slot k can sits on)))
+      (names_stay h k None nobody
+      (λ d port seat slot sits on n named. absurd (empty_seat d port seat slot k can sits on)))
       (seats_each h k None nobody a (old_name h unique k name has)
       (λ n named. absurd (gone k n named)))
       (λ n. refl) refl (λ n. refl) refl
@@ -184,7 +193,8 @@ module _ (c : Content) (h : Hierarchy) (before : List Answered) (reached : IsRea
   -- an admission
   admit_ordered : (name : Text) (perch : Perch) (by : List Seated) (k : ℕ) (new : Text) (seat : Seat)
       → IsNew h k new → new ≡ name → IsPerch h seat perch
-      → IsOrdered (before ++ (record { tick = tick; command = said.Thread name perch; answer = Done by }) ∷ [])
+      → IsOrdered
+      (before ++ (record { tick = tick; command = said.Thread name perch; answer = Done by }) ∷ [])
       (effect h k (Some (Admitted (admitted h.now new seat))) nobody)
   admit_ordered name perch by k new seat is same asked =
       let a : Answered = record { tick = tick; command = said.Thread name perch; answer = Done by } in
@@ -222,7 +232,8 @@ module _ (c : Content) (h : Hierarchy) (before : List Answered) (reached : IsRea
             (λ d n t. off d n t) told.stays ord.stays
             (ap (λ ks. map told_stay (opened_at h.now made.nodes (λ d. nobody d || d == k) ks)) list
             ∙ ap (map told_stay) (opened_push h.now made.nodes (λ d. nobody d || d == k) h.threads k
-            (opened_none h.now h.nodes made.nodes (λ d. nobody d || d == k) h.threads (threads before) ord.order off)
+            (opened_none h.now h.nodes made.nodes (λ d. nobody d || d == k) h.threads (threads before)
+            ord.order off)
             (eq-eqb k k refl))
             ∙ ap (λ n. map told_stay (stay_at h.now k n)) there
             ∙ new_one);
@@ -236,16 +247,19 @@ module _ (c : Content) (h : Hierarchy) (before : List Answered) (reached : IsRea
       let a : Answered = record { tick = tick; command = said.End name; answer = Done by } in
       let made = effect h k None nobody in
       let was : is_thread (h.nodes k) ≡ true = ap is_thread can.there in
-      let list : made.threads ≡ filter (λ d. not (d == k)) h.threads = ap (λ x. listed x false k h.threads) was in
+      let list : made.threads
+      ≡ filter (λ d. not (d == k)) h.threads = ap (λ x. listed x false k h.threads) was in
       let names : threads (before ++ a ∷ []) ≡ filter (goes_on a) (threads before) =
       threads_snoc before a ∙ append-nil (filter (goes_on a) (threads before)) in
       let same : (d : ℕ) (n : Text) → IsThreadNamed h.nodes d n → (d == k) ≡ bytes_eq name n =
       λ d n t. same_node h.nodes unique k d name n has t.named in
       record {
         seated = seated_step h made before a
-            (names_stay h k None nobody (λ d port seat slot sits on n named. absurd (no_seat d port seat slot k can sits on)))
+            (names_stay h k None nobody
+            (λ d port seat slot sits on n named. absurd (no_seat d port seat slot k can sits on)))
             ord.seated
-            (seats_each h k None nobody a (old_name h unique k name has) (λ n named. absurd (gone k n named)));
+            (seats_each h k None nobody a (old_name h unique k name has)
+            (λ n named. absurd (gone k n named)));
         order = subst (λ (ks : List ℕ). Paired made.nodes ks (threads (before ++ a ∷ []))) (sym list)
             (subst (Paired made.nodes (filter (λ d. not (d == k)) h.threads)) (sym names)
             (paired_filter h.nodes made.nodes (λ d. not (d == k)) (goes_on a) h.threads (threads before)
@@ -291,7 +305,8 @@ module _ (c : Content) (h : Hierarchy) (before : List Answered) (reached : IsRea
       let all : (p : ℕ) (n : Text) → HasName h p n → HasName made p n =
       all_stay h k node below (λ n named. moved.name ∙ named) in
       let list : made.threads ≡ h.threads =
-      listed_same (is_thread (h.nodes k)) (is_thread node) (is_thread (h.nodes k)) k h.threads refl moved.sort in
+      listed_same (is_thread (h.nodes k)) (is_thread node) (is_thread (h.nodes k)) k h.threads refl
+      moved.sort in
       let named_on : (d : ℕ) (n : Text) → IsThreadNamed h.nodes d n → IsThreadNamed made.nodes d n =
       moved_named k node below moved.name moved.sort in
       let seated_now : AreSeatedBy made (before ++ a ∷ []) =
@@ -301,10 +316,12 @@ module _ (c : Content) (h : Hierarchy) (before : List Answered) (reached : IsRea
       (subst (λ l. ArePerches made l (perch ∷ [])) (sym held)
       (kept_perches h made (seat ∷ []) (perch ∷ []) (λ port s p slot sits on. all p) (asked, tt)))
       (λ thread. ap kept_in held ∙ asked.kept))) in
-      let alike : (d : ℕ) (n : Text) → IsThreadNamed h.nodes d n → (below d || d == k) ≡ is_under before name n =
+      let alike : (d : ℕ) (n : Text) → IsThreadNamed h.nodes d n
+      → (below d || d == k) ≡ is_under before name n =
       λ d n t. or_itself below k can.under.itself d
       ∙ under_told h (kept_of h reached).rank (kept_of h reached).sound (seated_of h reached)
-      (lists_of h reached).schedulers k before unique ord.seated ord.few name has below can.under d n t.named in
+      (lists_of h reached).schedulers k before unique ord.seated ord.few name has below can.under d n
+      t.named in
       record {
         seated = seated_now;
         order = subst (λ (ks : List ℕ). Paired made.nodes ks (threads (before ++ a ∷ []))) (sym list)
@@ -394,20 +411,24 @@ step_ordered c h before tick command (Refused refusal) step reached can does at 
     (idle_ordered h before a ord (λ n. refl) (λ n. refl) refl (λ n. refl) refl)
 step_ordered c h before tick (said.Load name config perches) (Done by)
     (Load k new set spare_ticks spare_marks held) reached can does at told ord =
-    load_ordered c h before reached told ord tick at name config perches by k new set spare_ticks spare_marks held
+    load_ordered c h before reached told ord tick at name config perches by k new set spare_ticks
+    spare_marks held
     can.0.new does.0 does.2
-step_ordered c h before tick (said.Thread name perch) (Done by) (Admit k new seat) reached can does at told ord =
+step_ordered c h before tick (said.Thread name perch) (Done by) (Admit k new seat) reached can does at told
+    ord =
     admit_ordered c h before reached told ord tick at name perch by k new seat can.new does.0 does.1
 step_ordered c h before tick (said.End name) (Done by) (End k) reached can does at told ord =
     end_ordered c h before reached told ord tick at name by k can does
 step_ordered c h before tick (said.Unload name) (Done by) (Unload k) reached can does at told ord =
     unload_ordered c h before reached told ord tick at name by k can does
-step_ordered c h before tick (said.Move name perch) (Done by) (Move k seat below) reached can does at told ord =
+step_ordered c h before tick (said.Move name perch) (Done by) (Move k seat below) reached can does at told
+    ord =
     move_ordered c h before reached told ord tick at name perch by k seat below can.0 does.0 does.1
 step_ordered c h before tick (said.Wake name burst) (Done by) (Rouse k ticks) reached can does at told ord =
     let a : Answered = record { tick = tick; command = said.Wake name burst; answer = Done by } in
     idle_ordered (with_wake h k (wake_by ticks h.now)) before a
-    (wake_ordered c h before reached told ord k (wake_by ticks h.now)) (λ n. refl) (λ n. refl) refl (λ n. refl) refl
+    (wake_ordered c h before reached told ord k (wake_by ticks h.now)) (λ n. refl) (λ n. refl) refl
+    (λ n. refl) refl
 step_ordered c h before tick (said.Block name) (Done by) (Block k) reached can does at told ord =
     let a : Answered = record { tick = tick; command = said.Block name; answer = Done by } in
     idle_ordered (with_wake h k Asleep) before a (wake_ordered c h before reached told ord k Asleep)
@@ -459,7 +480,8 @@ step_idle c h command (Done by) (Unload k) does idle = idle
 step_idle c h command (Done by) (Move k seat below) does idle = idle
 step_idle c h command (Done by) (Rouse k ticks) does idle = idle
 step_idle c h command (Done by) (Block k) does idle = idle
-step_idle c h command (Done by) (Elapse asking masks path) does idle = absurd (no_elapse h command asking masks path does)
+step_idle c h command (Done by) (Elapse asking masks path) does idle = absurd
+    (no_elapse h command asking masks path does)
 
 -- all of it, at the end of a run
 pub record IsTelling (c : Content) (before : List Answered) (h : Hierarchy) : Type 0 where
@@ -483,7 +505,8 @@ run_telling (Elapse asking masks path ∷ steps) c h before left all reached leg
     run_telling steps c (after h (Elapse asking masks path)) before left all
     (reached_next h (Elapse asking masks path) reached legal.0) legal.1 tells.2
     (record {
-      told = told_tick c h asking masks path legal.0.0 (lists_of h reached).names tells.1 before left all tells.0
+      told = told_tick c h asking masks path legal.0.0 (lists_of h reached).names tells.1 before left all
+          tells.0
           t.told;
       ordered = tick_ordered c h before reached t.told t.ordered asking masks path;
       idle = tick_idle c h asking masks path tells.1 t.idle;

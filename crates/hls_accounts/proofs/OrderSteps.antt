@@ -70,13 +70,15 @@ module _ (h : Hierarchy) (k : ℕ) (node : Option Node) (below : ℕ → Bool) w
   abbrev begins : ℕ → Bool
   begins d = below d || d == k
 
-  pub named_other : (d : ℕ) (name : Text) → d ≢ k → IsThreadNamed h.nodes d name → IsThreadNamed made.nodes d name
+  pub named_other : (d : ℕ) (name : Text) → d ≢ k → IsThreadNamed h.nodes d name
+      → IsThreadNamed made.nodes d name
   named_other d name ne t =
       let like = alike_other h k node below d ne in
       record { is = like.sort ∙ t.is; named = like.name ∙ t.named }
 
   pub names_stay : ((d port : ℕ) (seat : Seat) (slot : ℕ) → seat_of (h.nodes d) port ≡ Some seat
-      → seat.place ≡ At k slot → (name : Text) → HasName h k name → name_of node ≡ Some name) → NamesStay h made
+      → seat.place ≡ At k slot → (name : Text) → HasName h k name → name_of node ≡ Some name)
+      → NamesStay h made
   names_stay itself d port seat p slot sits at name has = elim (cases_eq p k) [
     | inl e ↦ (alike_same h k node below p e).name
         ∙ itself d port seat slot sits (at ∙ ap (λ x. At x slot) e) name

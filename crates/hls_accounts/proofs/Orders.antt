@@ -1,6 +1,7 @@
 -- The threads and the stays of a legal run are those that the commands of its report tell, in their order.
 use Rattle.std.proofs.Common.{◌≡◌, ℕ, suc, ◌≤◌, List, [], ◌∷◌, ◌++◌, ◌||◌, ◌==◌}
-use Rattle.std.proofs.Common.{Bool, true, false, not, if◌then◌else◌, cond, length, slice_get, map, filter, refl}
+use Rattle.std.proofs.Common.{Bool, true, false, not, if◌then◌else◌, cond, length, slice_get, map, filter}
+use Rattle.std.proofs.Common.{refl}
 use Rattle.std.proofs.Common.{sym, ap, ◌∙◌, subst}
 use Rattle.std.specs.Prelude.{Option, Some, None}
 use Rattle.std.specs.Option.{option_or}
@@ -11,10 +12,12 @@ use Rattle.hls_lang.specs.declared.scenario.Spot.TheVariants.{Cpu, Under}
 use Rattle.hls_lang.specs.declared.scenario.Perch.{Perch}
 use Rattle.hls_report.specs.declared.report.Answered.{Answered}
 use Rattle.hls_report.specs.Content.{Content}
-use Rattle.hls_legal.specs.Hierarchy.{Hierarchy, Node, Loaded, Admitted, Place, Processor, At, Seat, name_of, seats_of}
+use Rattle.hls_legal.specs.Hierarchy.{Hierarchy, Node, Loaded, Admitted, Place, Processor, At, Seat}
+use Rattle.hls_legal.specs.Hierarchy.{name_of, seats_of}
 use Rattle.hls_legal.specs.Hierarchy.{seat_of}
 use Rattle.hls_legal.specs.Hierarchy as legal
-use Rattle.hls_legal.specs.Steps.{is_thread, listed, closed as closed_at, ended, stay_of as stay_at, opened as opened_at}
+use Rattle.hls_legal.specs.Steps.{is_thread, listed, closed as closed_at, ended, stay_of as stay_at}
+use Rattle.hls_legal.specs.Steps.{opened as opened_at}
 use Rattle.hls_legal.specs.Steps.{nobody}
 use Rattle.hls_accounts.specs.declared.stay.Stay.{Stay}
 use Rattle.hls_accounts.specs.Commands.{has_done, seats, ends, last_seating}
@@ -25,7 +28,8 @@ use Rattle.hls_accounts.proofs.Told.{IsThreadNamed}
 use Rattle.hls_accounts.proofs.ToldSteps.{AreStaysTold}
 use Rattle.hls_accounts.proofs.StayLaws.{stands_by}
 use Rattle.hls_accounts.proofs.StaySnoc.{goes_on, threads_snoc, end_by, close_by, stays_snoc}
-use Rattle.hls_accounts.proofs.Seatings.{perches_in, perches_from, seating_hit, seating_miss, kept_in, IsSeatedBy}
+use Rattle.hls_accounts.proofs.Seatings.{perches_in, perches_from, seating_hit, seating_miss, kept_in}
+use Rattle.hls_accounts.proofs.Seatings.{IsSeatedBy}
 use Rattle.hls_accounts.proofs.Seatings.{AreSeatedBy}
 
 -- threads with their names, in one order
@@ -85,7 +89,8 @@ seated_one h g before a d name stay seated (SeatsLeft named same sort missed) =
     let was = seated d name named in
     let found = sym (seating_miss name before a missed) in
     record {
-      perches = subst (λ (l : List Seat). ArePerches g l (perches_from (last_seating name (before ++ a ∷ []))))
+      perches = subst
+          (λ (l : List Seat). ArePerches g l (perches_from (last_seating name (before ++ a ∷ []))))
           (sym same)
           (subst (λ (f : Option Answered). ArePerches g (seats_of (h.nodes d)) (perches_from f)) found
           (kept_perches h g (seats_of (h.nodes d)) (perches_from (last_seating name before))
@@ -221,7 +226,8 @@ option_or_none : (until : Option ℕ) → option_or until None ≡ until
 option_or_none None = refl
 option_or_none (Some t) = refl
 
-close_none : (before : List Answered) (a : Answered) → ((name : Text) → has_done (closes before name) a ≡ false)
+close_none : (before : List Answered) (a : Answered)
+    → ((name : Text) → has_done (closes before name) a ≡ false)
     → (all : List Stay) → map (close_by before a) all ≡ all
 close_none before a none [] = refl
 close_none before a none (stay ∷ all) =
@@ -231,7 +237,8 @@ close_none before a none (stay ∷ all) =
     ap (λ (u : Option ℕ). (record stay { until = u }) ∷ map (close_by before a) all) until
     ∙ ap (λ l. stay ∷ l) (close_none before a none all)
 
-pub stays_same : (before : List Answered) (a : Answered) → ((name : Text) → has_done (closes before name) a ≡ false)
+pub stays_same : (before : List Answered) (a : Answered)
+    → ((name : Text) → has_done (closes before name) a ≡ false)
     → stays_with before [] a ≡ [] → stays (before ++ a ∷ []) ≡ stays before
 stays_same before a none opens =
     stays_snoc before a ∙ ap (λ l. map (close_by before a) (stays before) ++ l) opens
@@ -239,7 +246,8 @@ stays_same before a none opens =
 
 -- ---- the stays that begin
 
-pub opened_none : (now : ℕ) (nodes later : ℕ → Option Node) (begins : ℕ → Bool) (ks : List ℕ) (names : List Text)
+pub opened_none : (now : ℕ) (nodes later : ℕ → Option Node) (begins : ℕ → Bool) (ks : List ℕ)
+    (names : List Text)
     → Paired nodes ks names → ((k : ℕ) (name : Text) → IsThreadNamed nodes k name → begins k ≡ false)
     → opened_at now later begins ks ≡ []
 opened_none now nodes later begins [] [] pairs off = refl

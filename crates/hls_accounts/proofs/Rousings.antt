@@ -81,7 +81,8 @@ early_same t name (a ∷ before) early =
 
 -- at the time of a tick, before the commands of later ticks
 pub rousing_at : (t : ℕ) (name : Text) (before left : List Answered)
-    → AllByRecursion (λ (a : Answered). a.tick ≤ t) before → AllByRecursion (λ (a : Answered). t < a.tick) left
+    → AllByRecursion (λ (a : Answered). a.tick ≤ t) before
+    → AllByRecursion (λ (a : Answered). t < a.tick) left
     → last_rousing name t (before ++ left) ≡ rousing name before
 unfolding last_rousing
 rousing_at t name before left early late =

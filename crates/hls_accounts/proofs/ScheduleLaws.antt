@@ -54,7 +54,8 @@ pub served_by : (stretches : List Stretch) (name : Text) (t : ℕ) (path : Optio
 unfolding is_served
 served_by stretches name t path e = ap (λ p. is_name name (option_and_then last_name p)) e
 
-pub served_by_path : (names : List Text) (items runs : List Run) (name : Text) (t : ℕ) (run : Run) (path : Path)
+pub served_by_path : (names : List Text) (items runs : List Run) (name : Text) (t : ℕ) (run : Run)
+    (path : Path)
     → items ≡ runs → Some run ≡ find (run_has t) items → run.path ≡ Some path
     → is_served (map (stretch_of names) runs) name t ≡ is_name name (last_name (path_names names path))
 served_by_path names items runs name t run path same found is =
@@ -76,7 +77,8 @@ unserved_by_none names items runs name t same found =
 abbrev last_in : List ℕ → Option ℕ
 last_in places = slice_get places (length places - 1)
 
-pub last_of_path : (names : List Text) (places : List ℕ) → last_name (map (λ place. get_or names place []) places)
+pub last_of_path : (names : List Text) (places : List ℕ)
+    → last_name (map (λ place. get_or names place []) places)
     ≡ option_map (λ place. get_or names place []) (last_in places)
 last_of_path names places =
     ap (λ n. slice_get (map (λ place. get_or names place []) places) (n - 1))

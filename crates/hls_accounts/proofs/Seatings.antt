@@ -108,7 +108,8 @@ later_seat h test seat held s = record {
   passes = s.passes;
 }
 
-first_seat : (h : Hierarchy) (test : Text → Bool) (seat : Seat) (held : List Seat) (place : Place) (spot : Spot)
+first_seat : (h : Hierarchy) (test : Text → Bool) (seat : Seat) (held : List Seat) (place : Place)
+    (spot : Spot)
     → seat.place ≡ place → IsSpot h place spot → is_on test spot ≡ true → SitsOnSuch h test (seat ∷ held)
 first_seat h test seat held Processor Cpu e is on = absurd (cc)
 first_seat h test seat held Processor (Under sched terms) e is on = absurd is
@@ -149,7 +150,8 @@ or_second : (a b : Bool) → b ≡ true → (a || b) ≡ true
 or_second true b e = refl
 or_second false b e = e
 
-spot_passes : (h : Hierarchy) (test : Text → Bool) (p slot : ℕ) (place : Place) (spot : Spot) → place ≡ At p slot
+spot_passes : (h : Hierarchy) (test : Text → Bool) (p slot : ℕ) (place : Place) (spot : Spot)
+    → place ≡ At p slot
     → IsSpot h place spot → ((sched : Text) → HasName h p sched → test sched ≡ true) → is_on test spot ≡ true
 spot_passes h test p slot Processor Cpu e is pass = absurd (cc)
 spot_passes h test p slot Processor (Under sched terms) e is pass = absurd is
@@ -181,7 +183,8 @@ within_step : (before : List Answered) (steps : ℕ) (above name : Text)
 unfolding is_within
 within_step before steps above name = refl
 
-within_zero : (before : List Answered) (above name : Text) → is_within before 0 above name ≡ bytes_eq name above
+within_zero : (before : List Answered) (above name : Text)
+    → is_within before 0 above name ≡ bytes_eq name above
 unfolding is_within
 within_zero before above name = refl
 

@@ -1,5 +1,6 @@
 -- The threads, the stays and their ends, one command after another.
-use Rattle.std.proofs.Common.{◌≡◌, ℕ, ◌+◌, ◌≤◌, ◌<◌, List, [], ◌∷◌, ◌++◌, Bool, true, false, length, take, drop}
+use Rattle.std.proofs.Common.{◌≡◌, ℕ, ◌+◌, ◌≤◌, ◌<◌, List, [], ◌∷◌, ◌++◌, Bool, true, false, length, take}
+use Rattle.std.proofs.Common.{drop}
 use Rattle.std.proofs.Common.{get_or, map, slice_get, if◌then◌else◌, refl, sym, ap, ◌∙◌, append_assoc}
 use Rattle.std.specs.Prelude.{Some, None}
 use Rattle.std.proofs.lemmas.List.{drop_more, drop_all, take_all, take_more, append-nil}
@@ -23,7 +24,8 @@ to_place : (xs : List Answered) (i : ℕ) (a : Answered) → i < length xs → a
     → take (i + 1) xs ≡ take i xs ++ a ∷ []
 to_place xs i a lt e = take_more xs i a lt ∙ ap (λ x. take i xs ++ x ∷ []) (sym e)
 
-threads-first : (a : Answered) (after : List Answered) → threads (a ∷ after) ≡ stands_by a after ++ threads after
+threads-first : (a : Answered) (after : List Answered)
+    → threads (a ∷ after) ≡ stands_by a after ++ threads after
 unfolding threads
 threads-first a after = refl
 
@@ -65,7 +67,8 @@ closed-hit xs i a name lt e hit =
     ap (λ l. closed (take i xs) l name) (from_place xs i a lt e)
     ∙ closed-first (take i xs) (drop (i + 1) xs) a name true hit
 
-pub closed-miss : (xs : List Answered) (i : ℕ) (a : Answered) (name : Text) → i < length xs → a ≡ get_or xs i a
+pub closed-miss : (xs : List Answered) (i : ℕ) (a : Answered) (name : Text) → i < length xs
+    → a ≡ get_or xs i a
     → has_done (closes (take i xs) name) a ≡ false
     → closed (take (i + 1) xs) (drop (i + 1) xs) name ≡ closed (take i xs) (drop i xs) name
 closed-miss xs i a name lt e miss =
@@ -75,7 +78,8 @@ closed-miss xs i a name lt e miss =
 
 pub closed-none : (xs : List Answered) (i : ℕ) (name : Text) → length xs ≤ i
     → closed (take i xs) (drop i xs) name ≡ None
-closed-none xs i name le = ap (λ l. closed (take i xs) l name) (drop_all i xs le) ∙ closed-nil (take i xs) name
+closed-none xs i name le = ap (λ l. closed (take i xs) l name) (drop_all i xs le)
+    ∙ closed-nil (take i xs) name
 
 stays-first : (before after : List Answered) (a : Answered)
     → stays_from before (a ∷ after) ≡ stays_with before after a ++ stays_from (before ++ a ∷ []) after

@@ -95,7 +95,8 @@ unfolding closed
 closed_one before a name = refl
 
 closed_snoc : (before after : List Answered) (a : Answered) (name : Text)
-    → closed before (after ++ a ∷ []) name ≡ option_or (closed before after name) (end_by (before ++ after) a name)
+    → closed before (after ++ a ∷ []) name
+    ≡ option_or (closed before after name) (end_by (before ++ after) a name)
 unfolding closed
 closed_snoc before [] a name = ap (λ l. end_by l a name) (sym (append-nil before))
 closed_snoc before (b ∷ after) a name =
@@ -109,18 +110,21 @@ map_same : {X Y : Type 0} (f g : X → Y) (xs : List X) → ((x : X) → f x ≡
 map_same f g [] same = refl
 map_same f g (x ∷ xs) same = ap (λ y. y ∷ map f xs) (same x) ∙ ap (λ l. g x ∷ l) (map_same f g xs same)
 
-pub map_twice : {X Y Z : Type 0} (f : X → Y) (g : Y → Z) (xs : List X) → map g (map f xs) ≡ map (λ x. g (f x)) xs
+pub map_twice : {X Y Z : Type 0} (f : X → Y) (g : Y → Z) (xs : List X)
+    → map g (map f xs) ≡ map (λ x. g (f x)) xs
 map_twice f g [] = refl
 map_twice f g (x ∷ xs) = ap (λ l. g (f x) ∷ l) (map_twice f g xs)
 
 stay_snoc : (commands after : List Answered) (a : Answered) (since : ℕ) (name : Text)
-    → stay_of commands (after ++ a ∷ []) since name ≡ close_by (commands ++ after) a (stay_of commands after since name)
+    → stay_of commands (after ++ a ∷ []) since name
+    ≡ close_by (commands ++ after) a (stay_of commands after since name)
 stay_snoc commands after a since name =
     ap (λ (until : Option ℕ). record (stay_of commands after since name) { until = until })
     (closed_snoc commands after a name)
 
 with_snoc : (before after : List Answered) (b a : Answered)
-    → stays_with before (after ++ a ∷ []) b ≡ map (close_by (before ++ (b ∷ after)) a) (stays_with before after b)
+    → stays_with before (after ++ a ∷ []) b
+    ≡ map (close_by (before ++ (b ∷ after)) a) (stays_with before after b)
 with_snoc before after b a =
     let commands = before ++ b ∷ [] in
     map_same (stay_of commands (after ++ a ∷ []) b.tick)

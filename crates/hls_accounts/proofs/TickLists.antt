@@ -1,5 +1,6 @@
 -- The list of ticks that stretches spell, tick by tick.
-use Rattle.std.proofs.Common.{◌≡◌, ℕ, zero, suc, inl, inr, ◌+◌, ◌-◌, ◌<◌, ◌≤◌, List, [], ◌∷◌, ◌++◌, Bool, true, false}
+use Rattle.std.proofs.Common.{◌≡◌, ℕ, zero, suc, inl, inr, ◌+◌, ◌-◌, ◌<◌, ◌≤◌, List, [], ◌∷◌, ◌++◌, Bool}
+use Rattle.std.proofs.Common.{true, false}
 use Rattle.std.proofs.Common.{◌&&◌, cond, length, refl, sym, ap, ◌∙◌, arith}
 use Rattle.std.specs.Prelude.{Option, Some, None, slice_get, replicate, find, nat_le, option_and_then}
 use Rattle.std.proofs.lemmas.Bool.{cases_lt, le-leb, lt-leb}
@@ -45,7 +46,8 @@ get_rest : {A : Type 0} (n i : ℕ) (x : A) (xs : List A) → n ≤ i
 get_rest zero i x xs le = (let same : i - 0 ≡ i = omega arith in ap (slice_get xs) (sym same))
 get_rest (suc n) zero x xs le = absurd (omega arith)
 get_rest (suc n) (suc i) x xs le =
-    (let same : suc i - suc n ≡ i - n = omega arith in get_rest n i x xs (omega arith) ∙ ap (slice_get xs) (sym same))
+    (let same : suc i - suc n ≡ i - n = omega arith in get_rest n i x xs (omega arith)
+    ∙ ap (slice_get xs) (sym same))
 
 has_it : (t : ℕ) (s : Stretch) → s.from ≤ t → t ≤ s.to → has_tick t s ≡ true
 has_it t s lo hi =
@@ -59,9 +61,11 @@ path_first : (s : Stretch) (stretches : List Stretch) (t : ℕ) (b : Bool) → h
     → path_at (s ∷ stretches) t ≡ cond b s.path (path_at stretches t)
 unfolding path_at
 path_first s stretches t true e =
-    ap (λ (x : Bool). option_and_then (λ (r : Stretch). r.path) (cond x (Some s) (find (has_tick t) stretches))) e
+    ap (λ (x : Bool). option_and_then (λ (r : Stretch). r.path)
+    (cond x (Some s) (find (has_tick t) stretches))) e
 path_first s stretches t false e =
-    ap (λ (x : Bool). option_and_then (λ (r : Stretch). r.path) (cond x (Some s) (find (has_tick t) stretches))) e
+    ap (λ (x : Bool). option_and_then (λ (r : Stretch). r.path)
+    (cond x (Some s) (find (has_tick t) stretches))) e
 
 spelled_from : (from : ℕ) (last : Option (Option (List Text))) (stretches : List Stretch) (end t : ℕ)
     → Cover from last stretches end → from ≤ t → t < end
@@ -87,4 +91,5 @@ pub spelled_at : (last : Option (Option (List Text))) (stretches : List Stretch)
     → Cover 0 last stretches end → t < end → slice_get (tick_list stretches) t ≡ Some (path_at stretches t)
 spelled_at last stretches end t cover lt =
     let same : t - 0 ≡ t = omega arith in
-    ap (slice_get (tick_list stretches)) (sym same) ∙ spelled_from 0 last stretches end t cover (omega arith) lt
+    ap (slice_get (tick_list stretches)) (sym same)
+    ∙ spelled_from 0 last stretches end t cover (omega arith) lt

@@ -9,7 +9,8 @@ use Rattle.std.proofs.lemmas.Bool.{cases_eq, eq-eqb, ne_eqb}
 use Rattle.hls_text.specs.Lines.{Text}
 use Rattle.hls_report.specs.declared.report.Answered.{Answered}
 use Rattle.hls_report.specs.Content.{Content}
-use Rattle.hls_legal.specs.Hierarchy.{Hierarchy, Node, Loaded, Admitted, Tick, name_of, is_ready as ready_legal}
+use Rattle.hls_legal.specs.Hierarchy.{Hierarchy, Node, Loaded, Admitted, Tick, name_of}
+use Rattle.hls_legal.specs.Hierarchy.{is_ready as ready_legal}
 use Rattle.hls_legal.specs.Hierarchy.{is_just, was_served}
 use Rattle.hls_legal.specs.Steps.{Hop, Path, thread_of, is_thread}
 use Rattle.hls_legal.specs.Legal.{asks_now}
@@ -116,13 +117,15 @@ path_named h path names e =
     last_named (map (name_in h.nodes) hops) (name_of (h.nodes path.thread)) names
     (sym (map-append (name_in h.nodes) hops (path.thread ∷ [])) ∙ e)
 
-other_name : (nodes : ℕ → Option Node) → Unique nodes → (k c : ℕ) (name : Text) → name_of (nodes k) ≡ Some name
+other_name : (nodes : ℕ → Option Node) → Unique nodes → (k c : ℕ) (name : Text)
+    → name_of (nodes k) ≡ Some name
     → c ≢ k → (found : Option Text) → name_of (nodes c) ≡ found → is_name name found ≡ false
 other_name nodes unique k c name named ne None e = refl
 other_name nodes unique k c name named ne (Some other) e =
     names_differ name other (λ same. ne (unique c k name (e ∙ ap (λ (n : Text). Some n) same) named))
 
-pub by_name : (nodes : ℕ → Option Node) → Unique nodes → (k c : ℕ) (name : Text) → name_of (nodes k) ≡ Some name
+pub by_name : (nodes : ℕ → Option Node) → Unique nodes → (k c : ℕ) (name : Text)
+    → name_of (nodes k) ≡ Some name
     → (c == k) ≡ is_name name (name_of (nodes c))
 by_name nodes unique k c name named = elim (cases_eq c k) [
   | inl e ↦ eq-eqb c k e

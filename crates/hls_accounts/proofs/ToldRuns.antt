@@ -13,11 +13,13 @@ use Rattle.hls_report.specs.declared.report.Answer.{Answer}
 use Rattle.hls_report.specs.declared.report.Answer.TheVariants.{Done, Refused}
 use Rattle.hls_report.specs.declared.report.Answered.{Answered}
 use Rattle.hls_report.specs.Content.{Content}
-use Rattle.hls_legal.specs.Hierarchy.{Hierarchy, Node, Loaded, Admitted, Stay, Tick, Wake, Asleep, name_of, start}
+use Rattle.hls_legal.specs.Hierarchy.{Hierarchy, Node, Loaded, Admitted, Stay, Tick, Wake, Asleep, name_of}
+use Rattle.hls_legal.specs.Hierarchy.{start}
 use Rattle.hls_legal.specs.Hierarchy.{Awake, Awake_for, is_just, was_served, had_asked}
 use Rattle.hls_legal.specs.Steps.{Step, Load, Admit, End, Unload, Move, Rouse, Block, Elapse}
 use Rattle.hls_legal.specs.Steps.{Path, thread_of, is_thread}
-use Rattle.hls_legal.specs.Steps.{with_wake, wake_by, roused, reseated, elapsed, nobody, loaded, admitted, after}
+use Rattle.hls_legal.specs.Steps.{with_wake, wake_by, roused, reseated, elapsed, nobody, loaded, admitted}
+use Rattle.hls_legal.specs.Steps.{after}
 use Rattle.hls_legal.specs.Steps.{state, hop_at, hops_of}
 use Rattle.hls_legal.specs.Legal.{Can, IsLegal, IsAsking, IsNew}
 use Rattle.hls_legal.proofs.Kept.{at_same, at_other}
@@ -52,7 +54,8 @@ module _ (c : Content) (h : Hierarchy) (k : ℕ) (how : Wake) where
   woken d = if d == k then roused how (h.nodes d) else h.nodes d
 
   named_if : (d : ℕ) (name : Text) (b : Bool)
-      → IsThreadNamed (λ x. if b then roused how (h.nodes x) else h.nodes x) d name → IsThreadNamed h.nodes d name
+      → IsThreadNamed (λ x. if b then roused how (h.nodes x) else h.nodes x) d name
+      → IsThreadNamed h.nodes d name
   named_if d name true t =
       let like = almost-roused how (h.nodes d) in
       record { is = sym like.sort ∙ t.is; named = sym like.name ∙ t.named }
@@ -75,7 +78,8 @@ module _ (c : Content) (h : Hierarchy) (k : ℕ) (how : Wake) where
       let u = named_then d name (d == k) t in
       record { is = u.is; named = u.named }
 
-  stay_woken : (stay : Stay) → IsStayTold c h stay stay.until → IsStayTold c (with_wake h k how) stay stay.until
+  stay_woken : (stay : Stay) → IsStayTold c h stay stay.until
+      → IsStayTold c (with_wake h k how) stay stay.until
   stay_woken stay s = record {
     past = s.past;
     asked = s.asked;
@@ -172,7 +176,8 @@ module _ (c : Content) (h : Hierarchy) (asking : ℕ → Bool) (masks : ℕ → 
   serves_later k name t x lo hi =
       let was = named_before k name t in
       let same = (alike-ticked (masks k) (hop_at (hops_of path) k) (h.nodes k)).wake in
-      let from = since_later h.now x (wake_of (h.nodes k)) (subst (λ w. wake_since (h.now + 1) w ≤ x) same lo) hi in
+      let from = since_later h.now x (wake_of (h.nodes k))
+      (subst (λ w. wake_since (h.now + 1) w ≤ x) same lo) hi in
       elim (cases_eq x h.now) [
         | inl e ↦ served_this k name x was e
         | inr ne ↦ served_past k x ne ∙ told.serves k name was x from (omega arith)
@@ -216,7 +221,8 @@ module _ (c : Content) (h : Hierarchy) (asking : ℕ → Bool) (masks : ℕ → 
 -- ---- a step, and a run
 
 woken_by : (ticks burst : Option ℕ) (now tick : ℕ) (name : Text) → ticks ≡ burst → tick ≡ now
-    → wake_by ticks now ≡ wake_from (Some (record { tick = tick; command = said.Wake name burst; answer = Done [] }))
+    → wake_by ticks now
+    ≡ wake_from (Some (record { tick = tick; command = said.Wake name burst; answer = Done [] }))
 woken_by ticks None now tick name e at = ap (λ (b : Option ℕ). wake_by b now) e
 woken_by ticks (Some n) now tick name e at = ap (λ (b : Option ℕ). wake_by b now) e
     ∙ ap (λ (t : ℕ). Awake_for n t) (sym at)
@@ -225,13 +231,16 @@ since_woken : (ticks : Option ℕ) (now : ℕ) → wake_since now (wake_by ticks
 since_woken None now = refl
 since_woken (Some n) now = refl
 
-pub old_name : (h : Hierarchy) → Unique h.nodes → (k : ℕ) (mine : Text) → HasName h k mine → (d : ℕ) (name : Text)
+pub old_name : (h : Hierarchy) → Unique h.nodes → (k : ℕ) (mine : Text) → HasName h k mine
+    → (d : ℕ) (name : Text)
     → d ≢ k → name_of (h.nodes d) ≡ Some name → mine ≢ name
-old_name h unique k mine has d name ne named e = ne (unique d k name named (has ∙ ap (λ (n : Text). Some n) e))
+old_name h unique k mine has d name ne named e = ne
+    (unique d k name named (has ∙ ap (λ (n : Text). Some n) e))
 
 pub new_name : (h : Hierarchy) (k : ℕ) (new mine : Text) → IsNew h k new → new ≡ mine → (d : ℕ) (name : Text)
     → d ≢ k → name_of (h.nodes d) ≡ Some name → mine ≢ name
-new_name h k new mine is same d name ne named e = is.fresh d (named ∙ ap (λ (n : Text). Some n) (sym (same ∙ e)))
+new_name h k new mine is same d name ne named e = is.fresh d
+    (named ∙ ap (λ (n : Text). Some n) (sym (same ∙ e)))
 
 pub step_told : (c : Content) (h : Hierarchy) (before : List Answered) (tick : ℕ) (command : Command)
     (answer : Answer) (step : Step) → Can h step → Answers h command answer step → tick ≡ h.now
@@ -241,7 +250,8 @@ step_told c h before tick command (Refused refusal) step can does at unique told
     let a : Answered = record { tick = tick; command = command; answer = Refused refusal } in
     subst (λ (s : Step). IsTold c (before ++ a ∷ []) (after h s)) (sym does)
     (told_refuse c before a h at (λ name. refl) told)
-step_told c h before tick (said.Load name config perches) (Done by) (Load k new set spare_ticks spare_marks seats)
+step_told c h before tick (said.Load name config perches) (Done by)
+    (Load k new set spare_ticks spare_marks seats)
     can does at unique told =
     let a : Answered = record { tick = tick; command = said.Load name config perches; answer = Done by } in
     let node : Option Node = Some (Loaded (loaded h.now new set spare_ticks spare_marks seats)) in
@@ -267,11 +277,13 @@ step_told c h before tick (said.Move name perch) (Done by) (Move k seat below) c
     let moved = moved-reseated seat (h.nodes k) in
     told_effect c h k node below before a at told
     (each_effect c h k node below a (old_name h unique k name does.0)
-    (λ n is named. Leaves (record { is = sym moved.sort ∙ is; named = sym moved.name ∙ named }) moved.wake refl))
+    (λ n is named. Leaves (record { is = sym moved.sort ∙ is; named = sym moved.name ∙ named }) moved.wake
+    refl))
 step_told c h before tick (said.Wake name burst) (Done by) (Rouse k ticks) can does at unique told =
     let a : Answered = record { tick = tick; command = said.Wake name burst; answer = Done by } in
     told_wake c h k (wake_by ticks h.now) before a at told
-    (each_wake c h k (wake_by ticks h.now) a unique does.0 (ap is_thread can.there) (names_same name name refl)
+    (each_wake c h k (wake_by ticks h.now) a unique does.0 (ap is_thread can.there)
+    (names_same name name refl)
     (woken_by ticks burst h.now tick name does.1 at) (since_woken ticks h.now))
 step_told c h before tick (said.Block name) (Done by) (Block k) can does at unique told =
     let a : Answered = record { tick = tick; command = said.Block name; answer = Done by } in
@@ -296,7 +308,8 @@ run_told (Elapse asking masks path ∷ steps) c h before left all reached legal 
 run_told (step ∷ steps) c h before (a ∷ left) all reached legal tells told =
     run_told steps c (after h step) (before ++ a ∷ []) left (one_more c before left a all)
     (reached_next h step reached legal.0) legal.1 tells.2
-    (step_told c h before a.tick a.command a.answer step legal.0 tells.1 tells.0 (listed h reached).names told)
+    (step_told c h before a.tick a.command a.answer step legal.0 tells.1 tells.0 (listed h reached).names
+    told)
 run_told (step ∷ steps) c h before [] all reached legal tells told = absurd tells
 
 pub start_told : (c : Content) → IsTold c [] start
@@ -309,4 +322,5 @@ start_told c = record {
 
 pub told_run : (c : Content) (steps : List Step) → IsLegal start steps → Tells c steps
     → IsTold c c.answered (state start steps)
-told_run c steps legal tells = run_told steps c start [] c.answered refl reached_start legal tells (start_told c)
+told_run c steps legal tells = run_told steps c start [] c.answered refl reached_start legal tells
+    (start_told c)

@@ -17,7 +17,8 @@ use Rattle.hls_accounts.specs.Ready.{is_ready}
 use Rattle.hls_accounts.proofs.Rousings.{name_in, missed, not_meant, wake_since}
 use Rattle.hls_accounts.proofs.Alike.{wake_of}
 use Rattle.hls_accounts.proofs.Alike.{alike_other, alike_same}
-use Rattle.hls_accounts.proofs.Told.{IsThreadNamed, Wakes, Serves, Rouses, Leaves, Makes, RousesEach, wakes_step}
+use Rattle.hls_accounts.proofs.Told.{IsThreadNamed, Wakes, Serves, Rouses, Leaves, Makes, RousesEach}
+use Rattle.hls_accounts.proofs.Told.{wakes_step}
 use Rattle.hls_accounts.proofs.Told.{serves_step}
 
 -- what a report tells of a stay up to its end
@@ -85,7 +86,8 @@ module _ (c : Content) (h : Hierarchy) (k : ℕ) (node : Option Node) (below : �
     past = omega arith;
     asked = s.asked;
     served = s.served;
-    open_yet = λ is. named_on stay.thread stay.name (not_it stay.thread (below stay.thread) e) (s.open_yet refl);
+    open_yet = λ is. named_on stay.thread stay.name (not_it stay.thread (below stay.thread) e)
+        (s.open_yet refl);
   }
   closed_told stay (Some until) s true e = record {
     past = s.past;
@@ -100,7 +102,8 @@ module _ (c : Content) (h : Hierarchy) (k : ℕ) (node : Option Node) (below : �
     open_yet = λ is. absurd (cc);
   }
 
-  begun_told : (d : ℕ) (there : Option Node) → made.nodes d ≡ there → AreStaysTold c made (stay_of h.now d there)
+  begun_told : (d : ℕ) (there : Option Node) → made.nodes d ≡ there
+      → AreStaysTold c made (stay_of h.now d there)
   begun_told d None e = tt
   begun_told d (Some (Loaded s)) e = tt
   begun_told d (Some (Admitted t)) e = (

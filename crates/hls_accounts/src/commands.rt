@@ -25,26 +25,26 @@ pub fn is_done(answer: &Answer) -> bool
 }
 
 /// Whether a command admits, wakes, blocks or ends the thread of a name.
-fn rouses(name: &Name, command: &Command) -> bool
-    ensures { result ≡ said.rouses name.now command.now }
+fn rouses(thread: &Name, command: &Command) -> bool
+    ensures { result ≡ said.rouses thread.now command.now }
 {
     match command {
-        Command::Thread { name: other, .. } => same_name(other, name),
-        Command::End { name: other } => same_name(other, name),
-        Command::Wake { name: other, .. } => same_name(other, name),
-        Command::Block { name: other } => same_name(other, name),
+        Command::Thread { name, .. } => same_name(name, thread),
+        Command::End { name } => same_name(name, thread),
+        Command::Wake { name, .. } => same_name(name, thread),
+        Command::Block { name } => same_name(name, thread),
         _ => false,
     }
 }
 
 /// Whether a command gives the node of a name its seats.
-fn seats(name: &Name, command: &Command) -> bool
-    ensures { result ≡ said.seats name.now command.now }
+fn seats(node: &Name, command: &Command) -> bool
+    ensures { result ≡ said.seats node.now command.now }
 {
     match command {
-        Command::Load { name: other, .. } => same_name(other, name),
-        Command::Thread { name: other, .. } => same_name(other, name),
-        Command::Move { name: other, .. } => same_name(other, name),
+        Command::Load { name, .. } => same_name(name, node),
+        Command::Thread { name, .. } => same_name(name, node),
+        Command::Move { name, .. } => same_name(name, node),
         _ => false,
     }
 }

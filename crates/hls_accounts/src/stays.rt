@@ -114,7 +114,8 @@ fn want(name: &Name, commands: &[Answered]) -> Guarantee
 /// The stay of a thread that the command at a place opens.
 fn stay(answered: &[Answered], place: usize, since: u32, name: &Name) -> Stay
     requires { place < length answered.now }
-    ensures { result ≡ told.stay_of (take (place + 1) answered.now) (drop (place + 1) answered.now) since name.now }
+    ensures { result
+        ≡ told.stay_of (take (place + 1) answered.now) (drop (place + 1) answered.now) since name.now }
 {
     Stay {
         name: *name,

@@ -4,7 +4,8 @@ use Rattle.hls_accounts.proofs.stays.closed.Goals as goal
 
 pub returns-then-closes : goal.returns-then-closes
 returns-then-closes c =
-    sym (closed-hit c.args.answered.now c.loop-i.i c.index-answered-i.result c.args.name.now c.loop-i-test.true
+    sym (closed-hit c.args.answered.now c.loop-i.i c.index-answered-i.result c.args.name.now
+    c.loop-i-test.true
     c.index-answered-i.is (sym c.closes.ensures ∙ c.if-closes.true))
     ∙ c.loop-i.invariant
 

@@ -23,4 +23,5 @@ loop-i-preserved c =
     ]) c.loop-i.invariant
 
 pub returns : goal.returns
-returns c = threads-all c.args.answered.now c.loop-i.i c.loop-i.names.items _ c.loop-i-test.false c.loop-i.invariant
+returns c = threads-all c.args.answered.now c.loop-i.i c.loop-i.names.items _ c.loop-i-test.false
+    c.loop-i.invariant

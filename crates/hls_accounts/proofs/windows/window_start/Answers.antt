@@ -13,11 +13,13 @@ loop-tick-preserved c =
     let stay = c.args.stay.now in
     elim c.if-not-is_ready.branch [
       | then-not-is_ready w ↦
-          subst (λ (n : ℕ). IsReadySince content stay.name stay.since n (c.loop-tick.tick + 1)) (sym w.from-is)
+          subst (λ (n : ℕ). IsReadySince content stay.name stay.since n (c.loop-tick.tick + 1))
+          (sym w.from-is)
           (since_anew content stay.name stay.since c.loop-tick.from c.loop-tick.tick c.loop-tick.invariant
           (sym c.is_ready.ensures ∙ w.if-not-is_ready.true))
       | else-not-is_ready w ↦
-          subst (λ (n : ℕ). IsReadySince content stay.name stay.since n (c.loop-tick.tick + 1)) (sym w.from-is)
+          subst (λ (n : ℕ). IsReadySince content stay.name stay.since n (c.loop-tick.tick + 1))
+          (sym w.from-is)
           (since_next content stay.name stay.since c.loop-tick.from c.loop-tick.tick c.loop-tick.invariant
           (sym c.is_ready.ensures ∙ w.if-not-is_ready.false))
     ]
