@@ -1,0 +1,75 @@
+// The ticks that the runs of a report spell.
+ghost use Rattle.std.specs.Prelude.{◌≡◌, ◌-◌, ◌&&◌, [], nat_le, is_none, find, slice_get, get_or, take};
+ghost use Rattle.std.specs.Prelude.{length};
+ghost use Rattle.hls_report.specs.Content.{content_of, path_names};
+ghost use Rattle.hls_accounts.specs.Schedule as spelled;
+
+use hls_chron::Name;
+use hls_report::{Path, Report, Run};
+
+/// The run that has a tick.
+fn run_at(runs: &[Run], tick: u32) -> Option<Run>
+    ensures { result ≡ find (λ (run : Run). nat_le run.from tick && nat_le tick run.to) runs.now }
+{
+    runs.iter()
+        .copied()
+        .find(|run| run.from <= tick && tick <= run.to)
+}
+
+/// The place, in the report's list of names, of the thread that a path ends in.
+fn last_place(path: &Path) -> Option<u16>
+    ensures { result ≡ slice_get (take path.now.len path.now.names)
+        (length (take path.now.len path.now.names) - 1) }
+{
+    path.names
+        .iter()
+        .copied()
+        .take(usize::from(path.len))
+        .last()
+}
+
+/// The name at a place of a list, and nothing where there is none.
+fn name_at(names: &[Name], place: u16) -> &[u8]
+    ensures { result.now ≡ get_or names.now place [] }
+{
+    match names.get(usize::from(place)) {
+        Some(name) => name.bytes(),
+        None => b"",
+    }
+}
+
+/// Whether a path ends in the thread of a name.
+fn ends_in(names: &[Name], path: &Path, name: &Name) -> bool
+    ensures { result ≡ spelled.is_name name.now (spelled.last_name (path_names names.now path.now)) }
+{
+    match last_place(path) {
+        Some(place) => name_at(names, place) == name.bytes(),
+        None => false,
+    }
+}
+
+/// Whether a tick is idle.
+pub fn is_idle(report: &Report, tick: u32) -> bool
+    ensures { result ≡ is_none (spelled.path_at (content_of report.now).stretches tick) }
+{
+    match run_at(report.runs.items(), tick) {
+        Some(run) => match run.path {
+            Some(_) => false,
+            None => true,
+        },
+        None => true,
+    }
+}
+
+/// Whether the thread of a name is served in a tick.
+pub fn is_served(report: &Report, name: &Name, tick: u32) -> bool
+    ensures { result ≡ spelled.is_served (content_of report.now).stretches name.now tick }
+{
+    match run_at(report.runs.items(), tick) {
+        Some(run) => match run.path {
+            Some(path) => ends_in(report.names.items(), &path, name),
+            None => false,
+        },
+        None => false,
+    }
+}
