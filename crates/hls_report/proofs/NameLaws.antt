@@ -55,7 +55,8 @@ equal_is a b =
     same_truth (eq-value.it a b) (bytes_eq a b) (λ e. (bytes_eq-Decides a b).1 (equal-same a b e))
     (λ e. subst (λ (t : Text). eq-value.it a t ≡ true) ((bytes_eq-Decides a b).0 e) (equal-self a))
 
-pub any_is : (name : Text) (known : List Text) → list_any (eq-value.it name) known ≡ list_any (bytes_eq name) known
+pub any_is : (name : Text) (known : List Text)
+    → list_any (eq-value.it name) known ≡ list_any (bytes_eq name) known
 any_is name [] = refl
 any_is name (k ∷ known) = rw (equal_is name k) (rw (any_is name known) refl)
 
@@ -64,7 +65,8 @@ pub known_is : (name : Text) (known new : List Text)
 known_is name known new e = e ∙ ap (λ (b : Bool). cond b known (known ++ name ∷ [])) (any_is name known)
 
 pub place_is : (name : Text) (known : List Text) (place : ℕ)
-    → (k : Text) × (slice_get known place ≡ Some k) × (eq-value.it name k ≡ true) → get_or known place [] ≡ name
+    → (k : Text) × (slice_get known place ≡ Some k) × (eq-value.it name k ≡ true)
+    → get_or known place [] ≡ name
 place_is name known place h = get_or_from_slice_get known place h.0 [] h.1 ∙ sym (equal-same name h.0 h.2)
 
 -- ---- further names

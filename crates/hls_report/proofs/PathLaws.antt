@@ -1,6 +1,7 @@
 -- The words of a path are read name by name.
 use Rattle.std.proofs.Common.{◌≡◌, ℕ, suc, ◌+◌, ◌^◌, ◌<◌, ◌≤◌, Bool, true, false, cond, List, [], ◌∷◌}
-use Rattle.std.proofs.Common.{◌++◌, length, get_or, take, drop, refl, sym, ap, ◌∙◌, subst, arith, append_assoc}
+use Rattle.std.proofs.Common.{◌++◌, length, get_or, take, drop, refl, sym, ap, ◌∙◌, subst, arith}
+use Rattle.std.proofs.Common.{append_assoc}
 use Rattle.std.specs.Prelude.{◌==◌, ◌||◌, nat_lt, not, codes, position, Option, Some, None}
 use Rattle.std.specs.List.{AllByRecursion, list_any, position_or_len}
 use Rattle.std.proofs.Math.Seq.{take-append_seam, drop-append_seam}
@@ -107,7 +108,8 @@ pub record SoFar (known now : List Text) (text rest : Text) (path : Path) : Type
 abbrev pub no_places : Path
 no_places = record { len = 0; names = 0 ∷ 0 ∷ 0 ∷ 0 ∷ 0 ∷ 0 ∷ 0 ∷ 0 ∷ 0 ∷ [] }
 
-pub none_yet : (known : List Text) (text : Text) → length known ≤ 2 ^ 16 → SoFar known known text text no_places
+pub none_yet : (known : List Text) (text : Text) → length known ≤ 2 ^ 16
+    → SoFar known known text text no_places
 none_yet known text few = record {
   short = omega arith;
   counted = refl;
@@ -277,4 +279,5 @@ all_read known now text rest path s end some =
 
 pub is_none : (text : Text) → true ≡ (length text == 0) → text ≡ []
 is_none [] e = refl
-is_none (b ∷ bs) e = absurd (let f : suc (length bs) ≡ 0 = eqb-true (suc (length bs)) 0 (sym e) in omega (arith, f))
+is_none (b ∷ bs) e =
+    absurd (let f : suc (length bs) ≡ 0 = eqb-true (suc (length bs)) 0 (sym e) in omega (arith, f))

@@ -1,6 +1,6 @@
 -- The runs are read line by line.
-use Rattle.std.proofs.Common.{◌≡◌, ℕ, ◌+◌, ◌^◌, ◌<◌, ◌≤◌, List, [], ◌∷◌, ◌++◌, length, take, refl, sym, ap, ◌∙◌}
-use Rattle.std.proofs.Common.{subst, arith, inl, inr}
+use Rattle.std.proofs.Common.{◌≡◌, ℕ, ◌+◌, ◌^◌, ◌<◌, ◌≤◌, List, [], ◌∷◌, ◌++◌, length, take, refl, sym}
+use Rattle.std.proofs.Common.{ap, ◌∙◌, subst, arith, inl, inr}
 use Rattle.std.specs.Prelude.{codes, map, option_map, Option, Some, None}
 use Rattle.std.specs.Prelude.{Result, Ok, Err, IfErr}
 use Rattle.std.specs.Result.{IsErrAnd}
@@ -297,7 +297,8 @@ stretches_more known new runs run g are =
     map-append (stretch_of new) runs (run ∷ [])
     ∙ ap (λ (ss : List Stretch). ss ++ stretch_of new run ∷ []) (runs_stay known new runs g are)
 
-pub one_run_more : (h : ℕ) (known new : List Text) (runs : List Run) (from : ℕ) (last words : Text) (run : Run)
+pub one_run_more : (h : ℕ) (known new : List Text) (runs : List Run) (from : ℕ) (last words : Text)
+    (run : Run)
     (start old now : Lines) → RunsRead h known runs from last start old
     → IsRunRead h from last known new words run old now
     → RunsRead h new (runs ++ run ∷ []) (run.to + 1) words start now
@@ -321,7 +322,8 @@ one_run_more h known new runs from last words run start old now r m =
         few = m.path.few;
       };
       short = all_append (λ one. HasShort one.path) runs (run ∷ []) r.short (m.path.short, tt);
-      inside = all_append (λ one. IsInside new one.path) runs (run ∷ []) (runs_inside known new runs g r.inside)
+      inside = all_append (λ one. IsInside new one.path) runs (run ∷ [])
+          (runs_inside known new runs g r.inside)
           (m.path.inside, tt);
       cover = moved (λ ts. Cover 0 None ts (run.to + 1)) (cover_more 0 from None ss s r.cover n.start
           n.forward n.path n.other);
@@ -344,8 +346,8 @@ pub run_fails : (h : ℕ) (known : List Text) (runs : List Run) (from : ℕ) (la
     → FailsAt (RunRest h 0 None []) start fault
 run_fails h known runs from last start old fault r fails =
     let ss = map (stretch_of known) runs in
-    fail_behind (RunRest h 0 None []) (RunRest h from (last_path None ss) known) (map stretch_text ss) start old
-    fault r.passes (fails (last_path None ss) r.path)
+    fail_behind (RunRest h 0 None []) (RunRest h from (last_path None ss) known) (map stretch_text ss)
+    start old fault r.passes (fails (last_path None ss) r.path)
 
 pub accounts_fail : (h : ℕ) (known : List Text) (runs : List Run) (from : ℕ) (last : Text)
     (start old : Lines) (fault : ReportFault) → RunsRead h known runs from last start old → h ≤ from
@@ -354,8 +356,8 @@ accounts_fail h known runs from last start old fault r reached fails =
     let ss = map (stretch_of known) runs in
     let le = r.le in
     let at : h ≡ from = omega arith in
-    fail_behind (RunRest h 0 None []) (RunRest h from (last_path None ss) known) (map stretch_text ss) start old
-    fault r.passes (subst (λ (n : ℕ). FailsAt (RunRest h n (last_path None ss) known) old fault) at
+    fail_behind (RunRest h 0 None []) (RunRest h from (last_path None ss) known) (map stretch_text ss)
+    start old fault r.passes (subst (λ (n : ℕ). FailsAt (RunRest h n (last_path None ss) known) old fault) at
     (fails h (last_path None ss) known))
 
 pub whole_schedule : (h : ℕ) (known names : List Text) (runs : List Run) (from : ℕ) (last : Text)

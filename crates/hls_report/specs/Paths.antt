@@ -1,5 +1,6 @@
 -- How the words of a path are read, and what was read.
-use Rattle.std.specs.Prelude.{◌≡◌, ℕ, ◌^◌, ◌≤◌, ◌<◌, ◌==◌, ◌++◌, List, take, drop, length, codes, flat_map, Option, Some}
+use Rattle.std.specs.Prelude.{◌≡◌, ℕ, ◌^◌, ◌≤◌, ◌<◌, ◌==◌, ◌++◌, List, take, drop, length, codes}
+use Rattle.std.specs.Prelude.{flat_map, Option, Some}
 use Rattle.std.specs.List.{AllByRecursion, position_or_len}
 use Rattle.hls_text.specs.Lines.{Text}
 use Rattle.hls_derive.specs.Reading.{◌>>=◌, after_words}

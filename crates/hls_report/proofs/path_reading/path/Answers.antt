@@ -10,14 +10,14 @@ loop-first-init c = none_yet c.args.known.now.keys c.args.text.now c.requires
 pub returns-then-path-eq-MOST_PARTS : goal.returns-then-path-eq-MOST_PARTS
 returns-then-path-eq-MOST_PARTS c =
     too_long c.args.known.now.keys c.loop-first.known.keys c.args.text.now c.loop-first.rest.now
-    c.in-Some.first.name c.in-Some.first.rest.now c.loop-first.path c.loop-first.invariant c.in-Some.ensures.read
-    c.if-path-eq-MOST_PARTS.true
+    c.in-Some.first.name c.in-Some.first.rest.now c.loop-first.path c.loop-first.invariant
+    c.in-Some.ensures.read c.if-path-eq-MOST_PARTS.true
 
 pub returns-then-len-gt-MOST_NAMES : goal.returns-then-len-gt-MOST_NAMES
 returns-then-len-gt-MOST_NAMES c =
     too_many c.args.known.now.keys c.loop-first.known.keys c.place_in.new.known.keys c.args.text.now
-    c.loop-first.rest.now c.in-Some.first.name c.in-Some.first.rest.now c.loop-first.path c.loop-first.invariant
-    c.in-Some.ensures.read c.in_ok-place.ensures.known
+    c.loop-first.rest.now c.in-Some.first.name c.in-Some.first.rest.now c.loop-first.path
+    c.loop-first.invariant c.in-Some.ensures.read c.in_ok-place.ensures.known
     (let many = c.if-len-gt-MOST_NAMES.true in let len = c.len.ensures.len in omega (arith, many, len))
 
 pub push-requires : goal.push-requires
@@ -47,7 +47,8 @@ loop-first-preserved c =
 pub returns-then-path-gt0 : goal.returns-then-path-gt0
 returns-then-path-gt0 c =
     all_read c.args.known.now.keys c.loop-first.known.keys c.args.text.now c.loop-first.rest.now
-    c.loop-first.path c.loop-first.invariant (is_none c.loop-first.rest.now (c.if-is_empty.ensures)) c.if-path-gt0.true
+    c.loop-first.path c.loop-first.invariant (is_none c.loop-first.rest.now c.if-is_empty.ensures)
+    c.if-path-gt0.true
 
 pub returns-else-is_empty : goal.returns-else-is_empty
 returns-else-is_empty c =
@@ -55,5 +56,6 @@ returns-else-is_empty c =
     c.loop-first.path c.loop-first.invariant c.in_default.ensures.read
     (λ none some. elim c.else-is_empty.either [
       | inl e ↦ let zero = e.1 in omega (arith, zero, some)
-      | inr e ↦ let no : false ≡ true = sym e ∙ c.is_empty.ensures ∙ ap (λ (t : List ℕ). length t == 0) none in cc
+      | inr e ↦
+          let no : false ≡ true = sym e ∙ c.is_empty.ensures ∙ ap (λ (t : List ℕ). length t == 0) none in cc
     ])

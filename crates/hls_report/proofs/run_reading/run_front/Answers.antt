@@ -3,7 +3,8 @@ use Rattle.hls_report.proofs.RunSteps.{no_front, other_front}
 use Rattle.hls_report.proofs.run_reading.run_front.Goals as goal
 
 pub returns-in_default : goal.returns-in_default
-returns-in_default c = no_front c.args.horizon c.args.from c.args.line.now c.requires c.in_default.ensures.read
+returns-in_default c =
+    no_front c.args.horizon c.args.from c.args.line.now c.requires c.in_default.ensures.read
 
 pub returns-else-first-from : goal.returns-else-first-from
 returns-else-first-from c =
