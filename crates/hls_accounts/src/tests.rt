@@ -9,7 +9,7 @@ use std::test::Fail;
 #[test]
 fn recomputes_the_accounts_of_worked_rows(rt: HostRuntime) -> Result<(), Fail> {
     for (row, text) in ROWS {
-        if text.len() > 1000 {
+        if text.len() > 4000 {
             return Err(Fail::from("a row is too long"));
         }
         match read_report(rt.alloc(), text) {

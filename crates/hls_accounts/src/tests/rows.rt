@@ -1223,4 +1223,123 @@ idle 3
 end
 ",
     ),
+    (
+        "names used again below moved schedulers",
+        b"hls-report 1
+horizon 30
+depth 3
+at 0 load root fp on cpu as ALL
+= done
+by root 0 ALL CPU ALL
+at 0 load mid fp on root prio 1 as NULL
+= done
+by mid 0 ALL FP NULL
+at 0 load low rr 1 on mid prio 0 as NULL
+= done
+by low 0 NULL FP NULL
+at 0 thread a on low turn as NULL
+= done
+by a 0 NULL RR NULL
+at 0 thread b on low turn as NULL
+= done
+by b 0 NULL RR NULL
+at 0 thread c on root prio 0 as ALL
+= done
+by c 0 ALL FP ALL
+at 1 wake a
+= done
+at 1 wake b for 3
+= done
+at 4 wake c for 2
+= done
+at 4 block a
+= done
+at 5 wake a for 9
+= done
+at 8 end a
+= done
+at 8 thread a on mid prio 3 as NULL
+= done
+by a 0 NULL FP NULL
+at 8 move mid to root prio 5 as NULL
+= done
+by mid 0 ALL FP NULL
+by low 0 NULL FP NULL
+by a 0 NULL FP NULL
+at 8 move root to cpu as NULL
+= refused 18 SeatsFull cpu 1
+at 10 move b to mid prio 7 as NULL
+= done
+by b 0 NULL FP NULL
+at 12 wake a for 4
+= done
+at 14 move low to mid prio 9 as NULL
+= done
+by low 0 NULL FP NULL
+at 15 move a to low turn as NULL
+= done
+by a 0 NULL RR NULL
+at 18 end b
+= done
+at 18 end a
+= done
+at 18 unload low
+= done
+at 18 thread low on mid prio 2 as NULL
+= done
+by low 0 NULL FP NULL
+at 19 wake low
+= done
+at 20 thread a on root prio 9 as NULL
+= done
+by a 0 ALL FP NULL
+at 22 wake a
+= done
+at 22 block low
+= done
+at 24 move mid to root prio 6 as NULL
+= done
+by mid 0 ALL FP NULL
+by low 0 NULL FP NULL
+at 26 end low
+= done
+at 27 load low wheel 4 on mid prio 2 as NULL
+= done
+by low 0 NULL FP NULL
+at 28 move low to root prio 11 as NULL
+= done
+by low 0 ALL FP NULL
+at 29 end a
+= done
+schedule
+0..0 idle
+1..1 cpu/root/mid/low/a
+2..2 cpu/root/mid/low/b
+3..3 cpu/root/mid/low/a
+4..5 cpu/root/c
+6..6 cpu/root/mid/low/b
+7..7 cpu/root/mid/low/a
+8..8 cpu/root/mid/low/b
+9..11 idle
+12..14 cpu/root/mid/a
+15..15 cpu/root/mid/low/a
+16..18 idle
+19..21 cpu/root/mid/low
+22..28 cpu/root/a
+29..29 idle
+accounts
+a 0..7 NULL ready 6 served 3
+b 0..7 NULL ready 7 served 2
+c 0..29 ALL ready 2 served 2
+b 8..9 NULL ready 1 served 1
+a 8..14 NULL ready 3 served 3
+b 10..17 NULL ready 0 served 0
+a 15..17 NULL ready 1 served 1
+low 18..23 NULL ready 3 served 3
+a 20..28 NULL ready 7 served 7
+low 24..25 NULL ready 0 served 0
+idle 8
+end
+",
+    ),
 ];
