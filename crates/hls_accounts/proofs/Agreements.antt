@@ -5,6 +5,7 @@ use Rattle.std.specs.Prelude.{All, Option, Some, None, map, filter, nat_lt, is_n
 use Rattle.std.proofs.lemmas.List.Elements.{All-from_recursion}
 use Rattle.hls_chron.specs.Ticks.{count}
 use Rattle.hls_chron.proofs.CountLaws.{count-agree}
+use Rattle.hls_text.specs.Lines.{Text}
 use Rattle.hls_report.specs.declared.report.Account.{Account}
 use Rattle.hls_report.specs.Content.{Content}
 use Rattle.hls_legal.specs.Hierarchy.{Hierarchy, start, was_served, had_asked}
@@ -127,4 +128,11 @@ idle_told c steps legal tells =
     let t = telling_run c steps legal tells in
     ap (count (λ x. is_none (path_at c.stretches x)) 0) (sym t.now)
     ∙ count-agree (λ x. is_none (path_at c.stretches x)) (λ x. is_none (h.past x).to) 0 h.now
-    (λ x lo hi. t.all.idle x (omega arith))
+    (λ x lo hi. t.all.past.0 x (omega arith))
+
+pub ran_ready : (c : Content) (steps : List Step) → IsLegal start steps → Tells c steps → (t : ℕ) (name : Text)
+    → t < c.horizon → is_served c.stretches name t ≡ true → is_ready c name t ≡ true
+ran_ready c steps legal tells t name lt on =
+    let all = telling_run c steps legal tells in
+    let now = all.now in
+    all.all.past.1 t name (omega arith) on

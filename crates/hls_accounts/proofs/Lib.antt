@@ -13,6 +13,7 @@ pub mod Seatings
 pub mod Depths
 pub mod Orders
 pub mod OrderSteps
+pub mod Past
 pub mod OrderRuns
 pub mod Keeping
 pub mod TickLists

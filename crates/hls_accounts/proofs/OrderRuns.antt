@@ -41,6 +41,7 @@ use Rattle.hls_accounts.proofs.Alike.{IsAlmost, alike_same, alike-ticked, almost
 use Rattle.hls_accounts.proofs.Told.{IsThreadNamed, Unique}
 use Rattle.hls_accounts.proofs.ToldSteps.{IsTold}
 use Rattle.hls_accounts.proofs.ToldRuns.{step_told, told_tick, old_name, new_name, one_more, start_told}
+use Rattle.hls_accounts.proofs.Past.{PastTold, tick_past}
 use Rattle.hls_accounts.proofs.StayLaws.{stands_by, closed-nil}
 use Rattle.hls_accounts.proofs.StaySnoc.{goes_on, threads_snoc}
 use Rattle.hls_accounts.proofs.Seatings.{perches_from, kept_in, AreSeatedBy, seating_hit}
@@ -435,29 +436,7 @@ step_ordered c h before tick (said.Block name) (Done by) (Block k) reached can d
     (λ n. refl) (λ n. refl) refl (λ n. refl) refl
 step_ordered c h before tick _ (Done by) _ reached can does at told ord = absurd does
 
--- ticks that are idle
-abbrev pub IdleTold : Content → Hierarchy → Type 0
-IdleTold c h = (x : ℕ) → x < h.now → is_none (path_at c.stretches x) ≡ is_none (h.past x).to
-
-idle_names : (h : Hierarchy) (path : Option Path) (names : Option (List Text)) → Names h path names
-    → is_none names ≡ is_none (thread_of path)
-idle_names h None None told = refl
-idle_names h None (Some names) told = absurd told
-idle_names h (Some path) None told = absurd told
-idle_names h (Some path) (Some names) told = refl
-
-tick_idle : (c : Content) (h : Hierarchy) (asking : ℕ → Bool) (masks : ℕ → ℕ) (path : Option Path)
-    → Names h path (path_at c.stretches h.now) → IdleTold c h → IdleTold c (elapsed h asking masks path)
-tick_idle c h asking masks path told idle x lt = elim (cases_eq x h.now) [
-  | inl e ↦ ap (λ t. is_none (path_at c.stretches t)) e
-      ∙ idle_names h path (path_at c.stretches h.now) told
-      ∙ sym (ap (λ (w : Tick). is_none w.to)
-      (at_same x h.now (record { asking = asking; to = thread_of path }) (h.past x) e))
-  | inr ne ↦ idle x (omega arith)
-      ∙ sym (ap (λ (w : Tick). is_none w.to)
-      (at_other x h.now (record { asking = asking; to = thread_of path }) (h.past x) ne))
-]
-
+-- commands leave the past
 no_elapse : (h : Hierarchy) (command : Command) (asking : ℕ → Bool) (masks : ℕ → ℕ) (path : Option Path)
     → Does h command (Elapse asking masks path) → ⊥
 no_elapse h (said.Load name config perches) asking masks path does = does
@@ -468,26 +447,26 @@ no_elapse h (said.Move name perch) asking masks path does = does
 no_elapse h (said.Wake name burst) asking masks path does = does
 no_elapse h (said.Block name) asking masks path does = does
 
-step_idle : (c : Content) (h : Hierarchy) (command : Command) (answer : Answer) (step : Step)
-    → Answers h command answer step → IdleTold c h → IdleTold c (after h step)
-step_idle c h command (Refused refusal) step does idle =
-    subst (λ (s : Step). IdleTold c (after h s)) (sym does) idle
-step_idle c h command (Done by) Refuse does idle = idle
-step_idle c h command (Done by) (Load k new set spare_ticks spare_marks held) does idle = idle
-step_idle c h command (Done by) (Admit k new seat) does idle = idle
-step_idle c h command (Done by) (End k) does idle = idle
-step_idle c h command (Done by) (Unload k) does idle = idle
-step_idle c h command (Done by) (Move k seat below) does idle = idle
-step_idle c h command (Done by) (Rouse k ticks) does idle = idle
-step_idle c h command (Done by) (Block k) does idle = idle
-step_idle c h command (Done by) (Elapse asking masks path) does idle = absurd
+step_past : (c : Content) (h : Hierarchy) (command : Command) (answer : Answer) (step : Step)
+    → Answers h command answer step → PastTold c h → PastTold c (after h step)
+step_past c h command (Refused refusal) step does past =
+    subst (λ (s : Step). PastTold c (after h s)) (sym does) past
+step_past c h command (Done by) Refuse does past = past
+step_past c h command (Done by) (Load k new set spare_ticks spare_marks held) does past = past
+step_past c h command (Done by) (Admit k new seat) does past = past
+step_past c h command (Done by) (End k) does past = past
+step_past c h command (Done by) (Unload k) does past = past
+step_past c h command (Done by) (Move k seat below) does past = past
+step_past c h command (Done by) (Rouse k ticks) does past = past
+step_past c h command (Done by) (Block k) does past = past
+step_past c h command (Done by) (Elapse asking masks path) does past = absurd
     (no_elapse h command asking masks path does)
 
 -- all of it, at the end of a run
 pub record IsTelling (c : Content) (before : List Answered) (h : Hierarchy) : Type 0 where
   pub told : IsTold c before h
   pub ordered : IsOrdered before h
-  pub idle : IdleTold c h
+  pub past : PastTold c h
 
 pub record IsTellingAll (c : Content) (h : Hierarchy) : Type 0 where
   pub now : h.now ≡ c.horizon
@@ -509,7 +488,7 @@ run_telling (Elapse asking masks path ∷ steps) c h before left all reached leg
           tells.0
           t.told;
       ordered = tick_ordered c h before reached t.told t.ordered asking masks path;
-      idle = tick_idle c h asking masks path tells.1 t.idle;
+      past = tick_past c h asking masks path before left legal.0.1 tells.1 all tells.0 t.told t.past;
     })
 run_telling (step ∷ steps) c h before (a ∷ left) all reached legal tells t =
     run_telling steps c (after h step) (before ++ a ∷ []) left (one_more c before left a all)
@@ -519,7 +498,7 @@ run_telling (step ∷ steps) c h before (a ∷ left) all reached legal tells t =
           (lists_of h reached).names t.told;
       ordered = step_ordered c h before a.tick a.command a.answer step reached legal.0 tells.1 tells.0 t.told
           t.ordered;
-      idle = step_idle c h a.command a.answer step tells.1 t.idle;
+      past = step_past c h a.command a.answer step tells.1 t.past;
     })
 run_telling (step ∷ steps) c h before [] all reached legal tells t = absurd tells
 
@@ -532,8 +511,11 @@ start_ordered = record {
   stays = refl;
 }
 
+start_past : (c : Content) → PastTold c start
+start_past c = (λ x lt. absurd (omega arith), λ x name lt on. absurd (omega arith))
+
 pub telling_run : (c : Content) (steps : List Step) → IsLegal start steps → Tells c steps
     → IsTellingAll c (state start steps)
 telling_run c steps legal tells =
     run_telling steps c start [] c.answered refl reached_start legal tells
-    (record { told = start_told c; ordered = start_ordered; idle = λ x lt. absurd (omega arith) })
+    (record { told = start_told c; ordered = start_ordered; past = start_past c })

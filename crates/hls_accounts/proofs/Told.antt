@@ -109,7 +109,7 @@ last_named xs last names e =
 abbrev name_in : (ℕ → Option Node) → ℕ → Option Text
 name_in nodes k = name_of (nodes k)
 
-path_named : (h : Hierarchy) (path : Path) (names : List Text)
+pub path_named : (h : Hierarchy) (path : Path) (names : List Text)
     → map (name_in h.nodes) (nodes_on path) ≡ map (λ n. Some n) names
     → last_name names ≡ name_of (h.nodes path.thread)
 path_named h path names e =

@@ -1,14 +1,16 @@
 //! What a report tells of the legal run that it tells: each function's contract is a law, and its body does
 //! nothing.
 
-ghost use Rattle.std.specs.Prelude.{◌≡◌, ◌<◌, ℕ, List, All, Some, map, length, slice_get};
+ghost use Rattle.std.specs.Prelude.{◌≡◌, ◌<◌, ℕ, List, All, Some, true, map, length, slice_get};
+ghost use Rattle.hls_text.specs.Lines.{Text};
 ghost use Rattle.hls_report.specs.Content.{Content};
 ghost use Rattle.hls_report.specs.WellFormed.{IsContent};
 ghost use Rattle.hls_legal.specs.Hierarchy.{start};
 ghost use Rattle.hls_legal.specs.Steps.{Step, state};
 ghost use Rattle.hls_legal.specs.Legal.{IsLegal};
 ghost use Rattle.hls_legal.specs.Supplied.{KeepsStays};
-ghost use Rattle.hls_accounts.specs.Schedule.{tick_list, path_at};
+ghost use Rattle.hls_accounts.specs.Schedule.{tick_list, path_at, is_served};
+ghost use Rattle.hls_accounts.specs.Ready.{is_ready};
 ghost use Rattle.hls_accounts.specs.Stays.{stays};
 ghost use Rattle.hls_accounts.specs.Accounts.{accounts_of, idle_of};
 ghost use Rattle.hls_accounts.specs.Tells.{Tells};
@@ -27,6 +29,13 @@ pub fn stretches_spell_each_tick()
 pub fn reports_tell_who_is_ready_and_served()
     ensures { (c : Content) (steps : List Step) → IsLegal start steps → Tells c steps →
         All (AgreesIn c (state start steps)) (state start steps).stays }
+{}
+
+/// Whoever is served in a tick is ready in it, by the report.
+pub fn reports_run_ready_threads()
+    ensures { (c : Content) (steps : List Step) → IsLegal start steps → Tells c steps →
+        (t : ℕ) (name : Text) → t < c.horizon → is_served c.stretches name t ≡ true →
+        is_ready c name t ≡ true }
 {}
 
 /// The stays by the report are those of the run, in the order in which they were opened, and with
