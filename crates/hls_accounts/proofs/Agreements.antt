@@ -130,7 +130,8 @@ idle_told c steps legal tells =
     ∙ count-agree (λ x. is_none (path_at c.stretches x)) (λ x. is_none (h.past x).to) 0 h.now
     (λ x lo hi. t.all.past.0 x (omega arith))
 
-pub ran_ready : (c : Content) (steps : List Step) → IsLegal start steps → Tells c steps → (t : ℕ) (name : Text)
+pub ran_ready : (c : Content) (steps : List Step) → IsLegal start steps → Tells c steps
+    → (t : ℕ) (name : Text)
     → t < c.horizon → is_served c.stretches name t ≡ true → is_ready c name t ≡ true
 ran_ready c steps legal tells t name lt on =
     let all = telling_run c steps legal tells in

@@ -1,13 +1,11 @@
 -- Windows, and what a run keeps in them.
-use Rattle.std.proofs.Common.{◌≡◌, ℕ, inl, inr, ◌⊎◌, ◌+◌, ◌-◌, ◌<◌, ◌≤◌, List, [], ◌∷◌, Bool, true, false}
-use Rattle.std.proofs.Common.{refl}
+use Rattle.std.proofs.Common.{◌≡◌, ℕ, inl, inr, ◌⊎◌, ◌+◌, ◌-◌, ◌<◌, ◌≤◌, List, [], ◌∷◌, true, false}
 use Rattle.std.proofs.Common.{sym, ap, ◌∙◌, subst, arith}
 use Rattle.std.specs.Prelude.{All, map}
 use Rattle.std.specs.List.{AllByRecursion}
 use Rattle.std.proofs.lemmas.Bool.{cases_eq, cases_lt}
 use Rattle.std.proofs.lemmas.List.Elements.{All-from_recursion, recursion_from_All}
 use Rattle.hls_text.specs.Lines.{Text}
-use Rattle.hls_guarantee.specs.Satisfaction.{Satisfies}
 use Rattle.hls_guarantee.specs.Cap.{KeepsCap}
 use Rattle.hls_guarantee.proofs.Promises.{satisfies-agree, keeps_cap-agree}
 use Rattle.hls_report.specs.Content.{Content}
@@ -24,7 +22,7 @@ use Rattle.hls_accounts.specs.Accounts.{IsWindow, IsLongestWindow}
 use Rattle.hls_accounts.specs.Accounts as told
 use Rattle.hls_accounts.specs.Tells.{Tells}
 use Rattle.hls_accounts.specs.Agrees.{told_stay, IsKeptBy}
-use Rattle.hls_accounts.proofs.ToldSteps.{IsStayTold, AreStaysTold, each_map}
+use Rattle.hls_accounts.proofs.ToldSteps.{IsStayTold, AreStaysTold}
 use Rattle.hls_accounts.proofs.OrderRuns.{telling_run}
 use Rattle.hls_accounts.proofs.Agreements.{end_same, stays_told}
 

@@ -1,8 +1,8 @@
 -- The stays of a legal run are those that its report tells.
-use Rattle.std.proofs.Common.{◌≡◌, ◌≢◌, ℕ, inl, inr, ◌<◌, ◌≤◌, List, [], ◌∷◌, ◌++◌, ◌||◌, ◌==◌}
+use Rattle.std.proofs.Common.{◌≡◌, ◌≢◌, ℕ, inl, inr, ◌≤◌, List, [], ◌∷◌, ◌++◌, ◌||◌, ◌==◌}
 use Rattle.std.proofs.Common.{Bool, true, false, not, if◌then◌else◌, length, map, filter, refl}
 use Rattle.std.proofs.Common.{sym, ap, ◌∙◌, subst, arith}
-use Rattle.std.specs.Prelude.{Option, Some, None, is_none}
+use Rattle.std.specs.Prelude.{Option, Some, None}
 use Rattle.std.specs.Str.{bytes_eq}
 use Rattle.std.proofs.lemmas.Bool.{cases_eq, eq-eqb, ne_eqb}
 use Rattle.std.proofs.lemmas.List.{append-nil, length_push}
@@ -18,24 +18,23 @@ use Rattle.hls_report.specs.declared.report.Answer.{Answer}
 use Rattle.hls_report.specs.declared.report.Answer.TheVariants.{Done, Refused}
 use Rattle.hls_report.specs.declared.report.Answered.{Answered}
 use Rattle.hls_report.specs.Content.{Content}
-use Rattle.hls_legal.specs.Hierarchy.{Hierarchy, Node, Loaded, Admitted, At, Seat, Tick, Wake, Asleep}
+use Rattle.hls_legal.specs.Hierarchy.{Hierarchy, Node, Loaded, Admitted, At, Seat, Wake, Asleep}
 use Rattle.hls_legal.specs.Hierarchy.{name_of}
 use Rattle.hls_legal.specs.Hierarchy.{seats_of, seat_of, book_of, start}
 use Rattle.hls_legal.specs.Steps.{Step, Refuse, Load, Admit, End, Unload, Move, Rouse, Block, Elapse, Path}
 use Rattle.hls_legal.specs.Steps.{is_thread, is_scheduler, listed, nobody, stay_of as stay_at}
 use Rattle.hls_legal.specs.Steps.{opened as opened_at}
 use Rattle.hls_legal.specs.Steps.{effect, with_wake, roused, reseated, wake_by, loaded, admitted, after}
-use Rattle.hls_legal.specs.Steps.{thread_of, state, hop_at, hops_of, elapsed, marked, leavings, seatings}
+use Rattle.hls_legal.specs.Steps.{state, hop_at, hops_of, elapsed, marked, leavings, seatings}
 use Rattle.hls_legal.specs.Legal.{Can, IsLegal, CanUnload, IsThread, CanMove, IsNew}
-use Rattle.hls_legal.proofs.Kept.{at_same, at_other}
+use Rattle.hls_legal.proofs.Kept.{at_same}
 use Rattle.hls_legal.proofs.Nodes.{seats-reseated}
 use Rattle.hls_accounts.specs.declared.stay.Stay.{Stay}
 use Rattle.hls_accounts.specs.Commands.{has_done, seats, ends, last_seating}
-use Rattle.hls_accounts.specs.Schedule.{path_at}
 use Rattle.hls_accounts.specs.Under.{is_under}
 use Rattle.hls_accounts.specs.Stays.{threads, closes, stays_from, stays_with, stay_of, closed, want_of}
 use Rattle.hls_accounts.specs.Agrees.{told_stay}
-use Rattle.hls_accounts.specs.Tells.{HasName, IsPerch, ArePerches, Does, Answers, Names, TellsFrom, Tells}
+use Rattle.hls_accounts.specs.Tells.{HasName, IsPerch, ArePerches, Does, Answers, TellsFrom, Tells}
 use Rattle.hls_accounts.proofs.Rousings.{names_same}
 use Rattle.hls_accounts.proofs.Alike.{IsAlmost, alike_same, alike-ticked, almost-roused, moved-reseated}
 use Rattle.hls_accounts.proofs.Told.{IsThreadNamed, Unique}

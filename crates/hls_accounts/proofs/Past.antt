@@ -1,14 +1,13 @@
 -- The ticks of a run that have passed: which were idle, and that whoever was served was ready.
-use Rattle.std.proofs.Common.{◌≡◌, ℕ, inl, inr, ◌+◌, ◌<◌, List, ◌++◌, Bool, true, false, refl, sym, ap, ◌∙◌, arith}
+use Rattle.std.proofs.Common.{◌≡◌, ℕ, inl, inr, ◌+◌, ◌<◌, List, ◌++◌, Bool, true, refl, sym, ap, ◌∙◌, arith}
 use Rattle.std.specs.Prelude.{Option, Some, None, is_none, option_and_then}
 use Rattle.std.specs.List.{AllByRecursion}
-use Rattle.std.specs.Str.{bytes_eq}
 use Rattle.std.proofs.lemmas.Bool.{cases_eq}
 use Rattle.std.proofs.lemmas.Slice.Eq.{bytes_eq-Decides}
 use Rattle.hls_text.specs.Lines.{Text}
 use Rattle.hls_report.specs.declared.report.Answered.{Answered}
 use Rattle.hls_report.specs.Content.{Content}
-use Rattle.hls_legal.specs.Hierarchy.{Hierarchy, Processor, Tick, name_of}
+use Rattle.hls_legal.specs.Hierarchy.{Hierarchy, Processor, Tick}
 use Rattle.hls_legal.specs.Steps.{Path, thread_of, is_thread, elapsed}
 use Rattle.hls_legal.specs.Legal.{asks_now, MayRun}
 use Rattle.hls_legal.proofs.Kept.{at_same, at_other}
@@ -80,20 +79,23 @@ tick_ran : (c : Content) (h : Hierarchy) (asking : ℕ → Bool) (masks : ℕ �
     (before left : List Answered) → MayRun h asking masks path → Names h path (path_at c.stretches h.now)
     → c.answered ≡ before ++ left → AllByRecursion (λ (a : Answered). h.now < a.tick) left
     → IsTold c before h → RanReady c h.now → RanReady c (h.now + 1)
-tick_ran c h asking masks path before left may names all late told ran x name lt on = elim (cases_eq x h.now) [
-  | inl e ↦
-      let served = sym (is_served-at c name h.now) ∙ ap (is_served c.stretches name) (sym e) ∙ on in
-      let ends = ends_named h asking masks path (path_at c.stretches h.now) name may names served in
-      ap (is_ready c name) e
-      ∙ sym (ready_now c h before left ends.k 0 name all told.early late told.wakes told.serves ends.thread)
-      ∙ ends.asks
-  | inr ne ↦ ran x name (omega arith) on
-]
+tick_ran c h asking masks path before left may names all late told ran x name lt on =
+    elim (cases_eq x h.now) [
+      | inl e ↦
+          let served = sym (is_served-at c name h.now) ∙ ap (is_served c.stretches name) (sym e) ∙ on in
+          let ends = ends_named h asking masks path (path_at c.stretches h.now) name may names served in
+          ap (is_ready c name) e
+          ∙ sym (ready_now c h before left ends.k 0 name all told.early late told.wakes told.serves
+          ends.thread)
+          ∙ ends.asks
+      | inr ne ↦ ran x name (omega arith) on
+    ]
 
 pub tick_past : (c : Content) (h : Hierarchy) (asking : ℕ → Bool) (masks : ℕ → ℕ) (path : Option Path)
     (before left : List Answered) → MayRun h asking masks path → Names h path (path_at c.stretches h.now)
     → c.answered ≡ before ++ left → AllByRecursion (λ (a : Answered). h.now < a.tick) left
     → IsTold c before h → PastTold c h → PastTold c (elapsed h asking masks path)
-tick_past c h asking masks path before left may names all late told past =
-    (tick_idle c h asking masks path names past.0,
-    tick_ran c h asking masks path before left may names all late told past.1)
+tick_past c h asking masks path before left may names all late told past = (
+  tick_idle c h asking masks path names past.0,
+  tick_ran c h asking masks path before left may names all late told past.1,
+)

@@ -145,7 +145,11 @@ fn put_stays(
     Ok(())
 }
 
-/// All stays, in the order in which they are opened.
+/// All stays that the commands of a report make, in the order in which they are opened.
+///
+/// # Errors
+///
+/// Where memory is wanting.
 pub fn stays_of(alloc: Global, answered: &[Answered]) -> Result<Vec<Stay>, AllocError>
     ensures { IfOk result (λ all. all.items ≡ told.stays answered.now) }
 {
