@@ -6,8 +6,8 @@ use Rattle.std.proofs.lemmas.List.Elements.{All-from_recursion}
 use Rattle.hls_chron.specs.Ticks.{count}
 use Rattle.hls_chron.proofs.CountLaws.{count-agree}
 use Rattle.hls_text.specs.Lines.{Text}
-use Rattle.hls_report.specs.declared.report.Account.{Account}
-use Rattle.hls_report.specs.Content.{Content}
+use Rattle.hls_report_text.specs.declared.report.Account.{Account}
+use Rattle.hls_report_text.specs.Content.{Content}
 use Rattle.hls_legal.specs.Hierarchy.{Hierarchy, start, was_served, had_asked}
 use Rattle.hls_legal.specs.Hierarchy as run
 use Rattle.hls_legal.specs.Steps.{Step, state}

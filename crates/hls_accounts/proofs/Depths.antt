@@ -8,7 +8,7 @@ use Rattle.hls_text.specs.Lines.{Text}
 use Rattle.hls_chron.specs.declared.plain.Terms.{Terms}
 use Rattle.hls_chron.specs.Seats.{terms_at}
 use Rattle.hls_chron.specs.Ticks.{one_if}
-use Rattle.hls_report.specs.declared.report.Answered.{Answered}
+use Rattle.hls_report_text.specs.declared.report.Answered.{Answered}
 use Rattle.hls_legal.specs.Hierarchy.{Hierarchy, Node, Loaded, Admitted, At, book_of}
 use Rattle.hls_legal.specs.Steps.{is_scheduler}
 use Rattle.hls_legal.specs.Legal.{SitsOn, IsBelow}

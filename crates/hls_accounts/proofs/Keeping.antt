@@ -8,7 +8,7 @@ use Rattle.std.proofs.lemmas.List.Elements.{All-from_recursion, recursion_from_A
 use Rattle.hls_text.specs.Lines.{Text}
 use Rattle.hls_guarantee.specs.Cap.{KeepsCap}
 use Rattle.hls_guarantee.proofs.Promises.{satisfies-agree, keeps_cap-agree}
-use Rattle.hls_report.specs.Content.{Content}
+use Rattle.hls_report_text.specs.Content.{Content}
 use Rattle.hls_legal.specs.Hierarchy.{Hierarchy, start, was_served, had_asked}
 use Rattle.hls_legal.specs.Hierarchy as run
 use Rattle.hls_legal.specs.Steps.{Step, state}

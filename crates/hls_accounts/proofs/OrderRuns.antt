@@ -13,11 +13,11 @@ use Rattle.hls_guarantee.specs.declared.Guarantee.{Guarantee}
 use Rattle.hls_lang.specs.declared.scenario.Perch.{Perch}
 use Rattle.hls_lang.specs.declared.scenario.Command.{Command}
 use Rattle.hls_lang.specs.declared.scenario.Command.TheVariants as said
-use Rattle.hls_report.specs.declared.report.Seated.{Seated}
-use Rattle.hls_report.specs.declared.report.Answer.{Answer}
-use Rattle.hls_report.specs.declared.report.Answer.TheVariants.{Done, Refused}
-use Rattle.hls_report.specs.declared.report.Answered.{Answered}
-use Rattle.hls_report.specs.Content.{Content}
+use Rattle.hls_report_text.specs.declared.report.Seated.{Seated}
+use Rattle.hls_report_text.specs.declared.report.Answer.{Answer}
+use Rattle.hls_report_text.specs.declared.report.Answer.TheVariants.{Done, Refused}
+use Rattle.hls_report_text.specs.declared.report.Answered.{Answered}
+use Rattle.hls_report_text.specs.Content.{Content}
 use Rattle.hls_legal.specs.Hierarchy.{Hierarchy, Node, Loaded, Admitted, At, Seat, Wake, Asleep}
 use Rattle.hls_legal.specs.Hierarchy.{name_of}
 use Rattle.hls_legal.specs.Hierarchy.{seats_of, seat_of, book_of, start}

@@ -9,8 +9,8 @@ use Rattle.std.proofs.lemmas.List.{length_push}
 use Rattle.hls_text.specs.Lines.{Text}
 use Rattle.hls_lang.specs.declared.scenario.Command.{Command}
 use Rattle.hls_lang.specs.declared.scenario.Command.TheVariants as said
-use Rattle.hls_report.specs.declared.report.Answered.{Answered}
-use Rattle.hls_report.specs.Content.{Content}
+use Rattle.hls_report_text.specs.declared.report.Answered.{Answered}
+use Rattle.hls_report_text.specs.Content.{Content}
 use Rattle.hls_legal.specs.Hierarchy.{Hierarchy, Node, At, Seat, name_of}
 use Rattle.hls_legal.specs.Hierarchy.{seat_of}
 use Rattle.hls_legal.specs.Steps.{is_scheduler, listed, opened as opened_at}

@@ -10,8 +10,8 @@ use Rattle.hls_text.specs.Lines.{Text}
 use Rattle.hls_lang.specs.declared.scenario.Spot.{Spot}
 use Rattle.hls_lang.specs.declared.scenario.Spot.TheVariants.{Cpu, Under}
 use Rattle.hls_lang.specs.declared.scenario.Perch.{Perch}
-use Rattle.hls_report.specs.declared.report.Answered.{Answered}
-use Rattle.hls_report.specs.Content.{Content}
+use Rattle.hls_report_text.specs.declared.report.Answered.{Answered}
+use Rattle.hls_report_text.specs.Content.{Content}
 use Rattle.hls_legal.specs.Hierarchy.{Hierarchy, Node, Loaded, Admitted, Place, Processor, At, Seat}
 use Rattle.hls_legal.specs.Hierarchy.{name_of, seats_of}
 use Rattle.hls_legal.specs.Hierarchy.{seat_of}

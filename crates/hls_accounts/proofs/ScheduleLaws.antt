@@ -5,10 +5,10 @@ use Rattle.std.specs.Prelude.{find, option_map, option_and_then}
 use Rattle.std.proofs.lemmas.Option.{slice_get-map}
 use Rattle.std.proofs.lemmas.List.{length-map}
 use Rattle.hls_text.specs.Lines.{Text}
-use Rattle.hls_report.specs.declared.report.Path.{Path}
-use Rattle.hls_report.specs.declared.report.Run.{Run}
-use Rattle.hls_report.specs.declared.stretch.Stretch.{Stretch}
-use Rattle.hls_report.specs.Content.{path_names, stretch_of}
+use Rattle.hls_report_text.specs.declared.report.Path.{Path}
+use Rattle.hls_report_text.specs.declared.report.Run.{Run}
+use Rattle.hls_report_text.specs.declared.stretch.Stretch.{Stretch}
+use Rattle.hls_report_text.specs.Content.{path_names, stretch_of}
 use Rattle.hls_accounts.specs.Schedule.{has_tick, path_at, last_name, is_name, is_served}
 
 pub find-map : {A B : Type 0} (f : A → B) (test : B → Bool) (xs : List A)

@@ -13,7 +13,7 @@ use Rattle.hls_lang.specs.declared.scenario.Spot.TheVariants.{Cpu, Under}
 use Rattle.hls_lang.specs.declared.scenario.Perch.{Perch}
 use Rattle.hls_lang.specs.declared.scenario.Command.{Command}
 use Rattle.hls_lang.specs.declared.scenario.Command.TheVariants.{Load, Thread, End, Unload, Move, Wake, Block}
-use Rattle.hls_report.specs.declared.report.Answered.{Answered}
+use Rattle.hls_report_text.specs.declared.report.Answered.{Answered}
 use Rattle.hls_legal.specs.Hierarchy.{Hierarchy, Place, Processor, At, Seat, name_of, seats_of}
 use Rattle.hls_legal.specs.Steps.{is_thread}
 use Rattle.hls_legal.specs.Legal.{IsBelow}

@@ -6,8 +6,8 @@ use Rattle.std.specs.Prelude.{Option, Some, slice_get, replicate, find, nat_le, 
 use Rattle.std.proofs.lemmas.Bool.{cases_lt, le-leb, lt-leb}
 use Rattle.std.proofs.lemmas.List.{length-append, length-replicate}
 use Rattle.hls_text.specs.Lines.{Text}
-use Rattle.hls_report.specs.declared.stretch.Stretch.{Stretch}
-use Rattle.hls_report.specs.WellFormed.{Cover}
+use Rattle.hls_report_text.specs.declared.stretch.Stretch.{Stretch}
+use Rattle.hls_report_text.specs.WellFormed.{Cover}
 use Rattle.hls_accounts.specs.Schedule.{tick_list, has_tick, path_at}
 
 cover_le : (from : ℕ) (last : Option (Option (List Text))) (stretches : List Stretch) (end : ℕ)

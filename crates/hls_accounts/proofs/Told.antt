@@ -7,8 +7,8 @@ use Rattle.std.proofs.lemmas.List.{length-map, length_push, map-append}
 use Rattle.std.specs.List.{AllByRecursion}
 use Rattle.std.proofs.lemmas.Bool.{cases_eq, eq-eqb, ne_eqb}
 use Rattle.hls_text.specs.Lines.{Text}
-use Rattle.hls_report.specs.declared.report.Answered.{Answered}
-use Rattle.hls_report.specs.Content.{Content}
+use Rattle.hls_report_text.specs.declared.report.Answered.{Answered}
+use Rattle.hls_report_text.specs.Content.{Content}
 use Rattle.hls_legal.specs.Hierarchy.{Hierarchy, Node, Loaded, Admitted, Tick, name_of}
 use Rattle.hls_legal.specs.Hierarchy.{is_ready as ready_legal}
 use Rattle.hls_legal.specs.Hierarchy.{is_just, was_served}

@@ -9,10 +9,10 @@ use Rattle.hls_text.specs.Lines.{Text}
 use Rattle.hls_lang.specs.declared.scenario.Command.{Command}
 use Rattle.hls_lang.specs.declared.scenario.Command.TheVariants as said
 use Rattle.hls_print.proofs.CanonicalLines.{all_append}
-use Rattle.hls_report.specs.declared.report.Answer.{Answer}
-use Rattle.hls_report.specs.declared.report.Answer.TheVariants.{Done, Refused}
-use Rattle.hls_report.specs.declared.report.Answered.{Answered}
-use Rattle.hls_report.specs.Content.{Content}
+use Rattle.hls_report_text.specs.declared.report.Answer.{Answer}
+use Rattle.hls_report_text.specs.declared.report.Answer.TheVariants.{Done, Refused}
+use Rattle.hls_report_text.specs.declared.report.Answered.{Answered}
+use Rattle.hls_report_text.specs.Content.{Content}
 use Rattle.hls_legal.specs.Hierarchy.{Hierarchy, Node, Loaded, Admitted, Stay, Tick, Wake, Asleep, name_of}
 use Rattle.hls_legal.specs.Hierarchy.{start}
 use Rattle.hls_legal.specs.Hierarchy.{Awake, Awake_for, is_just, was_served, had_asked}

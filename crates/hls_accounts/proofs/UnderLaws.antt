@@ -5,7 +5,7 @@ use Rattle.std.specs.List.{list_any}
 use Rattle.std.proofs.lemmas.List.{take_all}
 use Rattle.std.specs.Str.{bytes_eq}
 use Rattle.hls_text.specs.Lines.{Text}
-use Rattle.hls_report.specs.declared.report.Answered.{Answered}
+use Rattle.hls_report_text.specs.declared.report.Answered.{Answered}
 use Rattle.hls_accounts.specs.Commands.{last_seating}
 use Rattle.hls_accounts.specs.Under.{sits_on, is_within}
 

@@ -2,8 +2,8 @@
 use Rattle.std.specs.Prelude.{◌≡◌, ℕ, ◌-◌, ◌≤◌, ◌<◌, List, Option, Some, None, Bool, true, is_none, nat_lt}
 use Rattle.std.specs.Prelude.{map, filter}
 use Rattle.hls_chron.specs.Ticks.{count}
-use Rattle.hls_report.specs.declared.report.Account.{Account}
-use Rattle.hls_report.specs.Content.{Content}
+use Rattle.hls_report_text.specs.declared.report.Account.{Account}
+use Rattle.hls_report_text.specs.Content.{Content}
 use Rattle.hls_accounts.specs.declared.stay.Stay.{Stay}
 use Rattle.hls_accounts.specs.Schedule.{path_at, is_served}
 use Rattle.hls_accounts.specs.Ready.{is_ready}

@@ -1,8 +1,8 @@
 -- Where a report and a legal run agree.
 use Rattle.std.specs.Prelude.{◌≡◌, ℕ, ◌-◌, ◌≤◌, ◌<◌, List, map, is_none}
 use Rattle.hls_chron.specs.Ticks.{count}
-use Rattle.hls_report.specs.declared.report.Account.{Account}
-use Rattle.hls_report.specs.Content.{Content}
+use Rattle.hls_report_text.specs.declared.report.Account.{Account}
+use Rattle.hls_report_text.specs.Content.{Content}
 use Rattle.hls_guarantee.specs.Satisfaction.{Satisfies}
 use Rattle.hls_guarantee.specs.Cap.{KeepsCap}
 use Rattle.hls_legal.specs.Hierarchy.{Hierarchy, was_served, had_asked}

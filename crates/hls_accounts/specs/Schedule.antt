@@ -3,7 +3,7 @@ use Rattle.std.specs.Prelude.{ℕ, ◌+◌, ◌-◌, List, Option, Some, None, B
 use Rattle.std.specs.Prelude.{find, flat_map, replicate, slice_get, option_and_then}
 use Rattle.std.specs.Str.{bytes_eq}
 use Rattle.hls_text.specs.Lines.{Text}
-use Rattle.hls_report.specs.declared.stretch.Stretch.{Stretch}
+use Rattle.hls_report_text.specs.declared.stretch.Stretch.{Stretch}
 
 -- each tick in its order: its path, or none where it is idle
 abbrev pub tick_list : List Stretch → List (Option (List Text))

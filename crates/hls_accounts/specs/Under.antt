@@ -8,7 +8,7 @@ use Rattle.hls_lang.specs.declared.scenario.Spot.TheVariants.{Cpu, Under}
 use Rattle.hls_lang.specs.declared.scenario.Perch.{Perch}
 use Rattle.hls_lang.specs.declared.scenario.Command.{Command}
 use Rattle.hls_lang.specs.declared.scenario.Command.TheVariants.{Load, Thread, Move}
-use Rattle.hls_report.specs.declared.report.Answered.{Answered}
+use Rattle.hls_report_text.specs.declared.report.Answered.{Answered}
 use Rattle.hls_accounts.specs.Commands.{last_seating}
 
 -- a seat is on a scheduler that passes a test

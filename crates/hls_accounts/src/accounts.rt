@@ -1,7 +1,7 @@
 // The accounts and the idle ticks that a report ought to print.
 ghost use Rattle.std.specs.Prelude.{◌≡◌, ◌+◌, ◌-◌, ◌^◌, ◌<◌, IfOk, is_none};
 ghost use Rattle.hls_chron.specs.Ticks.{count};
-ghost use Rattle.hls_report.specs.Content.{content_of};
+ghost use Rattle.hls_report_text.specs.Content.{content_of};
 ghost use Rattle.hls_accounts.specs.Schedule.{path_at};
 ghost use Rattle.hls_accounts.specs.Accounts as told;
 

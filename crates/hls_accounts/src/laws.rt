@@ -3,8 +3,8 @@
 
 ghost use Rattle.std.specs.Prelude.{◌≡◌, ◌<◌, ℕ, List, All, Some, true, map, length, slice_get};
 ghost use Rattle.hls_text.specs.Lines.{Text};
-ghost use Rattle.hls_report.specs.Content.{Content};
-ghost use Rattle.hls_report.specs.WellFormed.{IsContent};
+ghost use Rattle.hls_report_text.specs.Content.{Content};
+ghost use Rattle.hls_report_text.specs.WellFormed.{IsContent};
 ghost use Rattle.hls_legal.specs.Hierarchy.{start};
 ghost use Rattle.hls_legal.specs.Steps.{Step, state};
 ghost use Rattle.hls_legal.specs.Legal.{IsLegal};

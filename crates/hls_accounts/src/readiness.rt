@@ -1,7 +1,7 @@
 // In which ticks a thread is ready.
 ghost use Rattle.std.specs.Prelude.{◌≡◌, ◌+◌, ◌^◌, ◌<◌, option_copied};
 ghost use Rattle.hls_chron.specs.Ticks.{count};
-ghost use Rattle.hls_report.specs.Content.{content_of};
+ghost use Rattle.hls_report_text.specs.Content.{content_of};
 ghost use Rattle.hls_accounts.specs.Schedule as spelled;
 ghost use Rattle.hls_accounts.specs.Ready as told;
 

@@ -1,7 +1,7 @@
 // The ticks that the runs of a report spell.
 ghost use Rattle.std.specs.Prelude.{◌≡◌, ◌-◌, ◌&&◌, [], nat_le, is_none, find, slice_get, get_or, take};
 ghost use Rattle.std.specs.Prelude.{length};
-ghost use Rattle.hls_report.specs.Content.{content_of, path_names};
+ghost use Rattle.hls_report_text.specs.Content.{content_of, path_names};
 ghost use Rattle.hls_accounts.specs.Schedule as spelled;
 
 use hls_chron::Name;

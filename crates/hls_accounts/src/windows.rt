@@ -1,6 +1,6 @@
 // The windows of a stay.
 ghost use Rattle.std.specs.Prelude.{◌≤◌};
-ghost use Rattle.hls_report.specs.Content.{content_of};
+ghost use Rattle.hls_report_text.specs.Content.{content_of};
 ghost use Rattle.hls_accounts.specs.Accounts.{end_of, IsLongestWindow};
 
 use crate::Stay;

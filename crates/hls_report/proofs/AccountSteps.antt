@@ -8,13 +8,13 @@ use Rattle.hls_text.specs.Lines.{Text}
 use Rattle.hls_derive.specs.Reading.{after_words}
 use Rattle.hls_print.proofs.CanonicalLines.{all_append}
 use Rattle.hls_report.specs.declared.lines.Lines.{Lines}
-use Rattle.hls_report.specs.declared.report.Account.{Account}
-use Rattle.hls_report.specs.ReportText.{account_text}
-use Rattle.hls_report.specs.WellFormed.{IsAccount}
-use Rattle.hls_report.specs.Reading.{count_at}
+use Rattle.hls_report_text.specs.declared.report.Account.{Account}
+use Rattle.hls_report_text.specs.ReportText.{account_text}
+use Rattle.hls_report_text.specs.WellFormed.{IsAccount}
+use Rattle.hls_report_text.specs.Reading.{count_at}
 use Rattle.hls_report.specs.Rests.{AccountRest, Passes}
 use Rattle.hls_report.proofs.Heads.{some_text}
-use Rattle.hls_report.proofs.RefusalTexts.{count_again}
+use Rattle.hls_report_text.proofs.RefusalTexts.{count_again}
 use Rattle.hls_report.proofs.RestLaws.{account_next}
 use Rattle.hls_report.proofs.Stuck.{none_passed, pass_on}
 

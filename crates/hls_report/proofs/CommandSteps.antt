@@ -10,19 +10,19 @@ use Rattle.hls_print.proofs.CanonicalLines.{all_append}
 use Rattle.hls_lang.specs.declared.scenario.Command.{Command}
 use Rattle.hls_lang.specs.declared.scenario.Item.{Item}
 use Rattle.hls_report.specs.declared.lines.Lines.{Lines}
-use Rattle.hls_report.specs.declared.refusal.Refusal.{Refusal}
-use Rattle.hls_report.specs.declared.report.Seated.{Seated}
-use Rattle.hls_report.specs.declared.report.Answer.{Answer}
-use Rattle.hls_report.specs.declared.report.Answered.{Answered}
-use Rattle.hls_report.specs.ReportText.{item_text, item_of, refusal_text, seat_text, answer_lines}
-use Rattle.hls_report.specs.ReportText.{answered_lines}
-use Rattle.hls_report.specs.Reading.{refusal_at}
-use Rattle.hls_report.specs.WellFormed.{IsRefusal, IsSeated, TakesSeats, AreSeats, IsAnswer, AreAnswered}
-use Rattle.hls_report.specs.WellFormed.{IsOneLine}
+use Rattle.hls_report_text.specs.declared.refusal.Refusal.{Refusal}
+use Rattle.hls_report_text.specs.declared.report.Seated.{Seated}
+use Rattle.hls_report_text.specs.declared.report.Answer.{Answer}
+use Rattle.hls_report_text.specs.declared.report.Answered.{Answered}
+use Rattle.hls_report_text.specs.ReportText.{item_text, item_of, refusal_text, seat_text, answer_lines}
+use Rattle.hls_report_text.specs.ReportText.{answered_lines}
+use Rattle.hls_report_text.specs.Reading.{refusal_at}
+use Rattle.hls_report_text.specs.WellFormed.{IsRefusal, IsSeated, TakesSeats, AreSeats, IsAnswer, AreAnswered}
+use Rattle.hls_report_text.specs.WellFormed.{IsOneLine}
 use Rattle.hls_report.specs.Rests.{HasRoom, Passes, CommandRest, SeatRest, AnswerRest, RunRest, IsNext}
 use Rattle.hls_report.specs.CommandLines.{SeatsPass, AnswerPasses, SeatPasses, ItemPasses, CommandPasses}
 use Rattle.hls_report.proofs.Heads.{some_text}
-use Rattle.hls_report.proofs.RefusalTexts.{refusal_again}
+use Rattle.hls_report_text.proofs.RefusalTexts.{refusal_again}
 use Rattle.hls_report.proofs.RestLaws.{some_command, seat_next, seat_onto, seat_off, seats_done, no_last_seat}
 use Rattle.hls_report.proofs.RestLaws.{answer_next, done_onto, done_off, refused_onto, refused_off}
 use Rattle.hls_report.proofs.RestLaws.{refused_line, command_next, item_onto, item_off, schedule_onto}

@@ -2,17 +2,17 @@
 use Rattle.std.proofs.Common.{◌≡◌, ℕ, List, ◌∷◌, ◌++◌, refl, sym, ap, ◌∙◌, subst, flat_map}
 use Rattle.std.specs.Prelude.{codes, map}
 use Rattle.hls_text.specs.Lines.{Text}
-use Rattle.hls_report.specs.declared.report.Report.{Report}
-use Rattle.hls_report.specs.Content.{Content, content_of}
-use Rattle.hls_report.specs.ReportText.{answered_lines, stretch_text, account_text, end_lines}
-use Rattle.hls_report.specs.ReportText.{content_lines, ended, report_text}
-use Rattle.hls_report.specs.WellFormed.{IsContent, IsReportText, Begins, IsFirstBad}
+use Rattle.hls_report_text.specs.declared.report.Report.{Report}
+use Rattle.hls_report_text.specs.Content.{Content, content_of}
+use Rattle.hls_report_text.specs.ReportText.{answered_lines, stretch_text, account_text, end_lines}
+use Rattle.hls_report_text.specs.ReportText.{content_lines, ended, report_text}
+use Rattle.hls_report_text.specs.WellFormed.{IsContent, IsReportText, Begins, IsFirstBad}
 use Rattle.hls_report.specs.Rests.{HeaderRest, BeginsIn, IsStuck}
-use Rattle.hls_report.proofs.Contents.{some_report}
-use Rattle.hls_report.proofs.Sections.{content_one}
+use Rattle.hls_report_text.proofs.Contents.{some_report}
+use Rattle.hls_report_text.proofs.Sections.{content_one}
 use Rattle.hls_report.proofs.RestLaws.{depth_line, horizon_line}
 use Rattle.hls_report.proofs.Stuck.{front_of}
-use Rattle.hls_report.proofs.Writings.{ended-append}
+use Rattle.hls_report_text.proofs.Writings.{ended-append}
 
 -- lines of a content
 pub record AreOf (lines : List Text) : Type 0 where

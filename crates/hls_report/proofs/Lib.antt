@@ -1,11 +1,4 @@
-pub mod Writings
-pub mod NameLaws
-pub mod Contents
 pub mod PathLaws
-pub mod Marks
-pub mod RefusalTexts
-pub mod LineTexts
-pub mod Sections
 pub mod WordLaws
 pub mod Stuck
 pub mod RestLaws

@@ -15,16 +15,16 @@ use Rattle.hls_lang.specs.declared.scenario.Item.{Item}
 use Rattle.hls_lang.specs.Forms.{item_forms}
 use Rattle.hls_lang.specs.Grammar.{IsLine, IsItemLine}
 use Rattle.hls_lang.specs.Words.{cut_at}
-use Rattle.hls_report.specs.declared.report.Seated.{Seated}
-use Rattle.hls_report.specs.declared.report.Account.{Account}
-use Rattle.hls_report.specs.ReportText.{two_words, item_text, seat_text, span_text, ticks_text, account_text}
-use Rattle.hls_report.specs.WellFormed.{IsSeated, IsAccount}
+use Rattle.hls_report_text.specs.declared.report.Seated.{Seated}
+use Rattle.hls_report_text.specs.declared.report.Account.{Account}
+use Rattle.hls_report_text.specs.ReportText.{two_words, item_text, seat_text, span_text, ticks_text, account_text}
+use Rattle.hls_report_text.specs.WellFormed.{IsSeated, IsAccount}
 use Rattle.hls_report.specs.Rests.{IsNext}
-use Rattle.hls_report.specs.Reading.{name_at, count_at, number_below, seat_front_at, span_at, spanned_at}
-use Rattle.hls_report.specs.Reading.{account_front_at, ticks_at}
-use Rattle.hls_report.proofs.Marks.{name_lacks, number_lacks}
-use Rattle.hls_report.proofs.RefusalTexts.{name_again, number_again, count_again, cut_again}
-use Rattle.hls_report.proofs.LineTexts.{IsItem, item_stands, span_lacks}
+use Rattle.hls_report_text.specs.Reading.{name_at, count_at, number_below, seat_front_at, span_at, spanned_at}
+use Rattle.hls_report_text.specs.Reading.{account_front_at, ticks_at}
+use Rattle.hls_report_text.proofs.Marks.{name_lacks, number_lacks}
+use Rattle.hls_report_text.proofs.RefusalTexts.{name_again, number_again, count_again, cut_again}
+use Rattle.hls_report_text.proofs.LineTexts.{IsItem, item_stands, span_lacks}
 
 -- ---- items
 

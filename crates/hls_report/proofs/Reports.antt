@@ -7,19 +7,19 @@ use Rattle.hls_text.specs.Lines.{Text}
 use Rattle.hls_report.specs.declared.fault.ReportFault.{ReportFault}
 use Rattle.hls_report.specs.declared.fault.ReportFault.TheVariants as faults
 use Rattle.hls_report.specs.declared.lines.Lines.{Lines}
-use Rattle.hls_report.specs.declared.report.Answered.{Answered}
-use Rattle.hls_report.specs.declared.report.Report.{Report}
-use Rattle.hls_report.specs.declared.stretch.Stretch.{Stretch}
-use Rattle.hls_report.specs.Content.{Content, content_of, stretch_of}
-use Rattle.hls_report.specs.ReportText.{answered_lines, stretch_text, account_text, head_lines, end_lines}
-use Rattle.hls_report.specs.ReportText.{content_lines, ended, report_text}
-use Rattle.hls_report.specs.WellFormed.{IsReportText, HasShort, IsContent}
+use Rattle.hls_report_text.specs.declared.report.Answered.{Answered}
+use Rattle.hls_report_text.specs.declared.report.Report.{Report}
+use Rattle.hls_report_text.specs.declared.stretch.Stretch.{Stretch}
+use Rattle.hls_report_text.specs.Content.{Content, content_of, stretch_of}
+use Rattle.hls_report_text.specs.ReportText.{answered_lines, stretch_text, account_text, head_lines, end_lines}
+use Rattle.hls_report_text.specs.ReportText.{content_lines, ended, report_text}
+use Rattle.hls_report_text.specs.WellFormed.{IsReportText, HasShort, IsContent}
 use Rattle.hls_report.specs.Rests.{Passes, FailsAt, HeaderRest, CommandRest, RunRest, AccountRest}
 use Rattle.hls_report.specs.Reports.{ReadsAs, IsBadAt}
 use Rattle.hls_report.proofs.ContentLaws.{first_bad, never_stuck}
-use Rattle.hls_report.proofs.Sections.{report_same}
+use Rattle.hls_report_text.proofs.Sections.{report_same}
 use Rattle.hls_report.proofs.Stuck.{pass_on}
-use Rattle.hls_report.proofs.Writings.{ended-append}
+use Rattle.hls_report_text.proofs.Writings.{ended-append}
 
 joined : (head commands runs tail : List Text) (schedule accounts : Text)
     → ((head ++ (commands ++ schedule ∷ [])) ++ (runs ++ accounts ∷ [])) ++ tail

@@ -11,25 +11,25 @@ use Rattle.hls_chron.specs.Name.{IsName}
 use Rattle.hls_chron.specs.Ranges.{IsWithin}
 use Rattle.hls_lang.specs.declared.scenario.Command.{Command}
 use Rattle.hls_lang.specs.declared.scenario.Item.{Item}
-use Rattle.hls_report.specs.declared.refusal.Refusal.{Refusal}
-use Rattle.hls_report.specs.declared.report.Seated.{Seated}
-use Rattle.hls_report.specs.declared.report.Answer.{Answer}
-use Rattle.hls_report.specs.declared.report.Answer.TheVariants.{Done, Refused}
-use Rattle.hls_report.specs.declared.report.Answered.{Answered}
-use Rattle.hls_report.specs.declared.report.Account.{Account}
-use Rattle.hls_report.specs.declared.stretch.Stretch.{Stretch}
-use Rattle.hls_report.specs.ReportText.{item_text, item_of, refusal_text, seat_text, answer_lines}
-use Rattle.hls_report.specs.ReportText.{answered_lines}
-use Rattle.hls_report.specs.ReportText.{stretch_text, account_text}
-use Rattle.hls_report.specs.WellFormed.{IsRefusal, IsSeated, TakesSeats, AreSeats, IsAnswer, AreAnswered}
-use Rattle.hls_report.specs.WellFormed.{IsPath}
-use Rattle.hls_report.specs.WellFormed.{Cover, with_name, with_path, FewNames, IsAccount}
+use Rattle.hls_report_text.specs.declared.refusal.Refusal.{Refusal}
+use Rattle.hls_report_text.specs.declared.report.Seated.{Seated}
+use Rattle.hls_report_text.specs.declared.report.Answer.{Answer}
+use Rattle.hls_report_text.specs.declared.report.Answer.TheVariants.{Done, Refused}
+use Rattle.hls_report_text.specs.declared.report.Answered.{Answered}
+use Rattle.hls_report_text.specs.declared.report.Account.{Account}
+use Rattle.hls_report_text.specs.declared.stretch.Stretch.{Stretch}
+use Rattle.hls_report_text.specs.ReportText.{item_text, item_of, refusal_text, seat_text, answer_lines}
+use Rattle.hls_report_text.specs.ReportText.{answered_lines}
+use Rattle.hls_report_text.specs.ReportText.{stretch_text, account_text}
+use Rattle.hls_report_text.specs.WellFormed.{IsRefusal, IsSeated, TakesSeats, AreSeats, IsAnswer, AreAnswered}
+use Rattle.hls_report_text.specs.WellFormed.{IsPath}
+use Rattle.hls_report_text.specs.WellFormed.{Cover, with_name, with_path, FewNames, IsAccount}
 use Rattle.hls_report.specs.Rests.{EndRest, AccountRest, RunRest, CommandRest, SeatRest, AnswerRest}
 use Rattle.hls_report.specs.Rests.{DepthRest, HorizonRest, HeaderRest, NextStretch, IsNext}
-use Rattle.hls_report.proofs.Marks.{number_same}
-use Rattle.hls_report.proofs.LineTexts.{IsItem, item_same, IsStretch, stretch_same, apart}
-use Rattle.hls_report.proofs.Sections.{first_line, later_lines, idle_text, account_not_idle}
-use Rattle.hls_report.proofs.Sections.{stretch_not_accounts, cover_reaches}
+use Rattle.hls_report_text.proofs.Marks.{number_same}
+use Rattle.hls_report_text.proofs.LineTexts.{IsItem, item_same, IsStretch, stretch_same, apart}
+use Rattle.hls_report_text.proofs.Sections.{first_line, later_lines, idle_text, account_not_idle}
+use Rattle.hls_report_text.proofs.Sections.{stretch_not_accounts, cover_reaches}
 
 -- ---- accounts
 

@@ -12,21 +12,22 @@ use Rattle.hls_print.proofs.CanonicalLines.{all_append}
 use Rattle.hls_report.specs.declared.fault.ReportFault.{ReportFault}
 use Rattle.hls_report.specs.declared.fault.ReportFault.TheVariants as faults
 use Rattle.hls_report.specs.declared.lines.Lines.{Lines}
-use Rattle.hls_report.specs.declared.report.Path.{Path}
-use Rattle.hls_report.specs.declared.report.Run.{Run}
-use Rattle.hls_report.specs.declared.stretch.Stretch.{Stretch}
-use Rattle.hls_report.specs.Content.{path_names, stretch_of}
-use Rattle.hls_report.specs.ReportText.{two_words, span_text, path_text, stretch_text}
-use Rattle.hls_report.specs.WellFormed.{IsPath, Cover, with_path, FewNames, HasShort, IsOneLine}
-use Rattle.hls_report.specs.Reading.{spanned_at}
+use Rattle.hls_report_text.specs.declared.report.Path.{Path}
+use Rattle.hls_report_text.specs.declared.report.Run.{Run}
+use Rattle.hls_report_text.specs.declared.stretch.Stretch.{Stretch}
+use Rattle.hls_report_text.specs.Content.{path_names, stretch_of}
+use Rattle.hls_report_text.specs.ReportText.{two_words, span_text, path_text, stretch_text}
+use Rattle.hls_report_text.specs.WellFormed.{IsPath, Cover, with_path, FewNames, HasShort, IsOneLine}
+use Rattle.hls_report_text.specs.Reading.{spanned_at}
 use Rattle.hls_report.specs.Rests.{NextStretch, RunRest, AccountRest, Passes, FailsAt}
 use Rattle.hls_report.specs.RunLines.{FitsPath, IsInside, IsNextRun, IsRunTold, IsLast, AreNames, IsRunRead}
-use Rattle.hls_report.specs.RunLines.{RunFails, AccountsPass, AccountsFail, names_after, IsSchedule}
-use Rattle.hls_report.proofs.Marks.{cut_same}
-use Rattle.hls_report.proofs.LineTexts.{span_lacks, path_same}
+use Rattle.hls_report.specs.RunLines.{RunFails, AccountsPass, AccountsFail, IsSchedule}
+use Rattle.hls_report_text.specs.WellFormed.{names_after}
+use Rattle.hls_report_text.proofs.Marks.{cut_same}
+use Rattle.hls_report_text.proofs.LineTexts.{span_lacks, path_same}
 use Rattle.hls_report.proofs.LineReadings.{spanned_again}
-use Rattle.hls_report.proofs.NameLaws.{Grows, grown_in, grown_names, names_named}
-use Rattle.hls_report.proofs.Contents.{path_grows}
+use Rattle.hls_report_text.proofs.NameLaws.{Grows, grown_in, grown_names, names_named}
+use Rattle.hls_report_text.proofs.Contents.{path_grows}
 use Rattle.hls_report.proofs.RestLaws.{AreKnown, some_run, run_next, run_onto, run_off, no_last_run}
 use Rattle.hls_report.proofs.RestLaws.{last_lines, some_account, accounts_onto, accounts_off}
 use Rattle.hls_report.proofs.Stuck.{none_passed, pass_on, pass_line, fail_line, fail_end, fail_behind}

@@ -11,11 +11,11 @@ use Rattle.hls_print.proofs.CanonicalLines.{all_append}
 use Rattle.hls_report.specs.declared.lines.Lines.{Lines}
 use Rattle.hls_report.specs.declared.fault.ReportFault.{ReportFault}
 use Rattle.hls_report.specs.declared.fault.ReportFault.TheVariants as faults
-use Rattle.hls_report.specs.ReportText.{ended}
-use Rattle.hls_report.specs.WellFormed.{IsOneLine}
+use Rattle.hls_report_text.specs.ReportText.{ended}
+use Rattle.hls_report_text.specs.WellFormed.{IsOneLine}
 use Rattle.hls_report.specs.Rests.{BeginsIn, IsStuck, FailsAt, Passes, NoRest}
-use Rattle.hls_report.proofs.Marks.{cut_same}
-use Rattle.hls_report.proofs.Writings.{ended-append}
+use Rattle.hls_report_text.proofs.Marks.{cut_same}
+use Rattle.hls_report_text.proofs.Writings.{ended-append}
 
 abbrev pub AreOneLine : List Text → Type 0
 AreOneLine lines = AllByRecursion IsOneLine lines

@@ -3,8 +3,8 @@ use Rattle.std.specs.Prelude.{ℕ, ◌^◌, ◌<◌, ◌++◌, ◌∷◌, [], co
 use Rattle.hls_report.specs.declared.account_reading.AccountLine.{AccountLine}
 use Rattle.hls_report.specs.declared.account_reading.AccountLine.TheVariants.{Stay, Idle}
 use Rattle.hls_report.specs.declared.lines.Lines.{Lines}
-use Rattle.hls_report.specs.ReportText.{account_text}
-use Rattle.hls_report.specs.WellFormed.{IsAccount}
+use Rattle.hls_report_text.specs.ReportText.{account_text}
+use Rattle.hls_report_text.specs.WellFormed.{IsAccount}
 use Rattle.hls_report.specs.Rests.{Passes, AccountRest, EndRest}
 
 -- an account of the horizon, behind which further accounts may come, or the idle ticks and the end

@@ -4,10 +4,10 @@ use Rattle.hls_text.specs.Lines.{Text}
 use Rattle.hls_lang.specs.declared.scenario.Command.{Command}
 use Rattle.hls_lang.specs.declared.scenario.Item.{Item}
 use Rattle.hls_report.specs.declared.lines.Lines.{Lines}
-use Rattle.hls_report.specs.declared.report.Seated.{Seated}
-use Rattle.hls_report.specs.declared.report.Answered.{Answered}
-use Rattle.hls_report.specs.ReportText.{item_text, item_of, seat_text, answered_lines}
-use Rattle.hls_report.specs.WellFormed.{IsSeated, TakesSeats, IsAnswer}
+use Rattle.hls_report_text.specs.declared.report.Seated.{Seated}
+use Rattle.hls_report_text.specs.declared.report.Answered.{Answered}
+use Rattle.hls_report_text.specs.ReportText.{item_text, item_of, seat_text, answered_lines}
+use Rattle.hls_report_text.specs.WellFormed.{IsSeated, TakesSeats, IsAnswer}
 use Rattle.hls_report.specs.Rests.{Passes, CommandRest, SeatRest, AnswerRest, RunRest, IsNext}
 
 -- whatever further commands there are

@@ -4,10 +4,10 @@ use Rattle.std.specs.Prelude.{flat_map, Option, Some}
 use Rattle.std.specs.List.{AllByRecursion, position_or_len}
 use Rattle.hls_text.specs.Lines.{Text}
 use Rattle.hls_derive.specs.Reading.{◌>>=◌, after_words}
-use Rattle.hls_report.specs.declared.report.Path.{Path}
-use Rattle.hls_report.specs.Content.{path_names}
-use Rattle.hls_report.specs.WellFormed.{IsPath, with_names}
-use Rattle.hls_report.specs.Reading.{name_at}
+use Rattle.hls_report_text.specs.declared.report.Path.{Path}
+use Rattle.hls_report_text.specs.Content.{path_names}
+use Rattle.hls_report_text.specs.WellFormed.{IsPath, with_names}
+use Rattle.hls_report_text.specs.Reading.{name_at}
 
 -- each with a slash before it
 abbrev pub names_text : List Text → Text

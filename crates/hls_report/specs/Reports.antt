@@ -3,9 +3,9 @@ use Rattle.std.specs.Prelude.{◌≡◌, Result, Ok, Err}
 use Rattle.hls_text.specs.Lines.{Text}
 use Rattle.hls_report.specs.declared.fault.ReportFault.{ReportFault}
 use Rattle.hls_report.specs.declared.fault.ReportFault.TheVariants as faults
-use Rattle.hls_report.specs.declared.report.Report.{Report}
-use Rattle.hls_report.specs.Content.{content_of}
-use Rattle.hls_report.specs.WellFormed.{IsFirstBad}
+use Rattle.hls_report_text.specs.declared.report.Report.{Report}
+use Rattle.hls_report_text.specs.Content.{content_of}
+use Rattle.hls_report_text.specs.WellFormed.{IsFirstBad}
 
 -- a report of the same content, where there is memory
 abbrev pub ReadsAs : Report → Result Report ReportFault → Type 0

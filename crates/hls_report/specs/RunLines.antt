@@ -6,13 +6,13 @@ use Rattle.hls_text.specs.Lines.{Text}
 use Rattle.hls_chron.specs.Name.{IsName}
 use Rattle.hls_report.specs.declared.fault.ReportFault.{ReportFault}
 use Rattle.hls_report.specs.declared.lines.Lines.{Lines}
-use Rattle.hls_report.specs.declared.report.Path.{Path}
-use Rattle.hls_report.specs.declared.report.Run.{Run}
+use Rattle.hls_report_text.specs.declared.report.Path.{Path}
+use Rattle.hls_report_text.specs.declared.report.Run.{Run}
 use Rattle.hls_report.specs.declared.run_reading.Schedule.{Schedule}
-use Rattle.hls_report.specs.declared.stretch.Stretch.{Stretch}
-use Rattle.hls_report.specs.Content.{path_names, stretch_of}
-use Rattle.hls_report.specs.ReportText.{path_text, stretch_text}
-use Rattle.hls_report.specs.WellFormed.{IsPath, Cover, with_path, FewNames, HasShort}
+use Rattle.hls_report_text.specs.declared.stretch.Stretch.{Stretch}
+use Rattle.hls_report_text.specs.Content.{path_names, stretch_of}
+use Rattle.hls_report_text.specs.ReportText.{path_text, stretch_text}
+use Rattle.hls_report_text.specs.WellFormed.{IsPath, Cover, with_path, names_after, FewNames, HasShort}
 use Rattle.hls_report.specs.Rests.{Passes, FailsAt, RunRest, AccountRest}
 
 -- ---- the words of a path
@@ -93,11 +93,6 @@ AccountsFail old fault = (horizon : ℕ) (path : Option (Option (List Text))) (k
     FailsAt (RunRest horizon horizon path known) old fault
 
 -- ---- the schedule
-
--- the names behind these stretches: those before them, and those of their paths by first use
-abbrev pub names_after : List Text → List Stretch → List Text
-names_after known [] = known
-names_after known (s ∷ more) = names_after (with_path known s.path) more
 
 abbrev pub stretches_of : Schedule → List Stretch
 stretches_of s = map (stretch_of s.names) s.runs

@@ -2,15 +2,16 @@
 ghost use Rattle.std.specs.Prelude.{◌≡◌, ℕ, ◌^◌, ◌<◌, ◌≤◌, ◌++◌, ◌∷◌, [], codes, decimal, map};
 ghost use Rattle.std.specs.Prelude.{OnOk, IfOk, IfErr, IfSome, Some};
 ghost use Rattle.std.specs.List.{AllByRecursion};
-ghost use Rattle.hls_report.specs.ReportText.{account_text, ended};
-ghost use Rattle.hls_report.specs.WellFormed.{IsAccount};
+ghost use Rattle.hls_report_text.specs.ReportText.{account_text, ended};
+ghost use Rattle.hls_report_text.specs.WellFormed.{IsAccount};
 ghost use Rattle.hls_report.specs.Rests.{HasRoom, Passes, FailsAt, AccountRest, EndRest, NoRest};
 ghost use Rattle.hls_report.specs.AccountLines.{AccountPasses};
 
+use crate::ReportFault;
 use crate::line_reading::account;
 use crate::lines::Lines;
 use crate::words::{after, count};
-use crate::{Account, ReportFault};
+use hls_report_text::Account;
 use std::alloc::{AllocError, Global};
 
 /// A line of the accounts.

@@ -1,19 +1,20 @@
 // Reading the commands with their answers.
 ghost use Rattle.std.specs.Prelude.{◌≡◌, ◌↔◌, ℕ, ◌≤◌, ◌++◌, ◌∷◌, [], codes, length, map, flat_map, None};
 ghost use Rattle.std.specs.Prelude.{OnOk, IfOk, IfErr, IfSome, Some, IsTrue};
-ghost use Rattle.hls_report.specs.ReportText.{refusal_text, seat_text, answer_lines, answered_lines};
-ghost use Rattle.hls_report.specs.WellFormed.{IsRefusal, TakesSeats, AreSeats, IsAnswer, AreAnswered};
+ghost use Rattle.hls_report_text.specs.ReportText.{refusal_text, seat_text, answer_lines, answered_lines};
+ghost use Rattle.hls_report_text.specs.WellFormed.{IsRefusal, TakesSeats, AreSeats, IsAnswer, AreAnswered};
 ghost use Rattle.hls_report.specs.Rests.{HasRoom, Passes, FailsAt, CommandRest, AnswerRest, RunRest};
 ghost use Rattle.hls_report.specs.CommandLines.{SeatPasses, SeatsPass, AnswerPasses, ItemPasses};
 ghost use Rattle.hls_report.specs.CommandLines.{CommandPasses};
 
+use crate::ReportFault;
 use crate::line_reading::{item, seat};
 use crate::lines::Lines;
 use crate::refusal_reading::refusal;
 use crate::words::after;
-use crate::{Answer, Answered, Refusal, ReportFault, Seated};
 use hls_chron::List;
 use hls_lang::{Command, Item};
+use hls_report_text::{Answer, Answered, Refusal, Seated};
 use std::alloc::{AllocError, Global};
 
 /// How many commands a report has at most.

@@ -1,29 +1,23 @@
-//! Reports, and their text.
+//! Reports, and their text both ways.
 #![tactic(auto)]
 
 mod account_reading;
 mod command_reading;
 mod fault;
-pub mod laws;
 mod line_reading;
 mod lines;
 mod path_reading;
 mod places;
 mod reader;
-mod refusal;
 mod refusal_reading;
-mod refusals;
-mod report;
 mod report_reading;
 mod run_reading;
-mod stretch;
 #[cfg(test)]
 mod tests;
 mod words;
-mod writing;
 
 pub use fault::ReportFault;
-pub use refusal::Refusal;
-pub use report::{Account, Answer, Answered, Path, Report, Run, Seated};
+pub use hls_report_text::{
+    Account, Answer, Answered, Path, Refusal, Report, Run, Seated, write_report,
+};
 pub use report_reading::read_report;
-pub use writing::write_report;

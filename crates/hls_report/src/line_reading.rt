@@ -6,19 +6,18 @@ ghost use Rattle.hls_guarantee.specs.Spelling.{spelling};
 ghost use Rattle.hls_chron.specs.Name.{IsName};
 ghost use Rattle.hls_derive.specs.Reading.{Gives};
 ghost use Rattle.hls_lang.specs.Grammar.{IsCommand};
-ghost use Rattle.hls_report.specs.ReportText.{two_words, item_text, seat_text, span_text, ticks_text};
-ghost use Rattle.hls_report.specs.ReportText.{account_text};
-ghost use Rattle.hls_report.specs.WellFormed.{IsSeated, IsAccount};
-ghost use Rattle.hls_report.specs.Reading.{seat_front_at, span_at, spanned_at, account_front_at, ticks_at};
+ghost use Rattle.hls_report_text.specs.ReportText.{two_words, item_text, seat_text, span_text, ticks_text};
+ghost use Rattle.hls_report_text.specs.ReportText.{account_text};
+ghost use Rattle.hls_report_text.specs.WellFormed.{IsSeated, IsAccount};
+ghost use Rattle.hls_report_text.specs.Reading.{seat_front_at, span_at, spanned_at, account_front_at, ticks_at};
 ghost use Rattle.hls_report.specs.Rests.{IsNext};
 
 use crate::words::{after, count, cut, digit, name};
-use crate::writing::put_command;
-use crate::{Account, Seated};
 use hls_chron::Name;
 use hls_derive::{guarantee, read_derivation};
 use hls_guarantee::Guarantee;
 use hls_lang::{Item, read_item};
+use hls_report_text::{Account, Seated, put_command};
 use std::alloc::{AllocError, Global};
 
 /// The item that a line spells, of a tick from the last one on and below the horizon.
@@ -58,7 +57,7 @@ struct SeatFront<'a> {
     rest: &'a [u8],
 }
 
-#[tactic(auto, unfolding(crate::specs::Reading::seat_front_at))]
+#[tactic(auto, unfolding(hls_report_text::specs::Reading::seat_front_at))]
 fn seat_front(line: &[u8]) -> Option<SeatFront<'_>>
     ensures read { Gives (λ p. (p.name, p.port, p.rest.now)) result (seat_front_at line.now) }
     ensures found { IfSome result (λ p. IsName p.name × (p.port ≤ 3)
@@ -91,7 +90,7 @@ pub fn seat(alloc: Global, line: &[u8]) -> Result<Option<Seated>, AllocError>
     }
 }
 
-#[tactic(auto, unfolding(crate::specs::Reading::span_at))]
+#[tactic(auto, unfolding(hls_report_text::specs::Reading::span_at))]
 fn span(text: &[u8]) -> Option<(u32, u32)>
     ensures read { result ≡ span_at text.now }
     ensures found { IfSome result (λ p. text.now ≡ span_text p.0 p.1) }
@@ -104,7 +103,7 @@ fn span(text: &[u8]) -> Option<(u32, u32)>
 }
 
 /// A span, and what stands behind it and a space.
-#[tactic(auto, unfolding(crate::specs::Reading::spanned_at))]
+#[tactic(auto, unfolding(hls_report_text::specs::Reading::spanned_at))]
 pub fn spanned(text: &[u8]) -> Option<(u32, u32, &[u8])>
     ensures read { Gives (λ p. (p.0, p.1, p.2.now)) result (spanned_at text.now) }
     ensures found { IfSome result (λ p. text.now ≡ two_words (span_text p.0 p.1) p.2.now) }
@@ -114,7 +113,7 @@ pub fn spanned(text: &[u8]) -> Option<(u32, u32, &[u8])>
     Some((from, to, rest))
 }
 
-#[tactic(auto, unfolding(crate::specs::Reading::ticks_at))]
+#[tactic(auto, unfolding(hls_report_text::specs::Reading::ticks_at))]
 fn ticks(text: &[u8]) -> Option<(u32, u32)>
     ensures read { result ≡ ticks_at text.now }
     ensures found { IfSome result (λ p. text.now ≡ ticks_text p.0 p.1) }

@@ -1,6 +1,6 @@
 // Whole lines of a text, and their numbers.
 ghost use Rattle.std.specs.Prelude.{◌≡◌, ◌+◌, ◌∷◌, ◌++◌, MatchOption, length};
-ghost use Rattle.hls_report.specs.WellFormed.{IsOneLine};
+ghost use Rattle.hls_report_text.specs.WellFormed.{IsOneLine};
 ghost use Rattle.hls_report.specs.Rests.{HasRoom};
 
 use crate::ReportFault;

@@ -7,10 +7,10 @@ ghost use Rattle.hls_chron.specs.Name.{IsName};
 ghost use Rattle.hls_derive.specs.Reading.{Gives};
 ghost use Rattle.hls_report.specs.Paths.{names_text, first_name_at, FitIn, IsPathRead};
 
-use crate::Path;
 use crate::places::place_in;
 use crate::words::{after, name, place_of};
 use hls_chron::Name;
+use hls_report_text::Path;
 use indexmap::IndexSet;
 use std::alloc::AllocError;
 

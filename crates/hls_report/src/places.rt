@@ -1,6 +1,6 @@
 // The places of names.
 ghost use Rattle.std.specs.Prelude.{◌≡◌, ◌<◌, OnOk, IfOk, length, get_or, []};
-ghost use Rattle.hls_report.specs.WellFormed.{with_name};
+ghost use Rattle.hls_report_text.specs.WellFormed.{with_name};
 
 use hls_chron::Name;
 use indexmap::IndexSet;

@@ -3,15 +3,16 @@ ghost use Rattle.std.specs.Prelude.{◌≡◌, ℕ, ◌^◌, ◌<◌, ◌≤◌,
 ghost use Rattle.std.specs.Prelude.{OnOk, IfOk, IfErr, IfSome, Some};
 ghost use Rattle.std.specs.List.{AllByRecursion};
 ghost use Rattle.hls_chron.specs.Ranges.{IsWithin};
-ghost use Rattle.hls_report.specs.ReportText.{account_text};
-ghost use Rattle.hls_report.specs.WellFormed.{IsAccount};
+ghost use Rattle.hls_report_text.specs.ReportText.{account_text};
+ghost use Rattle.hls_report_text.specs.WellFormed.{IsAccount};
 ghost use Rattle.hls_report.specs.Rests.{HasRoom, Passes, FailsAt, HeaderRest, HorizonRest, DepthRest};
 ghost use Rattle.hls_report.specs.Rests.{CommandRest, AccountRest, EndRest};
 
+use crate::ReportFault;
 use crate::line_reading::account;
 use crate::lines::Lines;
 use crate::words::{after, count, digit};
-use crate::{Account, ReportFault};
+use hls_report_text::Account;
 use std::alloc::{AllocError, Global};
 
 /// How many ticks a report has at most.

@@ -1,16 +1,16 @@
 // Reading a refusal.
 ghost use Rattle.std.specs.Prelude.{◌≡◌, ◌∷◌, ◌++◌, codes, decimal, IfSome};
 ghost use Rattle.hls_derive.specs.Reading.{Gives};
-ghost use Rattle.hls_report.specs.ReportText.{two_words, place_text, kind_text, refusal_text};
-ghost use Rattle.hls_report.specs.WellFormed.{IsRefusal};
-ghost use Rattle.hls_report.specs.Reading.{not_empty_at, seats_full_at, kit_empty_at, no_room_at};
-ghost use Rattle.hls_report.specs.Reading.{no_derivation_at, refusal_at, seat_refusal_at, late_refusal_at};
+ghost use Rattle.hls_report_text.specs.ReportText.{two_words, place_text, kind_text, refusal_text};
+ghost use Rattle.hls_report_text.specs.WellFormed.{IsRefusal};
+ghost use Rattle.hls_report_text.specs.Reading.{not_empty_at, seats_full_at, kit_empty_at, no_room_at};
+ghost use Rattle.hls_report_text.specs.Reading.{no_derivation_at, refusal_at, seat_refusal_at, late_refusal_at};
 
-use crate::Refusal;
 use crate::words::{after, count, cut, digit, kind, name, number, place};
+use hls_report_text::Refusal;
 
 /// The refusal that a text spells.
-#[tactic(auto, unfolding(crate::specs::Reading::refusal_at))]
+#[tactic(auto, unfolding(hls_report_text::specs::Reading::refusal_at))]
 pub fn refusal(text: &[u8]) -> Option<Refusal>
     ensures read { result ≡ refusal_at text.now }
     ensures found { IfSome result (λ r. IsRefusal r × (text.now ≡ refusal_text r)) }
@@ -47,7 +47,7 @@ pub fn refusal(text: &[u8]) -> Option<Refusal>
 }
 
 /// A refusal for what stands on a scheduler.
-#[tactic(auto, unfolding(crate::specs::Reading::seat_refusal_at))]
+#[tactic(auto, unfolding(hls_report_text::specs::Reading::seat_refusal_at))]
 fn seat_refusal(text: &[u8]) -> Option<Refusal>
     ensures read { result ≡ seat_refusal_at text.now }
     ensures found { IfSome result (λ r. IsRefusal r × (text.now ≡ refusal_text r)) }
@@ -74,7 +74,7 @@ fn seat_refusal(text: &[u8]) -> Option<Refusal>
 }
 
 /// A refusal for the whole hierarchy, for room, or for want of a derivation.
-#[tactic(auto, unfolding(crate::specs::Reading::late_refusal_at))]
+#[tactic(auto, unfolding(hls_report_text::specs::Reading::late_refusal_at))]
 fn late_refusal(text: &[u8]) -> Option<Refusal>
     ensures read { result ≡ late_refusal_at text.now }
     ensures found { IfSome result (λ r. IsRefusal r × (text.now ≡ refusal_text r)) }

@@ -2,18 +2,19 @@
 ghost use Rattle.std.specs.Prelude.{◌≡◌, ◌^◌, ◌-◌, ◌<◌, ◌≤◌, ◌++◌, map, length, IfOk, IfErr};
 ghost use Rattle.std.specs.List.{AllByRecursion};
 ghost use Rattle.hls_chron.specs.Ranges.{IsWithin};
-ghost use Rattle.hls_report.specs.ReportText.{account_text, head_lines, end_lines, ended};
-ghost use Rattle.hls_report.specs.WellFormed.{IsAccount, IsReportText};
+ghost use Rattle.hls_report_text.specs.ReportText.{account_text, head_lines, end_lines, ended};
+ghost use Rattle.hls_report_text.specs.WellFormed.{IsAccount, IsReportText};
 ghost use Rattle.hls_report.specs.Rests.{HasRoom, Passes, FailsAt, HeaderRest, CommandRest, AccountRest};
 ghost use Rattle.hls_report.specs.Reports.{ReadsAs, IsBadAt};
 
+use crate::ReportFault;
 use crate::account_reading::{accounts, end};
 use crate::command_reading::commands;
 use crate::lines::Lines;
 use crate::reader::{depth, header, horizon};
 use crate::run_reading::runs;
-use crate::{Account, Report, ReportFault};
 use hls_chron::List;
+use hls_report_text::{Account, Report};
 use std::alloc::Global;
 
 /// Reads the lines before the commands.

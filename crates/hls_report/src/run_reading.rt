@@ -4,20 +4,21 @@ ghost use Rattle.std.specs.Prelude.{Option, Some, None, IfOk, OnOk, IfErr, Match
 ghost use Rattle.std.specs.List.{AllByRecursion};
 ghost use Rattle.hls_text.specs.Lines.{Text};
 ghost use Rattle.hls_chron.specs.Name.{IsName};
-ghost use Rattle.hls_report.specs.Content.{stretch_of};
-ghost use Rattle.hls_report.specs.ReportText.{two_words, span_text, path_text, stretch_text};
+ghost use Rattle.hls_report_text.specs.Content.{stretch_of};
+ghost use Rattle.hls_report_text.specs.ReportText.{two_words, span_text, path_text, stretch_text};
 ghost use Rattle.hls_report.specs.Rests.{HasRoom, Passes, FailsAt, RunRest, AccountRest};
 ghost use Rattle.hls_report.specs.RunLines.{FitsPath, IsPathTold, IsNextRun, IsRunTold, IsLast, RunPasses};
 ghost use Rattle.hls_report.specs.RunLines.{stretches_of, IsSchedule, AreNames, IsRunRead, RunFails};
 ghost use Rattle.hls_report.specs.RunLines.{AccountsPass, AccountsFail};
-ghost use Rattle.hls_report.specs.declared.stretch.Stretch.{Stretch};
+ghost use Rattle.hls_report_text.specs.declared.stretch.Stretch.{Stretch};
 
+use crate::ReportFault;
 use crate::line_reading::spanned;
 use crate::lines::Lines;
 use crate::path_reading::path;
 use crate::words::after;
-use crate::{Path, ReportFault, Run};
 use hls_chron::{List, Name};
+use hls_report_text::{Path, Run};
 use indexmap::IndexSet;
 use std::alloc::{AllocError, Global};
 

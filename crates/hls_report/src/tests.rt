@@ -1,10 +1,9 @@
 mod rows;
 
 use crate::refusal_reading::refusal;
-use crate::refusals::put_refusal;
-use crate::writing::{put_end, put_head, put_runs};
-use crate::{Path, Refusal, ReportFault, Run, read_report, write_report};
+use crate::{ReportFault, read_report};
 use hls_chron::{Kind, Name};
+use hls_report_text::{Refusal, put_refusal, write_report};
 use rows::{ROWS, SMALLEST};
 use std::alloc::{AllocError, Global};
 use std::test::Fail;
@@ -103,35 +102,6 @@ fn reads_no_other_refusal(rt: HostRuntime) {
     for text in table {
         assert_eq!(rt; refusal(text), None, "at {text:?}");
     }
-}
-
-#[test]
-fn writes_head_runs_and_end(rt: HostRuntime) -> Result<(), Fail> {
-    let root = Name::read(b"root").expect(&rt, "a name");
-    let names = [root, Name::read(b"a").expect(&rt, "a name")];
-    let path = Path {
-        len: 2,
-        names: [0, 1, 0, 0, 0, 0, 0, 0, 0],
-    };
-    let runs = [
-        Run {
-            from: 0,
-            to: 9,
-            path: Some(path),
-        },
-        Run {
-            from: 10,
-            to: 10,
-            path: None,
-        },
-    ];
-    let mut out = Vec::new(rt.alloc());
-    put_head(&mut out, 11, 3)?;
-    put_runs(&mut out, names.as_slice(), runs.as_slice())?;
-    put_end(&mut out, 1)?;
-    let wanted = b"hls-report 1\nhorizon 11\ndepth 3\n0..9 cpu/root/a\n10..10 idle\nidle 1\nend\n";
-    assert_eq!(rt; out.as_slice(), wanted.as_slice());
-    Ok(())
 }
 
 /// What is written for the report that a text is of.

@@ -3,12 +3,12 @@ ghost use Rattle.std.specs.Prelude.{◌≡◌, ℕ, ◌^◌, ◌<◌, ◌≤◌,
 ghost use Rattle.std.specs.Prelude.{Some, IfSome};
 ghost use Rattle.std.specs.Prelude.{MatchOption, IsTrue, position};
 ghost use Rattle.hls_chron.specs.Name.{IsName};
-ghost use Rattle.hls_report.specs.WellFormed.{IsPlace, HasBoxes};
+ghost use Rattle.hls_report_text.specs.WellFormed.{IsPlace, HasBoxes};
 ghost use Rattle.std.specs.List.{list_any};
 ghost use Rattle.hls_lang.specs.Words.{cut_at};
 ghost use Rattle.hls_derive.specs.Reading.{Gives, after_words};
-ghost use Rattle.hls_report.specs.Reading.{name_at, place_at, kind_at, number_below, count_at};
-ghost use Rattle.hls_report.specs.ReportText.{place_text, kind_text};
+ghost use Rattle.hls_report_text.specs.Reading.{name_at, place_at, kind_at, number_below, count_at};
+ghost use Rattle.hls_report_text.specs.ReportText.{place_text, kind_text};
 
 use hls_chron::{Kind, Name};
 use itoa::{Buffer, Integer};

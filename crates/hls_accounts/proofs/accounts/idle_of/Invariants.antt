@@ -1,6 +1,6 @@
 use Rattle.std.proofs.Common.{◌≡◌, ◌≤◌, is_none}
 use Rattle.hls_chron.specs.Ticks.{count}
-use Rattle.hls_report.specs.Content.{content_of}
+use Rattle.hls_report_text.specs.Content.{content_of}
 use Rattle.hls_accounts.specs.Schedule.{path_at}
 use Rattle.hls_accounts.proofs.accounts.idle_of.Given as goal
 

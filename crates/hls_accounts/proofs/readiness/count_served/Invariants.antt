@@ -1,6 +1,6 @@
 use Rattle.std.proofs.Common.{◌≡◌, ◌≤◌}
 use Rattle.hls_chron.specs.Ticks.{count}
-use Rattle.hls_report.specs.Content.{content_of}
+use Rattle.hls_report_text.specs.Content.{content_of}
 use Rattle.hls_accounts.specs.Schedule.{is_served}
 use Rattle.hls_accounts.proofs.readiness.count_served.Given as goal
 

@@ -1,4 +1,4 @@
-use Rattle.hls_report.specs.Content.{content_of}
+use Rattle.hls_report_text.specs.Content.{content_of}
 use Rattle.hls_accounts.proofs.Keeping.{IsReadySince}
 use Rattle.hls_accounts.proofs.windows.window_start.Given as goal
 

@@ -1,5 +1,5 @@
 use Rattle.std.proofs.Common.{◌≡◌, true, false, sym, ◌∙◌, ap}
-use Rattle.hls_report.specs.ReportText.{item_text}
+use Rattle.hls_report_text.specs.ReportText.{item_text}
 use Rattle.hls_report.proofs.LineReadings.{item_is_line, none_some}
 use Rattle.hls_report.proofs.line_reading.item.Goals as goal
 

@@ -1,5 +1,5 @@
 use Rattle.std.proofs.Common.{◌≡◌, Some, sym, ◌∙◌, ap}
-use Rattle.hls_report.specs.declared.report.Seated.{Seated}
+use Rattle.hls_report_text.specs.declared.report.Seated.{Seated}
 use Rattle.hls_report.proofs.LineReadings.{seat_parts, seat_is, no_seat_front}
 use Rattle.hls_report.proofs.line_reading.seat.Goals as goal
 

@@ -1,4 +1,4 @@
-use Rattle.hls_report.proofs.NameLaws.{known_is, place_is}
+use Rattle.hls_report_text.proofs.NameLaws.{known_is, place_is}
 use Rattle.hls_report.proofs.places.place_in.Goals as goal
 
 pub returns-clause-known : goal.returns-clause-known

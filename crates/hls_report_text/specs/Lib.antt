@@ -1,0 +1,4 @@
+pub mod Content
+pub mod ReportText
+pub mod WellFormed
+pub mod Reading

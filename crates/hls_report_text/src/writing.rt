@@ -1,0 +1,251 @@
+// The text of a report, a line at a time.
+ghost use Rattle.std.specs.Prelude.{◌≡◌, ◌≤◌, ◌++◌, ◌∷◌, [], OnOk, IfOk, codes, decimal, flat_map, get_or};
+ghost use Rattle.std.specs.List.{AllByRecursion};
+ghost use Rattle.hls_guarantee.specs.Limits.{IsValid};
+ghost use Rattle.hls_lang.specs.Grammar.{IsCommand};
+ghost use Rattle.hls_report_text.specs.Content.{path_names, stretch_of};
+ghost use Rattle.hls_report_text.specs.ReportText.{item_of, item_text, seat_text, answer_lines, answered_lines};
+ghost use Rattle.hls_report_text.specs.ReportText.{span_text, path_text, stretch_text, account_text};
+ghost use Rattle.hls_report_text.specs.ReportText.{ticks_text, head_lines, end_lines, with_end, ended};
+ghost use Rattle.hls_report_text.specs.ReportText.{report_text};
+ghost use Rattle.hls_report_text.specs.WellFormed.{IsWellFormed, IsSeated, IsAnswer, HasShort, IsReportText};
+
+use crate::refusals::put_refusal;
+use crate::{Account, Answer, Answered, Path, Report, Run, Seated};
+use hls_chron::Name;
+use hls_derive::write_derivation;
+use hls_guarantee::write_guarantee;
+use hls_lang::Command;
+use hls_print::print_command;
+use itoa::{Buffer, Integer};
+use std::alloc::{AllocError, Global};
+
+/// The text of a report.
+#[tactic(auto, unfolding(crate::specs::ReportText::report_text))]
+pub fn write_report(alloc: Global, report: &Report) -> Result<Vec<u8>, AllocError>
+    requires { IsWellFormed report.now }
+    ensures { IfOk result (λ text. text.items ≡ report_text report.now) }
+{
+    let mut out = Vec::new(alloc);
+    put_head(&mut out, report.horizon, report.depth)?;
+    put_all_answered(alloc, &mut out, report.answered.items())?;
+    put(&mut out, b"schedule\n")?;
+    put_runs(&mut out, report.names.items(), report.runs.items())?;
+    put(&mut out, b"accounts\n")?;
+    put_accounts(&mut out, report.accounts.items())?;
+    put_end(&mut out, report.idle)?;
+    Ok(out)
+}
+
+pub fn put_head(out: &mut Vec<u8>, horizon: u32, depth: u8) -> Result<(), AllocError>
+    ensures { OnOk result (out.new.items ≡ out.old.items ++ ended (head_lines horizon depth)) }
+{
+    put(out, b"hls-report 1\nhorizon ")?;
+    put_number(out, u128::from(horizon))?;
+    put(out, b"\ndepth ")?;
+    put_number(out, u128::from(depth))?;
+    put(out, b"\n")
+}
+
+fn put_all_answered(
+    alloc: Global,
+    out: &mut Vec<u8>,
+    answered: &[Answered],
+) -> Result<(), AllocError>
+    requires { AllByRecursion (λ a. IsCommand a.command × IsAnswer a.command a.answer) answered.now }
+    ensures { OnOk result (out.new.items
+        ≡ out.old.items ++ flat_map (λ a. ended (answered_lines a)) answered.now) }
+{
+    for one in answered {
+        put_item(alloc, out, one)?;
+        put_answer(out, one)?;
+    }
+    Ok(())
+}
+
+fn put_item(alloc: Global, out: &mut Vec<u8>, answered: &Answered) -> Result<(), AllocError>
+    requires { IsCommand answered.now.command }
+    ensures { OnOk result (out.new.items ≡ out.old.items ++ with_end (item_text (item_of answered.now))) }
+{
+    put_command(alloc, out, answered.tick, &answered.command)?;
+    put(out, b"\n")
+}
+
+/// Appends a tick and a command.
+pub fn put_command(
+    alloc: Global,
+    out: &mut Vec<u8>,
+    tick: u32,
+    command: &Command,
+) -> Result<(), AllocError>
+    requires { IsCommand command.now }
+    ensures { OnOk result (out.new.items
+        ≡ out.old.items ++ item_text (record { tick = tick; command = command.now })) }
+{
+    let command = print_command(alloc, command)?;
+    put(out, b"at ")?;
+    put_number(out, u128::from(tick))?;
+    put(out, b" ")?;
+    put(out, &command)
+}
+
+fn put_answer(out: &mut Vec<u8>, answered: &Answered) -> Result<(), AllocError>
+    requires { IsAnswer answered.now.command answered.now.answer }
+    ensures { OnOk result (out.new.items ≡ out.old.items ++ ended (answer_lines answered.now.answer)) }
+{
+    match &answered.answer {
+        Answer::Done(seats) => {
+            put(out, b"= done\n")?;
+            put_seats(out, seats.items())
+        }
+        Answer::Refused(refusal) => {
+            put(out, b"= refused ")?;
+            put_refusal(out, refusal)?;
+            put(out, b"\n")
+        }
+    }
+}
+
+fn put_seats(out: &mut Vec<u8>, seats: &[Seated]) -> Result<(), AllocError>
+    requires { AllByRecursion IsSeated seats.now }
+    ensures { OnOk result (out.new.items
+        ≡ out.old.items ++ flat_map (λ seat. with_end (seat_text seat)) seats.now) }
+{
+    for seat in seats {
+        put_seat(out, seat)?;
+    }
+    Ok(())
+}
+
+fn put_seat(out: &mut Vec<u8>, seat: &Seated) -> Result<(), AllocError>
+    requires { IsSeated seat.now }
+    ensures { OnOk result (out.new.items ≡ out.old.items ++ with_end (seat_text seat.now)) }
+{
+    put(out, b"by ")?;
+    put(out, seat.name.bytes())?;
+    put(out, b" ")?;
+    put_number(out, u128::from(seat.port))?;
+    put(out, b" ")?;
+    write_derivation(&seat.derivation, out)?;
+    put(out, b"\n")
+}
+
+pub fn put_runs(out: &mut Vec<u8>, names: &[Name], runs: &[Run]) -> Result<(), AllocError>
+    requires { AllByRecursion (λ run. HasShort run.path) runs.now }
+    ensures { OnOk result (out.new.items ≡ out.old.items
+        ++ flat_map (λ run. with_end (stretch_text (stretch_of names.now run))) runs.now) }
+{
+    for run in runs {
+        put_run(out, names, run)?;
+    }
+    Ok(())
+}
+
+fn put_run(out: &mut Vec<u8>, names: &[Name], run: &Run) -> Result<(), AllocError>
+    requires { HasShort run.now.path }
+    ensures { OnOk result (out.new.items
+        ≡ out.old.items ++ with_end (stretch_text (stretch_of names.now run.now))) }
+{
+    put_span(out, run.from, run.to)?;
+    match &run.path {
+        Some(path) => {
+            put(out, b" cpu")?;
+            put_path(out, names, path)?;
+            put(out, b"\n")
+        }
+        None => put(out, b" idle\n"),
+    }
+}
+
+fn put_path(out: &mut Vec<u8>, names: &[Name], path: &Path) -> Result<(), AllocError>
+    requires { path.now.len ≤ 9 }
+    ensures { OnOk result (out.new.items ≡ out.old.items
+        ++ flat_map (λ name. codes "/" ++ name) (path_names names.now path.now)) }
+{
+    put_places(out, names, &path.names[..usize::from(path.len)])
+}
+
+fn put_places(out: &mut Vec<u8>, names: &[Name], places: &[u16]) -> Result<(), AllocError>
+    ensures { OnOk result (out.new.items ≡ out.old.items
+        ++ flat_map (λ place. codes "/" ++ get_or names.now place []) places.now) }
+{
+    for place in places {
+        put(out, b"/")?;
+        put_named_at(out, names, *place)?;
+    }
+    Ok(())
+}
+
+/// Appends the name at that place, where there is one.
+fn put_named_at(out: &mut Vec<u8>, names: &[Name], place: u16) -> Result<(), AllocError>
+    ensures { OnOk result (out.new.items ≡ out.old.items ++ get_or names.now place []) }
+{
+    match names.get(usize::from(place)) {
+        Some(name) => put(out, name.bytes()),
+        None => Ok(()),
+    }
+}
+
+fn put_span(out: &mut Vec<u8>, from: u32, to: u32) -> Result<(), AllocError>
+    ensures { OnOk result (out.new.items ≡ out.old.items ++ span_text from to) }
+{
+    put_number(out, u128::from(from))?;
+    put(out, b"..")?;
+    put_number(out, u128::from(to))
+}
+
+fn put_accounts(out: &mut Vec<u8>, accounts: &[Account]) -> Result<(), AllocError>
+    requires { AllByRecursion (λ a. IsValid a.kept) accounts.now }
+    ensures { OnOk result (out.new.items
+        ≡ out.old.items ++ flat_map (λ a. with_end (account_text a)) accounts.now) }
+{
+    for account in accounts {
+        put_account(out, account)?;
+    }
+    Ok(())
+}
+
+fn put_account(out: &mut Vec<u8>, account: &Account) -> Result<(), AllocError>
+    requires { IsValid account.now.kept }
+    ensures { OnOk result (out.new.items ≡ out.old.items ++ with_end (account_text account.now)) }
+{
+    put(out, account.name.bytes())?;
+    put(out, b" ")?;
+    put_span(out, account.from, account.to)?;
+    put(out, b" ")?;
+    write_guarantee(&account.kept, out)?;
+    put_ticks(out, account.ready, account.served)?;
+    put(out, b"\n")
+}
+
+fn put_ticks(out: &mut Vec<u8>, ready: u32, served: u32) -> Result<(), AllocError>
+    ensures { OnOk result (out.new.items ≡ out.old.items ++ ticks_text ready served) }
+{
+    put(out, b" ready ")?;
+    put_number(out, u128::from(ready))?;
+    put(out, b" served ")?;
+    put_number(out, u128::from(served))
+}
+
+pub fn put_end(out: &mut Vec<u8>, idle: u32) -> Result<(), AllocError>
+    ensures { OnOk result (out.new.items ≡ out.old.items ++ ended (end_lines idle)) }
+{
+    put(out, b"idle ")?;
+    put_number(out, u128::from(idle))?;
+    put(out, b"\nend\n")
+}
+
+/// Appends a number in decimal.
+pub fn put_number(out: &mut Vec<u8>, number: u128) -> Result<(), AllocError>
+    ensures { OnOk result (out.new.items ≡ out.old.items ++ decimal number) }
+{
+    let mut buffer = Buffer::new();
+    put(out, buffer.format(number).as_bytes())
+}
+
+/// Appends a text.
+pub fn put(out: &mut Vec<u8>, text: &[u8]) -> Result<(), AllocError>
+    ensures { OnOk result (out.new.items ≡ out.old.items ++ text.now) }
+{
+    out.extend_from_slice(text)
+}
