@@ -17,7 +17,8 @@ use Rattle.hls_lang.specs.Grammar.{IsLine, IsItemLine}
 use Rattle.hls_lang.specs.Words.{cut_at}
 use Rattle.hls_report_text.specs.declared.report.Seated.{Seated}
 use Rattle.hls_report_text.specs.declared.report.Account.{Account}
-use Rattle.hls_report_text.specs.ReportText.{two_words, item_text, seat_text, span_text, ticks_text, account_text}
+use Rattle.hls_report_text.specs.ReportText.{two_words, item_text, seat_text, span_text, ticks_text}
+use Rattle.hls_report_text.specs.ReportText.{account_text}
 use Rattle.hls_report_text.specs.WellFormed.{IsSeated, IsAccount}
 use Rattle.hls_report.specs.Rests.{IsNext}
 use Rattle.hls_report_text.specs.Reading.{name_at, count_at, number_below, seat_front_at, span_at, spanned_at}

@@ -20,7 +20,8 @@ use Rattle.hls_report_text.specs.Reading.{name_at}
 use Rattle.hls_report.specs.Paths.{names_text, name_length, first_name_at, FitIn, IsPathRead}
 use Rattle.hls_report_text.proofs.Marks.{Lacks, name_lacks}
 use Rattle.hls_report_text.proofs.RefusalTexts.{name_again}
-use Rattle.hls_report_text.proofs.NameLaws.{Grows, name_grows, names_grow, grown_length, named_at, AreIn, grown_in}
+use Rattle.hls_report_text.proofs.NameLaws.{Grows, name_grows, names_grow, grown_length, named_at, AreIn}
+use Rattle.hls_report_text.proofs.NameLaws.{grown_in}
 use Rattle.hls_report_text.proofs.NameLaws.{grown_names}
 
 -- ---- the first name

@@ -11,7 +11,8 @@ use Rattle.hls_report_text.specs.declared.report.Answered.{Answered}
 use Rattle.hls_report_text.specs.declared.report.Report.{Report}
 use Rattle.hls_report_text.specs.declared.stretch.Stretch.{Stretch}
 use Rattle.hls_report_text.specs.Content.{Content, content_of, stretch_of}
-use Rattle.hls_report_text.specs.ReportText.{answered_lines, stretch_text, account_text, head_lines, end_lines}
+use Rattle.hls_report_text.specs.ReportText.{answered_lines, stretch_text, account_text, head_lines}
+use Rattle.hls_report_text.specs.ReportText.{end_lines}
 use Rattle.hls_report_text.specs.ReportText.{content_lines, ended, report_text}
 use Rattle.hls_report_text.specs.WellFormed.{IsReportText, HasShort, IsContent}
 use Rattle.hls_report.specs.Rests.{Passes, FailsAt, HeaderRest, CommandRest, RunRest, AccountRest}

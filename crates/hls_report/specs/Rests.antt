@@ -14,9 +14,11 @@ use Rattle.hls_report_text.specs.declared.report.Answer.{Answer}
 use Rattle.hls_report_text.specs.declared.report.Answered.{Answered}
 use Rattle.hls_report_text.specs.declared.report.Account.{Account}
 use Rattle.hls_report_text.specs.declared.stretch.Stretch.{Stretch}
-use Rattle.hls_report_text.specs.ReportText.{answer_lines, answered_lines, seat_text, stretch_text, account_text}
+use Rattle.hls_report_text.specs.ReportText.{answer_lines, answered_lines, seat_text, stretch_text}
+use Rattle.hls_report_text.specs.ReportText.{account_text}
 use Rattle.hls_report_text.specs.ReportText.{ended}
-use Rattle.hls_report_text.specs.WellFormed.{IsAnswer, AreSeats, AreAnswered, IsPath, Cover, FewNames, IsAccount}
+use Rattle.hls_report_text.specs.WellFormed.{IsAnswer, AreSeats, AreAnswered, IsPath, Cover, FewNames}
+use Rattle.hls_report_text.specs.WellFormed.{IsAccount}
 use Rattle.hls_report_text.specs.WellFormed.{with_path, IsOneLine}
 use Rattle.hls_lang.specs.declared.scenario.Item.{Item}
 use Rattle.hls_lang.specs.Grammar.{IsCommand}

@@ -9,7 +9,8 @@ ghost use Rattle.hls_lang.specs.Grammar.{IsCommand};
 ghost use Rattle.hls_report_text.specs.ReportText.{two_words, item_text, seat_text, span_text, ticks_text};
 ghost use Rattle.hls_report_text.specs.ReportText.{account_text};
 ghost use Rattle.hls_report_text.specs.WellFormed.{IsSeated, IsAccount};
-ghost use Rattle.hls_report_text.specs.Reading.{seat_front_at, span_at, spanned_at, account_front_at, ticks_at};
+ghost use Rattle.hls_report_text.specs.Reading.{seat_front_at, span_at, spanned_at, account_front_at};
+ghost use Rattle.hls_report_text.specs.Reading.{ticks_at};
 ghost use Rattle.hls_report.specs.Rests.{IsNext};
 
 use crate::words::{after, count, cut, digit, name};

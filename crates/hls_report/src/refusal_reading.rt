@@ -4,7 +4,8 @@ ghost use Rattle.hls_derive.specs.Reading.{Gives};
 ghost use Rattle.hls_report_text.specs.ReportText.{two_words, place_text, kind_text, refusal_text};
 ghost use Rattle.hls_report_text.specs.WellFormed.{IsRefusal};
 ghost use Rattle.hls_report_text.specs.Reading.{not_empty_at, seats_full_at, kit_empty_at, no_room_at};
-ghost use Rattle.hls_report_text.specs.Reading.{no_derivation_at, refusal_at, seat_refusal_at, late_refusal_at};
+ghost use Rattle.hls_report_text.specs.Reading.{no_derivation_at, refusal_at, seat_refusal_at};
+ghost use Rattle.hls_report_text.specs.Reading.{late_refusal_at};
 
 use crate::words::{after, count, cut, digit, kind, name, number, place};
 use hls_report_text::Refusal;

@@ -42,7 +42,8 @@ use Rattle.hls_print.proofs.CanonicalForms.{command_printable}
 use Rattle.hls_report_text.specs.declared.report.Seated.{Seated}
 use Rattle.hls_report_text.specs.declared.report.Account.{Account}
 use Rattle.hls_report_text.specs.declared.stretch.Stretch.{Stretch}
-use Rattle.hls_report_text.specs.ReportText.{item_text, two_words, seat_text, span_text, path_text, stretch_text}
+use Rattle.hls_report_text.specs.ReportText.{item_text, two_words, seat_text, span_text, path_text}
+use Rattle.hls_report_text.specs.ReportText.{stretch_text}
 use Rattle.hls_report_text.specs.ReportText.{ticks_text, account_text}
 use Rattle.hls_report_text.specs.WellFormed.{IsSeated, IsPath, IsAccount}
 use Rattle.hls_report_text.proofs.Marks.{Lacks, lacks_both, cut_same, name_lacks, number_lacks, number_same}

@@ -25,7 +25,8 @@ use Rattle.hls_report_text.specs.WellFormed.{IsWellFormed}
 use Rattle.hls_report_text.proofs.Marks.{Lacks, cut_same, name_lacks, number_lacks, number_same, marked_same}
 use Rattle.hls_report_text.proofs.RefusalTexts.{refusal_same, refusal_line}
 use Rattle.hls_report_text.proofs.LineTexts.{item_same, item_line, seat_same, seat_line, first_byte, apart}
-use Rattle.hls_report_text.proofs.LineTexts.{IsStretch, stretch_same, stretch_line, account_same, account_line}
+use Rattle.hls_report_text.proofs.LineTexts.{IsStretch, stretch_same, stretch_line, account_same}
+use Rattle.hls_report_text.proofs.LineTexts.{account_line}
 use Rattle.hls_report_text.proofs.LineTexts.{digit_first}
 use Rattle.hls_report_text.proofs.Writings.{seats_all}
 use Rattle.hls_print.proofs.CanonicalLines.{all_append}

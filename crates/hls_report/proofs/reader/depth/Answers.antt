@@ -4,7 +4,8 @@ use Rattle.hls_report_text.specs.WellFormed.{IsOneLine}
 use Rattle.hls_report.specs.Rests.{DepthRest, CommandRest}
 use Rattle.hls_report.proofs.Heads.{no_depth}
 use Rattle.hls_report.proofs.LineReadings.{none_some}
-use Rattle.hls_report.proofs.RestLaws.{no_last_depth, some_depth, some_command, depth_onto, depth_off, depth_line}
+use Rattle.hls_report.proofs.RestLaws.{no_last_depth, some_depth, some_command, depth_onto, depth_off}
+use Rattle.hls_report.proofs.RestLaws.{depth_line}
 use Rattle.hls_report.proofs.Stuck.{pass_line, fail_line, fail_end}
 use Rattle.hls_report.proofs.reader.depth.Goals as goal
 

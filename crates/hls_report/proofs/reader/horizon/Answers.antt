@@ -4,7 +4,8 @@ use Rattle.hls_report_text.specs.WellFormed.{IsOneLine}
 use Rattle.hls_report.specs.Rests.{HorizonRest, DepthRest}
 use Rattle.hls_report.proofs.Heads.{no_horizon}
 use Rattle.hls_report.proofs.LineReadings.{none_some}
-use Rattle.hls_report.proofs.RestLaws.{no_last_horizon, some_horizon, some_depth, horizon_onto, horizon_off, horizon_line}
+use Rattle.hls_report.proofs.RestLaws.{no_last_horizon, some_horizon, some_depth, horizon_onto}
+use Rattle.hls_report.proofs.RestLaws.{horizon_off, horizon_line}
 use Rattle.hls_report.proofs.Stuck.{pass_line, fail_line, fail_end}
 use Rattle.hls_report.proofs.reader.horizon.Goals as goal
 
