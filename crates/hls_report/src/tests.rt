@@ -1,9 +1,11 @@
+mod long_rows;
 mod rows;
 
 use crate::refusal_reading::refusal;
 use crate::{ReportFault, read_report};
 use hls_chron::{Kind, Name};
 use hls_report_text::{Refusal, put_refusal, write_report};
+use long_rows::{DESKTOP, KIT_EMPTY, MOST_NODES, MOST_THREADS};
 use rows::{ROWS, SMALLEST};
 use std::alloc::{AllocError, Global};
 use std::test::Fail;
@@ -132,6 +134,14 @@ fn reads_and_writes_the_worked_examples(rt: HostRuntime) {
         let again = written_again(rt.alloc(), text);
         assert!(rt; again.is_some(), "at {name}");
         assert_eq!(rt; again.as_deref(), Some(*text), "at {name}");
+    }
+}
+
+#[test]
+fn reads_and_writes_the_long_examples(rt: HostRuntime) {
+    for text in [DESKTOP, KIT_EMPTY, MOST_NODES, MOST_THREADS] {
+        let again = written_again(rt.alloc(), text);
+        assert_eq!(rt; again.as_deref(), Some(text));
     }
 }
 
