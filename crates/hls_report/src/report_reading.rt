@@ -5,7 +5,7 @@ ghost use Rattle.hls_chron.specs.Ranges.{IsWithin};
 ghost use Rattle.hls_report_text.specs.ReportText.{account_text, head_lines, end_lines, ended};
 ghost use Rattle.hls_report_text.specs.WellFormed.{IsAccount, IsReportText};
 ghost use Rattle.hls_report.specs.Rests.{HasRoom, Passes, FailsAt, HeaderRest, CommandRest, AccountRest};
-ghost use Rattle.hls_report.specs.Reports.{ReadsAs, IsBadAt};
+ghost use Rattle.hls_report.specs.Reports.{HasNamesByUse, ReadsAs, IsBadAt};
 
 use crate::ReportFault;
 use crate::account_reading::{accounts, end};
@@ -51,6 +51,7 @@ fn tail(
 fn report(alloc: Global, lines: &mut Lines<'_>) -> Result<Report, ReportFault>
     requires { HasRoom lines.old }
     ensures ok { IfOk result (λ r. IsReportText lines.old.rest.now r) }
+    ensures names { IfOk result HasNamesByUse }
     ensures err { IfErr result (λ fault. FailsAt HeaderRest lines.old fault) }
 {
     let (horizon, depth) = head(lines)?;
@@ -72,6 +73,7 @@ fn report(alloc: Global, lines: &mut Lines<'_>) -> Result<Report, ReportFault>
 pub fn read_report(alloc: Global, text: &[u8]) -> Result<Report, ReportFault>
     requires { length text.now < 2 ^ 32 - 1 }
     ensures found { IfOk result (λ report. IsReportText text.now report) }
+    ensures names { IfOk result HasNamesByUse }
     ensures exact { (report : Report) → IsReportText text.now report → ReadsAs report result }
     ensures bad { IfErr result (λ fault. IsBadAt text.now fault) }
 {
