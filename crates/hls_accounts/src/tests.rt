@@ -1,9 +1,12 @@
-// Worked rows, recomputed from their commands and runs alone.
+// Worked reports: read, recomputed from their commands and runs alone, and written again.
+mod long_rows;
 mod rows;
 
 use crate::{accounts_of, idle_of, is_ready, is_served, stays_of, window_start};
-use hls_report::read_report;
+use hls_report::{Report, read_report, write_report};
+use long_rows::{DESKTOP, KIT_EMPTY, MOST_NODES, MOST_THREADS};
 use rows::ROWS;
+use std::alloc::Global;
 use std::test::Fail;
 
 /// A thread that is woken, blocked, and woken for three ticks.
@@ -12,20 +15,57 @@ const BURST: &[u8] = b"hls-report 1\nhorizon 9\ndepth 3\nat 0 load root fp on cp
     at 4 wake a for 3\n= done\nschedule\n0..0 idle\n1..2 cpu/root/a\n3..3 idle\n4..6 cpu/root/a\n\
     7..8 idle\naccounts\na 0..8 ALL ready 5 served 5\nidle 4\nend\n";
 
+/// The report of a text that is not long.
+fn report_of(alloc: Global, text: &[u8]) -> Result<Report, Fail> {
+    if text.len() > 100_000 {
+        return Err(Fail::from("a report is too long"));
+    }
+    match read_report(alloc, text) {
+        Ok(report) => Ok(report),
+        Err(fault) => Err(Fail::from("a text is no report's")),
+    }
+}
+
+/// What is written for the report of a text that is not long.
+fn written_again(alloc: Global, text: &[u8]) -> Result<Vec<u8>, Fail> {
+    if text.len() > 100_000 {
+        return Err(Fail::from("a report is too long"));
+    }
+    match read_report(alloc, text) {
+        Ok(report) => Ok(write_report(alloc, &report)?),
+        Err(fault) => Err(Fail::from("a text is no report's")),
+    }
+}
+
 #[test]
 fn recomputes_the_accounts_of_worked_rows(rt: HostRuntime) -> Result<(), Fail> {
     for (row, text) in ROWS {
-        if text.len() > 4000 {
-            return Err(Fail::from("a row is too long"));
-        }
-        match read_report(rt.alloc(), text) {
-            Ok(report) => {
-                let accounts = accounts_of(rt.alloc(), &report)?;
-                assert_eq!(rt; accounts.as_slice(), report.accounts.items(), "at {row}");
-                assert_eq!(rt; idle_of(&report), report.idle, "at {row}");
-            }
-            Err(fault) => return Err(Fail::from("a row is no report")),
-        }
+        let report = report_of(rt.alloc(), text)?;
+        let accounts = accounts_of(rt.alloc(), &report)?;
+        assert_eq!(rt; accounts.as_slice(), report.accounts.items(), "at {row}");
+        assert_eq!(rt; idle_of(&report), report.idle, "at {row}");
+    }
+    Ok(())
+}
+
+#[test]
+fn writes_worked_rows_again(rt: HostRuntime) -> Result<(), Fail> {
+    for (row, text) in ROWS {
+        let again = written_again(rt.alloc(), text)?;
+        assert_eq!(rt; again.as_slice(), *text, "at {row}");
+    }
+    Ok(())
+}
+
+#[test]
+fn reads_recomputes_and_writes_long_rows(rt: HostRuntime) -> Result<(), Fail> {
+    for text in [DESKTOP, KIT_EMPTY, MOST_NODES, MOST_THREADS] {
+        let report = report_of(rt.alloc(), text)?;
+        let accounts = accounts_of(rt.alloc(), &report)?;
+        assert_eq!(rt; accounts.as_slice(), report.accounts.items());
+        assert_eq!(rt; idle_of(&report), report.idle);
+        let again = written_again(rt.alloc(), text)?;
+        assert_eq!(rt; again.as_slice(), text);
     }
     Ok(())
 }

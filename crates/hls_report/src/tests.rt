@@ -1,12 +1,7 @@
-mod long_rows;
-mod rows;
-
 use crate::refusal_reading::refusal;
 use crate::{ReportFault, read_report};
 use hls_chron::{Kind, Name};
 use hls_report_text::{Refusal, put_refusal, write_report};
-use long_rows::{DESKTOP, KIT_EMPTY, MOST_NODES, MOST_THREADS};
-use rows::{ROWS, SMALLEST};
 use std::alloc::{AllocError, Global};
 use std::test::Fail;
 
@@ -106,6 +101,25 @@ fn reads_no_other_refusal(rt: HostRuntime) {
     }
 }
 
+/// The smallest report of a thread that is served.
+const SMALLEST: &[u8] = b"hls-report 1\n\
+    horizon 1\n\
+    depth 3\n\
+    at 0 load root fp on cpu as ALL\n\
+    = done\n\
+    by root 0 ALL CPU ALL\n\
+    at 0 thread a on root prio 0 as ALL\n\
+    = done\n\
+    by a 0 ALL FP ALL\n\
+    at 0 wake a\n\
+    = done\n\
+    schedule\n\
+    0..0 cpu/root/a\n\
+    accounts\n\
+    a 0..0 ALL ready 1 served 1\n\
+    idle 0\n\
+    end\n";
+
 /// What is written for the report that a text is of.
 fn written_again(alloc: Global, text: &[u8]) -> Option<Vec<u8>> {
     if text.len() > 4_000_000 {
@@ -129,20 +143,9 @@ fn bad_line(alloc: Global, text: &[u8]) -> Option<u32> {
 }
 
 #[test]
-fn reads_and_writes_the_worked_examples(rt: HostRuntime) {
-    for (name, text) in &ROWS {
-        let again = written_again(rt.alloc(), text);
-        assert!(rt; again.is_some(), "at {name}");
-        assert_eq!(rt; again.as_deref(), Some(*text), "at {name}");
-    }
-}
-
-#[test]
-fn reads_and_writes_the_long_examples(rt: HostRuntime) {
-    for text in [DESKTOP, KIT_EMPTY, MOST_NODES, MOST_THREADS] {
-        let again = written_again(rt.alloc(), text);
-        assert_eq!(rt; again.as_deref(), Some(text));
-    }
+fn reads_and_writes_the_smallest_report(rt: HostRuntime) {
+    let again = written_again(rt.alloc(), SMALLEST);
+    assert_eq!(rt; again.as_deref(), Some(SMALLEST));
 }
 
 /// The first so many lines of the smallest report, and one line behind them.

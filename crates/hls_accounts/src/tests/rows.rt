@@ -212,6 +212,50 @@ end
 ",
     ),
     (
+        "depth line wins 3",
+        b"hls-report 1
+horizon 10
+depth 1
+at 0 load root edf on cpu as ALL
+= done
+by root 0 ALL CPU ALL
+at 0 load f fp on root res 3 10 soft as RESBS 3 10
+= done
+by f 0 ALL EDF RESBS 3 10
+at 0 thread t on f prio 0 as RESCS 3 17
+= done
+by t 0 RESBS 3 10 FP RESBS 3 10 R3 RESCS 3 17
+schedule
+0..9 idle
+accounts
+t 0..9 RESCS 3 17 ready 0 served 0
+idle 10
+end
+",
+    ),
+    (
+        "depth line wins 4",
+        b"hls-report 1
+horizon 5
+depth 1
+at 0 load root edf on cpu as ALL
+= done
+by root 0 ALL CPU ALL
+at 0 load f fp on root res 3 10 soft as RESBS 3 10
+= done
+by f 0 ALL EDF RESBS 3 10
+at 0 thread t on f prio 0 as RESCS 3 17
+= done
+by t 0 RESBS 3 10 FP RESBS 3 10 R3 RESCS 3 17
+schedule
+0..4 idle
+accounts
+t 0..4 RESCS 3 17 ready 0 served 0
+idle 5
+end
+",
+    ),
+    (
         "empty before unload 1",
         b"hls-report 1
 horizon 5
