@@ -1,11 +1,17 @@
 // Worked reports: read, recomputed from their commands and runs alone, and written again.
-mod long_rows;
-mod rows;
+mod commands;
+mod derivations;
+mod desktop;
+mod kinds;
+mod limits;
 
 use crate::{accounts_of, idle_of, is_ready, is_served, stays_of, window_start};
+use commands::COMMANDS;
+use derivations::DERIVATIONS;
+use desktop::DESKTOP;
 use hls_report::{Report, read_report, write_report};
-use long_rows::{DESKTOP, KIT_EMPTY, MOST_NODES, MOST_THREADS};
-use rows::ROWS;
+use kinds::KINDS;
+use limits::LIMITS;
 use std::alloc::Global;
 use std::test::Fail;
 
@@ -37,35 +43,55 @@ fn written_again(alloc: Global, text: &[u8]) -> Result<Vec<u8>, Fail> {
     }
 }
 
+/// Whether a report prints the accounts and the idle ticks that its commands and runs give, and its text
+/// is what is written for it.
+fn tells_itself(alloc: Global, text: &[u8]) -> Result<bool, Fail> {
+    let report = report_of(alloc, text)?;
+    let accounts = accounts_of(alloc, &report)?;
+    let again = written_again(alloc, text)?;
+    Ok(
+        accounts.as_slice() == report.accounts.items()
+            && idle_of(&report) == report.idle
+            && again.as_slice() == text,
+    )
+}
+
 #[test]
-fn recomputes_the_accounts_of_worked_rows(rt: HostRuntime) -> Result<(), Fail> {
-    for (row, text) in ROWS {
-        let report = report_of(rt.alloc(), text)?;
-        let accounts = accounts_of(rt.alloc(), &report)?;
-        assert_eq!(rt; accounts.as_slice(), report.accounts.items(), "at {row}");
-        assert_eq!(rt; idle_of(&report), report.idle, "at {row}");
+fn recomputes_and_writes_what_commands_do(rt: HostRuntime) -> Result<(), Fail> {
+    for (row, text) in COMMANDS {
+        assert!(rt; tells_itself(rt.alloc(), text)?, "at {row}");
     }
     Ok(())
 }
 
 #[test]
-fn writes_worked_rows_again(rt: HostRuntime) -> Result<(), Fail> {
-    for (row, text) in ROWS {
-        let again = written_again(rt.alloc(), text)?;
-        assert_eq!(rt; again.as_slice(), *text, "at {row}");
+fn recomputes_and_writes_what_kinds_serve(rt: HostRuntime) -> Result<(), Fail> {
+    for (row, text) in KINDS {
+        assert!(rt; tells_itself(rt.alloc(), text)?, "at {row}");
     }
     Ok(())
 }
 
 #[test]
-fn reads_recomputes_and_writes_long_rows(rt: HostRuntime) -> Result<(), Fail> {
-    for text in [DESKTOP, KIT_EMPTY, MOST_NODES, MOST_THREADS] {
-        let report = report_of(rt.alloc(), text)?;
-        let accounts = accounts_of(rt.alloc(), &report)?;
-        assert_eq!(rt; accounts.as_slice(), report.accounts.items());
-        assert_eq!(rt; idle_of(&report), report.idle);
-        let again = written_again(rt.alloc(), text)?;
-        assert_eq!(rt; again.as_slice(), text);
+fn recomputes_and_writes_what_is_derived(rt: HostRuntime) -> Result<(), Fail> {
+    for (row, text) in DERIVATIONS {
+        assert!(rt; tells_itself(rt.alloc(), text)?, "at {row}");
+    }
+    Ok(())
+}
+
+#[test]
+fn recomputes_and_writes_what_limits_refuse(rt: HostRuntime) -> Result<(), Fail> {
+    for (row, text) in LIMITS {
+        assert!(rt; tells_itself(rt.alloc(), text)?, "at {row}");
+    }
+    Ok(())
+}
+
+#[test]
+fn recomputes_and_writes_a_desktop(rt: HostRuntime) -> Result<(), Fail> {
+    for (row, text) in DESKTOP {
+        assert!(rt; tells_itself(rt.alloc(), text)?, "at {row}");
     }
     Ok(())
 }
