@@ -12,7 +12,7 @@ use Rattle.hls_report_text.specs.declared.report.Answered.{Answered}
 use Rattle.hls_legal.specs.Hierarchy.{Hierarchy, Node, Loaded, Admitted, At, book_of}
 use Rattle.hls_legal.specs.Steps.{is_scheduler}
 use Rattle.hls_legal.specs.Legal.{SitsOn, IsBelow}
-use Rattle.hls_legal.specs.Linked.{Attends, SitsAt}
+use Rattle.hls_legal.specs.Linked.{SitsBelow, SitsAt}
 use Rattle.hls_legal.specs.Lists.{Lists}
 use Rattle.hls_legal.specs.Readings.{IsUnderBy}
 use Rattle.hls_legal.specs.Seated.{SitsThere, IsSeated}
@@ -92,7 +92,7 @@ module _ (h : Hierarchy) (rank : ℕ → ℕ) (sound : IsSound h rank) (seated :
     (lists : Lists h.schedulers (λ k. is_scheduler (h.nodes k))) (k : ℕ) where
   rank_below : (d p : ℕ) → SitsOn h d p → rank p < rank d
   rank_below d p on =
-      let sits : Attends h rank d on.port on.seat p on.slot =
+      let sits : SitsBelow h rank d on.port on.seat p on.slot =
       subst (SitsAt h rank d on.port on.seat) on.at_place (sound.sits d on.port on.seat on.sits) in
       sits.below
 

@@ -14,8 +14,8 @@ use Rattle.hls_kinds.specs.Asks.{asks, slot_asks, some_slot_asks}
 use Rattle.hls_promise.specs.Admission.{KeepsAdmission}
 use Rattle.hls_sched.specs.Seen.{Seen, IsConfigured, config_of}
 use Rattle.hls_sched.proofs.Masks.{some_slot, some_if_asks}
-use Rattle.hls_keeper.specs.Sound.{IsSound}
-use Rattle.hls_keeper.proofs.Choosing.{IsRight}
+use Rattle.hls_box.specs.Sound.{IsSound}
+use Rattle.hls_box.proofs.Choosing.{IsRight}
 use Rattle.hls_kinds.specs.Discipline.{Serves, IsSole}
 use Rattle.hls_join.specs.Sole.{choice_of}
 

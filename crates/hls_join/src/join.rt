@@ -2,13 +2,13 @@
 ghost use Rattle.std.specs.Prelude.{◌≡◌};
 ghost use Rattle.hls_chron.specs.declared.plain.Kind.{Kind};
 ghost use Rattle.hls_sched.specs.Seen.{IsBlank};
-ghost use Rattle.hls_keeper.specs.Sound.{IsSound};
-ghost use Rattle.hls_keeper.proofs.Props.{sound_prop};
-ghost use Rattle.hls_keeper.proofs.Promises.{join_promises};
+ghost use Rattle.hls_box.specs.Sound.{IsSound};
+ghost use Rattle.hls_box.proofs.Props.{sound_prop};
+ghost use Rattle.hls_box.proofs.Promises.{join_promises};
 ghost use Rattle.hls_join.specs.Sole.{choice_of};
 
 use hls_chron::{Book, Config, Kind, Terms};
-use hls_keeper::{Keeper, has_slot};
+use hls_box::{Keeper, has_slot};
 use hls_sched::{Scheduler, SeatFault};
 use std::alloc::{AllocError, Global};
 

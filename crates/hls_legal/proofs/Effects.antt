@@ -12,7 +12,7 @@ use Rattle.hls_legal.specs.Hierarchy.{Hierarchy, Node, Loaded, Place, Processor,
 use Rattle.hls_legal.specs.Hierarchy.{book_of, config_of, since_of, haves_of}
 use Rattle.hls_legal.specs.Steps.{marked, renewed, seatings, leavings, effect, root_without}
 use Rattle.hls_legal.specs.Legal.{MayTakeAt, NotBelow}
-use Rattle.hls_legal.specs.Linked.{book_at, config_at, Attends, SitsAt}
+use Rattle.hls_legal.specs.Linked.{book_at, config_at, SitsBelow, SitsAt}
 use Rattle.hls_legal.proofs.Marks.{tenant_at-marks}
 use Rattle.hls_legal.proofs.Nodes.{IsUpTo, IsCurrent, Grown, grown_marked, grown_renewed, grown_then}
 use Rattle.hls_legal.proofs.Nodes.{seats-marked, seats-renewed, since-renewed, tenant-marked, tenant-renewed}
@@ -157,7 +157,7 @@ module _ (h : Hierarchy) (rank : ℕ → ℕ) (sound : IsSound h rank) (k : ℕ)
 
   -- an old seat's slot, before the settling
   module _ (c port : ℕ) (seat : Seat) (p slot : ℕ) (ne : c ≢ k) (e : seat_of (h.nodes c) port ≡ Some seat)
-      (is : seat.place ≡ At p slot) (s : Attends h rank c port seat p slot) where
+      (is : seat.place ≡ At p slot) (s : SitsBelow h rank c port seat p slot) where
     away_gone : Elsewhere gone p slot
     away_gone q two f = not_gone c port q seat two (At p slot) ne e is f
 
@@ -238,7 +238,7 @@ module _ (h : Hierarchy) (rank : ℕ → ℕ) (sound : IsSound h rank) (k : ℕ)
           (old_seats p b) s.derived
     ]
 
-    stays_seated : Attends made rank_after c port seat p slot
+    stays_seated : SitsBelow made rank_after c port seat p slot
     stays_seated = sits_kept h made rank rank_after c port seat p slot still_had.from s parent_grown
         (grown c ne) lower still_had.sits still_had.in_time derived
 

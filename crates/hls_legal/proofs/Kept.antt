@@ -13,7 +13,7 @@ use Rattle.hls_guarantee.specs.declared.Guarantee.TheVariants.{All}
 use Rattle.hls_legal.specs.Derived.{Follows}
 use Rattle.hls_legal.specs.Hierarchy.{Hierarchy, Node, Seat, seats_of, seat_of, haves_of, book_of, config_of}
 use Rattle.hls_legal.specs.Hierarchy.{since_of}
-use Rattle.hls_legal.specs.Linked.{config_at, Attends, Reigns, SitsAt}
+use Rattle.hls_legal.specs.Linked.{config_at, SitsBelow, SitsAtProcessor, SitsAt}
 use Rattle.hls_legal.proofs.Nodes.{IsCurrent, Grown}
 
 -- no two seats are at one place
@@ -42,11 +42,11 @@ follows_along config other terms any new want e same d = rw (e, same) d
 
 -- a seat that stays where it is
 pub sits_kept : (h g : Hierarchy) (rank later : ℕ → ℕ) (c port : ℕ) (seat : Seat) (p slot from : ℕ)
-    → Attends h rank c port seat p slot → Grown h.now h.past p (h.nodes p) (g.nodes p)
+    → SitsBelow h rank c port seat p slot → Grown h.now h.past p (h.nodes p) (g.nodes p)
     → Grown h.now h.past c (h.nodes c) (g.nodes c) → later p < later c
     → tenant_at (book_of (g.nodes p)) slot ≡ Sits seat.terms from → from ≤ since_of (g.nodes c)
     → Follows (config_at h p) seat.terms (haves_of (g.nodes p)) seat.kept
-    → Attends (at_tick h g) later c port seat p slot
+    → SitsBelow (at_tick h g) later c port seat p slot
 sits_kept h g rank later c port seat p slot from s above under lt sits since d = record {
   below = lt;
   now = above.clock ∙ s.now;
@@ -64,7 +64,7 @@ pub sits_fresh : (h g : Hierarchy) (later : ℕ → ℕ) (c port : ℕ) (seat : 
     → since_of (g.nodes c) ≡ h.now → now_of (book_of (g.nodes p)) ≡ h.now → later p < later c
     → tenant_at (book_of (g.nodes p)) slot ≡ Sits seat.terms h.now
     → Follows (config_of (g.nodes p)) seat.terms (haves_of (g.nodes p)) seat.kept
-    → Attends (at_tick h g) later c port seat p slot
+    → SitsBelow (at_tick h g) later c port seat p slot
 sits_fresh h g later c port seat p slot fresh now lt sits d = record {
   below = lt;
   now = now;
@@ -76,8 +76,8 @@ sits_fresh h g later c port seat p slot fresh now lt sits d = record {
   derived = d;
 }
 
-pub reigns_kept : (h g : Hierarchy) (c port : ℕ) (seat : Seat) → Reigns h c port seat
-    → Grown h.now h.past c (h.nodes c) (g.nodes c) → g.root ≡ Some c → Reigns (at_tick h g) c port seat
+pub reigns_kept : (h g : Hierarchy) (c port : ℕ) (seat : Seat) → SitsAtProcessor h c port seat
+    → Grown h.now h.past c (h.nodes c) (g.nodes c) → g.root ≡ Some c → SitsAtProcessor (at_tick h g) c port seat
 reigns_kept h g c port seat r under e = record {
   root = e;
   gives = λ t a b. under.asking t b ∙ r.gives t (omega (arith, under.since)) b ∙ sym (under.given port t);
@@ -85,7 +85,7 @@ reigns_kept h g c port seat r under e = record {
 }
 
 pub reigns_fresh : (h g : Hierarchy) (c port : ℕ) (seat : Seat) → since_of (g.nodes c) ≡ h.now
-    → g.root ≡ Some c → Follows configs.Cpu seat.terms (All ∷ []) seat.kept → Reigns (at_tick h g) c port seat
+    → g.root ≡ Some c → Follows configs.Cpu seat.terms (All ∷ []) seat.kept → SitsAtProcessor (at_tick h g) c port seat
 reigns_fresh h g c port seat fresh e d =
     record { root = e; gives = λ t a b. absurd (omega arith); derived = d }
 

@@ -8,7 +8,7 @@ use Rattle.std.proofs.lemmas.List.Elements.{Contains-append_left, Contains-appen
 use Rattle.std.proofs.lemmas.List.Elements.{Contains-append_cases, All-contains, All-filter, filter_passes}
 use Rattle.std.proofs.lemmas.List.Elements.{All-contains_itself}
 use Rattle.hls_chron.specs.declared.book.Event.{Event}
-use Rattle.hls_legal.specs.Hierarchy.{Hierarchy, Node, Loaded, Admitted, Wake, Asleep, Seat, Sitter, start}
+use Rattle.hls_legal.specs.Hierarchy.{Hierarchy, Node, Loaded, Admitted, Wake, Asleep, Seat, SeatHolder, start}
 use Rattle.hls_legal.specs.Hierarchy.{seats_of}
 use Rattle.hls_legal.specs.Steps.{hop_at, hops_of, marked, reseated, roused, sitters, seatings, leavings}
 use Rattle.hls_legal.specs.Steps.{effect, with_wake, elapsed, nobody, loaded, admitted, wake_by, Step, Refuse}
@@ -73,20 +73,20 @@ sitters_have k from (seat ∷ seats) (suc port) lt =
     (subst (λ (n : ℕ). Contains (sitters k (from + 1) seats) (record { node = k; port = n }))
     (let e : from + 1 + port ≡ from + suc port = omega arith in e) rest)
 
-record IsSitterOf (k from count : ℕ) (s : Sitter) : Type 0 where
+record IsSitterOf (k from count : ℕ) (s : SeatHolder) : Type 0 where
   pub node_is : s.node ≡ k
   pub low : from ≤ s.port
   pub high : s.port < from + count
 
-sitters_only : (k from : ℕ) (seats : List Seat) (s : Sitter) → Contains (sitters k from seats) s
+sitters_only : (k from : ℕ) (seats : List Seat) (s : SeatHolder) → Contains (sitters k from seats) s
     → IsSitterOf k from (length seats) s
 sitters_only k from [] s c = absurd (none_in s c)
 sitters_only k from (seat ∷ seats) s c =
     elim (in_cases (record { node = k; port = from }) (sitters k (from + 1) seats) s c) [
       | First same ↦
-          (let port : from ≡ s.port = ap (λ (x : Sitter). x.port) same in
+          (let port : from ≡ s.port = ap (λ (x : SeatHolder). x.port) same in
           record {
-            node_is = sym (ap (λ (x : Sitter). x.node) same);
+            node_is = sym (ap (λ (x : SeatHolder). x.node) same);
             low = omega (arith, port);
             high =
                 omega (arith, port);
@@ -98,7 +98,7 @@ sitters_only k from (seat ∷ seats) s c =
 
 -- the seats
 abbrev pub HasSeatList : Hierarchy → Type 0
-HasSeatList h = (s : Sitter) → Contains h.seats s ↔ s.port < length (seats_of (h.nodes s.node))
+HasSeatList h = (s : SeatHolder) → Contains h.seats s ↔ s.port < length (seats_of (h.nodes s.node))
 
 module _ (h : Hierarchy) (had : HasSeatList h) (k : ℕ) (node : Option Node) (below : ℕ → Bool) where
   abbrev made : Hierarchy
@@ -110,7 +110,7 @@ module _ (h : Hierarchy) (had : HasSeatList h) (k : ℕ) (node : Option Node) (b
   abbrev inner : ℕ → Option Node
   inner c = if c == k then node else marked (es c) (h.nodes c)
 
-  abbrev stays_on : Sitter → Bool
+  abbrev stays_on : SeatHolder → Bool
   stays_on s = not (s.node == k)
 
   new_seats : (c : ℕ) → c ≡ k → seats_of (made.nodes c) ≡ seats_of node
@@ -121,7 +121,7 @@ module _ (h : Hierarchy) (had : HasSeatList h) (k : ℕ) (node : Option Node) (b
   old_seats c ne = seats-renewed (below c) h.now (inner c)
       ∙ ap seats_of (at_other c k node (marked (es c) (h.nodes c)) ne) ∙ seats-marked (es c) (h.nodes c)
 
-  sits : (s : Sitter) → Contains made.seats s → s.port < length (seats_of (made.nodes s.node))
+  sits : (s : SeatHolder) → Contains made.seats s → s.port < length (seats_of (made.nodes s.node))
   sits s c = elim (Contains-append_cases (filter stays_on h.seats) (sitters k 0 (seats_of node)) s c) [
     | inl old ↦
         let passes = filter_true stays_on h.seats s old in
@@ -134,7 +134,7 @@ module _ (h : Hierarchy) (had : HasSeatList h) (k : ℕ) (node : Option Node) (b
         rw (new_seats s.node of.node_is) (omega (arith, high))
   ]
 
-  listed_there : (s : Sitter) → s.port < length (seats_of (made.nodes s.node)) → Contains made.seats s
+  listed_there : (s : SeatHolder) → s.port < length (seats_of (made.nodes s.node)) → Contains made.seats s
   listed_there s lt = elim (cases_eq s.node k) [
     | inl is ↦
         let mine : s.port < length (seats_of node) = rw (← new_seats s.node is) lt in

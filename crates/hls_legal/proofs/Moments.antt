@@ -20,7 +20,7 @@ use Rattle.hls_legal.specs.Derived.{Follows}
 use Rattle.hls_legal.specs.Hierarchy.{Hierarchy, Tick, Node, Loaded, Admitted, Place, Processor, At, Seat}
 use Rattle.hls_legal.specs.Hierarchy.{seats_of, seat_of, haves_of, book_of, config_of, since_of, asking_of}
 use Rattle.hls_legal.specs.Hierarchy.{given_of}
-use Rattle.hls_legal.specs.Linked.{since_at, asking_at, given_at, book_at, config_at, Attends, Reigns, SitsAt}
+use Rattle.hls_legal.specs.Linked.{since_at, asking_at, given_at, book_at, config_at, SitsBelow, SitsAtProcessor, SitsAt}
 use Rattle.hls_legal.specs.Linked.{IsLinked, KeepsPromises, IsSupplied}
 use Rattle.hls_legal.proofs.Marks.{ports-empty}
 use Rattle.hls_legal.proofs.Nodes.{IsCurrent, nobody_sits}
@@ -58,7 +58,7 @@ by_book past k (Some (Admitted t)) slot since terms g q hi e h = absurd (nobody_
 
 -- one seat, where what its scheduler has is supplied
 seat_supplied : (h : Hierarchy) (rank : ℕ → ℕ) → KeepsPromises h → (c port : ℕ) (seat : Seat) (p slot : ℕ)
-    → HasPorts (config_at h p) (book_at h p) → Attends h rank c port seat p slot
+    → HasPorts (config_at h p) (book_at h p) → SitsBelow h rank c port seat p slot
     → ((q : ℕ) (g : Guarantee) → slice_get (haves_of (h.nodes p)) q ≡ Some g
     → Supplies g (given_at h p q) (asking_at h p) (since_at h p) h.now)
     → Supplies seat.kept (given_at h c port) (asking_at h c) (since_at h c) h.now
@@ -82,7 +82,7 @@ seat_supplied h rank promises c port seat p slot ports s above =
     (since_at h c) s.since s.gives s.asks kept
 
 -- a seat at the processor
-root_supplied : (h : Hierarchy) (c port : ℕ) (seat : Seat) → Reigns h c port seat
+root_supplied : (h : Hierarchy) (c port : ℕ) (seat : Seat) → SitsAtProcessor h c port seat
     → Supplies seat.kept (given_at h c port) (asking_at h c) (since_at h c) h.now
 root_supplied h c port seat r =
     let d : Follows configs.Cpu seat.terms (All ∷ []) seat.kept = r.derived in

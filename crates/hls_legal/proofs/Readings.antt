@@ -24,7 +24,7 @@ use Rattle.hls_legal.specs.Steps.{ticked, seating_at, leaving_at, seatings, leav
 use Rattle.hls_legal.specs.Steps.{elapsed, Step, Refuse, Load, Admit, End, Unload, Move, Rouse, Block, Elapse}
 use Rattle.hls_legal.specs.Steps.{after, state, wake_by, nobody, loaded, admitted}
 use Rattle.hls_legal.specs.Legal.{Walk, IsAsking, MayRun, IsBelow, CanMove, Can, IsLegal, asks_now}
-use Rattle.hls_legal.specs.Linked.{Attends, SitsAt}
+use Rattle.hls_legal.specs.Linked.{SitsBelow, SitsAt}
 use Rattle.hls_legal.specs.Orderly.{IsOrderly}
 use Rattle.hls_legal.specs.Readings.{IsUnderBy, IsUnder, Renews, IsRouseOf, LetSleep}
 use Rattle.hls_legal.proofs.Marks.{settled_at-marks}
@@ -234,7 +234,7 @@ below_rank h rank sound k below is (suc n) c lt on = elim (is.up c on) [
   | inr up ↦
       let p = up.0 in
       let seat = up.1 in
-      let sits : Attends h rank c seat.port seat.seat p seat.slot =
+      let sits : SitsBelow h rank c seat.port seat.seat p seat.slot =
       subst (SitsAt h rank c seat.port seat.seat) seat.at_place
       (sound.sits c seat.port seat.seat seat.sits) in
       let lower = sits.below in

@@ -4,7 +4,7 @@ use Rattle.hls_kinds.proofs.MarkLaws.{sits_on}
 use Rattle.hls_legal.specs.Hierarchy.{Hierarchy, start, book_of}
 use Rattle.hls_legal.specs.Steps.{Step, state}
 use Rattle.hls_legal.specs.Legal.{IsLegal}
-use Rattle.hls_legal.specs.Linked.{Attends, Reigns, SitsAt}
+use Rattle.hls_legal.specs.Linked.{SitsBelow, SitsAtProcessor, SitsAt}
 use Rattle.hls_legal.specs.Seated.{IsSeated}
 use Rattle.hls_legal.proofs.Solutions.{CanGo, run_goes, start_goes}
 
@@ -17,7 +17,7 @@ seated h go =
           sound.alone c d port other one.seat two.seat one.sits two.sits (one.at_place ∙ sym two.at_place) in
           (same.node, same.port_same);
       taken = λ c port p slot there.
-          let sits : Attends h rank c port there.seat p slot =
+          let sits : SitsBelow h rank c port there.seat p slot =
           subst (SitsAt h rank c port there.seat) there.at_place (sound.sits c port there.seat there.sits)
           in
           sits_on (book_of (h.nodes p)) slot sits.from there.seat.terms sits.sits;
@@ -26,7 +26,7 @@ seated h go =
       root = λ c e. let s = go.root c e in
           (s.port, record { seat = s.seat; sits = s.sits; at_place = s.at_place });
       rooted = λ c port there.
-          let reigns : Reigns h c port there.seat =
+          let reigns : SitsAtProcessor h c port there.seat =
           subst (SitsAt h rank c port there.seat) there.at_place (sound.sits c port there.seat there.sits)
           in
           reigns.root;

@@ -16,7 +16,7 @@ use Rattle.hls_legal.specs.Steps.{Hop, hop_at, hops_of, row_by, seating_at, leav
 use Rattle.hls_legal.specs.Steps.{marked, renewed, reseated, roused, ticked, effect, with_wake, elapsed}
 use Rattle.hls_legal.specs.Steps.{nobody, Step, Refuse, Load, Admit, End, Unload, Move, Rouse, Block, Elapse}
 use Rattle.hls_legal.specs.Steps.{after, loaded, admitted, wake_by}
-use Rattle.hls_legal.specs.Linked.{book_at, Attends, SitsAt}
+use Rattle.hls_legal.specs.Linked.{book_at, SitsBelow, SitsAt}
 use Rattle.hls_legal.proofs.Marks.{terms_at-marks}
 use Rattle.hls_legal.proofs.Nodes.{seats-marked, seats-renewed, seats-roused, book-roused, book-reseated}
 use Rattle.hls_legal.proofs.Kept.{IsSound, at_same, at_other}
@@ -165,7 +165,7 @@ module _ (h : Hierarchy) (rank : ℕ → ℕ) (sound : IsSound h rank) (had : Ha
   -- nobody sits on itself
   not_itself : (slot : ℕ) (s : HasSitter h.nodes k slot) → s.node ≢ k
   not_itself slot s e =
-      let sits : Attends h rank s.node s.port s.seat k slot =
+      let sits : SitsBelow h rank s.node s.port s.seat k slot =
       subst (SitsAt h rank s.node s.port s.seat) s.at_place (sound.sits s.node s.port s.seat s.sits) in
       let lt = sits.below in
       let eq : rank s.node ≡ rank k = ap rank e in

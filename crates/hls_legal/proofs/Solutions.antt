@@ -19,7 +19,7 @@ use Rattle.hls_legal.specs.Steps.{root_with, root_without, is_processor, effect,
 use Rattle.hls_legal.specs.Steps.{loaded, admitted, wake_by, Step, Refuse, Load, Admit, End, Unload, Move}
 use Rattle.hls_legal.specs.Steps.{Rouse, Block, Elapse, after, state}
 use Rattle.hls_legal.specs.Legal.{IsAsking, Walk, MayRun, root_asks, asks_now, Can, IsLegal}
-use Rattle.hls_legal.specs.Linked.{Attends, SitsAt}
+use Rattle.hls_legal.specs.Linked.{SitsBelow, SitsAt}
 use Rattle.hls_legal.specs.Orderly.{IsLoadOf}
 use Rattle.hls_legal.proofs.Nodes.{seats-marked, seats-renewed, seats-roused}
 use Rattle.hls_legal.proofs.Seatings.{lone_port}
@@ -262,7 +262,7 @@ module _ (h : Hierarchy) (go : CanGo h) where
   sitter_same one two k slot same None e = refl
   sitter_same one two k slot same (Some terms) e =
       let s = go.sitters k slot terms e in
-      let sits : Attends h rank s.node s.port s.seat k slot =
+      let sits : SitsBelow h rank s.node s.port s.seat k slot =
       subst (SitsAt h rank s.node s.port s.seat) s.at_place (sound.sits s.node s.port s.seat s.sits) in
       same s.node sits.below
 
@@ -309,7 +309,7 @@ module _ (h : Hierarchy) (go : CanGo h) where
   asking_is = record {
     nodes = λ k. stable top k (omega arith);
     seats = λ c port seat p slot f at_place.
-        let sits : Attends h rank c port seat p slot =
+        let sits : SitsBelow h rank c port seat p slot =
         subst (SitsAt h rank c port seat) at_place (sound.sits c port seat f) in
         let terms = sits_on (book_of (h.nodes p)) slot sits.from seat.terms sits.sits in
         let seats = seats_kept p in
@@ -394,7 +394,7 @@ module _ (h : Hierarchy) (go : CanGo h) where
       absurd (let none = absent_high c (omega (arith, le)) in let off = sym on ∙ asking_is.nodes c
       ∙ ap (asks_now h c (masks c)) none in cc)
   goes (suc n) c port seat place le f is on = goes_by n c port seat place (λ d q other slot g at_place on_too.
-      let sits : Attends h rank d q other c slot =
+      let sits : SitsBelow h rank d q other c slot =
       subst (SitsAt h rank d q other) at_place (sound.sits d q other g) in
       let lower = sits.below in
       goes n d q other (At c slot) (omega (arith, le, lower)) g at_place on_too) f is on (h.nodes c) refl

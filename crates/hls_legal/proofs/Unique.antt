@@ -22,7 +22,7 @@ use Rattle.hls_legal.specs.Hierarchy.{seat_of, book_of}
 use Rattle.hls_legal.specs.Steps.{Hop, Path, leavings}
 use Rattle.hls_legal.specs.Legal.{Walk, Enters, Ends, IsAsking, MayRun, MaySit, MayTakeAt, IsBelow, asks_now}
 use Rattle.hls_legal.specs.Legal.{scheduler_at}
-use Rattle.hls_legal.specs.Linked.{Attends, SitsAt}
+use Rattle.hls_legal.specs.Linked.{SitsBelow, SitsAt}
 use Rattle.hls_legal.specs.Alike.{IsAlikeSeat}
 use Rattle.hls_legal.proofs.Kept.{IsSound}
 use Rattle.hls_legal.proofs.Walks.{bool_iff}
@@ -178,7 +178,7 @@ module _ (h : Hierarchy) (rank : ℕ → ℕ) (sound : IsSound h rank) (sitters 
   slot_same k slot higher None e = one.free k slot e ∙ sym (two.free k slot e)
   slot_same k slot higher (Some terms) e =
       let s = sitters k slot terms e in
-      let sits : Attends h rank s.node s.port s.seat k slot =
+      let sits : SitsBelow h rank s.node s.port s.seat k slot =
       subst (SitsAt h rank s.node s.port s.seat) s.at_place (sound.sits s.node s.port s.seat s.sits) in
       one.seats s.node s.port s.seat k slot s.sits s.at_place ∙ higher s.node sits.below
       ∙ sym (two.seats s.node s.port s.seat k slot s.sits s.at_place)

@@ -7,7 +7,7 @@ use Rattle.hls_legal.specs.Hierarchy.{Hierarchy, Node, Loaded, Admitted, Schedul
 use Rattle.hls_legal.specs.Hierarchy.{Seat, seat_of, is_just}
 use Rattle.hls_legal.specs.Steps.{Hop, hop_at}
 use Rattle.hls_legal.specs.Legal.{Walk, Enters, Ends}
-use Rattle.hls_legal.specs.Linked.{Attends, SitsAt}
+use Rattle.hls_legal.specs.Linked.{SitsBelow, SitsAt}
 use Rattle.hls_legal.proofs.Seatings.{lone_port}
 use Rattle.hls_legal.proofs.Kept.{IsSeat, IsSound, at_same, at_other}
 
@@ -70,7 +70,7 @@ module _ (h : Hierarchy) (rank : ℕ → ℕ) (sound : IsSound h rank) (masks : 
 
   -- levels rise along a path
   enters_rank : (q s : ℕ) (hop : Hop) → Enters h masks (At q s) hop → rank q < rank hop.node
-  enters_rank q s hop e = let sits : Attends h rank hop.node hop.port e.seat q s =
+  enters_rank q s hop e = let sits : SitsBelow h rank hop.node hop.port e.seat q s =
       subst (SitsAt h rank hop.node hop.port e.seat) e.at_place
       (sound.sits hop.node hop.port e.seat (enters_seat (At q s) hop e)) in sits.below
 

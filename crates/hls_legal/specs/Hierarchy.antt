@@ -54,7 +54,7 @@ pub record Tick : Type 0 where
   pub to : Option ℕ
 
 -- a port of a node, who sits at a place
-pub record Sitter : Type 0 where
+pub record SeatHolder : Type 0 where
   pub node : ℕ
   pub port : ℕ
 
@@ -76,7 +76,7 @@ pub record Hierarchy : Type 0 where
   pub past : ℕ → Tick
   pub schedulers : List ℕ
   pub threads : List ℕ
-  pub seats : List Sitter
+  pub seats : List SeatHolder
   pub stays : List Stay
 
 abbrev pub idle_tick : Tick

@@ -36,7 +36,7 @@ given_at h k port t = given_of h.past k (h.nodes k) port t
 -- A port of c sits at a slot of p. The book of p has had the seat from a tick on that is no later than
 -- the one since which the accounts of c run, and in every tick since then the slot asks where c asks and
 -- is served where c is given the tick through the port. Ranks rise along seats.
-pub record Attends (h : Hierarchy) (rank : ℕ → ℕ) (c port : ℕ) (seat : Seat) (p slot : ℕ) : Type 0 where
+pub record SitsBelow (h : Hierarchy) (rank : ℕ → ℕ) (c port : ℕ) (seat : Seat) (p slot : ℕ) : Type 0 where
   pub below : rank p < rank c
   pub now : now_of (book_at h p) ≡ h.now
   pub from : ℕ
@@ -47,14 +47,14 @@ pub record Attends (h : Hierarchy) (rank : ℕ → ℕ) (c port : ℕ) (seat : S
   pub derived : Follows (config_at h p) seat.terms (haves_of (h.nodes p)) seat.kept
 
 -- a port of c sits at the processor: it was given each tick in which it asked, and no other
-pub record Reigns (h : Hierarchy) (c port : ℕ) (seat : Seat) : Type 0 where
+pub record SitsAtProcessor (h : Hierarchy) (c port : ℕ) (seat : Seat) : Type 0 where
   pub root : h.root ≡ Some c
   pub gives : (t : ℕ) → since_at h c ≤ t → t < h.now → asking_at h c t ≡ given_at h c port t
   pub derived : Follows configs.Cpu seat.terms (All ∷ []) seat.kept
 
 abbrev pub SitsAt : Hierarchy → (rank : ℕ → ℕ) → (c port : ℕ) → Seat → Place → Type 0
-SitsAt h rank c port seat Processor = Reigns h c port seat
-SitsAt h rank c port seat (At p slot) = Attends h rank c port seat p slot
+SitsAt h rank c port seat Processor = SitsAtProcessor h c port seat
+SitsAt h rank c port seat (At p slot) = SitsBelow h rank c port seat p slot
 
 -- every seat, and every book was given the processor through ports that its scheduler has
 pub record IsLinked (h : Hierarchy) (rank : ℕ → ℕ) : Type 0 where

@@ -10,7 +10,7 @@ use Rattle.hls_chron.specs.declared.plain.Terms.{Terms}
 use Rattle.hls_chron.specs.Ledger.{with_row, with_mark}
 use Rattle.hls_legal.specs.Ledgers.{empty_book, with_marks}
 use Rattle.hls_legal.specs.Hierarchy.{Place, Processor, At, Seat, Wake, Asleep, Awake, Awake_for}
-use Rattle.hls_legal.specs.Hierarchy.{Scheduler, Thread, Node, Loaded, Admitted, Sitter, Stay, Hierarchy}
+use Rattle.hls_legal.specs.Hierarchy.{Scheduler, Thread, Node, Loaded, Admitted, SeatHolder, Stay, Hierarchy}
 use Rattle.hls_legal.specs.Hierarchy.{seats_of}
 
 -- a hop of a path: the scheduler, the port by which the path comes, and the slot by which it goes on
@@ -113,7 +113,7 @@ abbrev pub is_scheduler : Option Node → Bool
 is_scheduler (Some (Loaded s)) = true
 is_scheduler _ = false
 
-abbrev pub sitters : (k port : ℕ) → List Seat → List Sitter
+abbrev pub sitters : (k port : ℕ) → List Seat → List SeatHolder
 sitters k port [] = []
 sitters k port (seat ∷ seats) = (record { node = k; port = port }) ∷ sitters k (port + 1) seats
 
@@ -155,7 +155,7 @@ effect h k node below =
       past = h.past;
       schedulers = listed (is_scheduler (h.nodes k)) (is_scheduler node) k h.schedulers;
       threads = threads;
-      seats = filter (λ (s : Sitter). not (s.node == k)) h.seats ++ sitters k 0 (seats_of node);
+      seats = filter (λ (s : SeatHolder). not (s.node == k)) h.seats ++ sitters k 0 (seats_of node);
       stays = map (λ (stay : Stay). closed (begins stay.thread) h.now stay) h.stays
           ++ opened h.now (nodes_after h k node below) begins threads;
     }

@@ -5,8 +5,8 @@ use Rattle.hls_chron.specs.declared.plain.Kind.TheVariants as kinds
 use Rattle.hls_chron.specs.Ledger.{with_row}
 use Rattle.hls_kinds.specs.Asks.{slot_asks}
 use Rattle.hls_sched.specs.Seen.{Seen, IsConfigured, config_of, turned, tick_row}
-use Rattle.hls_keeper.specs.Sound.{IsSound}
-use Rattle.hls_keeper.proofs.Sounds.{row_serves, row_mask}
+use Rattle.hls_box.specs.Sound.{IsSound}
+use Rattle.hls_box.proofs.Sounds.{row_serves, row_mask}
 use Rattle.hls_rr.specs.declared.turns.Turn.{Turn}
 use Rattle.hls_rr.specs.Turns.{quantum_of, choice_of, KeepsTurn, turn_after}
 use Rattle.hls_rr.proofs.Choices.{choice_asks}

@@ -3,14 +3,14 @@ ghost use Rattle.std.specs.Prelude.{◌≡◌, ◌<◌, IfSome};
 ghost use Rattle.hls_chron.specs.declared.plain.Kind.{Kind};
 ghost use Rattle.hls_kinds.specs.Turns.{turn_goes_on};
 ghost use Rattle.hls_sched.specs.Seen.{IsBlank, IsConfigured, config_of};
-ghost use Rattle.hls_keeper.specs.Sound.{IsSound};
-ghost use Rattle.hls_keeper.proofs.Props.{sound_prop};
-ghost use Rattle.hls_keeper.proofs.Promises.{turns_promise};
+ghost use Rattle.hls_box.specs.Sound.{IsSound};
+ghost use Rattle.hls_box.proofs.Props.{sound_prop};
+ghost use Rattle.hls_box.proofs.Promises.{turns_promise};
 ghost use Rattle.hls_rr.specs.Turns.{quantum_of, choice_of, KeepsTurn};
 
 use crate::turns::{NO_TURN, Turn, next_asking, turn_after, turn_left};
 use hls_chron::{Book, Config, Kind, Terms};
-use hls_keeper::{Keeper, has_slot};
+use hls_box::{Keeper, has_slot};
 use hls_sched::{Scheduler, SeatFault};
 use std::alloc::{AllocError, Global};
 

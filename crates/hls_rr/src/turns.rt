@@ -2,7 +2,7 @@
 ghost use Rattle.std.specs.Prelude.{◌≡◌, ◌<◌, IfSome};
 ghost use Rattle.hls_rr.specs.Turns.{next_of, turn_after as after, turn_left as left_turn};
 
-use hls_keeper::has_slot;
+use hls_box::has_slot;
 
 /// How many slots there are.
 pub const SLOTS: u32 = 32;

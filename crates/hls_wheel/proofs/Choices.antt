@@ -12,8 +12,8 @@ use Rattle.hls_kinds.specs.Asks.{asks, slot_asks, owner_asks}
 use Rattle.hls_kinds.specs.Discipline.{Serves, IsOwner}
 use Rattle.hls_kinds.specs.Frames.{owner_now}
 use Rattle.hls_sched.specs.Seen.{Seen, IsConfigured, config_of}
-use Rattle.hls_keeper.specs.Sound.{IsSound}
-use Rattle.hls_keeper.proofs.Choosing.{IsRight}
+use Rattle.hls_box.specs.Sound.{IsSound}
+use Rattle.hls_box.proofs.Choosing.{IsRight}
 use Rattle.hls_wheel.specs.Owners.{where_asking, choice_of}
 
 abbrev slot_where : Bool → ℕ → Option ℕ

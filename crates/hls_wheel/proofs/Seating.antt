@@ -25,17 +25,17 @@ use Rattle.hls_chron.proofs.CountLaws.{count-agree}
 use Rattle.hls_kinds.specs.Room.{room_used}
 use Rattle.std.proofs.Math.Nat.{mod-lt}
 use Rattle.hls_kinds.proofs.FrameLaws.{owner_after-same}
-use Rattle.hls_places.proofs.OwnerLaws.{owner_at-mark, owner_at-row, owner_at-unmarked}
+use Rattle.hls_wheel_laws.proofs.OwnerLaws.{owner_at-mark, owner_at-row, owner_at-unmarked}
 use Rattle.hls_wheel.specs.Owners.{IsTable}
 use Rattle.hls_sched.specs.Fits.{IsAnswer}
 use Rattle.hls_sched.specs.Seen.{Seen, IsConfigured, IsSetUp, config_of}
 use Rattle.hls_sched.specs.Seen.{seated, left, settled, turned, requested}
 use Rattle.hls_sched.specs.Seen.{released, tick_row}
-use Rattle.hls_keeper.specs.Sound.{IsSound}
-use Rattle.hls_keeper.proofs.Sounds.{answer_fits}
-use Rattle.hls_places.specs.Places.{frame_of, KeepsPlaces}
-use Rattle.hls_places.proofs.PlaceLaws.{places-unwritten, places-seat}
-use Rattle.hls_places.proofs.PlaceLaws.{places-leave, places-settle, places-row}
+use Rattle.hls_box.specs.Sound.{IsSound}
+use Rattle.hls_box.proofs.Sounds.{answer_fits}
+use Rattle.hls_wheel_laws.specs.Places.{frame_of, KeepsPlaces}
+use Rattle.hls_wheel_laws.proofs.PlaceLaws.{places-unwritten, places-seat}
+use Rattle.hls_wheel_laws.proofs.PlaceLaws.{places-leave, places-settle, places-row}
 
 abbrev pub SeenPlaces : Seen → Type 0
 SeenPlaces s = KeepsPlaces (frame_of (config_of s)) s.book

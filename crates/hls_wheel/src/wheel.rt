@@ -2,15 +2,15 @@
 ghost use Rattle.std.specs.Prelude.{◌≡◌, ◌<◌, ◌≤◌, IfSome};
 ghost use Rattle.hls_chron.specs.declared.plain.Kind.{Kind};
 ghost use Rattle.hls_sched.specs.Seen.{IsBlank, IsConfigured, config_of};
-ghost use Rattle.hls_keeper.specs.Sound.{IsSound};
-ghost use Rattle.hls_keeper.proofs.Props.{sound_prop};
-ghost use Rattle.hls_places.specs.Places.{frame_of, KeepsPlaces};
-ghost use Rattle.hls_places.proofs.WheelLaws.{wheel_of};
+ghost use Rattle.hls_box.specs.Sound.{IsSound};
+ghost use Rattle.hls_box.proofs.Props.{sound_prop};
+ghost use Rattle.hls_wheel_laws.specs.Places.{frame_of, KeepsPlaces};
+ghost use Rattle.hls_wheel_laws.proofs.WheelLaws.{wheel_of};
 ghost use Rattle.hls_wheel.specs.Owners.{IsTable, choice_of};
 
 use crate::owners::{Owners, PLACES, after_event, owned_below};
 use hls_chron::{Book, Config, Event, Kind, Terms};
-use hls_keeper::{Keeper, has_slot};
+use hls_box::{Keeper, has_slot};
 use hls_sched::{Scheduler, SeatFault};
 use std::alloc::{AllocError, Global};
 

@@ -1,4 +1,4 @@
-use Rattle.hls_keeper.proofs.Sounds.{sound_blank}
+use Rattle.hls_box.proofs.Sounds.{sound_blank}
 use Rattle.hls_join.proofs.join.Join.blank.Goals as goal
 
 pub invariant_of-result : goal.invariant_of-result

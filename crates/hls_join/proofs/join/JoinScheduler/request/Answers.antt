@@ -1,4 +1,4 @@
-use Rattle.hls_keeper.proofs.Calls.{after_request}
+use Rattle.hls_box.proofs.Calls.{after_request}
 use Rattle.hls_join.proofs.join.JoinScheduler.request.Goals as goal
 
 pub invariant_of-self : goal.invariant_of-self

@@ -1,4 +1,4 @@
-use Rattle.hls_keeper.proofs.Choosing.{after_turn}
+use Rattle.hls_box.proofs.Choosing.{after_turn}
 use Rattle.hls_join.proofs.Choices.{choice_right, unshared}
 use Rattle.hls_join.proofs.join.JoinScheduler.turn.Goals as goal
 

@@ -1,4 +1,4 @@
-use Rattle.hls_keeper.proofs.Sounds.{sound_blank}
+use Rattle.hls_box.proofs.Sounds.{sound_blank}
 use Rattle.hls_rr.proofs.Keeping.{turn_unwritten}
 use Rattle.hls_rr.proofs.rr.Rr.blank.Goals as goal
 

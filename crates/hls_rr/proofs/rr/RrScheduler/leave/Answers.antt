@@ -1,4 +1,4 @@
-use Rattle.hls_keeper.proofs.Calls.{after_leave}
+use Rattle.hls_box.proofs.Calls.{after_leave}
 use Rattle.hls_rr.proofs.Keeping.{turn_leave}
 use Rattle.hls_rr.proofs.rr.RrScheduler.leave.Goals as goal
 

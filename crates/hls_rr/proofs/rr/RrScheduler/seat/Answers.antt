@@ -1,4 +1,4 @@
-use Rattle.hls_keeper.proofs.Calls.{after_seat}
+use Rattle.hls_box.proofs.Calls.{after_seat}
 use Rattle.hls_rr.proofs.Keeping.{turn_seat}
 use Rattle.hls_rr.proofs.rr.RrScheduler.seat.Goals as goal
 

@@ -1,4 +1,4 @@
-use Rattle.hls_keeper.proofs.Calls.{after_setup}
+use Rattle.hls_box.proofs.Calls.{after_setup}
 use Rattle.hls_rr.proofs.Keeping.{turn_unwritten}
 use Rattle.hls_rr.proofs.rr.RrScheduler.setup.Goals as goal
 

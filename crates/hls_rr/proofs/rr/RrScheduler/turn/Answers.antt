@@ -1,4 +1,4 @@
-use Rattle.hls_keeper.proofs.Choosing.{after_turn}
+use Rattle.hls_box.proofs.Choosing.{after_turn}
 use Rattle.hls_rr.proofs.Choices.{choice_right, unshared}
 use Rattle.hls_rr.proofs.Passing.{turn_passed}
 use Rattle.hls_rr.proofs.rr.RrScheduler.turn.Goals as goal

@@ -1,5 +1,5 @@
-use Rattle.hls_keeper.proofs.Sounds.{sound_blank}
-use Rattle.hls_places.proofs.PlaceLaws.{places-unwritten}
+use Rattle.hls_box.proofs.Sounds.{sound_blank}
+use Rattle.hls_wheel_laws.proofs.PlaceLaws.{places-unwritten}
 use Rattle.hls_wheel.proofs.Seating.{table_unwritten}
 use Rattle.hls_wheel.proofs.wheel.Wheel.blank.Goals as goal
 

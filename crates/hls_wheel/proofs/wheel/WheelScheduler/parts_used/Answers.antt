@@ -2,7 +2,7 @@ use Rattle.std.proofs.Common.{◌∙◌, ◌≤◌, ap, is_some}
 use Rattle.hls_chron.specs.Ticks.{count}
 use Rattle.hls_kinds.specs.Frames.{owner_in}
 use Rattle.hls_sched.specs.Seen.{config_of}
-use Rattle.hls_places.specs.Places.{frame_of}
+use Rattle.hls_wheel_laws.specs.Places.{frame_of}
 use Rattle.hls_wheel.proofs.Seating.{used_of_table}
 use Rattle.hls_wheel.proofs.wheel.WheelScheduler.parts_used.Goals as goal
 

@@ -1,4 +1,4 @@
-use Rattle.hls_keeper.proofs.Calls.{after_release}
+use Rattle.hls_box.proofs.Calls.{after_release}
 use Rattle.hls_wheel.proofs.Seating.{places_release}
 use Rattle.hls_wheel.proofs.wheel.WheelScheduler.release.Goals as goal
 

@@ -1,4 +1,4 @@
-use Rattle.hls_keeper.proofs.Calls.{after_request}
+use Rattle.hls_box.proofs.Calls.{after_request}
 use Rattle.hls_wheel.proofs.Seating.{places_request}
 use Rattle.hls_wheel.proofs.wheel.WheelScheduler.request.Goals as goal
 

@@ -1,4 +1,4 @@
-use Rattle.hls_keeper.proofs.Calls.{after_seat}
+use Rattle.hls_box.proofs.Calls.{after_seat}
 use Rattle.hls_wheel.proofs.Seating.{places_seat}
 use Rattle.hls_wheel.proofs.Seating.{table_after}
 use Rattle.hls_wheel.proofs.wheel.WheelScheduler.seat.Goals as goal

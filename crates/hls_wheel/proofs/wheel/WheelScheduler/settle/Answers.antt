@@ -1,4 +1,4 @@
-use Rattle.hls_keeper.proofs.Calls.{after_settle}
+use Rattle.hls_box.proofs.Calls.{after_settle}
 use Rattle.hls_wheel.proofs.Seating.{places_settle}
 use Rattle.hls_wheel.proofs.Seating.{table_settled}
 use Rattle.hls_wheel.proofs.wheel.WheelScheduler.settle.Goals as goal

@@ -1,4 +1,4 @@
-use Rattle.hls_keeper.proofs.Calls.{after_setup}
+use Rattle.hls_box.proofs.Calls.{after_setup}
 use Rattle.hls_wheel.proofs.Seating.{places_setup, table_unwritten}
 use Rattle.hls_wheel.proofs.wheel.WheelScheduler.setup.Goals as goal
 

@@ -1,4 +1,4 @@
-use Rattle.hls_keeper.proofs.Choosing.{after_turn}
+use Rattle.hls_box.proofs.Choosing.{after_turn}
 use Rattle.hls_wheel.proofs.Choices.{choice_right, unshared}
 use Rattle.hls_wheel.proofs.Seating.{places_turn}
 use Rattle.hls_wheel.proofs.Seating.{table_row}

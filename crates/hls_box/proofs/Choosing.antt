@@ -11,8 +11,8 @@ use Rattle.hls_kinds.specs.Discipline.{Serves}
 use Rattle.hls_kinds.specs.Shares.{KeepsShares}
 use Rattle.hls_kinds.proofs.DisciplineLaws.{ServesInTick}
 use Rattle.hls_sched.specs.Seen.{Seen, config_of, seen_asks, turned}
-use Rattle.hls_keeper.specs.Sound.{IsSound}
-use Rattle.hls_keeper.proofs.Sounds.{sound_turned}
+use Rattle.hls_box.specs.Sound.{IsSound}
+use Rattle.hls_box.proofs.Sounds.{sound_turned}
 
 pub record IsRight (s : Seen) (choice : Option ℕ) : Type 0 where
   pub asks : is_some choice ≡ seen_asks s

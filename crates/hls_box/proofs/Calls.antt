@@ -13,10 +13,10 @@ use Rattle.hls_kinds.specs.Room.{IsFree}
 use Rattle.hls_sched.specs.Fits.{IsAnswer}
 use Rattle.hls_sched.specs.Seen.{Seen, IsSetUp, config_of}
 use Rattle.hls_sched.specs.Seen.{requested, released, seated, left, settled, granted, revoked}
-use Rattle.hls_keeper.specs.Sound.{IsSound}
-use Rattle.hls_keeper.proofs.Sounds.{sound_set_up, sound_requested}
-use Rattle.hls_keeper.proofs.Sounds.{sound_released, sound_granted, sound_revoked}
-use Rattle.hls_keeper.proofs.Sounds.{sound_settled, sound_seated, sound_left, taken_within, answer_fits}
+use Rattle.hls_box.specs.Sound.{IsSound}
+use Rattle.hls_box.proofs.Sounds.{sound_set_up, sound_requested}
+use Rattle.hls_box.proofs.Sounds.{sound_released, sound_granted, sound_revoked}
+use Rattle.hls_box.proofs.Sounds.{sound_settled, sound_seated, sound_left, taken_within, answer_fits}
 
 pub after_setup : {T E : Type 0} (result : Result T E) (kind : Kind) (config : Config)
     (now horizon commands : ℕ)

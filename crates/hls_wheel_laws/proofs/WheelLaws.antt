@@ -30,7 +30,7 @@ use Rattle.hls_promise.specs.Promise.{given, asked_by, KeepsPromise}
 use Rattle.hls_promise.specs.Admission.{KeepsAdmission}
 use Rattle.hls_promise.proofs.PromiseLaws.{row_at-later, asked-slot, served-to, to-served, given-went}
 use Rattle.hls_promise.proofs.PromiseLaws.{nothing-supplies}
-use Rattle.hls_places.specs.Places.{frame_of, owns_place, KeepsPlaces}
+use Rattle.hls_wheel_laws.specs.Places.{frame_of, owns_place, KeepsPlaces}
 
 -- the places of the ticks come round
 abbrev in_tick : (frame : ℕ) → (ℕ → Bool) → ℕ → Bool

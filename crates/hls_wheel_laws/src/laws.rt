@@ -4,7 +4,7 @@ ghost use Rattle.hls_chron.specs.Ledger.{Ledger};
 ghost use Rattle.hls_kinds.specs.Discipline.{KeepsDiscipline};
 ghost use Rattle.hls_promise.specs.Admission.{KeepsAdmission};
 ghost use Rattle.hls_promise.specs.Promise.{KeepsPromise};
-ghost use Rattle.hls_places.specs.Places.{KeepsPlaces};
+ghost use Rattle.hls_wheel_laws.specs.Places.{KeepsPlaces};
 
 use hls_chron::Config;
 

@@ -9,7 +9,7 @@ use Rattle.hls_chron.specs.Ranges.{ConfigInRange}
 use Rattle.hls_kinds.specs.Discipline.{Serves}
 use Rattle.hls_kinds.specs.Shares.{KeepsShares}
 use Rattle.hls_sched.specs.Seen.{Seen}
-use Rattle.hls_keeper.specs.Sound.{IsSound}
+use Rattle.hls_box.specs.Sound.{IsSound}
 
 ranges_prop : (config : Config) → IsProp (ConfigInRange config)
 ranges_prop Cpu = hlevel props

@@ -10,7 +10,7 @@ use Rattle.hls_promise.specs.Admission.{KeepsAdmission}
 use Rattle.hls_promise.specs.Promise.{KeepsPromise}
 use Rattle.hls_promise.proofs.PromiseLaws.{join_keeps, round_robin_keeps}
 use Rattle.hls_sched.specs.Seen.{Seen, IsConfigured, config_of}
-use Rattle.hls_keeper.specs.Sound.{IsSound}
+use Rattle.hls_box.specs.Sound.{IsSound}
 
 join_of : (config : Config) (b : Ledger) → kind_of config ≡ kinds.Join → KeepsAdmission config b
     → KeepsDiscipline config b → KeepsPromise config b

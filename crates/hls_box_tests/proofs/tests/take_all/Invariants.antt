@@ -1,6 +1,6 @@
 use Rattle.std.proofs.Common.{◌≡◌, ◌≤◌, None}
 use Rattle.hls_sched.specs.Seen.{IsConfigured}
-use Rattle.hls_trials.proofs.tests.take_all.Given as goal
+use Rattle.hls_box_tests.proofs.tests.take_all.Given as goal
 
 abbrev pub invariant-loop-step : goal.invariant-loop-step
 invariant-loop-step g l = record {

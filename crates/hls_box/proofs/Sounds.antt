@@ -30,8 +30,8 @@ use Rattle.hls_sched.specs.Seen.{Seen, IsBlank, IsSetUp, config_of, without_slot
 use Rattle.hls_sched.specs.Seen.{requested, released, seated, left}
 use Rattle.hls_sched.specs.Seen.{settled, granted, revoked, turned, tick_row}
 use Rattle.hls_sched.proofs.Masks.{asks_with, asks_without, silent_without, silent_zero}
-use Rattle.hls_keeper.specs.Sound.{IsSound}
-use Rattle.hls_keeper.proofs.Standing.{before_row, asks_without_room, serves_without_room}
+use Rattle.hls_box.specs.Sound.{IsSound}
+use Rattle.hls_box.proofs.Standing.{before_row, asks_without_room, serves_without_room}
 use Rattle.hls_chron.specs.declared.book.TickRow.{TickRow}
 
 -- a box that is not set up yet, and one that was just set up

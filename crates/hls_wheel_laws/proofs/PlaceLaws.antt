@@ -21,10 +21,10 @@ use Rattle.hls_kinds.specs.Frames.{free_below, owner_at, owned_places}
 use Rattle.hls_kinds.specs.Fits.{Fits}
 use Rattle.hls_kinds.proofs.MarkLaws.{tenant_at-row, tenant_at-unmarked, sits_on}
 use Rattle.hls_promise.proofs.AdmissionLaws.{Before, Since, sat_before}
-use Rattle.hls_places.specs.Places.{owns_place, KeepsPlaces}
-use Rattle.hls_places.proofs.OwnerLaws.{owner_at-row, owner_at-same}
-use Rattle.hls_places.proofs.OwnerLaws.{owner_at-unmarked, IsElsewhere, owns-elsewhere}
-use Rattle.hls_places.proofs.OwnerLaws.{owns-left, owns-seated, count-taken, count-owned}
+use Rattle.hls_wheel_laws.specs.Places.{owns_place, KeepsPlaces}
+use Rattle.hls_wheel_laws.proofs.OwnerLaws.{owner_at-row, owner_at-same}
+use Rattle.hls_wheel_laws.proofs.OwnerLaws.{owner_at-unmarked, IsElsewhere, owns-elsewhere}
+use Rattle.hls_wheel_laws.proofs.OwnerLaws.{owns-left, owns-seated, count-taken, count-owned}
 
 pub places-unwritten : (frame : ℕ) (b : Ledger) → b.marks ≡ [] → KeepsPlaces frame b
 places-unwritten frame b unmarked = record {

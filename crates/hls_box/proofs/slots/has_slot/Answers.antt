@@ -1,7 +1,7 @@
 use Rattle.std.proofs.Common.{arith}
 use Rattle.std.proofs.lemmas.Bool.{le-ltb}
 use Rattle.std.proofs.lemmas.Nat.Bits.{bit_at_above}
-use Rattle.hls_keeper.proofs.slots.has_slot.Goals as goal
+use Rattle.hls_box.proofs.slots.has_slot.Goals as goal
 
 pub returns-else-slot-lt32 : goal.returns-else-slot-lt32
 returns-else-slot-lt32 c =

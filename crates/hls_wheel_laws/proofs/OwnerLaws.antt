@@ -14,7 +14,7 @@ use Rattle.hls_chron.specs.Ledger.{Ledger, now_of, with_row, with_mark}
 use Rattle.hls_chron.specs.Seats.{is_slot}
 use Rattle.hls_chron.specs.Ticks.{one_if, count}
 use Rattle.hls_kinds.specs.Frames.{free_below, owner_seated, owner_after, unowned, owner_at}
-use Rattle.hls_places.specs.Places.{owns_place}
+use Rattle.hls_wheel_laws.specs.Places.{owns_place}
 
 pub owner_at-mark : (b : Ledger) (event : Event) (place : ℕ)
     → owner_at (with_mark b event) place ≡ owner_after (owner_at b) event place
