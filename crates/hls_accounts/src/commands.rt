@@ -4,7 +4,7 @@ ghost use Rattle.std.specs.Str.{bytes_eq};
 ghost use Rattle.hls_accounts.specs.Commands as said;
 
 use hls_chron::Name;
-use hls_lang::Command;
+use hls_scenario::Command;
 use hls_report::{Answer, Answered};
 
 /// Whether two names are the same.

@@ -8,7 +8,7 @@ ghost use Rattle.hls_accounts.specs.Ready as told;
 use crate::commands::last_rousing;
 use crate::schedule::is_served;
 use hls_chron::Name;
-use hls_lang::Command;
+use hls_scenario::Command;
 use hls_report::{Answered, Report};
 
 /// In how many of so many ticks, from one on, the thread of a name is served.

@@ -10,7 +10,7 @@ use crate::commands::{is_done, is_ended, last_seating, same_name};
 use crate::under::is_under;
 use hls_chron::Name;
 use hls_guarantee::Guarantee;
-use hls_lang::Command;
+use hls_scenario::Command;
 use hls_report::Answered;
 use std::alloc::{AllocError, Global};
 

@@ -20,8 +20,8 @@ use Rattle.hls_guarantee.proofs.Spellings.{decimal-lacks}
 use Rattle.hls_lang.specs.declared.fault.Cause.TheVariants as causes
 use Rattle.hls_lang.specs.Words.{cut_at, quotient, narrow_quotient, parts_fraction, fraction_of}
 use Rattle.hls_lang.specs.Words.{fraction_test, fraction_at, rate_test, rate_at}
-use Rattle.hls_lang.specs.Forms.{fraction}
-use Rattle.hls_lang.specs.Grammar.{IsSpelled, IsFraction}
+use Rattle.hls_scenario.specs.Forms.{fraction}
+use Rattle.hls_scenario.specs.Grammar.{IsSpelled, IsFraction}
 use Rattle.hls_lang.proofs.Binds.{bind_ok, bind_again, carried, some_is, test_ok, test_again, and_left}
 use Rattle.hls_lang.proofs.Binds.{and_right, and_both}
 use Rattle.hls_lang.proofs.Fronts.{Front}

@@ -6,7 +6,7 @@ use Rattle.hls_chron.specs.Ranges.{IsWithin}
 use Rattle.hls_derive.specs.Reading.{after_words}
 use Rattle.hls_report_text.specs.Reading.{number_below, count_at}
 use Rattle.hls_report.specs.Rests.{HorizonRest, DepthRest}
-use Rattle.hls_report_text.proofs.Sections.{first_line}
+use Rattle.hls_report.proofs.Sections.{first_line}
 use Rattle.hls_report_text.proofs.RefusalTexts.{number_again, count_again}
 
 pub some_text : (a b : Text) → Some a ≡ Some b → a ≡ b

@@ -9,3 +9,5 @@ pub mod AccountSteps
 pub mod CommandSteps
 pub mod Reports
 pub mod RunSteps
+pub mod ItemTexts
+pub mod Sections

@@ -11,9 +11,9 @@ use Rattle.hls_derive.specs.declared.derivation.Derivation.{Derivation}
 use Rattle.hls_derive.specs.DerivationText.{derivation_text}
 use Rattle.hls_derive.specs.Reading.{◌>>=◌, Stands, after_words}
 use Rattle.hls_derive.proofs.Fronts.{one_guarantee}
-use Rattle.hls_lang.specs.declared.scenario.Item.{Item}
-use Rattle.hls_lang.specs.Forms.{item_forms}
-use Rattle.hls_lang.specs.Grammar.{IsLine, IsItemLine}
+use Rattle.hls_scenario.specs.declared.scenario.Item.{Item}
+use Rattle.hls_scenario.specs.Forms.{item_forms}
+use Rattle.hls_scenario.specs.Grammar.{IsLine, IsItemLine}
 use Rattle.hls_lang.specs.Words.{cut_at}
 use Rattle.hls_report_text.specs.declared.report.Seated.{Seated}
 use Rattle.hls_report_text.specs.declared.report.Account.{Account}

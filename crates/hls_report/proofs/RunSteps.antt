@@ -8,7 +8,7 @@ use Rattle.std.specs.List.{AllByRecursion}
 use Rattle.std.proofs.lemmas.List.{map-append}
 use Rattle.hls_text.specs.Lines.{Text}
 use Rattle.hls_chron.specs.Name.{IsName}
-use Rattle.hls_print.proofs.CanonicalLines.{all_append}
+use Rattle.hls_scenario.proofs.CanonicalLines.{all_append}
 use Rattle.hls_report.specs.declared.fault.ReportFault.{ReportFault}
 use Rattle.hls_report.specs.declared.fault.ReportFault.TheVariants as faults
 use Rattle.hls_report.specs.declared.lines.Lines.{Lines}

@@ -13,7 +13,7 @@ use crate::lines::Lines;
 use crate::refusal_reading::refusal;
 use crate::words::after;
 use hls_chron::List;
-use hls_lang::{Command, Item};
+use hls_scenario::{Command, Item};
 use hls_report_text::{Answer, Answered, Refusal, Seated};
 use std::alloc::{AllocError, Global};
 

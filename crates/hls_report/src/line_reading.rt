@@ -5,7 +5,7 @@ ghost use Rattle.hls_guarantee.specs.Limits.{IsValid};
 ghost use Rattle.hls_guarantee.specs.Spelling.{spelling};
 ghost use Rattle.hls_chron.specs.Name.{IsName};
 ghost use Rattle.hls_derive.specs.Reading.{Gives};
-ghost use Rattle.hls_lang.specs.Grammar.{IsCommand};
+ghost use Rattle.hls_scenario.specs.Grammar.{IsCommand};
 ghost use Rattle.hls_report_text.specs.ReportText.{two_words, item_text, seat_text, span_text, ticks_text};
 ghost use Rattle.hls_report_text.specs.ReportText.{account_text};
 ghost use Rattle.hls_report_text.specs.WellFormed.{IsSeated, IsAccount};

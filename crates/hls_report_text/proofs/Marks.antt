@@ -13,7 +13,7 @@ use Rattle.hls_text.specs.Lines.{Text}
 use Rattle.hls_chron.specs.Name.{IsName, is_letter, may_follow}
 use Rattle.hls_guarantee.proofs.Spellings.{decimal-lacks}
 use Rattle.hls_guarantee.proofs.Texts.{position_first, parts_first}
-use Rattle.hls_print.proofs.CanonicalLines.{Plain}
+use Rattle.hls_scenario.proofs.CanonicalLines.{Plain}
 use Rattle.hls_report_text.specs.Reading.{digit_step, value}
 
 abbrev pub Lacks : ℕ → Text → Type 0

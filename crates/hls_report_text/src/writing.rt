@@ -2,7 +2,7 @@
 ghost use Rattle.std.specs.Prelude.{◌≡◌, ◌≤◌, ◌++◌, ◌∷◌, [], OnOk, IfOk, codes, decimal, flat_map, get_or};
 ghost use Rattle.std.specs.List.{AllByRecursion};
 ghost use Rattle.hls_guarantee.specs.Limits.{IsValid};
-ghost use Rattle.hls_lang.specs.Grammar.{IsCommand};
+ghost use Rattle.hls_scenario.specs.Grammar.{IsCommand};
 ghost use Rattle.hls_report_text.specs.Content.{path_names, stretch_of};
 ghost use Rattle.hls_report_text.specs.ReportText.{item_of, item_text, seat_text, answer_lines};
 ghost use Rattle.hls_report_text.specs.ReportText.{answered_lines};
@@ -16,8 +16,8 @@ use crate::{Account, Answer, Answered, Path, Report, Run, Seated};
 use hls_chron::Name;
 use hls_derive::write_derivation;
 use hls_guarantee::write_guarantee;
-use hls_lang::Command;
-use hls_print::print_command;
+use hls_scenario::Command;
+use hls_scenario::print_command;
 use itoa::{Buffer, Integer};
 use std::alloc::{AllocError, Global};
 
