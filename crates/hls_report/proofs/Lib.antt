@@ -1,5 +1,4 @@
 pub mod PathLaws
-pub mod WordLaws
 pub mod Stuck
 pub mod RestLaws
 pub mod LineReadings

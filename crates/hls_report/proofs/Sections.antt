@@ -22,7 +22,8 @@ use Rattle.hls_report_text.specs.ReportText.{two_words, span_text, stretch_text,
 use Rattle.hls_report_text.specs.ReportText.{accounts_lines, content_lines, report_text}
 use Rattle.hls_report_text.specs.WellFormed.{IsSeated, IsAnswer, AreAnswered, Cover, IsAccount, IsContent}
 use Rattle.hls_report_text.specs.WellFormed.{IsWellFormed}
-use Rattle.hls_report_text.proofs.Marks.{Lacks, cut_same, name_lacks, number_lacks, number_same, marked_same}
+use Rattle.hls_text.proofs.Marks.{Lacks, cut_same, number_lacks, number_same}
+use Rattle.hls_report_text.proofs.Marks.{name_lacks, marked_same}
 use Rattle.hls_report_text.proofs.RefusalTexts.{refusal_same, refusal_line}
 use Rattle.hls_report_text.proofs.LineTexts.{item_line, seat_same, seat_line, first_byte, apart}
 use Rattle.hls_report.proofs.ItemTexts.{item_same}

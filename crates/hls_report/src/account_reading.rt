@@ -10,9 +10,10 @@ ghost use Rattle.hls_report.specs.AccountLines.{AccountPasses};
 use crate::ReportFault;
 use crate::line_reading::account;
 use crate::lines::Lines;
-use crate::words::{after, count};
+use crate::words::count;
 use hls_report_text::Account;
 use std::alloc::{AllocError, Global};
+use hls_text::after;
 
 /// A line of the accounts.
 #[derive(Debug, Drop)]

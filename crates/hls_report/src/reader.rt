@@ -11,9 +11,10 @@ ghost use Rattle.hls_report.specs.Rests.{CommandRest, AccountRest, EndRest};
 use crate::ReportFault;
 use crate::line_reading::account;
 use crate::lines::Lines;
-use crate::words::{after, count, digit};
+use crate::words::{count, digit};
 use hls_report_text::Account;
 use std::alloc::{AllocError, Global};
+use hls_text::after;
 
 /// How many ticks a report has at most.
 const MOST_TICKS: u32 = 100_000;

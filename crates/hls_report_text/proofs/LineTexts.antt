@@ -44,8 +44,10 @@ use Rattle.hls_report_text.specs.ReportText.{item_text, two_words, seat_text, sp
 use Rattle.hls_report_text.specs.ReportText.{stretch_text}
 use Rattle.hls_report_text.specs.ReportText.{ticks_text, account_text}
 use Rattle.hls_report_text.specs.WellFormed.{IsSeated, IsPath, IsAccount}
-use Rattle.hls_report_text.proofs.Marks.{Lacks, lacks_both, cut_same, name_lacks, number_lacks, number_same}
-use Rattle.hls_report_text.proofs.Marks.{plain_lacks, lacks_byte, marked, marked_same, named, both}
+use Rattle.hls_text.proofs.Marks.{Lacks, lacks_both, cut_same, number_lacks, number_same}
+use Rattle.hls_report_text.proofs.Marks.{name_lacks}
+use Rattle.hls_report_text.proofs.Marks.{plain_lacks, marked, marked_same, named}
+use Rattle.hls_text.proofs.Marks.{lacks_byte, both}
 
 -- ---- items
 

@@ -12,7 +12,7 @@ ghost use Rattle.hls_scenario.specs.Grammar.{IsScenario, IsCommand, IsScenarioTe
 use hls_chron::{Config, Name, Terms};
 use hls_guarantee::{Guarantee, write_guarantee};
 use crate::{Command, Item, Perch, Scenario, Spot};
-use itoa::Buffer;
+use hls_text::put;
 use std::alloc::{AllocError, Global};
 
 /// The canonical text of a scenario: one space between words, a line for each item, no comment, and
@@ -238,12 +238,5 @@ fn put_number(out: &mut Vec<u8>, number: u32) -> Result<(), AllocError>
     ensures { OnOk result (out.new.items ≡ out.old.items ++ (32 ∷ decimal number)) }
 {
     put(out, b" ")?;
-    let mut buffer = Buffer::new();
-    put(out, buffer.format(number).as_bytes())
-}
-
-fn put(out: &mut Vec<u8>, text: &[u8]) -> Result<(), AllocError>
-    ensures { OnOk result (out.new.items ≡ out.old.items ++ text.now) }
-{
-    out.extend_from_slice(text)
+    hls_text::put_number(out, u128::from(number))
 }

@@ -8,10 +8,9 @@ use Rattle.std.proofs.lemmas.Bool.Decides.{eqb_tells}
 use Rattle.std.proofs.lemmas.List.Quantifiers.{position-Some}
 use Rattle.std.proofs.lemmas.Slice.Eq.{bytes_eq-Decides}
 use Rattle.hls_text.specs.Lines.{Text}
-use Rattle.hls_guarantee.proofs.Texts.{position_first}
-use Rattle.hls_report_text.specs.Reading.{value, is_number_below, number_below}
-use Rattle.hls_report_text.proofs.Marks.{Lacks, both, number_same}
-use Rattle.hls_report_text.proofs.RefusalTexts.{number_again}
+use Rattle.hls_text.specs.Decimals.{value, is_number_below, number_below}
+use Rattle.hls_text.proofs.FirstMarks.{position_first}
+use Rattle.hls_text.proofs.Marks.{Lacks, both, number_same, number_again}
 
 -- ---- marks
 

@@ -1,6 +1,6 @@
 use Rattle.std.proofs.Common.{◌≡◌, ◌^◌, true, false, sym, ap, arith, ◌∙◌, decimal}
-use Rattle.hls_report.proofs.WordLaws.{below_again, none_below}
-use Rattle.hls_report.proofs.words.number.Goals as goal
+use Rattle.hls_text.proofs.WordLaws.{below_again, none_below}
+use Rattle.hls_text.proofs.decimals.decimal_number.Goals as goal
 
 pub returns-in-Some-clause-read : goal.returns-in-Some-clause-read
 returns-in-Some-clause-read c =

@@ -1,7 +1,7 @@
 use Rattle.std.proofs.lemmas.Bool.Decides.{Decides-eqb}
 use Rattle.std.proofs.lemmas.Slice.Eq.{strip_prefix_is}
-use Rattle.hls_derive.proofs.Options.{if_some}
-use Rattle.hls_derive.proofs.words.after.Goals as goal
+use Rattle.hls_text.proofs.WordLaws.{if_some}
+use Rattle.hls_text.proofs.cuts.after.Goals as goal
 
 pub returns-clause-found : goal.returns-clause-found
 returns-clause-found c =
