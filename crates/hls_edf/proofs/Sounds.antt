@@ -22,7 +22,8 @@ use Rattle.hls_sched.specs.Seen.{with_slot, without_slot, tick_row}
 use Rattle.hls_sched.proofs.Masks.{asks_with, asks_without, silent_without, silent_zero}
 use Rattle.hls_edf_laws.specs.declared.account.Account.{Account}
 use Rattle.hls_edf_laws.specs.Accounts.{vacant, fresh, offered, parts_in}
-use Rattle.hls_edf_laws.specs.Books.{held, account_at, IsRow, IsReservation}
+use Rattle.hls_kinds.specs.Made.{IsRow}
+use Rattle.hls_edf_laws.specs.Books.{held, account_at, IsReservation}
 use Rattle.hls_edf_laws.proofs.Admitting.{tenant_there, taken_within}
 use Rattle.hls_edf_laws.proofs.Bare.{before-last, asks-bare, serves-bare}
 use Rattle.hls_edf_laws.proofs.Choices.{is-asking}
@@ -232,7 +233,7 @@ sound_row b mask seats accounts after grant s filled =
     let serves : (slot : ℕ) → row.to ≡ Some slot → Serves Edf b mask slot × (asks Edf b mask ≡ true) =
     λ slot e. chosen_serves b mask choice slot (choice_is b mask seats accounts s)
     (served_is grant choice slot (sym to ∙ e)) in
-    let is : IsRow b row = record {
+    let is : IsRow Edf b row = record {
       seats = λ slot on. s.seated slot (rw of_mask at on);
       serves = λ slot e. rw of_mask (serves slot e).0;
     } in

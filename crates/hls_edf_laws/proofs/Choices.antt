@@ -17,7 +17,8 @@ use Rattle.hls_kinds.proofs.SlotLaws.{any_below-at}
 use Rattle.hls_kinds.proofs.TenantLaws.{seated-terms}
 use Rattle.hls_edf_laws.specs.Accounts.{AreSound, HaveRoom}
 use Rattle.hls_edf_laws.specs.Choosing.{IsChosen}
-use Rattle.hls_edf_laws.specs.Books.{account_at, amid_at, IsRow}
+use Rattle.hls_kinds.specs.Made.{IsRow}
+use Rattle.hls_edf_laws.specs.Books.{account_at, amid_at}
 use Rattle.hls_edf_laws.proofs.Replenishing.{replenished-on}
 use Rattle.hls_edf_laws.proofs.RowSteps.{HasTenants, IsAsking, row-room}
 use Rattle.hls_edf_laws.proofs.Claims.{deadline_at-is, budget_at-is}
@@ -46,7 +47,7 @@ may_go-asks b mask slot may = elim (cases_Bool (any_below (asks_in_budget b mask
   | inr none ↦ and_left (slot_asks mask slot) (is_soft b slot) (rw none at may)
 ]
 
-pub is-asking : (b : Ledger) (row : TickRow) → IsRow b row → IsAsking b row
+pub is-asking : (b : Ledger) (row : TickRow) → IsRow Edf b row → IsAsking b row
 is-asking b row is = record {
   seats = λ slot on none.
       is.seats slot (eqb-true (bit_at row.mask slot) 1 on) (sym (seated-terms b slot) ∙ none);
@@ -70,7 +71,7 @@ urgent_goes b mask slot rival serves lt urgent =
     urgent in
     (rw some at serves.chosen, serves.least rival lt (rw some urgent))
 
-pub chosen : (b : Ledger) (row : TickRow) → HasTenants b → IsRow b row → IsGranted b row
+pub chosen : (b : Ledger) (row : TickRow) → HasTenants b → IsRow Edf b row → IsGranted b row
     → IsChosen 32 (amid_at b row.mask) row.to
 chosen b row tenants is given = record {
   first = λ rival lt on left.
@@ -110,7 +111,7 @@ chosen b row tenants is given = record {
 }
 
 -- such a row keeps the room
-pub granted-room : (b : Ledger) (row : TickRow) → HasTenants b → IsRow b row → IsGranted b row
+pub granted-room : (b : Ledger) (row : TickRow) → HasTenants b → IsRow Edf b row → IsGranted b row
     → AreSound all_parts 32 (account_at b) → HaveRoom all_parts 32 (account_at b) (now_of b)
     → HaveRoom all_parts 32 (account_at (with_row b row)) (now_of (with_row b row))
 granted-room b row tenants is given kept have =

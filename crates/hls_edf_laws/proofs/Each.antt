@@ -24,7 +24,8 @@ use Rattle.hls_edf_laws.specs.declared.account.Account.{Account}
 use Rattle.hls_edf_laws.specs.Accounts.{AreSound, HaveRoom, replenished}
 use Rattle.hls_edf_laws.specs.Recomputed.{account_before, account_within}
 use Rattle.hls_edf_laws.specs.Stays.{EachTick, EachHard}
-use Rattle.hls_edf_laws.specs.Books.{account_at, amid_at, IsTenant, IsReservation, IsRow}
+use Rattle.hls_kinds.specs.Made.{IsRow}
+use Rattle.hls_edf_laws.specs.Books.{account_at, amid_at, IsTenant, IsReservation}
 use Rattle.hls_edf_laws.proofs.Deadlines.{before_is}
 use Rattle.hls_edf_laws.proofs.Agree.{within_agree}
 use Rattle.hls_edf_laws.proofs.Budgets.{budget_fits}
@@ -115,7 +116,7 @@ hard_budget b mask slot r is serves = elim (cases_Bool (any_below (asks_in_budge
       absurd (cc)
 ]
 
-pub hard-row : (b : Ledger) (row : TickRow) (slot : ℕ) (r : Reservation) → HasTenants b → IsRow b row
+pub hard-row : (b : Ledger) (row : TickRow) (slot : ℕ) (r : Reservation) → HasTenants b → IsRow Edf b row
     → tenant_at b slot ≡ sits r true → EachHard r (asked b slot) (served b slot) (now_of b)
     → EachHard r (asked (with_row b row) slot) (served (with_row b row) slot) (now_of (with_row b row))
 hard-row b row slot r tenants is_row is own =

@@ -22,7 +22,8 @@ use Rattle.hls_kinds.specs.Reservations.{all_parts, parts}
 use Rattle.hls_kinds.specs.Asks.{asks}
 use Rattle.hls_promise.specs.Promise.{asked_by}
 use Rattle.hls_edf_laws.specs.Accounts.{AreSound, HaveRoom, vacant, parts_in}
-use Rattle.hls_edf_laws.specs.Books.{account_at, IsGiven, IsRow, IsReservation, KeepsReservations}
+use Rattle.hls_kinds.specs.Made.{IsRow}
+use Rattle.hls_edf_laws.specs.Books.{account_at, IsGiven, IsReservation, KeepsReservations}
 use Rattle.hls_edf_laws.proofs.Bare.{before-last, asks-bare}
 use Rattle.hls_edf_laws.proofs.Rows.{is-slot, tenant_at-row, asked-past, served-past, asked-now, served-now}
 use Rattle.hls_edf_laws.proofs.RowSteps.{HasTenants, IsAsking, row-sound, row-tenants}
@@ -96,7 +97,7 @@ sits_within b slot r hard keeps is = elim (cases_lt slot 32) [
   | inr beyond ↦ let none = keeps.within slot beyond in absurd (cc)
 ]
 
-pub keeps-row : (b : Ledger) (row : TickRow) → KeepsReservations b → IsRow b row
+pub keeps-row : (b : Ledger) (row : TickRow) → KeepsReservations b → IsRow Edf b row
     → KeepsReservations (with_row b row)
 keeps-row b row keeps is =
     let seats = is-asking b row is in

@@ -23,4 +23,3 @@ pub mod Keeping
 pub mod Promises
 pub mod Occupants
 pub mod Admitting
-pub mod Histories

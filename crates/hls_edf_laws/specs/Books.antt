@@ -1,19 +1,17 @@
 -- The accounts of the slots of a book, and what a book of reservations keeps.
-use Rattle.std.specs.Prelude.{◌≡◌, ◌≢◌, ℕ, ◌+◌, ◌-◌, ◌≤◌, ◌<◌, Bool, true, false, Some, None, is_some, nat_lt}
+use Rattle.std.specs.Prelude.{◌≡◌, ℕ, ◌+◌, ◌-◌, ◌≤◌, ◌<◌, Bool, true, false, Some, is_some, nat_lt}
 use Rattle.std.specs.Prelude.{if◌then◌else◌}
-use Rattle.hls_chron.specs.declared.book.TickRow.{TickRow}
 use Rattle.hls_chron.specs.declared.plain.Config.TheVariants.{Edf}
 use Rattle.hls_chron.specs.declared.plain.Terms.{Terms}
 use Rattle.hls_chron.specs.declared.plain.Terms.TheVariants.{Res}
 use Rattle.hls_chron.specs.Ledger.{Ledger, now_of, row_at, IsDated}
-use Rattle.hls_chron.specs.Seats.{SlotAsks, asked, served, terms_at}
+use Rattle.hls_chron.specs.Seats.{asked, served}
 use Rattle.hls_kinds.specs.declared.tenant.Tenant.{Tenant}
 use Rattle.hls_kinds.specs.declared.tenant.Tenant.TheVariants.{Vacant, Sits, Left}
 use Rattle.hls_kinds.specs.declared.reservations.Reservation.{Reservation}
 use Rattle.hls_kinds.specs.Tenants.{tenant_at, settled_at}
 use Rattle.hls_kinds.specs.Reservations.{all_parts, deadline_after, last_replenished}
 use Rattle.hls_kinds.specs.Asks.{asks, slot_asks}
-use Rattle.hls_kinds.specs.Discipline.{Serves}
 use Rattle.hls_promise.specs.Promise.{asked_by}
 use Rattle.hls_edf_laws.specs.declared.account.Account.{Account}
 use Rattle.hls_edf_laws.specs.Accounts.{vacant, marked, replenished, AreSound, HaveRoom}
@@ -48,11 +46,6 @@ abbrev pub IsTenant : Tenant → (now : ℕ) → Type 0
 IsTenant Vacant now = Unit {0}
 IsTenant (Sits terms since) now = IsReservation terms × (since ≤ now)
 IsTenant (Left terms since at) now = IsReservation terms × (since ≤ at) × (at ≤ now)
-
--- a row that the discipline allows: only seats ask, and the slot that is served is the one to serve
-pub record IsRow (b : Ledger) (row : TickRow) : Type 0 where
-  pub seats : (slot : ℕ) → SlotAsks row.mask slot → terms_at b slot ≢ None
-  pub serves : (slot : ℕ) → row.to ≡ Some slot → Serves Edf b row.mask slot
 
 -- the scheduler was given every tick in which it asked, since the start or the last settling
 pub record IsGiven (b : Ledger) : Type 0 where

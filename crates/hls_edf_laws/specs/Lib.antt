@@ -5,4 +5,3 @@ pub mod Recomputed
 pub mod Stays
 pub mod Books
 pub mod Props
-pub mod Histories

@@ -8,11 +8,10 @@ ghost use Rattle.hls_kinds.specs.Tenants.{tenant_at};
 ghost use Rattle.hls_kinds.specs.Reservations.{deadline_after, budget_after};
 ghost use Rattle.hls_kinds.specs.Room.{IsFree};
 ghost use Rattle.hls_kinds.specs.Fits.{Fits};
-ghost use Rattle.hls_kinds.specs.Discipline.{KeepsDiscipline};
+ghost use Rattle.hls_kinds.specs.Made.{IsRow};
 ghost use Rattle.hls_promise.specs.Promise.{KeepsPromise};
 ghost use Rattle.hls_guarantee.specs.Cap.{KeepsCap};
-ghost use Rattle.hls_edf_laws.specs.Books.{KeepsReservations, IsGiven, IsRow, ReachesDeadline};
-ghost use Rattle.hls_edf_laws.specs.Histories.{AdmitsReservations};
+ghost use Rattle.hls_edf_laws.specs.Books.{KeepsReservations, IsGiven, ReachesDeadline};
 
 use hls_chron::{Config, Event, Terms, TickRow};
 use hls_guarantee::Guarantee;
@@ -21,28 +20,23 @@ use hls_kinds::{Reservation, Tenant};
 /// Where the scheduler was given every tick in which it asked, since its start or its last settling, a seat
 /// that asks on to its deadline has no budget left at it, and is not past it.
 pub fn deadlines_find_no_budget()
-    ensures { (b : Ledger) (slot t last : ℕ) (r : Reservation) → AdmitsReservations b
-        → KeepsDiscipline Config.Edf b → IsGiven b → ReachesDeadline b slot r t last
+    ensures { (b : Ledger) (slot t last : ℕ) (r : Reservation) → KeepsReservations b → IsGiven b
+        → ReachesDeadline b slot r t last
         → (deadline_after r (Some last) ≡ t + 1) × (budget_after r (served b slot) (Some last) (t + 1) ≡ 0) }
 {}
 
 /// Where the scheduler was given every tick in which it asked, each seat gets its budget in each of its
 /// periods, as a hard or a soft reservation.
 pub fn reservations_are_kept()
-    ensures { (b : Ledger) → AdmitsReservations b → KeepsDiscipline Config.Edf b → KeepsPromise Config.Edf b }
+    ensures { (b : Ledger) → KeepsReservations b → KeepsPromise Config.Edf b }
 {}
 
 /// A hard seat gets no more than its share and twice its budget, ready or not, whatever the scheduler was
 /// given.
 pub fn hard_seats_are_capped()
-    ensures { (b : Ledger) (slot : ℕ) (r : Reservation) → AdmitsReservations b → KeepsDiscipline Config.Edf b
+    ensures { (b : Ledger) (slot : ℕ) (r : Reservation) → KeepsReservations b
         → tenant_at b slot ≡ Tenant.Sits (Terms.Res true r.x r.y) r.since
         → KeepsCap (Guarantee.Resb true r.x r.y) (served b slot) r.since (now_of b) }
-{}
-
-/// What a scheduler keeps of such a book, to know all this after each call.
-pub fn admitted_books_keep_reservations()
-    ensures { (b : Ledger) → AdmitsReservations b → KeepsDiscipline Config.Edf b → KeepsReservations b }
 {}
 
 /// A book in which nothing is written keeps reservations.
@@ -52,7 +46,7 @@ pub fn a_new_book_keeps_reservations()
 
 /// It still does after a tick in which only seats asked, and which served nobody or the slot to serve.
 pub fn a_tick_keeps_reservations()
-    ensures { (b : Ledger) (row : TickRow) → KeepsReservations b → IsRow b row
+    ensures { (b : Ledger) (row : TickRow) → KeepsReservations b → IsRow Config.Edf b row
         → KeepsReservations (with_row b row) }
 {}
 

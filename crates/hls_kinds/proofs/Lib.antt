@@ -9,3 +9,7 @@ pub mod ChoiceLaws
 pub mod TenantLaws
 pub mod DisciplineLaws
 pub mod MarkLaws
+pub mod MadeLaws
+pub mod Rooms
+pub mod ServingLaws
+pub mod Props

@@ -11,3 +11,4 @@ pub mod Discipline
 pub mod Room
 pub mod Fits
 pub mod Rankings
+pub mod Made

@@ -1,4 +1,3 @@
-pub mod Rooms
 pub mod Marks
 pub mod Nodes
 pub mod Seatings

@@ -1,10 +1,9 @@
 -- What several marks and a row change of what a book says.
-use Rattle.std.proofs.Common.{◌≡◌, ℕ, ◌-◌, ◌<◌, ◌≤◌, List, [], ◌∷◌, length, refl, ap, ◌∙◌, arith, fold}
+use Rattle.std.proofs.Common.{◌≡◌, ℕ, ◌<◌, ◌≤◌, List, [], ◌∷◌, refl, ap, ◌∙◌, arith, fold}
 use Rattle.std.proofs.Common.{is_some, ◌==◌, ◌&&◌}
 use Rattle.std.specs.Prelude.{◌⊎◌}
 use Rattle.std.proofs.Common.{inl, inr, true}
 use Rattle.std.proofs.lemmas.Bool.{cases_lt, cases_eq}
-use Rattle.std.proofs.Math.Seq.{take-append_seam}
 use Rattle.hls_chron.specs.declared.book.TickRow.{TickRow}
 use Rattle.hls_chron.specs.declared.book.Event.{Event}
 use Rattle.hls_chron.specs.declared.book.Event.TheVariants.{Seat, Leave, Settle}
@@ -12,7 +11,7 @@ use Rattle.hls_chron.specs.declared.plain.Config.{Config}
 use Rattle.hls_chron.specs.Ledger.{Ledger, now_of, with_row, with_mark, row_at, before, IsDated}
 use Rattle.hls_chron.specs.Seats.{terms_after, terms_at, asked, served, is_slot}
 use Rattle.hls_chron.proofs.BookLaws.{terms_at-mark, now_of-row, row_at-mark, row_at-past, row_at-now}
-use Rattle.hls_chron.proofs.BookLaws.{before-mark, before-row, before-now, dated-mark, row_at-unwritten}
+use Rattle.hls_chron.proofs.BookLaws.{before-mark, before-row, dated-mark, row_at-unwritten}
 use Rattle.hls_kinds.specs.Tenants.{tenant_after, tenant_at, settled_after, settled_at}
 use Rattle.hls_kinds.proofs.MarkLaws.{tenant_at-mark, settled_at-mark}
 use Rattle.hls_promise.proofs.PromiseLaws.{row_at-later}
@@ -20,7 +19,7 @@ use Rattle.hls_kinds.specs.Asks.{asks, slot_asks}
 use Rattle.hls_guarantee.specs.Steps.{IsPort}
 use Rattle.hls_promise.specs.Promise.{given, asked_by, HasPorts}
 use Rattle.hls_legal.specs.Ledgers.{empty_book, with_marks}
-use Rattle.hls_legal.proofs.Rooms.{roomless, asks-room}
+use Rattle.hls_kinds.proofs.Rooms.{asks-room, before-last}
 
 -- marks leave the rows
 pub row_at-marks : (b : Ledger) (events : List Event) (t : ℕ) → row_at (with_marks b events) t ≡ row_at b t
@@ -58,16 +57,6 @@ pub settled_at-marks : (b : Ledger) (events : List Event)
 settled_at-marks b [] = refl
 settled_at-marks b (e ∷ es) = settled_at-marks (with_mark b e) es
     ∙ ap (λ x. fold (settled_after (now_of b)) x es) (settled_at-mark b e)
-
--- the book before its last row
-pub before-last : (b : Ledger) (row : TickRow) → IsDated b → before (now_of b) (with_row b row) ≡ roomless b
-unfolding before
-before-last b row dated =
-    let all : now_of b - b.start ≡ length b.rows = omega arith in
-    let marks = before-now b row dated in
-    rw (all, take-append_seam b.rows (row ∷ []))
-    (ap (λ marks. record
-    { start = b.start; rows = b.rows; marks = marks; spare_ticks = 0; spare_marks = 0 }) marks)
 
 -- whether it asked in a tick
 pub asked_by-marks : (config : Config) (b : Ledger) (events : List Event) (t : ℕ) → t < now_of b

@@ -21,8 +21,8 @@ use Rattle.hls_kinds.proofs.SlotLaws.{any_below-at}
 use Rattle.hls_kinds.proofs.DisciplineLaws.{TickKept}
 use Rattle.hls_legal.specs.Ledgers.{with_marks}
 use Rattle.hls_legal.specs.Orderly.{KeepsRule}
-use Rattle.hls_legal.proofs.Marks.{row_at-marks, now_of-marks, before-marks, before-last}
-use Rattle.hls_legal.proofs.Rooms.{roomless, serves-room}
+use Rattle.hls_legal.proofs.Marks.{row_at-marks, now_of-marks, before-marks}
+use Rattle.hls_kinds.proofs.Rooms.{roomless, serves-room, before-last}
 
 -- a scheduler that serves a slot asks
 some_asks : (mask slot : ℕ) → SlotAsks mask slot → some_slot_asks mask ≡ true

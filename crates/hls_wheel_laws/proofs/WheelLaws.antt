@@ -24,6 +24,7 @@ use Rattle.hls_kinds.specs.Frames.{owner_now}
 use Rattle.hls_kinds.proofs.MarkLaws.{sits_on}
 use Rattle.hls_guarantee.specs.declared.Guarantee.{Guarantee}
 use Rattle.hls_guarantee.specs.declared.Guarantee.TheVariants.{All, Resc}
+use Rattle.hls_guarantee.specs.Cap.{KeepsCap}
 use Rattle.hls_guarantee.specs.Supply.{Supplies}
 use Rattle.hls_guarantee.specs.Steps.{LendsByTerms}
 use Rattle.hls_promise.specs.Promise.{given, asked_by, KeepsPromise}
@@ -178,6 +179,17 @@ module _ (frame : ℕ) (b : Ledger) (kept : KeepsAdmission (configs.Wheel frame)
       let same : went.slot ≡ slot = let both : Some went.slot ≡ Some slot = sym serves.owns ∙ owner in cc in
       to-served b went.slot slot t went.to same
 
+  -- whatever it is given
+  pub places_capped : (slot since k : ℕ) → tenant_at b slot ≡ Sits (terms.Slots k) since
+      → KeepsCap (Resc true k frame) (served b slot) since (now_of b)
+  places_capped slot since k sits a n lo hi le =
+      let own = owns_place b slot in
+      let all : count own 0 frame ≡ k = places.owns slot k (sits_on b slot since (terms.Slots k) sits) in
+      let owned = ticks_owned frame own a n le in
+      let less = count-more_within (served b slot) (in_tick frame own) a n (λ t u v.
+      served_owns slot since t (terms.Slots k) sits (omega (arith, lo, u))) in
+      omega (arith, owned.0, all, less)
+
   places_supplied : (slot since k : ℕ) → tenant_at b slot ≡ Sits (terms.Slots k) since
       → Supplies All (given b 0) (asked_by (configs.Wheel frame) b) (settled_at b) (now_of b)
       → Supplies (Resc true k frame) (served b slot) (asked b slot) since (now_of b)
@@ -197,11 +209,7 @@ module _ (frame : ℕ) (b : Ledger) (kept : KeepsAdmission (configs.Wheel frame)
               enough = omega (arith, owned.1, all, same);
               capped = λ _. omega (arith, owned.0, all, same);
             };
-        capped = λ a n lo hi le.
-            let owned = ticks_owned frame own a n le in
-            let less = count-more_within (served b slot) (in_tick frame own) a n (λ t u v.
-            served_owns slot since t (terms.Slots k) sits (omega (arith, lo, u))) in
-            omega (arith, owned.0, all, less);
+        capped = places_capped slot since k sits;
       }
 
 places_lend : (frame : ℕ) (b : Ledger) → KeepsAdmission (configs.Wheel frame) b

@@ -1,0 +1,70 @@
+-- What a scheduler asks and serves does not go by the room that its book has for more; and the book before its
+-- last row is the one that the row came to, with no room.
+use Rattle.std.proofs.Common.{◌≡◌, ℕ, zero, suc, ◌+◌, ◌-◌, [], ◌∷◌, length, refl, sym, ap, subst, arith}
+use Rattle.std.proofs.Math.Seq.{take-append_seam}
+use Rattle.hls_chron.specs.declared.book.TickRow.{TickRow}
+use Rattle.hls_chron.specs.declared.plain.Config.{Config}
+use Rattle.hls_chron.specs.declared.plain.Config.TheVariants.{Cpu, Fp, Edf, Sfq, Rr, Wheel, Join}
+use Rattle.hls_chron.specs.Ledger.{Ledger, now_of, with_row, row_at, before, IsDated}
+use Rattle.hls_chron.specs.Seats.{terms_at, asked, served}
+use Rattle.hls_chron.proofs.BookLaws.{before-now}
+use Rattle.hls_kinds.specs.Slots.{IsFirst}
+use Rattle.hls_kinds.specs.Tenants.{tenant_at, settled_at, left_at}
+use Rattle.hls_kinds.specs.Reservations.{claim_at}
+use Rattle.hls_kinds.specs.Tags.{start_by, start_tags, start_tag}
+use Rattle.hls_kinds.specs.Frames.{owner_at}
+use Rattle.hls_kinds.specs.Asks.{asks, slot_asks}
+use Rattle.hls_kinds.specs.Discipline.{HasLeastPriority, TakesTurn, Serves}
+
+-- the book with no room for more
+abbrev pub roomless : Ledger → Ledger
+roomless b = record b { spare_ticks = 0; spare_marks = 0 }
+
+pub asks-room : (config : Config) (b : Ledger) (mask : ℕ) → asks config (roomless b) mask ≡ asks config b mask
+unfolding asked served row_at claim_at tenant_at owner_at
+asks-room Cpu b mask = refl
+asks-room Fp b mask = refl
+asks-room Edf b mask = refl
+asks-room (Sfq total most) b mask = refl
+asks-room (Rr quantum) b mask = refl
+asks-room (Wheel frame) b mask = refl
+asks-room (Join ports) b mask = refl
+
+tags-room : (b : Ledger) (n : ℕ) → start_tags (roomless b) n ≡ start_tags b n
+unfolding start_tags asked served row_at tenant_at before
+tags-room b zero = refl
+tags-room b (suc n) = λ i t slot. start_by b (tags-room b n i) t slot
+
+tag-room : (b : Ledger) (t : ℕ) → start_tag (roomless b) t ≡ start_tag b t
+tag-room b t = λ i slot. tags-room b (t + 1) i t slot
+
+least-room : (b : Ledger) (mask slot : ℕ) → HasLeastPriority b mask slot
+    → HasLeastPriority (roomless b) mask slot
+unfolding terms_at
+least-room b mask slot least = record { asks = least.asks; seated = least.seated; least = least.least }
+
+turn-room : (quantum : ℕ) (b : Ledger) (mask slot : ℕ) → TakesTurn quantum b mask slot
+    → TakesTurn quantum (roomless b) mask slot
+unfolding asked served row_at settled_at left_at
+turn-room quantum b mask slot turn = record { goes_on = turn.goes_on; passes = turn.passes }
+
+pub serves-room : (config : Config) (b : Ledger) (mask slot : ℕ) → Serves config b mask slot
+    → Serves config (roomless b) mask slot
+unfolding asked served row_at claim_at tenant_at owner_at
+serves-room Cpu b mask slot serves = serves
+serves-room Fp b mask slot serves = least-room b mask slot serves
+serves-room Edf b mask slot serves = serves
+serves-room (Sfq total most) b mask slot serves =
+    subst (λ (key : ℕ → ℕ). IsFirst 32 (slot_asks mask) key slot) (sym (tag-room b (now_of b))) serves
+serves-room (Rr quantum) b mask slot serves = turn-room quantum b mask slot serves
+serves-room (Wheel frame) b mask slot serves = serves
+serves-room (Join ports) b mask slot serves = serves
+
+pub before-last : (b : Ledger) (row : TickRow) → IsDated b → before (now_of b) (with_row b row) ≡ roomless b
+unfolding before
+before-last b row dated =
+    let all : now_of b - b.start ≡ length b.rows = omega arith in
+    let marks = before-now b row dated in
+    rw (all, take-append_seam b.rows (row ∷ []))
+    (ap (λ marks. record
+    { start = b.start; rows = b.rows; marks = marks; spare_ticks = 0; spare_marks = 0 }) marks)
