@@ -5,7 +5,7 @@ ghost use Rattle.hls_accounts.specs.Commands as said;
 
 use hls_chron::Name;
 use hls_scenario::Command;
-use hls_report::{Answer, Answered};
+use hls_report_text::{Answer, Answered};
 
 /// Whether two names are the same.
 pub fn same_name(one: &Name, other: &Name) -> bool

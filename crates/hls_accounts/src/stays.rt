@@ -11,7 +11,7 @@ use crate::under::is_under;
 use hls_chron::Name;
 use hls_guarantee::Guarantee;
 use hls_scenario::Command;
-use hls_report::Answered;
+use hls_report_text::Answered;
 use std::alloc::{AllocError, Global};
 
 /// The thread that a command admits, unless one of those after ends it.

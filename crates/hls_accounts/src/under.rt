@@ -6,7 +6,7 @@ ghost use Rattle.hls_accounts.specs.Under as told;
 use crate::commands::{last_seating, same_name};
 use hls_chron::Name;
 use hls_scenario::{Command, Perch, Spot};
-use hls_report::Answered;
+use hls_report_text::Answered;
 
 /// Whether a name is the one above or, in at most so many steps, below it.
 #[cycle(within)]
