@@ -1,9 +1,8 @@
 -- What stands at the front of a text, as the reader's private functions read it.
 -- DerivationText says which texts derivations have.
-use Rattle.std.specs.Prelude.{◌≡◌, ℕ, zero, suc, ◌-◌, ◌==◌, ◌&&◌, nat_le, List, [], ◌∷◌, ◌++◌, length}
-use Rattle.std.specs.Prelude.{take, drop, codes}
+use Rattle.std.specs.Prelude.{◌≡◌, ℕ, zero, suc, ◌-◌, ◌==◌, ◌&&◌, nat_le, List, [], ◌∷◌, ◌++◌}
+use Rattle.std.specs.Prelude.{codes}
 use Rattle.std.specs.Prelude.{Option, Some, None, if◌then◌else◌}
-use Rattle.std.specs.Str.{bytes_eq}
 use Rattle.hls_text.specs.Cuts.{after_words}
 use Rattle.hls_text.specs.Options.{◌>>=◌, first_of_two}
 use Rattle.hls_chron.specs.declared.plain.Kind.{Kind}

@@ -164,7 +164,8 @@ cap-kept b slot r keeps sat i n lo hi =
     let most = cap r (asked b slot) (served b slot) (now_of b) (i - r.since) n (parts-rate r.x r.y wide)
     (parts-near r.x r.y wide) (parts-big r.x r.y some narrow stay.0.2) narrow wide (omega arith)
     (λ k from before. keeps.sure slot k before) (keeps.hard slot r sat) in
-    rw (to, at) most
+    let counted : count (served b slot) i n * all_parts ≤ parts r.x r.y * n + 2 * r.x * all_parts =
+    rw (to, at) at most in counted
 
 cap_case : (b : Ledger) (slot : ℕ) (hard : Bool) (r : Reservation) → KeepsReservations b → tenant_at b slot
     ≡ sits r hard
