@@ -12,10 +12,9 @@ pub mod Elapses
 pub mod Moments
 pub mod Stays
 pub mod Runs
-pub mod Rules
 pub mod Admissions
-pub mod Orders
-pub mod Promises
+pub mod Makings
+pub mod Books
 pub mod Readings
 pub mod Absent
 pub mod Small

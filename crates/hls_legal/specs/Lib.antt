@@ -5,7 +5,6 @@ pub mod Steps
 pub mod Legal
 pub mod Linked
 pub mod Supplied
-pub mod Orderly
 pub mod Readings
 pub mod Example
 pub mod Moves

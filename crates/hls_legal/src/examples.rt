@@ -9,26 +9,22 @@ ghost use Rattle.hls_legal.specs.Derived.{Follows};
 ghost use Rattle.hls_legal.specs.Hierarchy.{start};
 ghost use Rattle.hls_legal.specs.Steps.{state};
 ghost use Rattle.hls_legal.specs.Legal.{MayTake, CanMove, IsLegal};
-ghost use Rattle.hls_legal.specs.Supplied.{KeepsStays, accounts, ready_ticks, served_ticks};
-ghost use Rattle.hls_legal.specs.Orderly.{LoadsOnly, KeepsByRule};
+ghost use Rattle.hls_legal.specs.Supplied.{accounts, ready_ticks, served_ticks};
 ghost use Rattle.hls_legal.specs.Example.{example, example_ticks, first_stay, second_stay};
 ghost use Rattle.hls_legal.specs.Moves.{moves, moves_ticks, moves_stays, branch, branch_seat};
 ghost use Rattle.hls_legal.specs.Moves.{later_branch_seat, behind_helper, before_first, before_second};
 
 /// The example is a legal run: two ticks serve the player, before and after its move, and its burst
-/// is used up then. It loads only schedulers that keep their promises by their rule, so its stays
-/// are kept.
+/// is used up then.
 pub fn the_example_is_legal()
     ensures legal { IsLegal start example }
     ensures ticks { map (λ (t : ℕ). ((state start example).past t).to) (0 ∷ 1 ∷ 2 ∷ []) ≡ example_ticks }
     ensures stays { (state start example).stays ≡ (first_stay ∷ second_stay ∷ []) }
-    ensures loads { LoadsOnly KeepsByRule example }
 {}
 
 /// Moves below fixed priority are a legal run: a thread moves to a later seat, and then the scheduler
 /// below which it sits does, with the thread on it. Each tick serves whom the seats of that tick put
-/// first, and each move ends a stay of the thread and begins the next. All schedulers keep their
-/// promises by their rule, so every stay is kept.
+/// first, and each move ends a stay of the thread and begins the next.
 ///
 /// Before its own move the thread has every tick. So the scheduler may not move behind the other
 /// thread: neither as one that goes on to have every tick, nor as one that has nothing, although it
@@ -38,8 +34,6 @@ pub fn the_moves_are_legal()
     ensures ticks { map (λ (t : ℕ). ((state start moves).past t).to) (0 ∷ 1 ∷ 2 ∷ 3 ∷ 4 ∷ 5 ∷ []) ≡
         moves_ticks }
     ensures stays { (state start moves).stays ≡ moves_stays }
-    ensures loads { LoadsOnly KeepsByRule moves }
-    ensures kept { KeepsStays (state start moves) }
     ensures accounts { accounts (state start moves) ≡ moves_stays }
     ensures ready { map (ready_ticks (state start moves)) moves_stays ≡ (4 ∷ 6 ∷ 1 ∷ 1 ∷ []) }
     ensures served { map (served_ticks (state start moves)) moves_stays ≡ (4 ∷ 1 ∷ 1 ∷ 0 ∷ []) }
