@@ -17,12 +17,6 @@ pub mod Makings
 pub mod Books
 pub mod Readings
 pub mod Absent
-pub mod Small
-pub mod Example
-pub mod Awake
-pub mod Moved
-pub mod Moves
-pub mod Refused
 pub mod Sitters
 pub mod Unique
 pub mod Determined

@@ -36,7 +36,7 @@ and_left true b e = refl
 and_left false b e = e
 
 -- what is served asks
-or_asks : (b : Ledger) (mask slot : ℕ) → may_go b mask slot ≡ true → slot_asks mask slot ≡ true
+pub or_asks : (b : Ledger) (mask slot : ℕ) → may_go b mask slot ≡ true → slot_asks mask slot ≡ true
 or_asks b mask slot go =
     elim (any_below (asks_in_budget b mask) 32) as (λ x. cond x (asks_in_budget b mask slot)
     (asks_softly b mask slot) ≡ true → slot_asks mask slot ≡ true) [

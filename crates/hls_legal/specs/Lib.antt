@@ -6,8 +6,6 @@ pub mod Legal
 pub mod Linked
 pub mod Supplied
 pub mod Readings
-pub mod Example
-pub mod Moves
 pub mod Alike
 pub mod Lists
 pub mod Seated

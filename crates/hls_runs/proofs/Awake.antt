@@ -15,11 +15,11 @@ use Rattle.hls_guarantee.specs.declared.Guarantee.{Guarantee}
 use Rattle.hls_legal.specs.Hierarchy.{Hierarchy, Loaded, Admitted, Awake, At, Seat}
 use Rattle.hls_legal.specs.Steps.{Path, after, elapsed, row_by, hop_at, hops_of, ticked}
 use Rattle.hls_legal.specs.Legal.{IsShallow, IsAsking, Can, asks_now}
-use Rattle.hls_legal.specs.Moves.{root, branch, worker, root_seat, helper_seat, all_ask, taken_slots}
-use Rattle.hls_legal.specs.Moves.{branch_hop, worker_hop, worker_tick, helper_tick}
-use Rattle.hls_legal.proofs.Small.{Few, each_of_four, beyond, LowSeats, low_seat}
-use Rattle.hls_legal.proofs.Small.{no_low, thread_low, flat, SeatsAsk, seat_asks, root_asks_so, FreeSilent}
-use Rattle.hls_legal.proofs.Small.{one_silent, all_silent, lone_least}
+use Rattle.hls_runs.specs.Moves.{root, branch, worker, root_seat, helper_seat, all_ask, taken_slots}
+use Rattle.hls_runs.specs.Moves.{branch_hop, worker_hop, worker_tick, helper_tick}
+use Rattle.hls_runs.proofs.Small.{Few, each_of_four, beyond, LowSeats, low_seat}
+use Rattle.hls_runs.proofs.Small.{no_low, thread_low, flat, SeatsAsk, seat_asks, root_asks_so, FreeSilent}
+use Rattle.hls_runs.proofs.Small.{one_silent, all_silent, lone_least}
 
 -- the seats of branch and worker, which keep their places
 abbrev pub branch_on : (priority : ℕ) → Guarantee → Seat

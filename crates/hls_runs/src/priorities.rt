@@ -1,4 +1,4 @@
-//! Worked runs: each function's contract is a fact about one, and its body does nothing.
+//! Worked runs of fixed priority: each function's contract is a fact about one, and its body does nothing.
 
 ghost use Rattle.std.specs.Prelude.{◌≡◌, ◌≢◌, ℕ, List, [], ◌∷◌, map, Bool};
 ghost use Rattle.hls_chron.specs.declared.plain.Config.TheVariants.{Fp};
@@ -10,9 +10,9 @@ ghost use Rattle.hls_legal.specs.Hierarchy.{start};
 ghost use Rattle.hls_legal.specs.Steps.{state};
 ghost use Rattle.hls_legal.specs.Legal.{MayTake, CanMove, IsLegal};
 ghost use Rattle.hls_legal.specs.Supplied.{accounts, ready_ticks, served_ticks};
-ghost use Rattle.hls_legal.specs.Example.{example, example_ticks, first_stay, second_stay};
-ghost use Rattle.hls_legal.specs.Moves.{moves, moves_ticks, moves_stays, branch, branch_seat};
-ghost use Rattle.hls_legal.specs.Moves.{later_branch_seat, behind_helper, before_first, before_second};
+ghost use Rattle.hls_runs.specs.Example.{example, example_ticks, first_stay, second_stay};
+ghost use Rattle.hls_runs.specs.Moves.{moves, moves_ticks, moves_stays, branch, branch_seat};
+ghost use Rattle.hls_runs.specs.Moves.{later_branch_seat, behind_helper, before_first, before_second};
 
 /// The example is a legal run: two ticks serve the player, before and after its move, and its burst
 /// is used up then.

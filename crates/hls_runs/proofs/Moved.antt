@@ -17,12 +17,12 @@ use Rattle.hls_legal.specs.Derived.{Follows}
 use Rattle.hls_legal.specs.Hierarchy.{Hierarchy, Node, At, Seat, seat_of, seats_of, haves_of, config_of}
 use Rattle.hls_legal.specs.Steps.{after, reseated}
 use Rattle.hls_legal.specs.Legal.{IsBelow, MayMoveTo, MayTake, Can}
-use Rattle.hls_legal.specs.Moves.{root_seat, helper_seat, later_worker_seat, later_branch_seat, move_worker}
-use Rattle.hls_legal.specs.Moves.{move_branch}
+use Rattle.hls_runs.specs.Moves.{root_seat, helper_seat, later_worker_seat, later_branch_seat, move_worker}
+use Rattle.hls_runs.specs.Moves.{move_branch}
 use Rattle.hls_legal.proofs.Seatings.{lone_port}
 use Rattle.hls_legal.proofs.Marks.{terms_at-marks}
-use Rattle.hls_legal.proofs.Small.{few_after, each_of_four, placed, same_slot, later_nothing, fits_number}
-use Rattle.hls_legal.proofs.Awake.{IsAwake, awake_flat, branch_on, worker_on}
+use Rattle.hls_runs.proofs.Small.{few_after, each_of_four, placed, same_slot, later_nothing, fits_number}
+use Rattle.hls_runs.proofs.Awake.{IsAwake, awake_flat, branch_on, worker_on}
 
 -- who sits on whom
 abbrev Sits : (c p : ℕ) → Type 0

@@ -8,13 +8,13 @@ use Rattle.hls_guarantee.specs.declared.Guarantee.TheVariants.{All, Null}
 use Rattle.hls_legal.specs.Hierarchy.{Hierarchy, start, name_of, book_of}
 use Rattle.hls_legal.specs.Steps.{Rouse, Refuse, after}
 use Rattle.hls_legal.specs.Legal.{MaySit, Can, IsLegal}
-use Rattle.hls_legal.specs.Moves.{root_seat, branch_seat, helper_seat, worker, helper, load_root, load_branch}
-use Rattle.hls_legal.specs.Moves.{admit_worker, admit_helper, worker_tick, helper_tick}
-use Rattle.hls_legal.specs.Moves.{move_worker, move_branch, moves}
-use Rattle.hls_legal.proofs.Small.{Few, few_after, each_of_four, root_all, later_nothing, fits_number}
-use Rattle.hls_legal.proofs.Small.{first_seat, take_one, take_first, LowSeats, low_seat, no_low, flat, the}
-use Rattle.hls_legal.proofs.Awake.{IsAwake, can_run_worker, can_run_helper, awake_ran_worker}
-use Rattle.hls_legal.proofs.Moved.{can_move_worker, awake_moved_worker, can_move_branch, awake_moved_branch}
+use Rattle.hls_runs.specs.Moves.{root_seat, branch_seat, helper_seat, worker, helper, load_root, load_branch}
+use Rattle.hls_runs.specs.Moves.{admit_worker, admit_helper, worker_tick, helper_tick}
+use Rattle.hls_runs.specs.Moves.{move_worker, move_branch, moves}
+use Rattle.hls_runs.proofs.Small.{Few, few_after, each_of_four, root_all, later_nothing, fits_number}
+use Rattle.hls_runs.proofs.Small.{first_seat, take_one, take_first, LowSeats, low_seat, no_low, flat, the}
+use Rattle.hls_runs.proofs.Awake.{IsAwake, can_run_worker, can_run_helper, awake_ran_worker}
+use Rattle.hls_runs.proofs.Moved.{can_move_worker, awake_moved_worker, can_move_branch, awake_moved_branch}
 
 -- the hierarchy as it is set up
 abbrev one : Hierarchy

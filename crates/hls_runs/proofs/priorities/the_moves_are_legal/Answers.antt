@@ -1,10 +1,10 @@
 use Rattle.std.proofs.Common.{refl}
 use Rattle.hls_chron.specs.Ticks.{count}
 use Rattle.hls_guarantee.specs.declared.Guarantee.TheVariants.{All}
-use Rattle.hls_legal.proofs.Moves.{moves_legal, second_tick, third_tick, awake_second, awake_third}
-use Rattle.hls_legal.proofs.Moved.{may_take_behind}
-use Rattle.hls_legal.proofs.Refused.{branch_refused, worker_kept}
-use Rattle.hls_legal.proofs.examples.the_moves_are_legal.Goals as goal
+use Rattle.hls_runs.proofs.Moves.{moves_legal, second_tick, third_tick, awake_second, awake_third}
+use Rattle.hls_runs.proofs.Moved.{may_take_behind}
+use Rattle.hls_runs.proofs.Refused.{branch_refused, worker_kept}
+use Rattle.hls_runs.proofs.priorities.the_moves_are_legal.Goals as goal
 
 pub returns-clause-legal : goal.returns-clause-legal
 returns-clause-legal c = moves_legal

@@ -10,14 +10,14 @@ use Rattle.hls_legal.specs.Hierarchy.{Hierarchy, start, Node, Loaded, Scheduler,
 use Rattle.hls_legal.specs.Hierarchy.{name_of}
 use Rattle.hls_legal.specs.Steps.{after}
 use Rattle.hls_legal.specs.Legal.{IsAsking, Can, IsLegal, asks_now}
-use Rattle.hls_legal.specs.Example.{desk_seat, media_seat, player_seat, moved_seat, load_desk, load_media}
-use Rattle.hls_legal.specs.Example.{admit_player, wake_player, first_tick, move_player, second_tick}
-use Rattle.hls_legal.specs.Example.{last_tick, all_ask, first_slots, two_ask, second_slot, example}
-use Rattle.hls_legal.proofs.Small.{Few, few_after, each_of_three, beyond, placed, same_slot, root_all}
-use Rattle.hls_legal.proofs.Small.{later_nothing}
-use Rattle.hls_legal.proofs.Small.{fits_number, first_seat, take_one, take_first, LowSeats, low_seat, no_low}
-use Rattle.hls_legal.proofs.Small.{thread_low, flat, zero_off, SeatsAsk, seat_asks, root_asks_so, FreeSilent}
-use Rattle.hls_legal.proofs.Small.{one_silent, all_silent, the, lone_least}
+use Rattle.hls_runs.specs.Example.{desk_seat, media_seat, player_seat, moved_seat, load_desk, load_media}
+use Rattle.hls_runs.specs.Example.{admit_player, wake_player, first_tick, move_player, second_tick}
+use Rattle.hls_runs.specs.Example.{last_tick, all_ask, first_slots, two_ask, second_slot, example}
+use Rattle.hls_runs.proofs.Small.{Few, few_after, each_of_three, beyond, placed, same_slot, root_all}
+use Rattle.hls_runs.proofs.Small.{later_nothing}
+use Rattle.hls_runs.proofs.Small.{fits_number, first_seat, take_one, take_first, LowSeats, low_seat, no_low}
+use Rattle.hls_runs.proofs.Small.{thread_low, flat, zero_off, SeatsAsk, seat_asks, root_asks_so, FreeSilent}
+use Rattle.hls_runs.proofs.Small.{one_silent, all_silent, the, lone_least}
 
 -- the hierarchy after each step
 abbrev one : Hierarchy

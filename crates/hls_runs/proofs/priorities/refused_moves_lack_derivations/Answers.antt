@@ -1,5 +1,5 @@
-use Rattle.hls_legal.proofs.Refused.{later_not_all, nothing_not_all}
-use Rattle.hls_legal.proofs.examples.refused_moves_lack_derivations.Goals as goal
+use Rattle.hls_runs.proofs.Refused.{later_not_all, nothing_not_all}
+use Rattle.hls_runs.proofs.priorities.refused_moves_lack_derivations.Goals as goal
 
 pub returns-clause-behind : goal.returns-clause-behind
 returns-clause-behind c = later_not_all

@@ -10,8 +10,8 @@ use Rattle.hls_legal.specs.Derived.{Yields, Follows}
 use Rattle.hls_legal.specs.Hierarchy.{Hierarchy, Loaded, haves_of, config_of}
 use Rattle.hls_legal.specs.Steps.{reseated}
 use Rattle.hls_legal.specs.Legal.{CanMove}
-use Rattle.hls_legal.specs.Moves.{branch, behind_helper}
-use Rattle.hls_legal.proofs.Awake.{IsAwake, worker_on}
+use Rattle.hls_runs.specs.Moves.{branch, behind_helper}
+use Rattle.hls_runs.proofs.Awake.{IsAwake, worker_on}
 
 -- a tick that is not served supplies nothing, and not every tick
 no_tick : ¬ Yields Null All
