@@ -8,7 +8,6 @@ ghost use Rattle.hls_report_text.specs.WellFormed.{IsContent};
 ghost use Rattle.hls_legal.specs.Hierarchy.{start};
 ghost use Rattle.hls_legal.specs.Steps.{Step, state};
 ghost use Rattle.hls_legal.specs.Legal.{IsLegal};
-ghost use Rattle.hls_legal.specs.Supplied.{KeepsStays};
 ghost use Rattle.hls_accounts.specs.Schedule.{tick_list, path_at, is_served};
 ghost use Rattle.hls_accounts.specs.Ready.{is_ready};
 ghost use Rattle.hls_accounts.specs.Stays.{stays};
@@ -53,9 +52,9 @@ pub fn reports_tell_the_accounts()
         idle_of c ≡ idle_in (state start steps) }
 {}
 
-/// Where a legal run keeps its stays, the report that tells it does: in each window of each stay the
-/// schedule gives the thread what is guaranteed for it, and over the whole stay it keeps the cap.
-pub fn reports_of_kept_runs_keep_their_stays()
+/// A report that tells a legal run keeps its stays, whatever was loaded: in each window of each stay
+/// the schedule gives the thread what is guaranteed for it, and over the whole stay it keeps the cap.
+pub fn reports_keep_their_stays()
     ensures { (c : Content) (steps : List Step) → IsLegal start steps → Tells c steps →
-        KeepsStays (state start steps) → All (IsKeptBy c) (stays c.answered) }
+        All (IsKeptBy c) (stays c.answered) }
 {}

@@ -1,58 +1,18 @@
--- What the marks of a command leave of the admission of seats.
-use Rattle.std.proofs.Common.{◌≡◌, ◌≢◌, ℕ, zero, suc, ◌<◌, List, [], ◌∷◌, ◌++◌, slice_get, Option, Some, None}
-use Rattle.std.proofs.Common.{true, false, ◌==◌, cond, refl, sym, ap, ◌∙◌, arith, fold, inl, inr}
+-- Which seats of a command are on a scheduler, and that leavings only take seats away.
+use Rattle.std.proofs.Common.{◌≡◌, ◌≢◌, ℕ, zero, suc, List, [], ◌∷◌, ◌++◌, slice_get, Option, Some}
+use Rattle.std.proofs.Common.{refl, sym, ap, ◌∙◌, arith, fold, inl, inr}
 use Rattle.std.proofs.lemmas.Bool.{cases_eq, eq-eqb, ne_eqb}
 use Rattle.std.proofs.lemmas.List.Sums.{fold-append}
-use Rattle.hls_chron.specs.declared.book.Event.{Event}
 use Rattle.hls_chron.specs.declared.book.Event.TheVariants as events
-use Rattle.hls_chron.specs.declared.plain.Config.{Config}
 use Rattle.hls_chron.specs.declared.plain.Terms.{Terms}
-use Rattle.hls_chron.specs.Ledger.{Ledger, with_mark}
-use Rattle.hls_chron.specs.Seats.{most_seats, terms_after, terms_at, priority_in}
-use Rattle.hls_chron.proofs.BookLaws.{terms_at-mark}
-use Rattle.hls_kinds.specs.Fits.{Fits}
-use Rattle.hls_promise.specs.Admission.{HasSeats, HasStood, KeepsAdmission}
-use Rattle.hls_promise.proofs.AdmissionLaws.{seats-mark, stood-mark}
-use Rattle.hls_legal.specs.Ledgers.{with_marks}
+use Rattle.hls_chron.specs.Seats.{terms_after}
 use Rattle.hls_legal.specs.Hierarchy.{Place, Processor, At, Seat}
 use Rattle.hls_legal.specs.Steps.{seating_at, leaving_at, seatings, leavings}
 use Rattle.hls_legal.specs.Legal.{scheduler_at}
-use Rattle.hls_legal.proofs.Marks.{row_at-marks, now_of-marks, before-marks, dated-marks, terms_at-marks}
 
-stood-marks : (b : Ledger) (es : List Event) → HasStood b → HasStood (with_marks b es)
-stood-marks b [] stood = stood
-stood-marks b (e ∷ es) stood = stood-marks (with_mark b e) es (stood-mark b e stood)
-
-pub admission-marks : (config : Config) (b : Ledger) (es : List Event) → HasSeats config (with_marks b es)
-    → KeepsAdmission config b → KeepsAdmission config (with_marks b es)
-admission-marks config b es seats kept = record {
-  dated = dated-marks b es kept.dated;
-  seats = seats;
-  stood = stood-marks b es kept.stood;
-  had = λ t lt. let early : t < _ = omega (arith, lt, now_of-marks b es) in
-      rw (before-marks b es t early) (kept.had t early);
-  seated = λ t slot lt. let early : t < _ = omega (arith, lt, now_of-marks b es) in
-      rw (row_at-marks b es t, before-marks b es t early) (kept.seated t slot early);
-}
-
--- a book with no other seats than another has seats as are to be if that has
+-- a book with no other seats than another
 abbrev pub IsLess : (x y : Option Terms) → Type 0
 IsLess x y = (terms : Terms) → x ≡ Some terms → y ≡ Some terms
-
-priority_less : (x y : Option Terms) (priority : ℕ) → IsLess x y → priority_in x ≡ Some priority
-    → priority_in y ≡ Some priority
-priority_less None y priority less is = absurd (cc)
-priority_less (Some terms) y priority less is = ap priority_in (less terms refl) ∙ is
-
-seats_less : (config : Config) (a b : Ledger) → ((slot : ℕ) → IsLess (terms_at a slot) (terms_at b slot))
-    → HasSeats config b → HasSeats config a
-seats_less config a b less had = record {
-  within = λ slot terms is. had.within slot terms (less slot terms is);
-  of_kind = λ slot terms is. had.of_kind slot terms (less slot terms is);
-  apart = λ slot other priority one two. had.apart slot other priority
-      (priority_less (terms_at a slot) (terms_at b slot) priority (less slot) one)
-      (priority_less (terms_at a other) (terms_at b other) priority (less other) two);
-}
 
 left_less : (k slot : ℕ) (place : Place) (x : Option Terms)
     → IsLess (fold (terms_after slot) x (leaving_at k place)) x
@@ -73,12 +33,6 @@ leave_less (seat ∷ seats) k slot x terms e =
     left_less k slot seat.place x terms
     (leave_less seats k slot (fold (terms_after slot) x (leaving_at k seat.place)) terms
     (sym (fold-append (terms_after slot) x (leaving_at k seat.place) (leavings seats k)) ∙ e))
-
-after_less : (slot : ℕ) (x y : Option Terms) (at : ℕ) (new : Terms) → IsLess x y
-    → IsLess (terms_after slot x (events.Seat at new)) (terms_after slot y (events.Seat at new))
-after_less slot x y at new less terms =
-    elim (at == slot) as (λ b. cond b (Some new) x ≡ Some terms → cond b (Some new) y ≡ Some terms)
-    [ true ↦ λ e. e | false ↦ λ e. less terms e ]
 
 -- at most one of these seats is at a scheduler
 abbrev pub OneEach : List Seat → Type 0
@@ -138,33 +92,3 @@ seats_on (seat ∷ seats) k one = elim (is_at seat.place k) [
       let same : zero ≡ suc port = one 0 (suc port) seat other refl f (ap scheduler_at here ∙ sym g) in
       omega arith))
 ]
-
--- the seats of a book after a command's marks
-module _ (config : Config) (b : Ledger) (gone taken : List Seat) (k : ℕ) (had : HasSeats config b) where
-  terms_after_all : (slot : ℕ)
-      → terms_at (with_marks b (leavings gone k ++ seatings taken k)) slot ≡ fold (terms_after slot)
-      (fold (terms_after slot) (terms_at b slot) (leavings gone k)) (seatings taken k)
-  terms_after_all slot = terms_at-marks b slot (leavings gone k ++ seatings taken k)
-      ∙ fold-append (terms_after slot) (terms_at b slot) (leavings gone k) (seatings taken k)
-
-  pub seats_after : SeatsOn taken k
-      → ((port : ℕ) (seat : Seat) (slot : ℕ) → slice_get taken port ≡ Some seat → seat.place ≡ At k slot
-      → (slot < most_seats config) × Fits config b seat.terms)
-      → HasSeats config (with_marks b (leavings gone k ++ seatings taken k))
-  seats_after (Nowhere none) may = seats_less config (with_marks b (leavings gone k ++ seatings taken k)) b
-      (λ slot terms e.
-      leave_less gone k slot (terms_at b slot) terms
-      (sym (terms_after_all slot
-      ∙ ap (λ es. fold (terms_after slot) (fold (terms_after slot) (terms_at b slot) (leavings gone k))
-      es) none) ∙ e)) had
-  seats_after (Once port seat at is there one) may =
-      let mark = events.Seat at seat.terms in
-      let added = seats-mark config b mark (may port seat at is there) had in
-      seats_less config (with_marks b (leavings gone k ++ seatings taken k)) (with_mark b mark)
-      (λ slot terms e.
-      terms_at-mark b mark slot
-      ∙ after_less slot (fold (terms_after slot) (terms_at b slot) (leavings gone k)) (terms_at b slot) at
-      seat.terms (leave_less gone k slot (terms_at b slot)) terms
-      (sym (terms_after_all slot
-      ∙ ap (λ es. fold (terms_after slot) (fold (terms_after slot) (terms_at b slot) (leavings gone k))
-      es) one) ∙ e)) added

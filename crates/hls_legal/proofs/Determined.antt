@@ -6,8 +6,7 @@ use Rattle.hls_legal.specs.Steps.{Elapse}
 use Rattle.hls_legal.specs.Steps.{after}
 use Rattle.hls_legal.specs.Legal.{MayTake, IsAsking, MayRun, CanMove, Can, IsLegal}
 use Rattle.hls_legal.specs.Alike.{IsAlikeSeat, AreAlikeSeats, IsAlike, AreAlike}
-use Rattle.hls_legal.proofs.Orders.{AllDue, step_due, start_due}
-use Rattle.hls_legal.proofs.Promises.{Any}
+use Rattle.hls_legal.proofs.Books.{AllMade, step_made, start_made}
 use Rattle.hls_legal.proofs.Runs.{Kept, step_keeps, start_kept}
 use Rattle.hls_legal.proofs.Sitters.{HasSitters, IsFinite, step_sitters, step_finite, start_sitters}
 use Rattle.hls_legal.proofs.Unique.{path_one, asking_one, masks_one, below_one, seat_one}
@@ -15,7 +14,7 @@ use Rattle.hls_legal.proofs.Unique.{path_one, asking_one, masks_one, below_one, 
 -- what the choices of a step go by
 pub record IsKnown (h : Hierarchy) : Type 0 where
   pub kept : Kept h
-  pub due : AllDue Any h
+  pub made : AllMade h
   pub sitters : HasSitters h
   pub finite : IsFinite h
 
@@ -52,7 +51,7 @@ elapse_one h known asking other masks slots path way one may two can =
     slots one two k i in
     let theirs : MayRun h asking masks way = subst (λ (a : ℕ → Bool). MayRun h a masks way) (sym asks)
     (subst (λ (m : ℕ → ℕ). MayRun h other m way) (sym same) can) in
-    let paths = path_one h rank sound known.due masks asking path way may theirs in
+    let paths = path_one h rank sound known.made masks asking path way may theirs in
     λ i. Elapse (asks i) (same i) (paths i)
 
 step_one : (h : Hierarchy) (known : IsKnown h) (step other : Step) → Can h step → Can h other
@@ -79,14 +78,10 @@ step_one h known _ _ f g alike = absurd alike
 step_known : (h : Hierarchy) (step : Step) → IsKnown h → Can h step → IsKnown (after h step)
 step_known h step known can = record {
   kept = step_keeps h step known.kept can;
-  due = step_due Any h known.kept.rank step known.kept.sound can (any_load step) known.due;
+  made = step_made h known.kept.rank step known.kept.sound can known.made;
   sitters = step_sitters h known.kept.rank step known.kept.sound known.sitters;
   finite = step_finite h step known.finite;
 }
-  where
-    any_load : (s : Step) → Rattle.hls_legal.specs.Orderly.IsLoadOf Any s
-    any_load (Load k name config spare_ticks spare_marks seats) = tt
-    any_load _ = tt
 
 pub run_known : (steps : List Step) (h : Hierarchy) → IsKnown h → IsLegal h steps → IsKnown (state h steps)
 run_known [] h known legal = known
@@ -109,7 +104,7 @@ pub start_known : IsKnown start
 start_known =
     record {
       kept = start_kept;
-      due = start_due Any;
+      made = start_made;
       sitters = start_sitters;
       finite =
           record { count = 0; none = λ k le. refl };

@@ -3,8 +3,6 @@ use Rattle.std.proofs.Common.{◌≡◌, List, [], ◌∷◌, ◌++◌, refl}
 use Rattle.hls_legal.specs.Hierarchy.{Hierarchy}
 use Rattle.hls_legal.specs.Steps.{Step, after, state}
 use Rattle.hls_legal.specs.Legal.{Can, IsLegal}
-use Rattle.hls_legal.specs.Linked.{KeepsPromises}
-use Rattle.hls_legal.specs.Supplied.{KeepsPromisesAlong}
 
 pub state_goes : (steps : List Step) (h : Hierarchy) (step : Step)
     → state h (steps ++ step ∷ []) ≡ after (state h steps) step
@@ -15,9 +13,3 @@ pub legal_goes : (steps : List Step) (h : Hierarchy) (step : Step) → IsLegal h
     → Can (state h steps) step → IsLegal h (steps ++ step ∷ [])
 legal_goes [] h step legal can = (can, tt)
 legal_goes (s ∷ steps) h step legal can = (legal.0, legal_goes steps (after h s) step legal.1 can)
-
-pub promises_go : (steps : List Step) (h : Hierarchy) (step : Step) → KeepsPromisesAlong h steps
-    → KeepsPromises (after (state h steps) step) → KeepsPromisesAlong h (steps ++ step ∷ [])
-promises_go [] h step promises next = (promises, next)
-promises_go (s ∷ steps) h step promises next =
-    (promises.0, promises_go steps (after h s) step promises.1 next)

@@ -1,7 +1,7 @@
 -- Plainer words for the steps of a legal run.
 use Rattle.std.proofs.Common.{◌≡◌, ◌≢◌, ℕ, zero, suc, inl, inr, ◌+◌, ◌<◌, List, [], ◌∷◌, ◌++◌, Option, Some}
 use Rattle.std.proofs.Common.{None, Bool, true, false, if◌then◌else◌, ◌==◌, refl, sym, ap, ◌∙◌, subst, arith}
-use Rattle.std.proofs.Common.{fold, cond}
+use Rattle.std.proofs.Common.{fold, cond, ◌&&◌}
 use Rattle.std.proofs.lemmas.Bool.{cases_eq, cases_lt, cases_Bool, eq-eqb, ne_eqb, eqb-true}
 use Rattle.std.proofs.lemmas.List.Sums.{fold-append}
 use Rattle.hls_chron.specs.declared.plain.Config.{Config}
@@ -25,15 +25,18 @@ use Rattle.hls_legal.specs.Steps.{elapsed, Step, Refuse, Load, Admit, End, Unloa
 use Rattle.hls_legal.specs.Steps.{after, state, wake_by, nobody, loaded, admitted}
 use Rattle.hls_legal.specs.Legal.{Walk, IsAsking, MayRun, IsBelow, CanMove, Can, IsLegal, asks_now}
 use Rattle.hls_legal.specs.Linked.{SitsBelow, SitsAt}
-use Rattle.hls_legal.specs.Orderly.{IsOrderly}
+use Rattle.hls_kinds.specs.Discipline.{KeepsDiscipline}
 use Rattle.hls_legal.specs.Readings.{IsUnderBy, IsUnder, Renews, IsRouseOf, LetSleep}
 use Rattle.hls_legal.proofs.Marks.{settled_at-marks}
 use Rattle.hls_legal.proofs.Nodes.{IsCurrent, grown_marked, grown_reseated}
 use Rattle.hls_legal.proofs.Kept.{IsSound, at_same, at_other}
-use Rattle.hls_legal.proofs.Rules.{and_left}
+
+and_left : (a b : Bool) → (a && b) ≡ true → a ≡ true
+and_left true b e = refl
+and_left false b e = e
 
 -- what is served asks
-or_asks : (b : Ledger) (mask slot : ℕ) → may_go b mask slot ≡ true → slot_asks mask slot ≡ true
+pub or_asks : (b : Ledger) (mask slot : ℕ) → may_go b mask slot ≡ true → slot_asks mask slot ≡ true
 or_asks b mask slot go =
     elim (any_below (asks_in_budget b mask) 32) as (λ x. cond x (asks_in_budget b mask slot)
     (asks_softly b mask slot) ≡ true → slot_asks mask slot ≡ true) [
@@ -64,13 +67,13 @@ past_row b t slot to = elim (cases_lt t (now_of b)) [
   | inr late ↦ absurd (let none = row_at-later b t late in let no : None ≡ Some slot = rw none at to in cc)
 ]
 
-pub served_asks : (config : Config) (b : Ledger) → IsOrderly config b → (slot t : ℕ) → served b slot t ≡ true
+pub served_asks : (config : Config) (b : Ledger) → KeepsDiscipline config b → (slot t : ℕ) → served b slot t ≡ true
     → asked b slot t ≡ true
 unfolding asked
-served_asks config b orderly slot t is =
+served_asks config b kept slot t is =
     let to = served-to b slot t is in
     serves-asking config (before t b) (row_at b t).mask slot
-    (orderly.rule.served t slot (past_row b t slot to) to)
+    (kept.served t slot (past_row b t slot to) to)
 
 -- a thread that sleeps
 abbrev pub wake_of : Option Node → Wake

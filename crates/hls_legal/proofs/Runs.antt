@@ -10,7 +10,7 @@ use Rattle.hls_legal.specs.Steps.{loaded, admitted, reseated, after, state}
 use Rattle.hls_legal.specs.Legal.{Can, IsLegal}
 use Rattle.hls_chron.specs.Kinds.{port_count}
 use Rattle.hls_legal.specs.Linked.{KeepsPromises}
-use Rattle.hls_legal.specs.Supplied.{KeepsPromisesAlong, KeepsStays}
+use Rattle.hls_legal.specs.Supplied.{KeepsStays}
 use Rattle.hls_legal.proofs.Marks.{ports-empty}
 use Rattle.hls_legal.proofs.Nodes.{IsUpTo}
 use Rattle.hls_legal.proofs.Kept.{IsSound}
@@ -136,6 +136,11 @@ step_stays h (Elapse asking masks path) k promises can each = elapsed_stays h as
 pub run_keeps : (steps : List Step) (h : Hierarchy) → Kept h → IsLegal h steps → Kept (state h steps)
 run_keeps [] h k legal = k
 run_keeps (step ∷ steps) h k legal = run_keeps steps (after h step) (step_keeps h step k legal.0) legal.1
+
+-- the books keep their promises after every step
+abbrev pub KeepsPromisesAlong : Hierarchy → List Step → Type 0
+KeepsPromisesAlong h [] = KeepsPromises h
+KeepsPromisesAlong h (step ∷ steps) = KeepsPromises h × KeepsPromisesAlong (after h step) steps
 
 pub run_stays : (steps : List Step) (h : Hierarchy) → Kept h → IsLegal h steps → KeepsPromisesAlong h steps
     → AllByRecursion (Stands h) h.stays → KeepsStays (state h steps)

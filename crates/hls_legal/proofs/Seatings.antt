@@ -68,7 +68,7 @@ rest_elsewhere : (seat : Seat) (seats : List Seat) (k slot : ℕ) → Apart (sea
 rest_elsewhere seat seats k slot apart e port other f g =
     let same : zero ≡ suc port = apart 0 (suc port) seat other refl f (e ∙ sym g) in omega arith
 
-tail_apart : (seat : Seat) (seats : List Seat) → Apart (seat ∷ seats) → Apart seats
+pub tail_apart : (seat : Seat) (seats : List Seat) → Apart (seat ∷ seats) → Apart seats
 tail_apart seat seats apart port other one two a b e = let same : suc port ≡ suc other =
     apart (suc port) (suc other) one two a b e in omega arith
 

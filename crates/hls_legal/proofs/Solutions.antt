@@ -7,11 +7,13 @@ use Rattle.std.specs.Int.{bit_at}
 use Rattle.std.proofs.lemmas.Bool.{cases_eq, cases_lt, cases_Bool}
 use Rattle.std.proofs.lemmas.Nat.Bits.{bit_at-zero, bit_at_or, bit_at-pow_same, bit_at-pow_other}
 use Rattle.hls_chron.specs.declared.plain.Terms.{Terms}
-use Rattle.hls_chron.specs.Ranges.{ConfigInRange}
 use Rattle.hls_chron.specs.Seats.{most_seats, terms_at}
 use Rattle.hls_kinds.specs.Asks.{asks, slot_asks}
 use Rattle.hls_kinds.proofs.MarkLaws.{sits_on}
 use Rattle.hls_promise.specs.Admission.{HasSeats}
+use Rattle.hls_promise.proofs.AdmissionLaws.{admission-unwritten}
+use Rattle.hls_chron.specs.declared.plain.Config.TheVariants.{Cpu}
+use Rattle.hls_legal.specs.Ledgers.{empty_book}
 use Rattle.hls_legal.specs.Hierarchy.{Hierarchy, Node, Loaded, Admitted, Scheduler, Wake, Asleep, Place}
 use Rattle.hls_legal.specs.Hierarchy.{Processor, At, Seat, start, seats_of, seat_of, book_of, config_of}
 use Rattle.hls_legal.specs.Steps.{Hop, Path, hop_at, hops_of, marked, reseated, roused, seatings, leavings}
@@ -20,13 +22,12 @@ use Rattle.hls_legal.specs.Steps.{loaded, admitted, wake_by, Step, Refuse, Load,
 use Rattle.hls_legal.specs.Steps.{Rouse, Block, Elapse, after, state}
 use Rattle.hls_legal.specs.Legal.{IsAsking, Walk, MayRun, root_asks, asks_now, Can, IsLegal}
 use Rattle.hls_legal.specs.Linked.{SitsBelow, SitsAt}
-use Rattle.hls_legal.specs.Orderly.{IsLoadOf}
 use Rattle.hls_legal.proofs.Nodes.{seats-marked, seats-renewed, seats-roused}
 use Rattle.hls_legal.proofs.Seatings.{lone_port}
 use Rattle.hls_legal.proofs.Kept.{IsSound, at_same, at_other}
 use Rattle.hls_legal.proofs.Elapses.{seats-ticked}
-use Rattle.hls_legal.proofs.Orders.{IsDue, IsDueNode, AllDue, step_due, start_due}
-use Rattle.hls_legal.proofs.Promises.{node_orderly}
+use Rattle.hls_made.proofs.Books.{range_made, admission_made}
+use Rattle.hls_legal.proofs.Books.{IsMadeNode, AllMade, made_at, step_made, start_made}
 use Rattle.hls_legal.proofs.Readings.{serves-asking}
 use Rattle.hls_legal.proofs.Runs.{Kept, step_keeps, start_kept}
 use Rattle.hls_legal.proofs.Sitters.{HasSitters, IsFinite, step_sitters, step_finite, start_sitters}
@@ -215,10 +216,16 @@ step_root h (Elapse asking masks path) had =
     same_root h (elapsed h asking masks path) refl
     (λ c. seats-ticked (masks c) (hop_at (hops_of path) c) (h.nodes c)) had
 
+-- what is no scheduler has a book with no seats
+node_seats : (node : Option Node) → IsMadeNode node → HasSeats (config_of node) (book_of node)
+node_seats None _ = (admission-unwritten Cpu (empty_book 0 0 0) refl refl).seats
+node_seats (Some (Loaded s)) made = (admission_made s.config s.book made).seats
+node_seats (Some (Admitted t)) _ = (admission-unwritten Cpu (empty_book 0 0 0) refl refl).seats
+
 -- what a tick goes by
 pub record CanGo (h : Hierarchy) : Type 0 where
   pub kept : Kept h
-  pub due : AllDue ConfigInRange h
+  pub made : AllMade h
   pub sitters : HasSitters h
   pub finite : IsFinite h
   pub root : HasRoot h
@@ -285,8 +292,7 @@ module _ (h : Hierarchy) (go : CanGo h) where
   masks k = mask_at asking k
 
   seats_kept : (k : ℕ) → HasSeats (config_of (h.nodes k)) (book_of (h.nodes k))
-  seats_kept k = let orderly = node_orderly ConfigInRange h.now (h.nodes k) (sound.current k) (go.due k) in
-      let kept = orderly.admission in kept.seats
+  seats_kept k = node_seats (h.nodes k) (go.made k)
 
   sitter_is : (k slot c port : ℕ) (seat : Seat) → seat_of (h.nodes c) port ≡ Some seat
       → seat.place ≡ At k slot
@@ -357,9 +363,10 @@ module _ (h : Hierarchy) (go : CanGo h) where
   goes_by n c port seat place down f is on (Some (Loaded s)) e =
       let asks_so : asks s.config s.book (masks c) ≡ true = sym (ap (asks_now h c (masks c)) e)
       ∙ sym (asking_is.nodes c) ∙ on in
-      let due : IsDue ConfigInRange s = subst (IsDueNode ConfigInRange) e (go.due c) in
-      let kept = due.admission in
-      let serves = serves_some s.config s.book (masks c) due.kind kept.seats (only_seats c s e) asks_so in
+      let made = made_at h c s go.made e in
+      let kept = admission_made s.config s.book made in
+      let range = range_made s.config s.book made in
+      let serves = serves_some s.config s.book (masks c) range kept.seats (only_seats c s e) asks_so in
       let slot = serves.0 in
       let slot_on : slot_asks (masks c) slot ≡ true = serves-asking s.config s.book (masks c) slot serves.1 in
       let rest : Goes (At c slot) = under slot slot_on (terms_at (book_of (h.nodes c)) slot) refl in
@@ -422,22 +429,11 @@ module _ (h : Hierarchy) (go : CanGo h) where
   elapses = let e = root_goes h.root refl in (asking, masks, e.path, (asking_is, e.may))
 
 -- along a run
-in_range : (h : Hierarchy) (step : Step) → Can h step → IsLoadOf ConfigInRange step
-in_range h (Load k name config spare_ticks spare_marks seats) can = can.0.in_range
-in_range h Refuse can = tt
-in_range h (Admit k name seat) can = tt
-in_range h (End k) can = tt
-in_range h (Unload k) can = tt
-in_range h (Move k seat below) can = tt
-in_range h (Rouse k burst) can = tt
-in_range h (Block k) can = tt
-in_range h (Elapse asking masks path) can = tt
-
 pub run_goes : (steps : List Step) (h : Hierarchy) → CanGo h → IsLegal h steps → CanGo (state h steps)
 run_goes [] h go legal = go
 run_goes (step ∷ steps) h go legal = run_goes steps (after h step) (record {
   kept = step_keeps h step go.kept legal.0;
-  due = step_due ConfigInRange h go.kept.rank step go.kept.sound legal.0 (in_range h step legal.0) go.due;
+  made = step_made h go.kept.rank step go.kept.sound legal.0 go.made;
   sitters = step_sitters h go.kept.rank step go.kept.sound go.sitters;
   finite = step_finite h step go.finite;
   root = step_root h step go.root;
@@ -447,7 +443,7 @@ pub start_goes : CanGo start
 start_goes =
     record {
       kept = start_kept;
-      due = start_due ConfigInRange;
+      made = start_made;
       sitters = start_sitters;
       finite =
           record { count = 0; none = λ k le. refl };

@@ -26,8 +26,8 @@ use Rattle.hls_legal.specs.Linked.{SitsBelow, SitsAt}
 use Rattle.hls_legal.specs.Alike.{IsAlikeSeat}
 use Rattle.hls_legal.proofs.Kept.{IsSound}
 use Rattle.hls_legal.proofs.Walks.{bool_iff}
-use Rattle.hls_legal.proofs.Orders.{IsDue, IsDueNode, AllDue}
-use Rattle.hls_legal.proofs.Promises.{Any}
+use Rattle.hls_made.proofs.Books.{admission_made}
+use Rattle.hls_legal.proofs.Books.{AllMade, made_at}
 use Rattle.hls_legal.proofs.Readings.{under_below, below_rank}
 use Rattle.hls_legal.proofs.Sitters.{HasSitters, IsFinite}
 
@@ -79,7 +79,7 @@ record SameWalk (hops others : List Hop) (thread rival : ℕ) : Type 0 where
 hop_same : (a b : Hop) → a.node ≡ b.node → a.port ≡ b.port → a.slot ≡ b.slot → a ≡ b
 hop_same a b e f g = λ i. record { node = e i; port = f i; slot = g i }
 
-module _ (h : Hierarchy) (rank : ℕ → ℕ) (sound : IsSound h rank) (due : AllDue Any h) (masks : ℕ → ℕ) where
+module _ (h : Hierarchy) (rank : ℕ → ℕ) (sound : IsSound h rank) (made : AllMade h) (masks : ℕ → ℕ) where
   enters_one : (place : Place) (a b : Hop) → Enters h masks place a → Enters h masks place b → a ≡ b
   enters_one place a b f g =
       let mine : seat_of (h.nodes a.node) a.port ≡ Some f.seat = ap (λ n. seat_of n a.port) f.there
@@ -95,8 +95,7 @@ module _ (h : Hierarchy) (rank : ℕ → ℕ) (sound : IsSound h rank) (due : Al
       let serves : Serves s.config s.book (masks a.node) b.slot =
       subst (λ (n : ℕ). Serves s.config s.book (masks n) b.slot) (sym same.node)
       (subst (λ (x : Scheduler). Serves x.config x.book (masks b.node) b.slot) (sym one) g.serves) in
-      let kept : IsDue Any s = subst (IsDueNode Any) f.there (due a.node) in
-      let seats = kept.admission in
+      let seats = admission_made s.config s.book (made_at h a.node s made f.there) in
       hop_same a b same.node same.port_same
       (serves_one s.config s.book (masks a.node) a.slot b.slot seats.seats f.serves serves)
 

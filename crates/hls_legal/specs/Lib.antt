@@ -5,10 +5,7 @@ pub mod Steps
 pub mod Legal
 pub mod Linked
 pub mod Supplied
-pub mod Orderly
 pub mod Readings
-pub mod Example
-pub mod Moves
 pub mod Alike
 pub mod Lists
 pub mod Seated

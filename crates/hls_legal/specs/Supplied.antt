@@ -1,19 +1,12 @@
 -- What holds of every stay of a legal run.
 use Rattle.std.specs.Prelude.{All}
-use Rattle.std.specs.Prelude.{◌-◌, ◌≡◌, ℕ, ◌≤◌, ◌<◌, List, [], ◌∷◌, Option, Some, None, true}
+use Rattle.std.specs.Prelude.{◌-◌, ◌≡◌, ℕ, ◌≤◌, ◌<◌, List, Option, Some, None, true}
 use Rattle.std.specs.Prelude.{filter}
 use Rattle.std.specs.Prelude.{nat_lt}
 use Rattle.hls_chron.specs.Ticks.{count}
 use Rattle.hls_guarantee.specs.Satisfaction.{Satisfies}
 use Rattle.hls_guarantee.specs.Cap.{KeepsCap}
 use Rattle.hls_legal.specs.Hierarchy.{Hierarchy, Tick, Stay, was_served, had_asked}
-use Rattle.hls_legal.specs.Steps.{Step, after}
-use Rattle.hls_legal.specs.Linked.{KeepsPromises}
-
--- the books keep their promises after every step
-abbrev pub KeepsPromisesAlong : Hierarchy → List Step → Type 0
-KeepsPromisesAlong h [] = KeepsPromises h
-KeepsPromisesAlong h (step ∷ steps) = KeepsPromises h × KeepsPromisesAlong (after h step) steps
 
 -- the tick before which a stay ends: the present one where it is open
 abbrev pub end_of : (now : ℕ) → Option ℕ → ℕ

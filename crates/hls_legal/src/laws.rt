@@ -2,32 +2,30 @@
 
 ghost use Rattle.std.specs.Prelude.{◌≡◌, ◌≢◌, ◌++◌, ◌∷◌, [], ℕ, List, Option, Some, None, Bool, true};
 ghost use Rattle.std.specs.Prelude.{false, All};
-ghost use Rattle.hls_chron.specs.Kinds.{kind_of};
 ghost use Rattle.hls_chron.specs.Ledger.{Ledger};
 ghost use Rattle.hls_chron.specs.Ranges.{ConfigInRange};
 ghost use Rattle.hls_chron.specs.Seats.{asked, served, terms_at};
 ghost use Rattle.hls_kinds.specs.Asks.{asks, slot_asks};
-ghost use Rattle.hls_kinds.specs.Discipline.{Serves, KeepsDiscipline};
+ghost use Rattle.hls_kinds.specs.Discipline.{Serves};
+ghost use Rattle.hls_kinds.specs.Made.{IsMade};
 ghost use Rattle.hls_promise.specs.Admission.{HasSeats};
-ghost use Rattle.hls_legal.specs.Hierarchy.{Hierarchy, Seat, start, was_served, had_asked};
+ghost use Rattle.hls_legal.specs.Hierarchy.{Hierarchy, Scheduler, Loaded, Seat, start, was_served, had_asked};
 ghost use Rattle.hls_legal.specs.Steps.{Path, Step, Move, Block, Elapse, after, state};
 ghost use Rattle.hls_legal.specs.Legal.{asks_now, Can, IsLegal};
-ghost use Rattle.hls_legal.specs.Linked.{config_at, book_at, IsLinked, KeepsPromises, IsSupplied};
-ghost use Rattle.hls_legal.specs.Supplied.{KeepsPromisesAlong, IsKept, KeepsStays, accounts};
-ghost use Rattle.hls_legal.specs.Orderly.{IsOrderly, LoadsOnly, KeepsByRule};
+ghost use Rattle.hls_legal.specs.Linked.{book_at, IsLinked, KeepsPromises, IsSupplied};
+ghost use Rattle.hls_legal.specs.Supplied.{IsKept, KeepsStays, accounts};
 ghost use Rattle.hls_legal.specs.Readings.{Renews, LetSleep};
 ghost use Rattle.hls_legal.specs.Alike.{AreAlike};
 ghost use Rattle.hls_legal.specs.Lists.{IsListed};
 ghost use Rattle.hls_legal.specs.Seated.{IsSeated};
 
-use hls_chron::{Config, Kind};
+use hls_chron::Config;
 
-/// In a legal run whose books keep their promises after every step, every stay of a thread, open or
-/// closed, meets its guarantee in every window in which the thread is ready, and keeps its cap over
-/// the whole stay.
-pub fn legal_runs_keep_every_stay()
-    ensures { (steps : List Step) → IsLegal start steps → KeepsPromisesAlong start steps →
-        KeepsStays (state start steps) }
+/// Every scheduler of a legal run has a book that came about as it may: it began empty, and each of
+/// its marks and rows came to a book that allowed it.
+pub fn legal_runs_make_books()
+    ensures { (steps : List Step) → IsLegal start steps → (k : ℕ) (s : Scheduler) →
+        (state start steps).nodes k ≡ Some (Loaded s) → IsMade s.config s.book }
 {}
 
 /// The stays of at least one tick, which a report lists, are among those that are kept.
@@ -53,9 +51,6 @@ pub fn legal_runs_go_on()
         IsLegal start (steps ++ step ∷ []) }
     ensures leads { (steps : List Step) (step : Step) →
         state start (steps ++ step ∷ []) ≡ after (state start steps) step }
-    ensures promises { (steps : List Step) (step : Step) → KeepsPromisesAlong start steps →
-        KeepsPromises (after (state start steps) step) →
-        KeepsPromisesAlong start (steps ++ step ∷ []) }
 {}
 
 /// The books that a legal run leaves are linked: a seat asks where its child asks and is served
@@ -67,28 +62,6 @@ pub fn legal_runs_link_the_books()
 /// Where the books are linked and keep their promises, every seat was supplied with its guarantee.
 pub fn linked_books_supply_every_seat()
     ensures { (h : Hierarchy) (rank : ℕ → ℕ) → IsLinked h rank → KeepsPromises h → IsSupplied h }
-{}
-
-/// In a legal run of schedulers of fixed priority, round robin and joins, every stay of a thread,
-/// open or closed, meets its guarantee in every window in which the thread is ready, and keeps its
-/// cap over the whole stay.
-pub fn legal_runs_by_rule_keep_every_stay()
-    ensures { (steps : List Step) → IsLegal start steps → LoadsOnly KeepsByRule steps →
-        KeepsStays (state start steps) }
-{}
-
-/// Every book that a legal run leaves admits seats as it is to, serves by its rule, and was granted
-/// through ports that its scheduler has.
-pub fn legal_runs_keep_books_orderly()
-    ensures { (steps : List Step) → IsLegal start steps → (k : ℕ) →
-        IsOrderly (config_at (state start steps) k) (book_at (state start steps) k) }
-{}
-
-/// An orderly book keeps its discipline. Fair queueing has a further clause, which is not said
-/// here.
-pub fn orderly_books_keep_discipline(config: Config)
-    requires { kind_of config ≢ Kind.Sfq }
-    ensures { (b : Ledger) → IsOrderly config b → KeepsDiscipline config b }
 {}
 
 /// Each tick of a legal run that served a thread served one that was ready.

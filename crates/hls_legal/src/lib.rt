@@ -1,5 +1,4 @@
-//! Legal runs of a hierarchy of schedulers, and what every one of them gives its threads.
+//! Legal runs of a hierarchy of schedulers.
 #![tactic(auto)]
 
-pub mod examples;
 pub mod laws;

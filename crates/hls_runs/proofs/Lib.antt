@@ -1,0 +1,10 @@
+pub mod Small
+pub mod Example
+pub mod Awake
+pub mod Moved
+pub mod Moves
+pub mod Refused
+pub mod Desk
+pub mod Budgets
+pub mod Reserved
+pub mod Withdrawn

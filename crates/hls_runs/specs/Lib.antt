@@ -1,0 +1,3 @@
+pub mod Example
+pub mod Moves
+pub mod Reserved

@@ -1,0 +1,5 @@
+//! Worked legal runs, each with its schedule.
+#![tactic(auto)]
+
+pub mod priorities;
+pub mod reservations;
