@@ -7,6 +7,11 @@ use Rattle.hls_answers.specs.Moment.{Boxes, Moment}
 use Rattle.hls_answers.specs.Answers.{IsAnswer}
 use Rattle.hls_answers.specs.Kit.{boxes_after}
 
+-- a tick that elapses, and no command
+abbrev pub IsTick : Step → Type 0
+IsTick (Elapse asking masks path) = Unit {0}
+IsTick _ = ⊥
+
 -- Along these steps each command has its defined answer where it stands. A command is one step, and ticks
 -- that elapse stand between them.
 abbrev pub AnswersAlong : (depth : ℕ) → Hierarchy → Boxes → List Step → List Answered → Type 0
