@@ -1,5 +1,5 @@
 -- Chains of schedulers before and after a command.
-use Rattle.std.proofs.Common.{◌≡◌, ◌≢◌, ℕ, zero, suc, inl, inr, ◌+◌, ◌<◌, ◌≤◌, List, [], ◌∷◌, ◌++◌, length, Option, Some, None}
+use Rattle.std.proofs.Common.{◌≡◌, ◌≢◌, ℕ, zero, suc, inl, inr, ◌+◌, List, [], ◌∷◌, ◌++◌, length, Option, Some, None}
 use Rattle.std.proofs.Common.{Bool, true, false, ◌==◌, if◌then◌else◌, slice_get, refl, sym, ap, ◌∙◌, subst, arith}
 use Rattle.std.proofs.lemmas.Bool.{cases_eq}
 use Rattle.hls_chron.specs.declared.plain.Config.{Config}
@@ -18,7 +18,6 @@ use Rattle.hls_legal.specs.Lists.{IsListed}
 use Rattle.hls_legal.proofs.Kept.{at_same, at_other}
 use Rattle.hls_legal.proofs.Seatings.{lone_port}
 use Rattle.hls_accounts.specs.Tells.{IsSpot, IsPerch, ArePerches}
-use Rattle.hls_answers.specs.Moment.{number_of}
 use Rattle.hls_answers.specs.Levels.{LeadsTo, HasNewChain, HasChain, place_on, place_there, seat_there, with_mover}
 use Rattle.hls_answers.proofs.Found.{named_found}
 
@@ -171,7 +170,7 @@ has_chain h g level shares within c = record {
       ∙ sym (queues_same h g None c.chain (λ parent k sits. (within parent k sits).config) c.stands);
 }
 
-under_other : (h g : Hierarchy) (parent : Option ℕ) (c : ℕ) (sits : SitsUnder h parent c)
+pub under_other : (h g : Hierarchy) (parent : Option ℕ) (c : ℕ) (sits : SitsUnder h parent c)
     → IsLikeNode sits.scheduler (g.nodes c) → IsUnderToo h g parent c
 under_other h g parent c sits like = record {
   under = under_like h g parent c sits like;
@@ -270,13 +269,13 @@ module _ (h : Hierarchy) (listed : IsListed h) (k : ℕ) (unused : h.nodes k ≡
 
 -- ---- a move
 
-record IsReseated (seat : Seat) (node : Option Node) (t : Scheduler) : Type 0 where
+pub record IsReseated (seat : Seat) (node : Option Node) (t : Scheduler) : Type 0 where
   pub base : Scheduler
   pub there : node ≡ Some (Loaded base)
   pub ports : t.ports ≡ seat ∷ []
   pub config : t.config ≡ base.config
 
-reseated_is : (seat : Seat) (node : Option Node) (t : Scheduler) → reseated seat node ≡ Some (Loaded t)
+pub reseated_is : (seat : Seat) (node : Option Node) (t : Scheduler) → reseated seat node ≡ Some (Loaded t)
     → IsReseated seat node t
 reseated_is seat None t e = absurd (cc)
 reseated_is seat (Some (Admitted x)) t e = absurd (cc)

@@ -1,11 +1,10 @@
 -- Where a step may be taken, nothing refuses the command that it does.
-use Rattle.std.proofs.Common.{◌≡◌, ◌≢◌, ◌⊎◌, ℕ, zero, suc, inl, inr, ◌+◌, ◌<◌, ◌≤◌, List, [], ◌∷◌, ◌++◌, length, Option}
-use Rattle.std.proofs.Common.{Some, None, Bool, true, false, map, slice_get, refl, sym, ap, ◌∙◌, subst, arith}
+use Rattle.std.proofs.Common.{◌≡◌, ◌≢◌, ◌⊎◌, ℕ, zero, suc, inl, inr, ◌+◌, ◌≤◌, List, [], ◌∷◌, Option}
+use Rattle.std.proofs.Common.{Some, None, Bool, false, map, slice_get, refl, sym, ap, ◌∙◌, subst, arith}
 use Rattle.std.specs.Prelude.{is_some, IsSome}
 use Rattle.hls_text.specs.Lines.{Text}
 use Rattle.hls_chron.specs.declared.plain.Config.{Config}
 use Rattle.hls_chron.specs.declared.plain.Terms.{Terms}
-use Rattle.hls_chron.specs.declared.plain.Terms.TheVariants.{Prio}
 use Rattle.hls_chron.specs.Kinds.{kind_of}
 use Rattle.hls_chron.specs.Ledger.{Ledger}
 use Rattle.hls_chron.specs.Seats.{terms_at}
@@ -29,7 +28,7 @@ use Rattle.hls_report_text.specs.declared.refusal.Refusal.TheVariants.{Cycle, To
 use Rattle.hls_report_text.specs.declared.refusal.Refusal.TheVariants.{NoRoom, NoDerivation}
 use Rattle.hls_legal.specs.Hierarchy.{Hierarchy, Node, Loaded, Admitted, Scheduler, Thread, Place, Processor, At}
 use Rattle.hls_legal.specs.Hierarchy.{Seat, seats_of, name_of}
-use Rattle.hls_legal.specs.Steps.{Step, Refuse, Load, Admit, End, Unload, Move, Rouse, Block, Elapse}
+use Rattle.hls_legal.specs.Steps.{Step, Load, Admit, End, Unload, Move, Rouse, Block}
 use Rattle.hls_legal.specs.Legal.{MaySit, MayBeRoot, MayTakeAt, MayTake, MayMoveTo, IsThread, CanUnload, Can}
 use Rattle.hls_legal.specs.Legal.{NotBelow, IsShallow}
 use Rattle.hls_legal.specs.Readings.{IsUnderBy}
@@ -49,7 +48,7 @@ use Rattle.hls_answers.specs.Answers.{number, RefusesCommand, RefusesPlace, Refu
 use Rattle.hls_answers.specs.Dues.{Due, dues, Derives, AreSettled}
 use Rattle.hls_answers.specs.Doable.{MayDo, HasBox, AreDerivable}
 use Rattle.hls_answers.proofs.Chains.{load_chain, move_chain}
-use Rattle.hls_answers.proofs.Found.{named_found, named_is, found_named, IsFound, named_there}
+use Rattle.hls_answers.proofs.Found.{named_found, named_is, named_there}
 
 -- ---- at one place
 

@@ -1,6 +1,6 @@
 -- The seats that a command takes or derives anew, in the order of the report, and what is to be derived for
 -- each.
-use Rattle.std.specs.Prelude.{◌≡◌, ◌≤◌, ℕ, ◌+◌, List, [], ◌∷◌, ◌++◌, Option, Some, None, flat_map, ◌==◌}
+use Rattle.std.specs.Prelude.{◌≡◌, ◌≤◌, ℕ, ◌+◌, List, [], ◌∷◌, Option, Some, None, flat_map, ◌==◌}
 use Rattle.std.specs.Prelude.{if◌then◌else◌}
 use Rattle.hls_text.specs.Lines.{Text}
 use Rattle.hls_chron.specs.declared.plain.Config.{Config}

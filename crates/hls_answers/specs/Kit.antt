@@ -1,5 +1,5 @@
 -- What a kit has left after commands. A box that was taken does not come back.
-use Rattle.std.specs.Prelude.{ℕ, ◌+◌, ◌-◌, ◌^◌, min, Bool, true, false, if◌then◌else◌, List, fold}
+use Rattle.std.specs.Prelude.{◌+◌, ◌-◌, ◌^◌, min, Bool, true, false, if◌then◌else◌, List, fold}
 use Rattle.hls_chron.specs.declared.plain.Kind.{Kind}
 use Rattle.hls_chron.specs.declared.plain.Kind.TheVariants.{Cpu, Fp, Edf, Sfq, Rr, Wheel, Join}
 use Rattle.hls_chron.specs.Kinds.{kind_of}

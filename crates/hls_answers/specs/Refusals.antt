@@ -1,6 +1,6 @@
 -- When each refusal applies, and what is kept of it. All tests see the hierarchy as it stands, with a mover in
 -- its old seat.
-use Rattle.std.specs.Prelude.{◌≡◌, ◌≢◌, ℕ, ◌≤◌, ◌<◌, length, List, Option, Some, None, is_some, IsSome, slice_get}
+use Rattle.std.specs.Prelude.{◌≡◌, ℕ, ◌≤◌, ◌<◌, length, List, Option, Some, None, is_some, IsSome, slice_get}
 use Rattle.hls_text.specs.Lines.{Text}
 use Rattle.hls_chron.specs.declared.plain.Config.{Config}
 use Rattle.hls_chron.specs.declared.plain.Kind.{Kind}

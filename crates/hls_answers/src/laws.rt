@@ -7,7 +7,9 @@ ghost use Rattle.hls_report_text.specs.declared.report.Answer.TheVariants.{Done}
 ghost use Rattle.hls_report_text.specs.declared.report.Answered.{Answered};
 ghost use Rattle.hls_report_text.specs.declared.report.Seated.{Seated};
 ghost use Rattle.hls_report_text.specs.declared.refusal.Refusal.{Refusal};
-ghost use Rattle.hls_legal.specs.Hierarchy.{Hierarchy};
+ghost use Rattle.hls_lang.specs.Grammar.{IsCommand};
+ghost use Rattle.hls_legal.specs.Hierarchy.{Hierarchy, start};
+ghost use Rattle.hls_legal.specs.Legal.{IsLegal};
 ghost use Rattle.hls_legal.specs.Lists.{IsListed};
 ghost use Rattle.hls_legal.specs.Steps.{Step, state};
 ghost use Rattle.hls_answers.specs.Moment.{Boxes, Moment};
@@ -39,6 +41,15 @@ pub fn doable_commands_are_done()
     ensures done { (m : Moment) (command : Command) → IsListed m.hierarchy → MayDo m.hierarchy command →
         HasBox m.boxes command → AreDerivable m command →
         (seats : List Seated) × IsAnswer m command (Done seats) }
+{}
+
+/// Where a legal run leads, a command within the grammar to which no refusal applies, and whose seats have
+/// derivations, is done by a step that may be taken. So the refusals, and the want of derivations, are exactly
+/// what the machine forbids.
+pub fn unrefused_commands_may_be_done()
+    ensures { (past : List Step) → IsLegal start past → (m : Moment) → m.hierarchy ≡ state start past →
+        (command : Command) → IsCommand command → ((r : Refusal) → ¬ Applies m command r) →
+        AreDerivable m command → MayDo m.hierarchy command }
 {}
 
 /// The answers along a run go on by a command that is answered where the run leads, and by a tick.
