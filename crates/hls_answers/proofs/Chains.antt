@@ -11,9 +11,9 @@ use Rattle.hls_legal.specs.Hierarchy.{Hierarchy, Node, Loaded, Admitted, Schedul
 use Rattle.hls_legal.specs.Hierarchy.{seats_of, config_of}
 use Rattle.hls_legal.specs.Steps.{marked, renewed, reseated, leavings, seatings, nodes_after, effect}
 use Rattle.hls_legal.specs.Legal.{scheduler_at, SitsUnder, IsChain, fair_queue, fair_queues}
-use Rattle.hls_lang.specs.declared.scenario.Spot.{Spot}
-use Rattle.hls_lang.specs.declared.scenario.Spot.TheVariants.{Cpu, Under}
-use Rattle.hls_lang.specs.declared.scenario.Perch.{Perch}
+use Rattle.hls_scenario.specs.declared.scenario.Spot.{Spot}
+use Rattle.hls_scenario.specs.declared.scenario.Spot.TheVariants.{Cpu, Under}
+use Rattle.hls_scenario.specs.declared.scenario.Perch.{Perch}
 use Rattle.hls_legal.specs.Lists.{IsListed}
 use Rattle.hls_legal.proofs.Kept.{at_same, at_other}
 use Rattle.hls_legal.proofs.Seatings.{lone_port}

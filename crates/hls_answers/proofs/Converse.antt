@@ -1,7 +1,7 @@
 -- What no refusal applies to, and what has derivations, can be done.
-use Rattle.hls_lang.specs.declared.scenario.Command.{Command}
-use Rattle.hls_lang.specs.declared.scenario.Command.TheVariants.{Load, Thread, End, Unload, Move, Wake, Block}
-use Rattle.hls_lang.specs.Grammar.{IsCommand}
+use Rattle.hls_scenario.specs.declared.scenario.Command.{Command}
+use Rattle.hls_scenario.specs.declared.scenario.Command.TheVariants.{Load, Thread, End, Unload, Move, Wake, Block}
+use Rattle.hls_scenario.specs.Grammar.{IsCommand}
 use Rattle.hls_report_text.specs.declared.refusal.Refusal.{Refusal}
 use Rattle.hls_answers.specs.Moment.{Moment}
 use Rattle.hls_answers.specs.Answers.{Applies}

@@ -3,9 +3,9 @@ use Rattle.std.proofs.Common.{◌≡◌, ◌≢◌, ◌⊎◌, ℕ, zero, suc, i
 use Rattle.std.proofs.Common.{Some, None, refl, sym, ap, ◌∙◌, subst, arith, slice_get}
 use Rattle.std.proofs.lemmas.Bool.{cases_eq}
 use Rattle.hls_chron.specs.declared.plain.Config.{Config}
-use Rattle.hls_lang.specs.declared.scenario.Spot.{Spot}
-use Rattle.hls_lang.specs.declared.scenario.Spot.TheVariants.{Cpu, Under}
-use Rattle.hls_lang.specs.declared.scenario.Perch.{Perch}
+use Rattle.hls_scenario.specs.declared.scenario.Spot.{Spot}
+use Rattle.hls_scenario.specs.declared.scenario.Spot.TheVariants.{Cpu, Under}
+use Rattle.hls_scenario.specs.declared.scenario.Perch.{Perch}
 use Rattle.hls_legal.specs.Hierarchy.{Hierarchy, Node, Loaded, Scheduler, Place, Processor, At, Seat, config_of}
 use Rattle.hls_legal.specs.Hierarchy.{seat_of}
 use Rattle.hls_legal.specs.Steps.{effect, nobody}

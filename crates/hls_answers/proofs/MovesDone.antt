@@ -13,12 +13,12 @@ use Rattle.hls_guarantee.specs.declared.Guarantee.{Guarantee}
 use Rattle.hls_kinds.specs.declared.tenant.Tenant.TheVariants.{Sits}
 use Rattle.hls_kinds.specs.Room.{IsFull, occupant_at}
 use Rattle.hls_kinds.specs.Tenants.{tenant_at}
-use Rattle.hls_lang.specs.declared.scenario.Spot.{Spot}
-use Rattle.hls_lang.specs.declared.scenario.Spot.TheVariants.{Cpu, Under}
-use Rattle.hls_lang.specs.declared.scenario.Perch.{Perch}
-use Rattle.hls_lang.specs.declared.scenario.Command.{Command}
-use Rattle.hls_lang.specs.declared.scenario.Command.TheVariants as said
-use Rattle.hls_lang.specs.Grammar as grammar
+use Rattle.hls_scenario.specs.declared.scenario.Spot.{Spot}
+use Rattle.hls_scenario.specs.declared.scenario.Spot.TheVariants.{Cpu, Under}
+use Rattle.hls_scenario.specs.declared.scenario.Perch.{Perch}
+use Rattle.hls_scenario.specs.declared.scenario.Command.{Command}
+use Rattle.hls_scenario.specs.declared.scenario.Command.TheVariants as said
+use Rattle.hls_scenario.specs.Grammar as grammar
 use Rattle.hls_report_text.specs.declared.refusal.Refusal.{Refusal}
 use Rattle.hls_report_text.specs.declared.refusal.Refusal.TheVariants as refusals
 use Rattle.hls_legal.specs.Derived.{Follows}

@@ -2,8 +2,8 @@
 use Rattle.std.specs.Prelude.{◌≡◌, ◌≢◌, Some, slice_get, ℕ}
 use Rattle.hls_chron.specs.Kinds.{kind_of}
 use Rattle.hls_derive.specs.declared.derivation.Derivation.{Derivation}
-use Rattle.hls_lang.specs.declared.scenario.Command.{Command}
-use Rattle.hls_lang.specs.declared.scenario.Command.TheVariants.{Load}
+use Rattle.hls_scenario.specs.declared.scenario.Command.{Command}
+use Rattle.hls_scenario.specs.declared.scenario.Command.TheVariants.{Load}
 use Rattle.hls_legal.specs.Hierarchy.{Hierarchy}
 use Rattle.hls_legal.specs.Steps.{Step}
 use Rattle.hls_legal.specs.Legal.{Can}

@@ -4,11 +4,11 @@ use Rattle.hls_text.specs.Lines.{Text}
 use Rattle.hls_chron.specs.declared.plain.Kind.{Kind}
 use Rattle.hls_chron.specs.declared.plain.Kind.TheVariants as kinds
 use Rattle.hls_chron.specs.Kinds.{kind_of}
-use Rattle.hls_lang.specs.declared.scenario.Spot.{Spot}
-use Rattle.hls_lang.specs.declared.scenario.Spot.TheVariants.{Cpu, Under}
-use Rattle.hls_lang.specs.declared.scenario.Perch.{Perch}
-use Rattle.hls_lang.specs.declared.scenario.Command.{Command}
-use Rattle.hls_lang.specs.declared.scenario.Command.TheVariants as said
+use Rattle.hls_scenario.specs.declared.scenario.Spot.{Spot}
+use Rattle.hls_scenario.specs.declared.scenario.Spot.TheVariants.{Cpu, Under}
+use Rattle.hls_scenario.specs.declared.scenario.Perch.{Perch}
+use Rattle.hls_scenario.specs.declared.scenario.Command.{Command}
+use Rattle.hls_scenario.specs.declared.scenario.Command.TheVariants as said
 use Rattle.hls_legal.specs.Hierarchy.{Hierarchy, Node, Scheduler, Thread, Loaded, Admitted, name_of}
 use Rattle.hls_accounts.specs.Schedule.{is_name}
 

@@ -1,13 +1,13 @@
 //! What holds of the defined answers: each function's contract is a law, and its body does nothing.
 
 ghost use Rattle.std.specs.Prelude.{◌≡◌, ◌∷◌, ◌++◌, ◌⊎◌, [], ℕ, List};
-ghost use Rattle.hls_lang.specs.declared.scenario.Command.{Command};
+ghost use Rattle.hls_scenario.specs.declared.scenario.Command.{Command};
 ghost use Rattle.hls_report_text.specs.declared.report.Answer.{Answer};
 ghost use Rattle.hls_report_text.specs.declared.report.Answer.TheVariants.{Done};
 ghost use Rattle.hls_report_text.specs.declared.report.Answered.{Answered};
 ghost use Rattle.hls_report_text.specs.declared.report.Seated.{Seated};
 ghost use Rattle.hls_report_text.specs.declared.refusal.Refusal.{Refusal};
-ghost use Rattle.hls_lang.specs.Grammar.{IsCommand};
+ghost use Rattle.hls_scenario.specs.Grammar.{IsCommand};
 ghost use Rattle.hls_legal.specs.Hierarchy.{Hierarchy, start};
 ghost use Rattle.hls_legal.specs.Legal.{IsLegal};
 ghost use Rattle.hls_legal.specs.Lists.{IsListed};
