@@ -26,6 +26,12 @@ pub fn answers_are_determined()
         IsAnswer m command two → IsAlikeAnswer one two }
 {}
 
+/// There is no moment and no command of which every answer is wrong. Which answer is right is decided by the
+/// tests of the refusals, and by whether a derivation exists.
+pub fn no_command_lacks_an_answer()
+    ensures { (m : Moment) (command : Command) → ¬ ((answer : Answer) → ¬ IsAnswer m command answer) }
+{}
+
 /// A refusal of each number applies with one set of values at most.
 pub fn refusals_keep_one_value()
     ensures { (m : Moment) (command : Command) (one two : Refusal) → Applies m command one →
