@@ -3,6 +3,7 @@
 #![tactic(auto)]
 
 mod choice;
+mod fault;
 mod frames;
 pub mod laws;
 mod reservations;
@@ -15,6 +16,7 @@ mod tests;
 mod turns;
 
 pub use choice::{Ranking, asks_at, discipline_choice};
+pub use fault::SeatFault;
 pub use frames::{owned_places, owner_now};
 pub use hls_chron::parts;
 pub use reservations::{Claim, Reservation, claim_at, is_held, is_soft};
