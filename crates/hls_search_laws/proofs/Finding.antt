@@ -1,12 +1,12 @@
 -- One of the words leads to all that the closed form says.
 use Rattle.std.proofs.Common.{◌≡◌, ℕ, ◌+◌, ◌*◌, ◌-◌, ◌≤◌, Bool, true, false, List, [], ◌∷◌, length, refl, ap, subst}
-use Rattle.std.proofs.Common.{arith}
+use Rattle.std.proofs.Common.{lit<, arith}
 use Rattle.std.specs.Prelude.{Some}
 use Rattle.hls_frac.specs.declared.Frac.{Frac}
 use Rattle.hls_guarantee.specs.declared.Guarantee.{Guarantee}
 use Rattle.hls_guarantee.specs.declared.Guarantee.TheVariants.{Resb, Resc, Psbe}
 use Rattle.hls_guarantee.specs.declared.rule.RuleName.{RuleName}
-use Rattle.hls_guarantee.specs.declared.rule.RuleName.TheVariants.{R1, R2, R4, R5, R6, R7}
+use Rattle.hls_guarantee.specs.declared.rule.RuleName.TheVariants.{R1, R2, R3, R4, R5, R6, R7, R8, R9}
 use Rattle.hls_guarantee.specs.Limits.{IsReservation, IsValid}
 use Rattle.hls_guarantee.specs.Conversions.{Converts}
 use Rattle.hls_derive.specs.declared.derivation.Step.{Step}
@@ -15,8 +15,7 @@ use Rattle.hls_derive.specs.Derivation.{end_of}
 use Rattle.hls_derive.specs.Derives.{FollowsBy}
 use Rattle.hls_rules.proofs.BestOnes.{IsSingle, single-strongest}
 use Rattle.hls_rules.proofs.Answering.{strongest-same, met-answers}
-use Rattle.hls_search_laws.specs.Words.{form, IsWord, IsFound}
-use Rattle.hls_search_laws.specs.Words.IsWord.{none, one, w17, w21, w27, w37, w41, w46, w51, w56, w217}
+use Rattle.hls_search_laws.specs.Words.{asked_before, words, IsWord, IsFound}
 use Rattle.hls_search_laws.proofs.Quads.{Quad, IsQuad, IsBetter, quad, quad-ok, better-trans, covered-from}
 use Rattle.hls_search_laws.proofs.Quads.{quotient-better}
 use Rattle.hls_search_laws.proofs.Ways.{Way, way-converts}
@@ -29,6 +28,47 @@ use Rattle.hls_search_laws.proofs.Closed.Gives.{share, windows, blocks}
 use Rattle.hls_search_laws.proofs.Closed.Closed.{bound, null, shape, same, rates}
 use Rattle.hls_search_laws.proofs.Makes.{make-blocks, make-windows, narrow-valid}
 use Rattle.hls_search_laws.proofs.Reached.{closed}
+
+none : IsWord []
+none = (0, lit< tt, refl)
+
+one : (rule : RuleName) → IsWord (rule ∷ [])
+one R1 = (1, lit< tt, refl)
+one R2 = (2, lit< tt, refl)
+one R3 = (3, lit< tt, refl)
+one R4 = (4, lit< tt, refl)
+one R5 = (5, lit< tt, refl)
+one R6 = (6, lit< tt, refl)
+one R7 = (7, lit< tt, refl)
+one R8 = (8, lit< tt, refl)
+one R9 = (9, lit< tt, refl)
+
+w17 : IsWord (R1 ∷ (R7 ∷ []))
+w17 = (10, lit< tt, refl)
+
+w21 : IsWord (R2 ∷ (R1 ∷ []))
+w21 = (11, lit< tt, refl)
+
+w27 : IsWord (R2 ∷ (R7 ∷ []))
+w27 = (12, lit< tt, refl)
+
+w37 : IsWord (R3 ∷ (R7 ∷ []))
+w37 = (13, lit< tt, refl)
+
+w41 : IsWord (R4 ∷ (R1 ∷ []))
+w41 = (14, lit< tt, refl)
+
+w46 : IsWord (R4 ∷ (R6 ∷ []))
+w46 = (15, lit< tt, refl)
+
+w51 : IsWord (R5 ∷ (R1 ∷ []))
+w51 = (16, lit< tt, refl)
+
+w56 : IsWord (R5 ∷ (R6 ∷ []))
+w56 = (17, lit< tt, refl)
+
+w217 : IsWord (R2 ∷ (R1 ∷ (R7 ∷ [])))
+w217 = (18, lit< tt, refl)
 
 -- a rule with one conclusion answers it, whatever is wanted
 pub single-answers : (rule : RuleName) (g h wanted : Guarantee) → IsSingle rule → Converts rule g h
@@ -48,7 +88,7 @@ by-one n {rule} {g} {w} vg vw le way = record {
   word = rule ∷ [];
   known = one rule;
   fits = le;
-  walks = met-answers rule g w (way-converts vg vw way);
+  walks = (w, met-answers rule g w (way-converts vg vw way), refl);
 }
 
 -- the first rule has one conclusion
@@ -60,8 +100,8 @@ by-two n {rule} {next} {g} {m} {w} known single vg vm vw le first second = recor
   fits = le;
   walks = (
     m,
-    single-answers rule g m (form w) single (way-converts vg vm first),
-    met-answers next m w (way-converts vm vw second),
+    single-answers rule g m (asked_before (next ∷ []) w) single (way-converts vg vm first),
+    (w, met-answers next m w (way-converts vm vw second), refl),
   );
 }
 
@@ -77,7 +117,7 @@ by-form n {rule} {g} x y known vg vw le way =
       walks = (
         Resc false x y,
         met-answers rule g (Resc false x y) (way-converts vg vw way),
-        met-answers R7 (Resc false x y) (Resb false x y) last,
+        (Resb false x y, met-answers R7 (Resc false x y) (Resb false x y) last, refl),
       );
     }
 
@@ -97,7 +137,7 @@ by-three n x y e f vg vw le less more =
         (
           Resc false e f,
           met-answers R1 (Resc false x y) (Resc false e f) second,
-          met-answers R7 (Resc false e f) (Resb false e f) third,
+          (Resb false e f, met-answers R7 (Resc false e f) (Resb false e f) third, refl),
         ),
       );
     }

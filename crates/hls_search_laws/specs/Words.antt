@@ -1,36 +1,28 @@
 -- The words that a search asks: rules by name, one after the other.
-use Rattle.std.specs.Prelude.{◌≡◌, ℕ, ◌≤◌, false, List, [], ◌∷◌, length, Some}
+use Rattle.std.specs.Prelude.{Contains, ◌≡◌, ℕ, ◌≤◌, false, List, [], ◌∷◌, length, Some}
 use Rattle.hls_guarantee.specs.declared.Guarantee.{Guarantee}
 use Rattle.hls_guarantee.specs.declared.Guarantee.TheVariants.{Resb, Resc}
 use Rattle.hls_guarantee.specs.declared.rule.RuleName.{RuleName}
-use Rattle.hls_guarantee.specs.declared.rule.RuleName.TheVariants.{R1, R2, R3, R4, R5, R6, R7}
+use Rattle.hls_guarantee.specs.declared.rule.RuleName.TheVariants.{R1, R2, R3, R4, R5, R6, R7, R8, R9}
 use Rattle.hls_derive.specs.Answers.{Answers}
 
--- what each rule of a word but the last is asked for
-abbrev pub form : Guarantee → Guarantee
-form (Resb false x y) = Resc false x y
-form g = g
+-- what a rule is asked for that these rules follow: what is wanted, but windows in place of blocks
+abbrev pub asked_before : (rest : List RuleName) → (wanted : Guarantee) → Guarantee
+asked_before (rule ∷ rest) (Resb false x y) = Resc false x y
+asked_before rest wanted = wanted
 
 -- the answers of the rules lead from g to what is wanted
 abbrev pub Walks : (word : List RuleName) → (g wanted : Guarantee) → Type 0
 Walks [] g wanted = g ≡ wanted
-Walks (rule ∷ []) g wanted = Answers rule g wanted (Some wanted)
-Walks (rule ∷ (next ∷ rest)) g wanted =
-    (m : Guarantee) × Answers rule g (form wanted) (Some m) × Walks (next ∷ rest) m wanted
+Walks (rule ∷ rest) g wanted =
+    (m : Guarantee) × Answers rule g (asked_before rest wanted) (Some m) × Walks rest m wanted
 
--- the words
-pub data IsWord : List RuleName → Type 0 where
-  none : IsWord []
-  one : (rule : RuleName) → IsWord (rule ∷ [])
-  w17 : IsWord (R1 ∷ (R7 ∷ []))
-  w21 : IsWord (R2 ∷ (R1 ∷ []))
-  w27 : IsWord (R2 ∷ (R7 ∷ []))
-  w37 : IsWord (R3 ∷ (R7 ∷ []))
-  w41 : IsWord (R4 ∷ (R1 ∷ []))
-  w46 : IsWord (R4 ∷ (R6 ∷ []))
-  w51 : IsWord (R5 ∷ (R1 ∷ []))
-  w56 : IsWord (R5 ∷ (R6 ∷ []))
-  w217 : IsWord (R2 ∷ (R1 ∷ (R7 ∷ [])))
+-- the words that are tried, in their order
+abbrev pub words : List (List RuleName)
+words = [] ∷ ((R1 ∷ []) ∷ ((R2 ∷ []) ∷ ((R3 ∷ []) ∷ ((R4 ∷ []) ∷ ((R5 ∷ []) ∷ ((R6 ∷ []) ∷ ((R7 ∷ []) ∷ ((R8 ∷ []) ∷ ((R9 ∷ []) ∷ ((R1 ∷ (R7 ∷ [])) ∷ ((R2 ∷ (R1 ∷ [])) ∷ ((R2 ∷ (R7 ∷ [])) ∷ ((R3 ∷ (R7 ∷ [])) ∷ ((R4 ∷ (R1 ∷ [])) ∷ ((R4 ∷ (R6 ∷ [])) ∷ ((R5 ∷ (R1 ∷ [])) ∷ ((R5 ∷ (R6 ∷ [])) ∷ ((R2 ∷ (R1 ∷ (R7 ∷ []))) ∷ []))))))))))))))))))
+
+abbrev pub IsWord : List RuleName → Type 0
+IsWord word = Contains words word
 
 -- some word of at most n rules leads from g to what is wanted
 pub record IsFound (n : ℕ) (g wanted : Guarantee) : Type 0 where

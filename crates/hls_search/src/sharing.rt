@@ -1,0 +1,1 @@
+// Shares of shares, at fair queueing.
