@@ -1,2 +1,6 @@
 pub mod Naming
 pub mod Walking
+pub mod Shares
+pub mod Fair
+pub mod Completing
+pub mod Deriving

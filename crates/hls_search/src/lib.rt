@@ -2,6 +2,9 @@
 #![tactic(auto)]
 
 mod chain;
+mod found;
 mod searching;
 mod sharing;
 mod words;
+
+pub use searching::search;

@@ -15,7 +15,7 @@ use Rattle.hls_derive.specs.Derivation.{end_of}
 use Rattle.hls_derive.specs.Derives.{FollowsBy}
 use Rattle.hls_rules.proofs.BestOnes.{IsSingle, single-strongest}
 use Rattle.hls_rules.proofs.Answering.{strongest-same, met-answers}
-use Rattle.hls_search_laws.specs.Words.{asked_before, words, IsWord, IsFound}
+use Rattle.hls_search_laws.specs.Words.{asked_before, IsWord, IsFound}
 use Rattle.hls_search_laws.proofs.Quads.{Quad, IsQuad, IsBetter, quad, quad-ok, better-trans, covered-from}
 use Rattle.hls_search_laws.proofs.Quads.{quotient-better}
 use Rattle.hls_search_laws.proofs.Ways.{Way, way-converts}

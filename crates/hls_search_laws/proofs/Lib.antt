@@ -7,3 +7,4 @@ pub mod Shapes
 pub mod Reached
 pub mod Makes
 pub mod Finding
+pub mod Ends

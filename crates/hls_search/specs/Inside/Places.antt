@@ -6,7 +6,8 @@ use Rattle.hls_chron.specs.declared.plain.Config.TheVariants as configs
 use Rattle.hls_chron.specs.declared.plain.Terms.{Terms}
 use Rattle.hls_guarantee.specs.declared.Guarantee.{Guarantee}
 use Rattle.hls_guarantee.specs.declared.Guarantee.TheVariants.{All, Resb, Resc, Psbe}
-use Rattle.hls_guarantee.specs.declared.rule.RuleName.TheVariants.{R4, R5}
+use Rattle.hls_guarantee.specs.declared.rule.RuleName.{RuleName}
+use Rattle.hls_guarantee.specs.declared.rule.RuleName.TheVariants.{R4, R5, R8}
 use Rattle.hls_guarantee.specs.Conversions.{Converts}
 use Rattle.hls_guarantee.specs.Limits.{IsValid}
 use Rattle.hls_guarantee.specs.Steps.{LendsByTerms}
@@ -43,6 +44,13 @@ pub data IsBestShare : Guarantee → ℕ → Guarantee → Type 0 where
   of_windows : {hard : Bool} {x y : ℕ} {h : Guarantee} → Converts R5 (Resc hard x y) h
       → IsBestShare (Resc hard x y) 1 h
   of_all : {h : Guarantee} → IsWholeShare h → IsBestShare All 1 h
+
+-- the rule that makes a share of such a guarantee
+abbrev pub ToShare : RuleName → Guarantee → Type 0
+ToShare R4 (Resb hard x y) = Unit {0}
+ToShare R5 (Resc hard x y) = Unit {0}
+ToShare R8 All = Unit {0}
+ToShare _ _ = ⊥
 
 -- from the best share of what is there, its step, and then a word of the conversions that are left
 pub record HitsByBest (config : Config) (terms : Terms) (n : ℕ) (have want : Guarantee) : Type 0 where
