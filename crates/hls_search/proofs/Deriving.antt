@@ -66,9 +66,14 @@ nothing-lent config its have want range from to nothing = record {
   lends = inr nothing;
 }
 
+or-nothing : (config : Config) (its : Terms) (g h : Guarantee) → (LendsNothing config h → ⊥)
+    → LendsByTerms config its g h ⊎ LendsNothing config h → LendsByTerms config its g h
+or-nothing config its g h some (inl lends) = lends
+or-nothing config its g h some (inr lends) = absurd (some lends)
+
 pub by-its-terms : (config : Config) (its : Terms) (port : ℕ) (g h : Guarantee) → (LendsNothing config h → ⊥)
     → LendsThrough config its port g h → LendsByTerms config its g h
-by-its-terms config its port g h some lends = elim lends.lends [ inl by ↦ by | inr no ↦ absurd (some no) ]
+by-its-terms config its port g h some lends = or-nothing config its g h some lends.lends
 
 pub sole-port : (config : Config) (port : ℕ) → LendsOfAll config ⊎ LendsShares config → IsPort config port → port ≡ 0
 sole-port configs.Cpu port kind is = is

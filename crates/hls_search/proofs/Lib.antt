@@ -4,3 +4,4 @@ pub mod Shares
 pub mod Fair
 pub mod Completing
 pub mod Deriving
+pub mod Hitting
