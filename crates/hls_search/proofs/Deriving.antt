@@ -8,7 +8,7 @@ use Rattle.hls_chron.specs.declared.plain.Terms.{Terms}
 use Rattle.hls_chron.specs.declared.plain.Terms.TheVariants as terms
 use Rattle.hls_chron.specs.Ranges.{ConfigInRange, TermsInRange}
 use Rattle.hls_guarantee.specs.declared.Guarantee.{Guarantee}
-use Rattle.hls_guarantee.specs.declared.Guarantee.TheVariants.{All, Null, Psbe}
+use Rattle.hls_guarantee.specs.declared.Guarantee.TheVariants.{All, Psbe}
 use Rattle.hls_guarantee.specs.Limits.{IsValid, IsNarrow}
 use Rattle.hls_guarantee.specs.Steps.{IsPort, LendsByTerms, LendsNothing, LendsThrough}
 use Rattle.hls_derive.specs.declared.derivation.Place.{Place}
@@ -89,6 +89,10 @@ sole-port (configs.Join ports) port (inr kind) is = absurd kind
 -- no conversion
 pub leads-none : (g : Guarantee) → LeadsTo 0 g g []
 leads-none g = record { follows = tt; ends = refl; fits = omega arith }
+
+pub leads-exact : (n : ℕ) (g h : Guarantee) (steps : List Step) → LeadsTo n g h steps
+    → LeadsTo (length steps) g h steps
+leads-exact n g h steps leads = record { follows = leads.follows; ends = leads.ends; fits = omega arith }
 
 pub derives : (place : Place) (haves : List Guarantee) (want : Guarantee) (n a b port : ℕ) (from into to : Guarantee)
     (before after : List Step) → slice_get haves port ≡ Some from → LendsThrough place.config place.terms port into to

@@ -1,5 +1,5 @@
 -- What is derived at fair queueing is hit by the best share, or by the share from which the wanted one comes.
-use Rattle.std.proofs.Common.{◌≡◌, ℕ, ◌+◌, ◌*◌, ◌-◌, ◌^◌, ◌≤◌, ◌⊎◌, inl, inr, lit<, refl, subst, arith}
+use Rattle.std.proofs.Common.{◌≡◌, ℕ, ◌+◌, ◌*◌, ◌-◌, ◌^◌, ◌≤◌, ◌⊎◌, inl, inr, refl, subst, arith}
 use Rattle.std.proofs.lemmas.Bool.{cases_lt}
 use Rattle.hls_frac.specs.declared.Frac.{Frac}
 use Rattle.hls_frac.proofs.Quotients.{quotient_of}
@@ -7,13 +7,11 @@ use Rattle.hls_chron.specs.declared.plain.Config.TheVariants.{Sfq}
 use Rattle.hls_chron.specs.declared.plain.Terms.TheVariants.{Weight}
 use Rattle.hls_guarantee.specs.declared.Guarantee.{Guarantee}
 use Rattle.hls_guarantee.specs.declared.Guarantee.TheVariants.{All, Resb, Resc, Psbe}
-use Rattle.hls_guarantee.specs.declared.rule.RuleName.TheVariants.{R4, R5}
 use Rattle.hls_guarantee.specs.Limits.{IsValid, IsNarrow}
-use Rattle.hls_guarantee.specs.Conversions.{Converts}
 use Rattle.hls_guarantee.specs.Steps.{IsFairShare, LendsByTerms}
 use Rattle.hls_derive.specs.Derives.{IsWholeShare}
 use Rattle.hls_check.proofs.ShareSizes.{IsWeight}
-use Rattle.hls_search_laws.proofs.Quads.{Quad, IsQuad, IsBetter, quad, quad_of, scaled, quad-ok, better-trans}
+use Rattle.hls_search_laws.proofs.Quads.{Quad, IsQuad, IsBetter, quad, scaled, quad-ok, better-trans}
 use Rattle.hls_search_laws.proofs.Quads.{better-all, better-scaled, scaled-ok, quotient-better}
 use Rattle.hls_search_laws.proofs.Ways.{way-converts}
 use Rattle.hls_search_laws.proofs.Ways.Way.{r4, r5}

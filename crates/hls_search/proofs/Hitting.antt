@@ -1,7 +1,8 @@
 -- Where what is tried fails, nothing is hit.
-use Rattle.std.proofs.Common.{◌≡◌, ℕ, ◌+◌, ◌-◌, ◌≤◌, ◌<◌, Bool, ◌⊎◌, inl, inr, List, [], length, refl, sym, ◌∙◌, ap, subst}
-use Rattle.std.proofs.Common.{arith}
-use Rattle.std.specs.Prelude.{Option, Some, None, slice_get}
+use Rattle.std.proofs.Common.{◌≡◌, ℕ, ◌+◌, ◌-◌, ◌≤◌, ◌<◌, ◌⊎◌, List, length, refl, sym, ◌∙◌, ap, subst}
+use Rattle.std.proofs.Common.{arith, below_more}
+use Rattle.std.specs.Prelude.{Some, None, slice_get}
+use Rattle.std.proofs.lemmas.Option.{slice_get_within}
 use Rattle.hls_frac.specs.declared.Frac.{Frac}
 use Rattle.hls_chron.specs.declared.plain.Config.{Config}
 use Rattle.hls_chron.specs.declared.plain.Terms.{Terms}
@@ -151,3 +152,25 @@ sole-have place haves want have d kind there is =
     let port : d.sched.port ≡ 0 = sole-port place.config d.sched.port kind is.sched.through.port_of in
     let first : slice_get haves 0 ≡ Some d.from = subst (λ k. slice_get haves k ≡ Some d.from) port is.starts in
     (let both : Some d.from ≡ Some have = sym first ∙ there in cc)
+
+-- ---- several ports
+
+-- from none of the first n ports a word is found
+abbrev pub NoneFound : (haves : List Guarantee) (want : Guarantee) (depth n : ℕ) → Type 0
+NoneFound haves want depth n =
+    (port : ℕ) → port < n → (have : Guarantee) → slice_get haves port ≡ Some have → IsFound depth have want → ⊥
+
+pub none_found-more : (haves : List Guarantee) (want have : Guarantee) (depth n : ℕ) → slice_get haves n ≡ Some have
+    → (IsFound depth have want → ⊥) → NoneFound haves want depth n → NoneFound haves want depth (n + 1)
+none_found-more haves want have depth n there none held =
+    below_more (λ port. (other : Guarantee) → slice_get haves port ≡ Some other → IsFound depth other want → ⊥) n held
+    (λ other too found.
+    let same : other ≡ have = (let both : Some other ≡ Some have = sym too ∙ there in cc) in
+    none (subst (λ v. IsFound depth v want) same found))
+
+pub found-nowhere : (place : Place) (haves : List Guarantee) (want : Guarantee) (d : Derivation) (depth n : ℕ)
+    → length haves ≤ n → NoneFound haves want depth n → IsDerivation place haves want d
+    → IsFound depth d.from want → ⊥
+found-nowhere place haves want d depth n all none is found =
+    let within : d.sched.port < length haves = slice_get_within haves d.sched.port d.from is.starts in
+    none d.sched.port (omega arith) d.from is.starts found

@@ -1,6 +1,6 @@
 -- The rule of a name stands in a book.
-use Rattle.std.proofs.Common.{◌≡◌, ℕ, ◌+◌, ◌<◌, ◌≤◌, List, length, map, ◌∙◌, ap, inl, inr, subst, arith, below_more}
-use Rattle.std.specs.Prelude.{Option, Some, slice_get}
+use Rattle.std.proofs.Common.{◌≡◌, ℕ, ◌+◌, ◌<◌, ◌≤◌, List, length, map, ◌∙◌, ap, arith, below_more}
+use Rattle.std.specs.Prelude.{Some, slice_get}
 use Rattle.std.specs.Option.{option_map}
 use Rattle.std.proofs.lemmas.Option.{slice_get-map, slice_get_within}
 use Rattle.hls_guarantee.specs.declared.rule.RuleName.{RuleName}
@@ -16,9 +16,9 @@ pub not_before-more : {A : Type 0} (rules : List A) (f : A → RuleName) (name :
     → NotBefore (map f rules) name (n + 1)
 not_before-more rules f name n rule there other held =
     below_more (λ k. slice_get (map f rules) k ≡ Some name → ⊥) n held (λ same.
-        let at : slice_get (map f rules) n ≡ Some (f rule) =
-        slice_get-map f rules n ∙ ap (λ v. option_map f v) there in
-        other (let is : Some (f rule) ≡ Some name = cc in cc))
+    let at : slice_get (map f rules) n ≡ Some (f rule) =
+    slice_get-map f rules n ∙ ap (λ v. option_map f v) there in
+    other (let is : Some (f rule) ≡ Some name = cc in cc))
 
 pub named-somewhere : (names : List RuleName) (name : RuleName) (n : ℕ) → EachOnce names → length names ≤ n
     → NotBefore names name n → ⊥

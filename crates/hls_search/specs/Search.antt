@@ -1,5 +1,5 @@
 -- What a search is asked.
-use Rattle.std.specs.Prelude.{◌≡◌, ℕ, ◌≤◌, List, length, All}
+use Rattle.std.specs.Prelude.{◌≡◌, List, length, All}
 use Rattle.hls_chron.specs.Ranges.{ConfigInRange, TermsInRange}
 use Rattle.hls_guarantee.specs.declared.Guarantee.{Guarantee}
 use Rattle.hls_guarantee.specs.Limits.{IsNarrow}

@@ -37,12 +37,7 @@ const WORDS: [&[RuleName]; 19] = [
 ];
 
 /// At most `room` conversions from one guarantee to another: the first word that leads there.
-pub fn convert(
-    book: &RuleBook,
-    from: &Guarantee,
-    want: &Guarantee,
-    room: usize,
-) -> Option<Chain>
+pub fn convert(book: &RuleBook, from: &Guarantee, want: &Guarantee, room: usize) -> Option<Chain>
     requires from { IsValid from.now }
     requires want { IsValid want.now }
     ensures found { IfSome result (λ chain. LeadsTo room from.now want.now chain) }
@@ -67,7 +62,9 @@ fn first_walk(
         (map (λ (word : _). word.now) words.now) }
 {
     for word in words {
-        if word.len() <= room && let Some(chain) = walk(book, word, from, want) {
+        if word.len() <= room
+            && let Some(chain) = walk(book, word, from, want)
+        {
             return Some(chain);
         }
     }
@@ -75,12 +72,7 @@ fn first_walk(
 }
 
 /// The conversions of a word, where its rules lead to what is wanted.
-fn walk(
-    book: &RuleBook,
-    word: &[RuleName],
-    from: &Guarantee,
-    want: &Guarantee,
-) -> Option<Chain>
+fn walk(book: &RuleBook, word: &[RuleName], from: &Guarantee, want: &Guarantee) -> Option<Chain>
     requires short { length word.now ≤ 3 }
     requires from { IsValid from.now }
     requires want { IsValid want.now }
@@ -118,12 +110,7 @@ fn asked_before(rest: &[RuleName], want: &Guarantee) -> Guarantee
 }
 
 /// What the rule of that name answers to `have` where `want` is wanted.
-pub fn ask(
-    book: &RuleBook,
-    name: RuleName,
-    have: &Guarantee,
-    want: &Guarantee,
-) -> Option<Guarantee>
+pub fn ask(book: &RuleBook, name: RuleName, have: &Guarantee, want: &Guarantee) -> Option<Guarantee>
     requires have { IsValid have.now }
     requires want { IsValid want.now }
     ensures exact { Answers name have.now want.now result }

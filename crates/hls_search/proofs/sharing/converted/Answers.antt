@@ -1,5 +1,4 @@
-use Rattle.std.proofs.Common.{◌≡◌, length, sym, ap, subst, rules}
-use Rattle.std.proofs.lemmas.Grind.{common_steps}
+use Rattle.std.proofs.Common.{length, sym, subst}
 use Rattle.hls_search.specs.Inside.Places.{IsBestShare}
 use Rattle.hls_search.proofs.Hitting.{share-answered, share-best}
 use Rattle.hls_search.proofs.sharing.converted.Goals as goal

@@ -1,5 +1,5 @@
-use Rattle.std.proofs.Common.{◌≡◌, ℕ, ◌-◌, ◌*◌, ◌≤◌, arith}
-use Rattle.hls_search.proofs.Shares.{others_error, back-rate, back-error, fair-back, back-valid}
+use Rattle.std.proofs.Common.{◌-◌, ◌≤◌, arith}
+use Rattle.hls_search.proofs.Shares.{back-rate, back-error, fair-back, back-valid}
 use Rattle.hls_search.proofs.Completing.{weight-of}
 use Rattle.hls_search.proofs.sharing.share_before.Goals as goal
 use Rattle.hls_search.proofs.sharing.share_before.Goals.{then-num-den-via-then-num-den, then-num-den-via-else-num-den+then-lost-owed}

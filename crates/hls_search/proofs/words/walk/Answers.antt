@@ -1,4 +1,4 @@
-use Rattle.std.proofs.Common.{◌≡◌, [], ◌∷◌, ◌++◌, ◌+◌, length, sym, ◌∙◌, subst, ap, arith, rules}
+use Rattle.std.proofs.Common.{◌≡◌, [], ◌∷◌, ◌++◌, sym, ◌∙◌, subst, ap, arith, rules}
 use Rattle.std.proofs.lemmas.Grind.{common_steps}
 use Rattle.hls_guarantee.specs.Conversions.{Converts}
 use Rattle.hls_derive.specs.declared.derivation.Step.{Step}
@@ -13,10 +13,10 @@ returns-in_err-to-clause-none g c =
     let left : c.loop-rule.left.now ≡ c.in-Some.rule.now ∷ c.in-Some.rest.now = search rules in
     let kept = c.loop-rule.invariant in
     λ none walks.
-        let on = subst (λ v. Walks v c.loop-rule.reached c.args.want.now) left (kept.walks walks) in
-        walks-stuck c.in-Some.rule.now c.in-Some.rest.now c.loop-rule.reached c.asked_before.result
-        c.args.want.now kept.valid c.asked_before.ensures.valid c.asked_before.ensures.same
-        c.in_err-to.ensures.exact on
+    let on = subst (λ v. Walks v c.loop-rule.reached c.args.want.now) left (kept.walks walks) in
+    walks-stuck c.in-Some.rule.now c.in-Some.rest.now c.loop-rule.reached c.asked_before.result
+    c.args.want.now kept.valid c.asked_before.ensures.valid c.asked_before.ensures.same
+    c.in_err-to.ensures.exact on
 
 pub loop-rule-preserved : goal.loop-rule-preserved
 loop-rule-preserved g c =
