@@ -1,0 +1,2 @@
+//! What chains of conversions reach, and which short chains suffice.
+#![tactic(auto)]
