@@ -21,7 +21,7 @@ use Rattle.hls_walks.specs.Shown.{level_in, place_in, mask_in, asks_in, asks_wha
 use Rattle.hls_walks.specs.Shown.{ServesIn, ServesWhat, on_post, on_what, post_granted, PostedIn, PostedWhat, book_in, ready_in}
 use Rattle.hls_walks.specs.Views.{same_place, is_place}
 use Rattle.hls_walks.specs.TreeOf.{IsTelling, Sitter, Reads, masks, granted_by, Granted, Led}
-use Rattle.hls_walks.proofs.Snapshots.{Nodes, one_of, rise, positive}
+use Rattle.hls_walks.proofs.Snapshots.{Nodes, one_of, rise, positive, below_ten}
 use Rattle.hls_walks.proofs.Tells.{no_port}
 
 -- places as they are compared
@@ -230,7 +230,7 @@ here_small s new choices place route step key port g t = t.laid.ranked.small key
 pub no_further : (s new : Nodes) (choices : ℕ → Option ℕ) (place : Place) (route : List ℕ) (step : ℕ)
     → Going s new choices place route step → IsTelling s 0 0 → 9 ≤ step → ⊥
 no_further s new choices place route step g t far =
-    let few : level_in (s g.sitter.node) ≤ 9 = t.laid.ranked.few g.sitter.node in
+    let few : level_in (s g.sitter.node) ≤ 9 = below_ten s t.laid.ranked g.sitter.node in
     let low : step < level_in (s g.sitter.node) = g.low in
     omega (arith, few, low, far)
 

@@ -250,6 +250,7 @@ module _ (old new : Nodes) (choices : ℕ → Option ℕ) (root : Option ℕ) (r
     ranked = ranked_alike old new passed_alike t.ranked;
     posted = passed_posted;
     room = λ k n le. subst (λ b. RoomBare n b) (sym (passed_alike.nodes k)) (t.room k n le);
+    within = t.within;
   }
 
   pub passed_ready : (h : Hierarchy) → IsReady old h → IsReady new h

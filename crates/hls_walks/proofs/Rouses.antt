@@ -5,7 +5,7 @@ use Rattle.std.proofs.lemmas.Bool.{eq-eqb, ne_eqb}
 use Rattle.hls_legal.specs.Hierarchy.{Hierarchy, Node, Loaded, Admitted, Seat, Wake}
 use Rattle.hls_legal.specs.Steps.{roused, with_wake}
 use Rattle.hls_walks.specs.Shown.{What, Scheduler, Thread, Shown, bare, bare_in, level_in, seats_in, PostedIn}
-use Rattle.hls_walks.specs.Shown.{RoomBare, with_ready}
+use Rattle.hls_walks.specs.Shown.{most_bare, RoomBare, with_ready}
 use Rattle.hls_walks.specs.TreeOf.{IsOf}
 use Rattle.hls_walks.proofs.Snapshots.{Nodes, one_of, ranked_by}
 
@@ -55,9 +55,10 @@ module _ (old new : Nodes) (tick horizon : ℕ) (root : Option ℕ) (id : ℕ) (
     now = now ∙ t.now;
     root_is = roots ∙ t.root_is;
     nodes = λ k. same k ∙ t.nodes k ∙ sym (node_set k);
-    ranked = ranked_by old new level_set seats_set t.ranked;
+    ranked = ranked_by old new level_set seats_set (λ k. ap most_bare (node_set k)) t.ranked;
     posted = posted_set t.posted;
     room = λ k n le. subst (λ b. RoomBare n b) (sym (node_set k)) (t.room k n le);
+    within = t.within;
   }
 
   pub set_tree : (h : Hierarchy) → IsOf old tick horizon root h → IsOf new tick horizon root h

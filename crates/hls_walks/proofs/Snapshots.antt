@@ -9,6 +9,7 @@ use Rattle.hls_legal.specs.Ledgers.{empty_book}
 use Rattle.hls_legal.specs.Hierarchy.{Seat, Place, Processor, At}
 use Rattle.hls_walks.specs.Shown.{Post, What, Scheduler, Thread, Shown, ToldIn, ToldWhat, bare_in}
 use Rattle.hls_walks.specs.Shown.{bare_what, book_in, book_bare, level_in, seats_in, place_in, mask_in}
+use Rattle.hls_walks.specs.Shown.{Bare, SchedulerNode, ThreadNode, most_bare, most_in}
 use Rattle.hls_walks.specs.Shown.{grant_in, ready_in, PostedIn, on_post}
 use Rattle.hls_walks.specs.Shown.{post_revoked, IsPosted}
 use Rattle.hls_walks.specs.TreeOf.{IsAlike, IsLaid, IsRanked, level_at, level_over}
@@ -138,13 +139,26 @@ positive s r c port place e =
     let p : 0 < level_at s place = at_positive s place in
     omega (arith, f, p)
 
+most_limit : (b : Option Bare) → most_bare b ≤ 9
+most_limit None = omega arith
+most_limit (Some (SchedulerNode s)) = omega arith
+most_limit (Some (ThreadNode name seats)) = omega arith
+
+pub below_ten : (s : Nodes) → IsRanked s → (c : ℕ) → level_in (s c) ≤ 9
+below_ten s r c =
+    let few : level_in (s c) ≤ most_in (s c) = r.few c in
+    let most : most_in (s c) ≤ 9 = most_limit (bare_in (s c)) in
+    omega (arith, few, most)
+
 pub ranked_by : (old new : Nodes) → ((k : ℕ) → level_in (new k) ≡ level_in (old k))
-    → ((k : ℕ) → seats_in (new k) ≡ seats_in (old k)) → IsRanked old → IsRanked new
-ranked_by old new levels seats r = record {
+    → ((k : ℕ) → seats_in (new k) ≡ seats_in (old k)) → ((k : ℕ) → most_in (new k) ≡ most_in (old k))
+    → IsRanked old → IsRanked new
+ranked_by old new levels seats most r = record {
   exact = λ c. levels c ∙ r.exact c ∙ ap (level_over old) (sym (seats c))
       ∙ sym (level_over_same old new (seats_in (new c)) (λ port p slot e. levels p));
   within = λ c port p slot e. r.within c port p slot (sym (places_by (old c) (new c) port (seats c)) ∙ e);
-  few = λ c. rw (levels c) (r.few c);
+  few = λ c. rw (levels c, most c) (r.few c);
+  some = λ c there none. r.some c (subst (λ n. 0 < n) (most c) there) (sym (seats c) ∙ none);
   ports = λ c. rw (seats c) (r.ports c);
   apart = λ c port other p slot next e k. r.apart c port other p slot next
       (sym (places_by (old c) (new c) port (seats c)) ∙ e) (sym (places_by (old c) (new c) other (seats c)) ∙ k);
@@ -152,7 +166,7 @@ ranked_by old new levels seats r = record {
 }
 
 pub ranked_alike : (old new : Nodes) → IsAlike old new → IsRanked old → IsRanked new
-ranked_alike old new a r = ranked_by old new a.levels a.seats r
+ranked_alike old new a r = ranked_by old new a.levels a.seats (λ k. ap most_bare (a.nodes k)) r
 
 pub laid_alike : (old new : Nodes) → IsAlike old new → IsLaid old → IsLaid new
 laid_alike old new a l = record {

@@ -10,7 +10,7 @@ use Rattle.hls_walks.specs.Shown.{level_in, seats_in, place_in, mask_in, asks_in
 use Rattle.hls_walks.specs.Shown.{post_revoked}
 use Rattle.hls_walks.specs.Views.{told_place}
 use Rattle.hls_walks.specs.TreeOf.{IsAlike, IsLaid, ToldBy, ToldAt, Told, IsTelling}
-use Rattle.hls_walks.proofs.Snapshots.{Nodes, one_of, rise, IsChanged, changed, changed_alike, laid_alike, alike_refl}
+use Rattle.hls_walks.proofs.Snapshots.{Nodes, one_of, rise, below_ten, IsChanged, changed, changed_alike, laid_alike, alike_refl}
 use Rattle.hls_walks.proofs.Snapshots.{alike_places, revoked, revoked_alike}
 
 -- on the way through the ports of a node, which asks so
@@ -189,7 +189,7 @@ telling_start old s laid posted e =
       posted = λ k. subst PostedIn (sym (e k)) ((revoked (old k)).posted (posted k));
       free = λ k. ap grant_in (e k) ∙ (revoked (old k)).grant;
       told = record {
-        told = λ c q done before. (let few : level_in (s c) ≤ 9 = laid_now.ranked.few c in
+        told = λ c q done before. (let few : level_in (s c) ≤ 9 = below_ten s laid_now.ranked c in
             absurd (omega (arith, before (omega (arith, few, done)))));
       };
     }

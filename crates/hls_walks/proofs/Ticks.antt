@@ -9,7 +9,7 @@ use Rattle.hls_legal.specs.Hierarchy.{Hierarchy, Node, Loaded, Admitted, Schedul
 use Rattle.hls_legal.specs.Steps.{Hop, Path, hop_at, hops_of, row_by, ticked, Elapse, after}
 use Rattle.hls_walks.specs.Shown.{Post, IsPosted, What, Scheduler, Thread, Shown, SchedulerNode, bare, bare_in}
 use Rattle.hls_walks.specs.Shown.{bare_what, level_in, seats_in, mask_in, grant_in, is_sched, on_post, post_turned, PostedIn}
-use Rattle.hls_walks.specs.Shown.{RoomIn}
+use Rattle.hls_walks.specs.Shown.{RoomIn, most_in, name_in}
 use Rattle.hls_walks.specs.TreeOf.{IsOf, IsPassing, StandsAt}
 use Rattle.hls_walks.proofs.Snapshots.{Nodes, ranked_by}
 
@@ -31,6 +31,8 @@ posted_turned c post x = record {
 record IsTurned (c : Option ℕ) (o : Option Shown) : Type 0 where
   level : level_in (on_post (post_turned c) o) ≡ level_in o
   seats : seats_in (on_post (post_turned c) o) ≡ seats_in o
+  most : most_in (on_post (post_turned c) o) ≡ most_in o
+  name : name_in (on_post (post_turned c) o) ≡ name_in o
   posted : PostedIn o → PostedIn (on_post (post_turned c) o)
   room : (n : ℕ) → RoomIn (n + 1) o → RoomIn n (on_post (post_turned c) o)
 
@@ -39,14 +41,16 @@ turned_what : (c : Option ℕ) (name : List ℕ) (level : ℕ) (seats : List Sea
 turned_what c name level seats (Scheduler post) = record {
   level = refl;
   seats = refl;
+  most = refl;
+  name = refl;
   posted = posted_turned c post;
   room = λ n r. omega (arith, r);
 }
 turned_what c name level seats (Thread x) =
-    record { level = refl; seats = refl; posted = λ p. p; room = λ n r. tt }
+    record { level = refl; seats = refl; most = refl; name = refl; posted = λ p. p; room = λ n r. tt }
 
 turned_in : (c : Option ℕ) (o : Option Shown) → IsTurned c o
-turned_in c None = record { level = refl; seats = refl; posted = λ p. p; room = λ n r. tt }
+turned_in c None = record { level = refl; seats = refl; most = refl; name = refl; posted = λ p. p; room = λ n r. tt }
 turned_in c (Some s) = turned_what c s.name s.level s.seats s.what
 
 -- node by node
@@ -75,21 +79,27 @@ node_by mask hop c (Some (Loaded x)) None e row = cc
 node_by mask hop c (Some (Admitted t)) None e row = cc
 node_by mask hop c node (Some s) e row = node_what mask hop c node s.name s.level s.seats s.what e row
 
+pub turn_name : (old new : Nodes) (choices : ℕ → Option ℕ)
+    → ((k : ℕ) → new k ≡ on_post (post_turned (choices k)) (old k)) → (k : ℕ) → name_in (new k) ≡ name_in (old k)
+turn_name old new choices turns k = ap name_in (turns k) ∙ (turned_in (choices k) (old k)).name
+
 pub turn_tree : (old new : Nodes) (choices : ℕ → Option ℕ) (tick horizon : ℕ) (root : Option ℕ) (route : Option (List ℕ)) (h : Hierarchy)
     (asking : ℕ → Bool) (slots : ℕ → ℕ) (path : Option Path)
     → ((k : ℕ) → new k ≡ on_post (post_turned (choices k)) (old k)) → IsOf old tick horizon root h
-    → IsPassing old choices route h asking slots path
+    → IsPassing old choices route h asking slots path → tick < horizon
     → IsOf new (tick + 1) horizon root (after h (Elapse asking slots path))
-turn_tree old new choices tick horizon root route h asking slots path turns t p = record {
+turn_tree old new choices tick horizon root route h asking slots path turns t p lt = record {
   now = ap (λ n. n + 1) t.now;
   root_is = t.root_is;
   nodes = λ k. node_by (slots k) (hop_at (hops_of path) k) (choices k) (h.nodes k) (old k) (t.nodes k) (p.rows k)
       ∙ ap bare_in (sym (turns k));
   ranked = ranked_by old new (λ k. ap level_in (turns k) ∙ (turned_in (choices k) (old k)).level)
-      (λ k. ap seats_in (turns k) ∙ (turned_in (choices k) (old k)).seats) t.ranked;
+      (λ k. ap seats_in (turns k) ∙ (turned_in (choices k) (old k)).seats)
+      (λ k. ap most_in (turns k) ∙ (turned_in (choices k) (old k)).most) t.ranked;
   posted = λ k. subst PostedIn (sym (turns k)) ((turned_in (choices k) (old k)).posted (t.posted k));
   room = λ k n le. subst (RoomIn n) (sym (turns k))
       ((turned_in (choices k) (old k)).room n (t.room k (n + 1) (omega (arith, le))));
+  within = omega (arith, lt);
 }
 
 -- there is room for a tick

@@ -247,3 +247,21 @@ PostedWhat (Thread ready) = Unit {0}
 abbrev pub PostedIn : Option Shown → Type 0
 PostedIn None = Unit {0}
 PostedIn (Some s) = PostedWhat s.what
+
+-- the greatest level that a node may have: 8 for a scheduler, and 9 for a thread
+abbrev pub most_bare : Option Bare → ℕ
+most_bare None = 0
+most_bare (Some (SchedulerNode s)) = 8
+most_bare (Some (ThreadNode name seats)) = 9
+
+abbrev pub most_in : Option Shown → ℕ
+most_in o = most_bare (bare_in o)
+
+-- the name of a node
+abbrev pub name_bare : Option Bare → Option (List ℕ)
+name_bare None = None
+name_bare (Some (SchedulerNode s)) = Some s.name
+name_bare (Some (ThreadNode name seats)) = Some name
+
+abbrev pub name_in : Option Shown → Option (List ℕ)
+name_in o = name_bare (bare_in o)

@@ -9,7 +9,7 @@ use Rattle.hls_legal.specs.Steps.{Hop, Path, hop_at, hops_of, thread_of, row_by,
 use Rattle.hls_legal.specs.Legal.{Walk, Can, root_asks}
 use Rattle.hls_legal.specs.Seated.{IsSeated}
 use Rattle.hls_walks.specs.Shown.{Shown, bare, bare_in, book_in, RoomIn, level_in, seats_in, place_in, mask_in, asks_in}
-use Rattle.hls_walks.specs.Shown.{grant_in, ready_in, is_sched, PostedIn, ToldIn, on_post, post_granted}
+use Rattle.hls_walks.specs.Shown.{most_in, grant_in, ready_in, is_sched, PostedIn, ToldIn, on_post, post_granted}
 
 -- the level of one who sits at a place, and at some of these
 abbrev pub level_at : (s : ℕ → Option Shown) → Place → ℕ
@@ -20,12 +20,13 @@ abbrev pub level_over : (s : ℕ → Option Shown) → List Seat → ℕ
 level_over s [] = 0
 level_over s (seat ∷ seats) = max (level_at s seat.place) (level_over s seats)
 
--- Levels are those of the seats and at most 9, slots are bits, ports are few, they sit on different
--- schedulers, and numbers are of 32 bits.
+-- Levels are those of the seats, and bounded. Each node has a port, slots are bits, ports are few, they sit
+-- on different schedulers, and numbers are of 32 bits.
 pub record IsRanked (s : ℕ → Option Shown) : Type 0 where
   pub exact : (c : ℕ) → level_in (s c) ≡ level_over s (seats_in (s c))
   pub within : (c port p slot : ℕ) → place_in (s c) port ≡ Some (At p slot) → slot < 32
-  pub few : (c : ℕ) → level_in (s c) ≤ 9
+  pub few : (c : ℕ) → level_in (s c) ≤ most_in (s c)
+  pub some : (c : ℕ) → 0 < most_in (s c) → seats_in (s c) ≢ []
   pub ports : (c : ℕ) → length (seats_in (s c)) ≤ 4
   pub apart : (c port other p slot next : ℕ) → place_in (s c) port ≡ Some (At p slot)
       → place_in (s c) other ≡ Some (At p next) → port ≡ other
@@ -55,6 +56,7 @@ pub record IsOf (s : ℕ → Option Shown) (tick horizon : ℕ) (root : Option �
   pub ranked : IsRanked s
   pub posted : (k : ℕ) → PostedIn (s k)
   pub room : (k n : ℕ) → tick + n ≤ horizon → RoomIn n (s k)
+  pub within : tick ≤ horizon
 
 -- the flags of threads are what wakes say
 abbrev pub IsReady : (ℕ → Option Shown) → Hierarchy → Type 0
