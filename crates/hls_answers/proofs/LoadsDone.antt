@@ -14,7 +14,8 @@ use Rattle.hls_scenario.specs.declared.scenario.Spot.TheVariants.{Cpu, Under}
 use Rattle.hls_scenario.specs.declared.scenario.Perch.{Perch}
 use Rattle.hls_scenario.specs.Grammar as grammar
 use Rattle.hls_legal.specs.Hierarchy.{Hierarchy, Place, Processor, At, Seat}
-use Rattle.hls_legal.specs.Legal.{scheduler_at, MayTake, port_count}
+use Rattle.hls_legal.specs.Legal.{scheduler_at, MayTake}
+use Rattle.hls_chron.specs.Kinds.{port_count}
 use Rattle.hls_accounts.specs.Tells.{IsSpot, ArePerches}
 use Rattle.hls_answers.specs.Dues.{due_at, dues_from}
 use Rattle.hls_answers.proofs.Unrefused.{IsSeatFor}

@@ -25,7 +25,8 @@ use Rattle.hls_legal.specs.Derived.{Follows}
 use Rattle.hls_legal.specs.Hierarchy.{Hierarchy, Node, Loaded, Admitted, Scheduler, Thread, Place, Processor, At, Seat}
 use Rattle.hls_legal.specs.Hierarchy.{SeatHolder, seats_of, seat_of, haves_of, config_of, book_of, name_of}
 use Rattle.hls_legal.specs.Steps.{Step, Move, after, reseated, effect}
-use Rattle.hls_legal.specs.Legal.{IsChain, IsShallow, SitsOn, NotBelow, MayMoveTo, CanMove, port_count}
+use Rattle.hls_legal.specs.Legal.{IsChain, IsShallow, SitsOn, NotBelow, MayMoveTo, CanMove}
+use Rattle.hls_chron.specs.Kinds.{port_count}
 use Rattle.hls_legal.specs.Legal.{fair_queues}
 use Rattle.hls_legal.specs.Linked.{SitsBelow, SitsAt}
 use Rattle.hls_legal.specs.Readings.{IsUnderBy}

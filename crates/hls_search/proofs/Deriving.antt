@@ -13,7 +13,7 @@ use Rattle.hls_guarantee.specs.Limits.{IsValid, IsNarrow}
 use Rattle.hls_guarantee.specs.Steps.{IsPort, LendsByTerms, LendsNothing, LendsThrough}
 use Rattle.hls_derive.specs.declared.derivation.Place.{Place}
 use Rattle.hls_derive.specs.declared.derivation.Step.{Step}
-use Rattle.hls_derive.specs.Derives.{ports_of}
+use Rattle.hls_chron.specs.Kinds.{port_count}
 use Rattle.hls_search_laws.proofs.Makes.{narrow-valid}
 use Rattle.hls_search.specs.Inside.Chains.{LeadsTo}
 use Rattle.hls_search.specs.Inside.Found.{through, Derives}
@@ -21,7 +21,7 @@ use Rattle.hls_search.specs.Inside.Places.{LendsOfAll, LendsShares}
 use Rattle.hls_search.proofs.Shares.{fair-valid, fair-error}
 use Rattle.hls_search.proofs.Completing.{weight-of}
 
-pub ports-some : (config : Config) → ConfigInRange config → 0 < ports_of config
+pub ports-some : (config : Config) → ConfigInRange config → 0 < port_count config
 ports-some configs.Cpu range = omega arith
 ports-some configs.Fp range = omega arith
 ports-some configs.Edf range = omega arith
