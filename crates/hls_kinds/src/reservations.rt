@@ -67,7 +67,8 @@ fn is_too_much(reservation: Reservation, deadline: u64, budget: u32, tick: u32) 
 {
     let rate = parts(reservation.x, reservation.y);
     deadline <= u64::from(tick)
-        || rate * u128::from(deadline - u64::from(tick)) < u128::from(budget) * u128::from(ALL_PARTS)
+        || rate * u128::from(deadline - u64::from(tick))
+            < u128::from(budget) * u128::from(ALL_PARTS)
 }
 
 /// Whether the reservation of a slot is replenished so many ticks after its seating or settling,

@@ -18,6 +18,5 @@ mod words;
 
 pub use commands::read_item;
 pub use fault::{Cause, ScenarioFault};
-pub use hls_scenario::{Command, Item, Perch, Scenario, Spot};
-pub use hls_scenario::{print_command, print_scenario};
+pub use hls_scenario::{Command, Item, Perch, Scenario, Spot, print_command, print_scenario};
 pub use reading::read_scenario;

@@ -12,8 +12,8 @@ use crate::line_reading::account;
 use crate::lines::Lines;
 use crate::words::count;
 use hls_report_text::Account;
-use std::alloc::{AllocError, Global};
 use hls_text::after;
+use std::alloc::{AllocError, Global};
 
 /// A line of the accounts.
 #[derive(Debug, Drop)]

@@ -12,10 +12,10 @@ use crate::line_reading::{item, seat};
 use crate::lines::Lines;
 use crate::refusal_reading::refusal;
 use hls_chron::List;
-use hls_scenario::{Command, Item};
 use hls_report_text::{Answer, Answered, Refusal, Seated};
-use std::alloc::{AllocError, Global};
+use hls_scenario::{Command, Item};
 use hls_text::after;
+use std::alloc::{AllocError, Global};
 
 /// How many commands a report has at most.
 const MOST_COMMANDS: u32 = 65_536;

@@ -19,8 +19,8 @@ use hls_derive::{guarantee, read_derivation};
 use hls_guarantee::Guarantee;
 use hls_lang::{Item, read_item};
 use hls_report_text::{Account, Seated, put_command};
-use std::alloc::{AllocError, Global};
 use hls_text::{after, cut};
+use std::alloc::{AllocError, Global};
 
 /// The item that a line spells, of a tick from the last one on and below the horizon.
 pub fn item(alloc: Global, line: &[u8], horizon: u32, last: u32) -> Result<Option<Item>, AllocError>

@@ -11,9 +11,9 @@ use crate::places::place_in;
 use crate::words::name;
 use hls_chron::Name;
 use hls_report_text::Path;
+use hls_text::{after, place_of};
 use indexmap::IndexSet;
 use std::alloc::AllocError;
-use hls_text::{after, place_of};
 
 /// How many names the paths of a report have at most.
 const MOST_NAMES: usize = 65_536;

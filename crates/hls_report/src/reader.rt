@@ -13,8 +13,8 @@ use crate::line_reading::account;
 use crate::lines::Lines;
 use crate::words::{count, digit};
 use hls_report_text::Account;
-use std::alloc::{AllocError, Global};
 use hls_text::after;
+use std::alloc::{AllocError, Global};
 
 /// How many ticks a report has at most.
 const MOST_TICKS: u32 = 100_000;

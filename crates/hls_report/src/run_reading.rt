@@ -18,9 +18,9 @@ use crate::lines::Lines;
 use crate::path_reading::path;
 use hls_chron::{List, Name};
 use hls_report_text::{Path, Run};
+use hls_text::after;
 use indexmap::IndexSet;
 use std::alloc::{AllocError, Global};
-use hls_text::after;
 
 /// What the runs of a report tell: the names of their paths, each once by first use, and the runs.
 #[derive(Debug, Drop)]

@@ -9,9 +9,9 @@ ghost use Rattle.hls_scenario.specs.Printing.{comma_text};
 ghost use Rattle.hls_scenario.specs.Forms.{command_forms, item_forms, command_text, scenario_text};
 ghost use Rattle.hls_scenario.specs.Grammar.{IsScenario, IsCommand, IsScenarioText};
 
+use crate::{Command, Item, Perch, Scenario, Spot};
 use hls_chron::{Config, Name, Terms};
 use hls_guarantee::{Guarantee, write_guarantee};
-use crate::{Command, Item, Perch, Scenario, Spot};
 use hls_text::put;
 use std::alloc::{AllocError, Global};
 
