@@ -10,8 +10,6 @@ use Rattle.hls_chron.specs.Ledger.{Ledger, now_of, with_row, before, IsDated}
 use Rattle.hls_chron.specs.Seats as seats
 use Rattle.hls_chron.proofs.BookLaws.{before-now}
 use Rattle.hls_kinds.specs.Tenants as tenants
-use Rattle.hls_promise.specs.Promise as promises
-use Rattle.hls_edf_laws.specs.Books.{IsGiven, KeepsReservations}
 use Rattle.hls_kinds.specs.Reservations as reservations
 use Rattle.hls_kinds.specs.Asks.{asks}
 use Rattle.hls_kinds.specs.Discipline.{Serves}
@@ -48,22 +46,3 @@ before-last b row dated =
     let at : now_of b - b.start ≡ length b.rows = omega arith in
     ledger_same b.start _ _ _ _
     (ap (λ n. take n (b.rows ++ row ∷ [])) at ∙ take-append_seam b.rows (row ∷ [])) (before-now b row dated)
-
-pub given-bare : (b : Ledger) → IsGiven b → IsGiven (bare b)
-unfolding reservations.claim_at tenants.tenant_at tenants.settled_at seats.asked seats.served ledgers.row_at
-    ledgers.before promises.asked_by
-given-bare b is = record { given = is.given }
-
-pub keeps-bare : (b : Ledger) → KeepsReservations (bare b) → KeepsReservations b
-unfolding tenants.tenant_at tenants.settled_at seats.asked seats.served ledgers.row_at
-keeps-bare b keeps = record {
-  dated = keeps.dated;
-  settled = keeps.settled;
-  within = keeps.within;
-  tenants = keeps.tenants;
-  sound = keeps.sound;
-  sure = keeps.sure;
-  hard = keeps.hard;
-  room = λ given. keeps.room (given-bare b given);
-  each = λ given. keeps.each (given-bare b given);
-}

@@ -1,6 +1,6 @@
 -- What one account may still use, after each event.
 use Rattle.std.proofs.Common.{◌≡◌, ◌≢◌, ℕ, ◌*◌, ◌-◌, ◌<◌, ◌≤◌, refl, arith, Bool, true, false}
-use Rattle.std.specs.Prelude.{◌⊎◌, min}
+use Rattle.std.specs.Prelude.{◌⊎◌}
 use Rattle.std.proofs.lemmas.Bool.Decides.{nat_tests}
 use Rattle.hls_edf_laws.specs.Demand.{owed, claimed}
 use Rattle.hls_edf_laws.specs.declared.account.Account.{Account}
@@ -11,17 +11,6 @@ pub claimed-on : (whole budget deadline rate now bound : ℕ) → claimed true w
     bound ≡ owed whole budget deadline rate bound
 unfolding claimed
 claimed-on whole budget deadline rate now bound = refl
-
-pub claimed-off : (whole budget deadline rate now bound : ℕ) → claimed false whole budget deadline rate now
-    bound ≡ min (owed whole budget deadline rate bound) (rate * (bound - now))
-unfolding claimed
-claimed-off whole budget deadline rate now bound = refl
-
--- a seat that does not count as asking is within its rate
-pub off-rate : (whole budget deadline rate now bound : ℕ) → claimed false whole budget deadline rate now bound
-    ≤ rate * (bound - now)
-unfolding claimed
-off-rate whole budget deadline rate now bound = omega arith
 
 -- it may use no more than one that counts as asking
 pub off-on : (whole budget deadline rate now bound : ℕ) (on : Bool) → claimed false whole budget deadline rate

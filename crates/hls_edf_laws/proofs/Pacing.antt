@@ -7,7 +7,7 @@ use Rattle.hls_chron.specs.Ticks.{one_if}
 use Rattle.hls_kinds.specs.declared.reservations.Reservation.{Reservation}
 use Rattle.hls_chron.specs.Parts.{all_parts}
 use Rattle.hls_edf_laws.specs.declared.account.Account.{Account}
-use Rattle.hls_edf_laws.specs.Accounts.{vacant, fresh, marked, charged, replenished, is_due}
+use Rattle.hls_edf_laws.specs.Accounts.{marked, charged, replenished, is_due}
 use Rattle.hls_edf_laws.specs.Recomputed.{account_before, account_within}
 use Rattle.hls_edf_laws.specs.Stays.{IsPaced}
 use Rattle.hls_edf_laws.proofs.Claimed.{due-off-not, due-on-not}
@@ -15,17 +15,6 @@ use Rattle.hls_edf_laws.proofs.Replenishing.{replenished-off, replenished-set, r
 use Rattle.hls_edf_laws.proofs.Deadlines.{last-zero, within_is, before_is}
 
 -- each event keeps the pace
-pub paced-vacant : (now : ℕ) → IsPaced vacant now
-paced-vacant now = record {
-  narrow = omega arith;
-  near = omega arith;
-  small = omega arith;
-  paced = omega arith;
-}
-
-pub paced-fresh : (c : Account) (now : ℕ) → c.x ≤ c.y → IsPaced (fresh c now) now
-paced-fresh c now le = record { narrow = le; near = omega arith; small = omega arith; paced = omega arith }
-
 pub paced-marked : (c : Account) (now : ℕ) (on : Bool) → IsPaced c now → IsPaced (marked c on) now
 paced-marked c now on p = record { narrow = p.narrow; near = p.near; small = p.small; paced = p.paced }
 

@@ -11,10 +11,11 @@ use Rattle.hls_chron.specs.Ranges.{TermsInRange}
 use Rattle.hls_chron.specs.Seats.{terms_at}
 use Rattle.hls_chron.proofs.BookLaws.{terms_at-mark}
 use Rattle.hls_kinds.specs.Fits.{Fits}
-use Rattle.hls_kinds.specs.Room.{IsFree}
+use Rattle.hls_kinds.specs.Room.{IsFree, IsFull}
 use Rattle.hls_kinds.specs.Made.{IsMade}
 use Rattle.hls_kinds.proofs.MadeLaws.{made_mark}
-use Rattle.hls_made.proofs.Leavings.{fits-leave}
+use Rattle.hls_made.proofs.Leavings.{fits-leave, full-leave}
+use Rattle.hls_made.proofs.Vacancies.{free_or_full}
 use Rattle.hls_legal.specs.Ledgers.{with_marks}
 use Rattle.hls_legal.specs.Hierarchy.{Place, Processor, At, Seat}
 use Rattle.hls_legal.specs.Steps.{leaving_at, seatings, leavings}
@@ -47,6 +48,27 @@ fits-leavings config (seat ∷ gone) c b m fits =
     rw (marks_both b (leaving_at c seat.place) (leavings gone c))
     (fits-leavings config gone c (with_marks b (leaving_at c seat.place)) m
     (fits_left config seat.place c b m fits))
+
+-- and a slot is free then where one was free before
+full_left : (config : Config) (place : Place) (c : ℕ) (b : Ledger) → IsFull config (with_marks b (leaving_at c place))
+    → IsFull config b
+full_left config Processor c b full = full
+full_left config (At p slot) c b full = elim (cases_eq p c) [
+  | inl here ↦ full-leave config b slot (rw (eq-eqb p c here) at full)
+  | inr away ↦ rw (ne_eqb p c away) at full
+]
+
+full-leavings : (config : Config) (gone : List Seat) (c : ℕ) (b : Ledger)
+    → IsFull config (with_marks b (leavings gone c)) → IsFull config b
+full-leavings config [] c b full = full
+full-leavings config (seat ∷ gone) c b full =
+    full_left config seat.place c b (full-leavings config gone c (with_marks b (leaving_at c seat.place))
+    (rw (marks_both b (leaving_at c seat.place) (leavings gone c)) at full))
+
+pub free-leavings : (config : Config) (gone : List Seat) (c : ℕ) (b : Ledger) → ¬ IsFull config b
+    → (slot : ℕ) × IsFree config (with_marks b (leavings gone c)) slot
+free-leavings config gone c b room =
+    free_or_full config (with_marks b (leavings gone c)) (λ full. room (full-leavings config gone c b full))
 
 -- the others keep their slots when one is left
 other_had : (b : Ledger) (at slot : ℕ) → at ≢ slot → terms_at b slot ≢ None

@@ -27,6 +27,7 @@ use Rattle.hls_legal.specs.Alike.{IsAlikeSeat}
 use Rattle.hls_legal.proofs.Kept.{IsSound}
 use Rattle.hls_legal.proofs.Walks.{bool_iff}
 use Rattle.hls_made.proofs.Books.{admission_made}
+use Rattle.hls_made.proofs.Vacancies.{free_one}
 use Rattle.hls_legal.proofs.Books.{AllMade, made_at}
 use Rattle.hls_legal.proofs.Readings.{under_below, below_rank}
 use Rattle.hls_legal.proofs.Sitters.{HasSitters, IsFinite}
@@ -216,16 +217,6 @@ below_one h rank sound k below other one two c = bool_iff (below c) (other c)
     under_below h k below one under.0 c under.1)
 
 -- the free slot
-free_one : (config : Config) (b : Ledger) (slot other : ℕ) → IsFree config b slot → IsFree config b other
-    → slot ≡ other
-free_one config b slot other f g = elim (cases_lt slot other) [
-  | inl lt ↦ absurd (g.least slot lt f.free)
-  | inr ge ↦ elim (cases_lt other slot) [
-    | inl lt ↦ absurd (f.least other lt g.free)
-    | inr le ↦ omega (arith, ge, le)
-  ]
-]
-
 place_one : (h : Hierarchy) (left : List Seat) (seat other : Seat) (here there : Place)
     → scheduler_at here ≡ scheduler_at there → MayTakeAt h left seat here → MayTakeAt h left other there
     → here ≡ there

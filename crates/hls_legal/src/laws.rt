@@ -7,10 +7,13 @@ ghost use Rattle.hls_chron.specs.Ranges.{ConfigInRange};
 ghost use Rattle.hls_chron.specs.Seats.{asked, served, terms_at};
 ghost use Rattle.hls_kinds.specs.Asks.{asks, slot_asks};
 ghost use Rattle.hls_kinds.specs.Discipline.{Serves};
+ghost use Rattle.hls_kinds.specs.Room.{IsFree, IsFull};
+ghost use Rattle.hls_kinds.specs.Fits.{Fits};
 ghost use Rattle.hls_kinds.specs.Made.{IsMade};
 ghost use Rattle.hls_promise.specs.Admission.{HasSeats};
+ghost use Rattle.hls_legal.specs.Ledgers.{with_marks};
 ghost use Rattle.hls_legal.specs.Hierarchy.{Hierarchy, Scheduler, Loaded, Seat, start, was_served, had_asked};
-ghost use Rattle.hls_legal.specs.Steps.{Path, Step, Move, Block, Elapse, after, state};
+ghost use Rattle.hls_legal.specs.Steps.{Path, Step, Move, Block, Elapse, leavings, after, state};
 ghost use Rattle.hls_legal.specs.Legal.{asks_now, Can, IsLegal};
 ghost use Rattle.hls_legal.specs.Linked.{book_at, IsLinked, KeepsPromises, IsSupplied};
 ghost use Rattle.hls_legal.specs.Supplied.{IsKept, KeepsStays, accounts};
@@ -19,13 +22,22 @@ ghost use Rattle.hls_legal.specs.Alike.{AreAlike};
 ghost use Rattle.hls_legal.specs.Lists.{IsListed};
 ghost use Rattle.hls_legal.specs.Seated.{IsSeated};
 
-use hls_chron::Config;
+use hls_chron::{Config, Terms};
 
 /// Every scheduler of a legal run has a book that came about as it may: it began empty, and each of
 /// its marks and rows came to a book that allowed it.
 pub fn legal_runs_make_books()
     ensures { (steps : List Step) → IsLegal start steps → (k : ℕ) (s : Scheduler) →
         (state start steps).nodes k ≡ Some (Loaded s) → IsMade s.config s.book }
+{}
+
+/// Terms that fit a book fit it still once seats are left, and where a slot was free one is the least
+/// free then: so a move that is tested with the mover in its old seat finds its new one.
+pub fn movers_find_their_seats(config: Config)
+    ensures fits { (b : Ledger) (left : List Seat) (k : ℕ) (terms : Terms) → Fits config b terms →
+        Fits config (with_marks b (leavings left k)) terms }
+    ensures slot { (b : Ledger) (left : List Seat) (k : ℕ) → ¬ IsFull config b →
+        (slot : ℕ) × IsFree config (with_marks b (leavings left k)) slot }
 {}
 
 /// The stays of at least one tick, which a report lists, are among those that are kept.

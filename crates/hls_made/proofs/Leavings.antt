@@ -20,7 +20,7 @@ use Rattle.hls_kinds.specs.declared.reservations.Reservation.{Reservation}
 use Rattle.hls_kinds.specs.Tenants.{after_leaving, tenant_after, tenant_at}
 use Rattle.hls_kinds.specs.Reservations.{deadline_after, last_replenished, is_held_in}
 use Rattle.hls_kinds.specs.Frames.{owner_at}
-use Rattle.hls_kinds.specs.Room.{terms_left, occupant_at, parts_in, weight_in, room_used, room_total}
+use Rattle.hls_kinds.specs.Room.{IsFull, terms_left, occupant_at, parts_in, weight_in, room_used, room_total}
 use Rattle.hls_kinds.specs.Fits.{Fits}
 use Rattle.hls_kinds.proofs.MarkLaws.{tenant_at-mark}
 use Rattle.hls_kinds.proofs.TenantLaws.{seated_in}
@@ -151,3 +151,38 @@ fits-leave config b at m fits = record {
         lacks = omega (arith, used, lacks.left, lacks.lacks);
       });
 }
+
+-- slots that are free stay so
+free_of : (b : Ledger) (slot now : ℕ) (tenant : Tenant) → occupant_of b slot tenant ≡ None
+    → occupant_of b slot (after_leaving now tenant) ≡ None
+free_of b slot now Vacant free = free
+free_of b slot now (Sits m since) free = cc
+free_of b slot now (Left m since at) free = free
+
+free_by : (b : Ledger) (at slot : ℕ) (tenant : Tenant) → occupant_of b slot tenant ≡ None
+    → occupant_of b slot (tenant_after slot (now_of b) tenant (Leave at)) ≡ None
+free_by b at slot tenant free = elim (cases_eq at slot) [
+  | inl same ↦ rw (eq-eqb at slot same) (free_of b slot (now_of b) tenant free)
+  | inr other ↦ rw (ne_eqb at slot other) free
+]
+
+untaken : (b : Ledger) (at slot : ℕ) → terms_at b slot ≡ None → terms_at (with_mark b (Leave at)) slot ≡ None
+untaken b at slot none = terms_at-mark b (Leave at) slot ∙ elim (cases_eq at slot) [
+  | inl same ↦ rw (eq-eqb at slot same) refl
+  | inr other ↦ rw (ne_eqb at slot other) none
+]
+
+pub free-leave : (config : Config) (b : Ledger) (at slot : ℕ) → occupant_at config b slot ≡ None
+    → occupant_at config (with_mark b (Leave at)) slot ≡ None
+free-leave Edf b at slot free =
+    occupant-mark b (Leave at) slot ∙ free_by b at slot (tenant_at b slot) (sym (occupant-is b slot) ∙ free)
+free-leave Cpu b at slot free = untaken b at slot free
+free-leave Fp b at slot free = untaken b at slot free
+free-leave (Sfq total most) b at slot free = untaken b at slot free
+free-leave (Rr quantum) b at slot free = untaken b at slot free
+free-leave (Wheel frame) b at slot free = untaken b at slot free
+free-leave (Join ports) b at slot free = untaken b at slot free
+
+pub full-leave : (config : Config) (b : Ledger) (at : ℕ) → IsFull config (with_mark b (Leave at))
+    → IsFull config b
+full-leave config b at full slot lt none = full slot lt (free-leave config b at slot none)

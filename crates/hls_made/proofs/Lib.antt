@@ -1,2 +1,3 @@
 pub mod Leavings
 pub mod Books
+pub mod Vacancies

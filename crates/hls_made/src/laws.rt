@@ -9,6 +9,7 @@ ghost use Rattle.hls_chron.specs.Seats.{SlotAsks, served, terms_at};
 ghost use Rattle.hls_kinds.specs.Tenants.{tenant_at};
 ghost use Rattle.hls_kinds.specs.Reservations.{deadline_after, budget_after};
 ghost use Rattle.hls_kinds.specs.Discipline.{KeepsDiscipline};
+ghost use Rattle.hls_kinds.specs.Room.{occupant_at, IsFree, IsFull};
 ghost use Rattle.hls_kinds.specs.Fits.{Fits};
 ghost use Rattle.hls_kinds.specs.Made.{IsAllowed, IsRow, IsMade};
 ghost use Rattle.hls_guarantee.specs.Cap.{KeepsCap};
@@ -98,4 +99,20 @@ pub fn made_frames_keep_their_caps(frame: u32)
 pub fn what_fits_fits_after_a_leaving(config: Config)
     ensures { (b : Ledger) (slot : ℕ) (terms : Terms) → Fits config b terms →
         Fits config (with_mark b (Event.Leave slot)) terms }
+{}
+
+/// And what is free stays free: no slot is taken up by a leaving, and a scheduler that is full then
+/// was full before.
+pub fn what_is_free_is_free_after_a_leaving(config: Config)
+    ensures slots { (b : Ledger) (slot other : ℕ) → occupant_at config b other ≡ None →
+        occupant_at config (with_mark b (Event.Leave slot)) other ≡ None }
+    ensures full { (b : Ledger) (slot : ℕ) → IsFull config (with_mark b (Event.Leave slot)) →
+        IsFull config b }
+{}
+
+/// A scheduler that is not full has a slot that is the least free one, and one only.
+pub fn least_free_slots_are_one(config: Config)
+    ensures some { (b : Ledger) → ¬ IsFull config b → (slot : ℕ) × IsFree config b slot }
+    ensures one { (b : Ledger) (slot other : ℕ) → IsFree config b slot → IsFree config b other →
+        slot ≡ other }
 {}

@@ -62,7 +62,7 @@ taken : (b : Ledger) (slot : ℕ) (terms : Terms) → terms_at b slot ≡ Some t
 taken b slot terms has none = let no = sym has ∙ none in cc
 
 -- two slots
-off_two : (slot : ℕ) → slot_asks 3 (suc (suc slot)) ≡ false
+pub off_two : (slot : ℕ) → slot_asks 3 (suc (suc slot)) ≡ false
 off_two slot = let a = bit_at-suc 3 (suc slot) in let b = bit_at-suc 1 slot in let c = bit_at-zero slot in
     rw (a, b, c) refl
 

@@ -1,6 +1,6 @@
 -- The example is a legal run.
 use Rattle.std.proofs.Common.{◌≡◌, ◌≢◌, ℕ, inl, inr, ◌<◌, [], ◌∷◌, Option, Some, None, Bool, false}
-use Rattle.std.proofs.Common.{refl, sym, ap, ◌∙◌, ◌==◌, slice_get, arith}
+use Rattle.std.proofs.Common.{refl, sym, ap, ◌∙◌, slice_get, arith}
 use Rattle.std.specs.Prelude.{codes}
 use Rattle.std.proofs.lemmas.Bool.{cases_eq, ne_eqb, eqb-true}
 use Rattle.hls_chron.specs.Seats.{terms_at, priority_at}
@@ -183,11 +183,7 @@ can_tick_first = (
   ),
 )
 
--- the move
-below_player : (k : ℕ) → k ≢ 2 → (k == 2) ≡ false
-below_player k ne = ne_eqb k 2 ne
-
--- nobody sits on the player
+-- the move: nobody sits on the player
 abbrev OffPlayer : (c : ℕ) → Option Node → Type 0
 OffPlayer c node = (port : ℕ) (seat : Seat) (p slot : ℕ) → seat_of node port ≡ Some seat
     → seat.place ≡ At p slot → p ≢ 2

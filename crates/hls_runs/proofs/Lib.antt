@@ -8,3 +8,5 @@ pub mod Desk
 pub mod Budgets
 pub mod Reserved
 pub mod Withdrawn
+pub mod Tagged
+pub mod Shared

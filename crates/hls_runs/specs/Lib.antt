@@ -1,3 +1,4 @@
 pub mod Example
 pub mod Moves
 pub mod Reserved
+pub mod Shared

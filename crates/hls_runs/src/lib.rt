@@ -3,3 +3,4 @@
 
 pub mod priorities;
 pub mod reservations;
+pub mod shares;

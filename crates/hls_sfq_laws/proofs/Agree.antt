@@ -200,10 +200,3 @@ marks_same a b t same = rw same refl
 row_same : (a b : Ledger) (t : ℕ) → a.start ≡ b.start → a.rows ≡ b.rows → row_at a t ≡ row_at b t
 unfolding row_at
 row_same a b t start rows = rw (start, rows) refl
-
-pub same-all : (a b : Ledger) (t : ℕ) → a.start ≡ b.start → a.rows ≡ b.rows → a.marks ≡ b.marks
-    → SameUpTo a b t
-same-all a b t start rows marks = record {
-  before = record { start = start; rows = λ z lt. row_same a b z start rows };
-  tenants = λ z slot le. tenant_at-same (before z a) (before z b) slot (marks_same a b z marks);
-}

@@ -8,7 +8,7 @@ use Rattle.std.proofs.lemmas.Bool.Decides.{nat_tests}
 use Rattle.hls_sfq_laws.proofs.Tags.{Tag, Clock, goes_on, one_more, v_after, who_after, had_after}
 use Rattle.hls_sfq_laws.proofs.Tags.{clock_after, tag_after, SfqServes, weights, ahead, ahead_in, AreTags}
 use Rattle.hls_sfq_laws.proofs.Tags.{IsChurn}
-use Rattle.hls_sfq_laws.proofs.Sums.{sum-le, sum-eq, sum-one, sum-mul, sum-add}
+use Rattle.hls_sfq_laws.proofs.Sums.{sum-le, sum-one, sum-mul, sum-add}
 use Rattle.hls_sfq_laws.proofs.Atoms.{ahead-fresh, ahead-free, ahead-grows, ahead-served}
 
 -- the definitions, by case
@@ -44,10 +44,6 @@ had-none Q c asks = elim (asks c.who) as (λ b. 0 < (if b then c.had else 0) →
       | true ↦ λ lt. refl
       | false ↦ λ lt. absurd (omega arith)
     ]
-
-pub who-none : (c : Clock) → who_after c None ≡ c.who
-unfolding who_after
-who-none c = refl
 
 pub who-some : (c : Clock) (k : ℕ) → who_after c (Some k) ≡ k
 unfolding who_after
@@ -175,11 +171,6 @@ tick-ahead Q V n c tags asks k pos taken kept serves =
       sum-mul (λ j. (tags j).w)
           (v_after c tags asks (Some k) - c.v) n,
     )
-
-pub tick-weights : (v n : ℕ) (tags : ℕ → Tag) (to : Option ℕ)
-    → weights (tags_after v tags to) n ≡ weights tags n
-tick-weights v n tags to = sum-eq (λ k. (tag_after v (tags k) to k).w) (λ k. (tags k).w) n
-    (λ k lt. tag-w v (tags k) to k)
 
 -- what the tags keep, after a tick
 pub tick-tags : (Q V n : ℕ) (c : Clock) (tags : ℕ → Tag) (asks : ℕ → Bool) (k : ℕ) → 0 < Q

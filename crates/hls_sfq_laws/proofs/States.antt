@@ -1,23 +1,19 @@
 -- The virtual time and the finish tags of the present tick, after a row and after a mark.
-use Rattle.std.proofs.Common.{◌≡◌, ◌≢◌, ℕ, ◌+◌, ◌-◌, ◌<◌, ◌≤◌, suc, refl, sym, arith, ap, ◌∙◌, inl, inr, []}
+use Rattle.std.proofs.Common.{◌≡◌, ℕ, ◌+◌, ◌<◌, suc, refl, sym, arith, ap, ◌∙◌, []}
 use Rattle.std.proofs.Common.{Some, None}
-use Rattle.std.proofs.Common.{Bool, true, false, length, add-one}
-use Rattle.std.specs.Prelude.{Option, max}
+use Rattle.std.proofs.Common.{true, false, length, add-one}
 use Rattle.hls_chron.specs.declared.book.TickRow.{TickRow}
 use Rattle.hls_chron.specs.declared.book.Event.{Event}
-use Rattle.hls_chron.specs.Ledger.{Ledger, now_of, with_row, with_mark, row_at, before}
+use Rattle.hls_chron.specs.Ledger.{Ledger, now_of, with_row, with_mark, row_at}
 use Rattle.hls_chron.specs.Seats.{served, is_slot}
-use Rattle.hls_chron.proofs.BookLaws.{now_of-row, row_at-mark, row_at-now, before-mark}
-use Rattle.hls_kinds.specs.declared.tags.Share.{Share}
-use Rattle.hls_kinds.specs.Tenants.{tenant_at, tenant_then}
-use Rattle.hls_kinds.specs.Tags.{unit_tag, tag_step, share_in, time_by, finish_by, start_tag}
-use Rattle.hls_kinds.proofs.MarkLaws.{tenant_at-same}
+use Rattle.hls_chron.proofs.BookLaws.{now_of-row, row_at-mark, row_at-now}
+use Rattle.hls_kinds.specs.Tenants.{tenant_then}
+use Rattle.hls_kinds.specs.Tags.{tag_step, share_in, finish_by, start_tag}
 use Rattle.hls_kinds.proofs.TagLaws.{since-then}
 use Rattle.hls_sfq_laws.specs.ShareBook.{KeepsShareBook}
 use Rattle.hls_sfq_laws.proofs.Agree.{SameRows, SameUpTo, start_tag-same, time-same, finish-same}
 use Rattle.hls_sfq_laws.proofs.Nexts.{v_of, share_at, f_of, v-first, v-none, v-served, f-fresh, f-served}
 use Rattle.hls_sfq_laws.proofs.Nexts.{f-unserved}
-use Rattle.hls_sfq_laws.proofs.Rooms.{tenant-now}
 use Rattle.hls_sfq_laws.proofs.Keeping.{then_row, then_late, same_row, past_mark}
 
 -- a book in which nothing is written
