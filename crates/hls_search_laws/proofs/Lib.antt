@@ -8,3 +8,4 @@ pub mod Reached
 pub mod Makes
 pub mod Finding
 pub mod Ends
+pub mod Gains

@@ -18,7 +18,7 @@ use Rattle.hls_search_laws.proofs.Closed.Closed.{bound, null, shape, same, rates
 use Rattle.hls_search_laws.proofs.Bounds.{bound-step}
 use Rattle.hls_search_laws.proofs.Shapes.{shape-step}
 
-rates-gives : {g h : Guarantee} → Rates g h → Gives (quad g) h
+pub rates-gives : {g h : Guarantee} → Rates g h → Gives (quad g) h
 rates-gives (by4 (r4 {x = x} {y = y} {s = s} {d = d} rate error)) =
     share (better-quotient s.num s.den d.num d.den x y (x * (2 * (y - x))) y rate error)
 rates-gives (by5 (r5 {x = x} {y = y} {s = s} {d = d} rate error)) =

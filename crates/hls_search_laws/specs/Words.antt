@@ -4,6 +4,7 @@ use Rattle.hls_guarantee.specs.declared.Guarantee.{Guarantee}
 use Rattle.hls_guarantee.specs.declared.Guarantee.TheVariants.{Resb, Resc}
 use Rattle.hls_guarantee.specs.declared.rule.RuleName.{RuleName}
 use Rattle.hls_guarantee.specs.declared.rule.RuleName.TheVariants.{R1, R2, R3, R4, R5, R6, R7, R8, R9}
+use Rattle.hls_guarantee.specs.Conversions.{Converts}
 use Rattle.hls_derive.specs.Answers.{Answers}
 
 -- what a rule is asked for that these rules follow: what is wanted, but windows in place of blocks
@@ -30,3 +31,16 @@ pub record IsFound (n : ℕ) (g wanted : Guarantee) : Type 0 where
   pub known : IsWord word
   pub fits : length word ≤ n
   pub walks : Walks word g wanted
+
+-- conversions by these rules, in their order, lead from g to h
+abbrev pub Reaches : (word : List RuleName) → (g h : Guarantee) → Type 0
+Reaches [] g h = g ≡ h
+Reaches (rule ∷ rest) g h = (m : Guarantee) × Converts rule g m × Reaches rest m h
+
+-- somewhere no other word of at most so many rules leads from the same guarantee to the same
+pub record IsNeeded (word : List RuleName) : Type 0 where
+  pub from : Guarantee
+  pub to : Guarantee
+  pub reaches : Reaches word from to
+  pub alone : (other : List RuleName) → IsWord other → length other ≤ length word → Reaches other from to
+      → other ≡ word
