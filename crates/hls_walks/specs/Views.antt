@@ -1,5 +1,5 @@
 -- How nodes as they are stored are seen.
-use Rattle.std.specs.Prelude.{ℕ, Option, Some, None, map, Bool, true, false, ◌==◌, ◌&&◌}
+use Rattle.std.specs.Prelude.{◌≡◌, ℕ, Option, Some, None, map, Bool, true, false, ◌==◌, ◌&&◌}
 use Rattle.std.specs.declared.dyn_box.DynBox.{DynBox}
 use Rattle.std.specs.declared.alloc.Global.{Global}
 use Rattle.slab.specs.Slab.{Slab, get}
@@ -11,6 +11,8 @@ use Rattle.hls_walks.specs.declared.node.Place.{Place}
 use Rattle.hls_walks.specs.declared.node.Place.TheVariants as places
 use Rattle.hls_walks.specs.declared.node.TakenSeat.{TakenSeat}
 use Rattle.hls_walks.specs.declared.node.Node.{Node}
+use Rattle.hls_walks.specs.declared.node.Body.{Body}
+use Rattle.hls_walks.specs.declared.node.Body.TheVariants as bodies
 use Rattle.hls_walks.specs.declared.node.Role.{Role}
 use Rattle.hls_walks.specs.declared.node.Role.TheVariants as roles
 use Rattle.hls_walks.specs.declared.station.Station.{Station}
@@ -44,6 +46,10 @@ is_place (Some here) place = same_place here place
 
 -- V and P are what the checker knows a box by
 module _ {V : Type 0} {P : V → Type 0} where
+  -- what is said of what stands in a box, said of the box
+  abbrev pub boxed : {A : Type 0} → ((x : V) × P x → A) → DynBox V Global P → A
+  boxed f b = f (b.vtable, b.value)
+
   abbrev pub post_of : (DynBox V Global P → Seen) → Station V P → Post
   post_of show s = record { unit = show s.unit; mask = s.mask; granted = s.granted }
 
@@ -78,3 +84,9 @@ module _ {V : Type 0} {P : V → Type 0} where
 
   abbrev pub choice_at : (DynBox V Global P → Option ℕ) → Slab (Node V P) → ℕ → Option ℕ
   choice_at choice nodes key = choice_opt choice (get nodes key)
+
+  -- a body that was taken out, by what was shown of the node
+  abbrev pub IsBody : (DynBox V Global P → Seen) → Body V P → What → Type 0
+  IsBody show (bodies.Sched unit) (Scheduler post) = show unit ≡ post.unit
+  IsBody show bodies.Thread (Thread ready) = Unit {0}
+  IsBody show _ _ = ⊥
