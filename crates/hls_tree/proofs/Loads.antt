@@ -15,7 +15,7 @@ use Rattle.hls_legal.specs.Hierarchy.{Hierarchy, Node, Loaded, Admitted, name_of
 use Rattle.hls_legal.specs.Hierarchy.{Thread as AdmittedThread, Seat, is_ready, was_served, seats_of}
 use Rattle.hls_legal.specs.Hierarchy.{Scheduler as LoadedScheduler}
 use Rattle.hls_legal.specs.Steps.{marked, seatings, leavings, effect, nobody, root_with, loaded, admitted}
-use Rattle.hls_legal.specs.Legal.{port_count}
+use Rattle.hls_chron.specs.Kinds.{port_count}
 use Rattle.hls_legal.proofs.Kept.{at_same, at_other}
 use Rattle.hls_legal.proofs.Small.{zero_off}
 use Rattle.hls_walks.specs.Shown.{IsPosted, What, Scheduler, Thread, SchedulerNode, ThreadNode, PostedIn, RoomBare, bare, bare_what, level_in}

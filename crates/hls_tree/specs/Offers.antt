@@ -13,7 +13,8 @@ use Rattle.hls_legal.specs.Ledgers.{with_marks}
 use Rattle.hls_legal.specs.Hierarchy.{Hierarchy, Scheduler, Loaded, Place, At, name_of, book_of, config_of, seat_of}
 use Rattle.hls_legal.specs.Hierarchy.{Seat as TakenSeat}
 use Rattle.hls_legal.specs.Steps.{leavings}
-use Rattle.hls_legal.specs.Legal.{IsChain, scheduler_at, port_count}
+use Rattle.hls_legal.specs.Legal.{IsChain, scheduler_at}
+use Rattle.hls_chron.specs.Kinds.{port_count}
 use Rattle.hls_tree.specs.declared.seat.Seat.{Seat}
 
 -- nobody has the name
