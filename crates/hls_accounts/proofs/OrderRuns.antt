@@ -10,9 +10,9 @@ use Rattle.hls_text.specs.Lines.{Text}
 use Rattle.hls_chron.specs.declared.plain.Config.{Config}
 use Rattle.hls_chron.specs.Seats.{terms_at}
 use Rattle.hls_guarantee.specs.declared.Guarantee.{Guarantee}
-use Rattle.hls_lang.specs.declared.scenario.Perch.{Perch}
-use Rattle.hls_lang.specs.declared.scenario.Command.{Command}
-use Rattle.hls_lang.specs.declared.scenario.Command.TheVariants as said
+use Rattle.hls_scenario.specs.declared.scenario.Perch.{Perch}
+use Rattle.hls_scenario.specs.declared.scenario.Command.{Command}
+use Rattle.hls_scenario.specs.declared.scenario.Command.TheVariants as said
 use Rattle.hls_report_text.specs.declared.report.Seated.{Seated}
 use Rattle.hls_report_text.specs.declared.report.Answer.{Answer}
 use Rattle.hls_report_text.specs.declared.report.Answer.TheVariants.{Done, Refused}

@@ -7,9 +7,9 @@ use Rattle.std.specs.Prelude.{Option, Some, None}
 use Rattle.std.specs.Option.{option_or}
 use Rattle.std.proofs.lemmas.List.{append-nil, append_assoc, map-append}
 use Rattle.hls_text.specs.Lines.{Text}
-use Rattle.hls_lang.specs.declared.scenario.Spot.{Spot}
-use Rattle.hls_lang.specs.declared.scenario.Spot.TheVariants.{Cpu, Under}
-use Rattle.hls_lang.specs.declared.scenario.Perch.{Perch}
+use Rattle.hls_scenario.specs.declared.scenario.Spot.{Spot}
+use Rattle.hls_scenario.specs.declared.scenario.Spot.TheVariants.{Cpu, Under}
+use Rattle.hls_scenario.specs.declared.scenario.Perch.{Perch}
 use Rattle.hls_report_text.specs.declared.report.Answered.{Answered}
 use Rattle.hls_report_text.specs.Content.{Content}
 use Rattle.hls_legal.specs.Hierarchy.{Hierarchy, Node, Loaded, Admitted, Place, Processor, At, Seat}

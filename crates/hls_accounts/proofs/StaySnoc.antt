@@ -6,8 +6,8 @@ use Rattle.std.specs.Option.{option_or}
 use Rattle.std.proofs.lemmas.List.{append-nil, append_assoc, map-append}
 use Rattle.std.proofs.lemmas.List.Folds.{list_any-append}
 use Rattle.hls_text.specs.Lines.{Text}
-use Rattle.hls_lang.specs.declared.scenario.Command.{Command}
-use Rattle.hls_lang.specs.declared.scenario.Command.TheVariants.{Load, Thread, End, Unload, Move, Wake, Block}
+use Rattle.hls_scenario.specs.declared.scenario.Command.{Command}
+use Rattle.hls_scenario.specs.declared.scenario.Command.TheVariants.{Load, Thread, End, Unload, Move, Wake, Block}
 use Rattle.hls_report_text.specs.declared.report.Answered.{Answered}
 use Rattle.hls_accounts.specs.declared.stay.Stay.{Stay}
 use Rattle.hls_accounts.specs.Commands.{is_done, has_done, ends, is_ended}

@@ -6,9 +6,9 @@ use Rattle.std.specs.List.{AllByRecursion}
 use Rattle.std.proofs.lemmas.Bool.{cases_eq}
 use Rattle.std.proofs.lemmas.List.{append-nil, append_assoc}
 use Rattle.hls_text.specs.Lines.{Text}
-use Rattle.hls_lang.specs.declared.scenario.Command.{Command}
-use Rattle.hls_lang.specs.declared.scenario.Command.TheVariants as said
-use Rattle.hls_print.proofs.CanonicalLines.{all_append}
+use Rattle.hls_scenario.specs.declared.scenario.Command.{Command}
+use Rattle.hls_scenario.specs.declared.scenario.Command.TheVariants as said
+use Rattle.hls_scenario.proofs.CanonicalLines.{all_append}
 use Rattle.hls_report_text.specs.declared.report.Answer.{Answer}
 use Rattle.hls_report_text.specs.declared.report.Answer.TheVariants.{Done, Refused}
 use Rattle.hls_report_text.specs.declared.report.Answered.{Answered}

@@ -5,7 +5,7 @@ use Rattle.std.specs.Prelude.{Option, Some, None, map}
 use Rattle.std.specs.List.{AllByRecursion}
 use Rattle.std.proofs.lemmas.Bool.{cases_eq, cases_lt}
 use Rattle.hls_text.specs.Lines.{Text}
-use Rattle.hls_print.proofs.CanonicalLines.{all_append}
+use Rattle.hls_scenario.proofs.CanonicalLines.{all_append}
 use Rattle.hls_report_text.specs.declared.report.Answered.{Answered}
 use Rattle.hls_report_text.specs.Content.{Content}
 use Rattle.hls_legal.specs.Hierarchy.{Hierarchy, Node, Loaded, Admitted, Stay, name_of}

@@ -3,8 +3,8 @@ use Rattle.std.specs.Prelude.{ℕ, List, Option, Bool, true, false, ◌&&◌, na
 use Rattle.std.specs.List.{list_any}
 use Rattle.std.specs.Str.{bytes_eq}
 use Rattle.hls_text.specs.Lines.{Text}
-use Rattle.hls_lang.specs.declared.scenario.Command.{Command}
-use Rattle.hls_lang.specs.declared.scenario.Command.TheVariants.{Load, Thread, End, Move, Wake, Block}
+use Rattle.hls_scenario.specs.declared.scenario.Command.{Command}
+use Rattle.hls_scenario.specs.declared.scenario.Command.TheVariants.{Load, Thread, End, Move, Wake, Block}
 use Rattle.hls_report_text.specs.declared.report.Answer.{Answer}
 use Rattle.hls_report_text.specs.declared.report.Answer.TheVariants.{Done, Refused}
 use Rattle.hls_report_text.specs.declared.report.Answered.{Answered}

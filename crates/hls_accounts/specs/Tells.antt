@@ -5,11 +5,11 @@ use Rattle.std.specs.List.{AllByRecursion}
 use Rattle.hls_text.specs.Lines.{Text}
 use Rattle.hls_chron.specs.declared.plain.Terms.{Terms}
 use Rattle.hls_chron.specs.declared.plain.Terms.TheVariants as terms
-use Rattle.hls_lang.specs.declared.scenario.Spot.{Spot}
-use Rattle.hls_lang.specs.declared.scenario.Spot.TheVariants.{Cpu, Under}
-use Rattle.hls_lang.specs.declared.scenario.Perch.{Perch}
-use Rattle.hls_lang.specs.declared.scenario.Command.{Command}
-use Rattle.hls_lang.specs.declared.scenario.Command.TheVariants as said
+use Rattle.hls_scenario.specs.declared.scenario.Spot.{Spot}
+use Rattle.hls_scenario.specs.declared.scenario.Spot.TheVariants.{Cpu, Under}
+use Rattle.hls_scenario.specs.declared.scenario.Perch.{Perch}
+use Rattle.hls_scenario.specs.declared.scenario.Command.{Command}
+use Rattle.hls_scenario.specs.declared.scenario.Command.TheVariants as said
 use Rattle.hls_report_text.specs.declared.report.Answer.{Answer}
 use Rattle.hls_report_text.specs.declared.report.Answer.TheVariants.{Done, Refused}
 use Rattle.hls_report_text.specs.declared.report.Answered.{Answered}

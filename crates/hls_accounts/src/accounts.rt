@@ -9,7 +9,7 @@ use crate::Stay;
 use crate::readiness::{count_ready, count_served};
 use crate::schedule::is_idle;
 use crate::stays::stays_of;
-use hls_report::{Account, Report};
+use hls_report_text::{Account, Report};
 use std::alloc::{AllocError, Global};
 
 /// The tick before which a stay ends.

@@ -4,8 +4,8 @@ ghost use Rattle.std.specs.Str.{bytes_eq};
 ghost use Rattle.hls_accounts.specs.Commands as said;
 
 use hls_chron::Name;
-use hls_lang::Command;
-use hls_report::{Answer, Answered};
+use hls_report_text::{Answer, Answered};
+use hls_scenario::Command;
 
 /// Whether two names are the same.
 pub fn same_name(one: &Name, other: &Name) -> bool

@@ -9,8 +9,6 @@ mod readiness;
 mod schedule;
 mod stay;
 mod stays;
-#[cfg(test)]
-mod tests;
 mod under;
 mod windows;
 

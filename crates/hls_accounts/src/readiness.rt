@@ -8,8 +8,8 @@ ghost use Rattle.hls_accounts.specs.Ready as told;
 use crate::commands::last_rousing;
 use crate::schedule::is_served;
 use hls_chron::Name;
-use hls_lang::Command;
-use hls_report::{Answered, Report};
+use hls_report_text::{Answered, Report};
+use hls_scenario::Command;
 
 /// In how many of so many ticks, from one on, the thread of a name is served.
 #[tactic(auto, using(hls_kinds::proofs::TickLaws::tick_laws))]

@@ -5,7 +5,7 @@ ghost use Rattle.hls_report_text.specs.Content.{content_of, path_names};
 ghost use Rattle.hls_accounts.specs.Schedule as spelled;
 
 use hls_chron::Name;
-use hls_report::{Path, Report, Run};
+use hls_report_text::{Path, Report, Run};
 
 /// The run that has a tick.
 fn run_at(runs: &[Run], tick: u32) -> Option<Run>

@@ -10,8 +10,8 @@ use crate::commands::{is_done, is_ended, last_seating, same_name};
 use crate::under::is_under;
 use hls_chron::Name;
 use hls_guarantee::Guarantee;
-use hls_lang::Command;
-use hls_report::Answered;
+use hls_report_text::Answered;
+use hls_scenario::Command;
 use std::alloc::{AllocError, Global};
 
 /// The thread that a command admits, unless one of those after ends it.

@@ -5,8 +5,8 @@ ghost use Rattle.hls_accounts.specs.Under as told;
 
 use crate::commands::{last_seating, same_name};
 use hls_chron::Name;
-use hls_lang::{Command, Perch, Spot};
-use hls_report::Answered;
+use hls_report_text::Answered;
+use hls_scenario::{Command, Perch, Spot};
 
 /// Whether a name is the one above or, in at most so many steps, below it.
 #[cycle(within)]

@@ -5,7 +5,7 @@ ghost use Rattle.hls_accounts.specs.Accounts.{end_of, IsLongestWindow};
 
 use crate::Stay;
 use crate::readiness::is_ready;
-use hls_report::Report;
+use hls_report_text::Report;
 
 /// The tick from which on, up to the one before `until`, the thread of a stay is ready in all ticks
 /// of the stay: where the longest window that ends there begins.

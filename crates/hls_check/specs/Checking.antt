@@ -12,7 +12,7 @@ use Rattle.hls_derive.specs.declared.derivation.Step.{Step}
 use Rattle.hls_derive.specs.declared.derivation.SchedStep.{SchedStep}
 use Rattle.hls_derive.specs.declared.derivation.Derivation.{Derivation}
 use Rattle.hls_derive.specs.Derivation.{end_of, last_of, AreValid}
-use Rattle.hls_derive.specs.Derives.{ports_of}
+use Rattle.hls_chron.specs.Kinds.{port_count}
 
 -- conversion i of some steps, if there is one, is a conversion of what those before it reach from g
 abbrev pub ConvertsAt : Guarantee → List Step → ℕ → Type 0
@@ -51,7 +51,7 @@ pub record CanCheck (place : Place) (haves : List Guarantee) (want : Guarantee) 
     : Type 0 where
   pub config : ConfigInRange place.config
   pub terms : TermsInRange place.terms
-  pub ports : length haves ≡ ports_of place.config
+  pub ports : length haves ≡ port_count place.config
   pub each_have : All IsValid haves
   pub wanted : IsValid want
   pub from : IsValid d.from

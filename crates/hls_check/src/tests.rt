@@ -2,7 +2,7 @@
 ghost use Rattle.std.specs.Prelude.{◌≡◌, IfOk};
 ghost use Rattle.hls_chron.specs.Ranges.{ConfigInRange, TermsInRange};
 ghost use Rattle.hls_guarantee.specs.Limits.{IsValid};
-ghost use Rattle.hls_derive.specs.Derives.{ports_of};
+ghost use Rattle.hls_chron.specs.Kinds.{port_count};
 
 use crate::{Verdict, check};
 use hls_chron::{Config, Terms};
@@ -28,7 +28,7 @@ fn judge(
 ) -> Result<Option<Verdict>, Fail>
     requires config { ConfigInRange place.now.config }
     requires terms { TermsInRange place.now.terms }
-    requires ports { ports_of place.now.config ≡ 1 }
+    requires ports { port_count place.now.config ≡ 1 }
 {
     let haves = [read(have)?];
     let want = read(want)?;

@@ -1,3 +1,4 @@
 pub mod NameLemmas
 pub mod BookLaws
 pub mod CountLaws
+pub mod PartLaws

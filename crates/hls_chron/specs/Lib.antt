@@ -5,3 +5,4 @@ pub mod Ledger
 pub mod Seats
 pub mod Ranges
 pub mod Ticks
+pub mod Parts

@@ -5,8 +5,10 @@ mod book;
 mod list;
 mod name;
 mod plain;
+mod price;
 
 pub use book::{Book, Event, Mark, TickRow};
 pub use list::List;
 pub use name::Name;
 pub use plain::{Config, Kind, Terms};
+pub use price::{ALL_PARTS, parts};

@@ -1,8 +1,8 @@
 -- The commands of a scenario by their ticks.
 use Rattle.std.specs.Prelude.{ℕ, ◌==◌, nat_lt, List, Option, Some, None, map, slice_get, if◌then◌else◌}
 use Rattle.std.specs.List.{find}
-use Rattle.hls_lang.specs.declared.scenario.Command.{Command}
-use Rattle.hls_lang.specs.declared.scenario.Item.{Item}
+use Rattle.hls_scenario.specs.declared.scenario.Command.{Command}
+use Rattle.hls_scenario.specs.declared.scenario.Item.{Item}
 
 abbrev pub due_of : ℕ → Option Item → Option Command
 due_of now None = None

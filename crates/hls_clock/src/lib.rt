@@ -4,7 +4,7 @@
 ghost use Rattle.std.specs.Prelude.{◌≡◌, ◌+◌, ◌<◌, drop, option_copied};
 ghost use Rattle.hls_clock.specs.Agenda.{due_command, first_tick_after};
 
-use hls_lang::{Command, Scenario};
+use hls_scenario::{Command, Scenario};
 use std::marker::Model;
 
 /// How many commands of a scenario have their answers. It borrows nothing of the scenario, and no
@@ -78,7 +78,7 @@ impl Agenda {
 mod tests {
     use super::*;
     use hls_chron::{List, Name};
-    use hls_lang::Item;
+    use hls_scenario::Item;
     use std::test::Fail;
 
     #[test]

@@ -1,7 +1,7 @@
 -- What is left of a text to which a failed call may have appended.
 use Rattle.std.proofs.Common.{◌≡◌, ℕ, List, ◌++◌, length, take, ◌∙◌, ap, append_assoc}
 use Rattle.std.specs.Prelude.{Result, Ok, Err, OnErr}
-use Rattle.hls_guarantee.proofs.Texts.{begins_still}
+use Rattle.hls_text.proofs.FirstMarks.{begins_still}
 
 pub on_err : {T E P : Type 0} (r : Result T E) → P → OnErr r P
 on_err (Ok x) p = tt

@@ -16,7 +16,8 @@ use Rattle.hls_guarantee.specs.declared.rule.RuleName.{RuleName}
 use Rattle.hls_guarantee.specs.declared.rule.RuleName.TheVariants.{R1, R2, R3, R4, R5, R6, R7, R8, R9}
 use Rattle.hls_guarantee.specs.Limits.{IsReservation, IsValid}
 use Rattle.hls_guarantee.specs.Spelling.{fraction_text, with_fields, spelling}
-use Rattle.hls_guarantee.proofs.Spellings.{decimal-lacks, cases_whole, text_of_whole, text_of_ratio}
+use Rattle.hls_text.proofs.Marks.{decimal-lacks}
+use Rattle.hls_guarantee.proofs.Spellings.{cases_whole, text_of_whole, text_of_ratio}
 use Rattle.hls_guarantee.proofs.Spellings.{fits_num, fits_den}
 use Rattle.hls_guarantee.proofs.Injective.{spelling-same}
 use Rattle.hls_derive.specs.declared.derivation.Step.{Step}

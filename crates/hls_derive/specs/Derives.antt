@@ -1,8 +1,8 @@
 -- How a guarantee is derived at a place, from what its ports have.
-use Rattle.std.specs.Prelude.{◌≡◌, ℕ, List, [], ◌∷◌, Some, slice_get}
+use Rattle.std.specs.Prelude.{◌≡◌, List, [], ◌∷◌, Some, slice_get}
 use Rattle.hls_frac.specs.Frac.{IsQuotient}
 use Rattle.hls_chron.specs.declared.plain.Config.{Config}
-use Rattle.hls_chron.specs.declared.plain.Config.TheVariants.{Sfq, Join}
+use Rattle.hls_chron.specs.declared.plain.Config.TheVariants.{Sfq}
 use Rattle.hls_chron.specs.Kinds.{kind_of}
 use Rattle.hls_guarantee.specs.declared.Guarantee.{Guarantee}
 use Rattle.hls_guarantee.specs.declared.Guarantee.TheVariants.{Psbe}
@@ -13,11 +13,6 @@ use Rattle.hls_derive.specs.declared.derivation.Step.{Step}
 use Rattle.hls_derive.specs.declared.derivation.Derivation.{Derivation}
 use Rattle.hls_derive.specs.Derivation.{end_of, last_of}
 use Rattle.hls_derive.specs.Answers.{Answers}
-
--- a join has as many ports as it says, and every other scheduler has one
-abbrev pub ports_of : Config → ℕ
-ports_of (Join ports) = ports
-ports_of _ = 1
 
 -- each step is a conversion of what the one before it reached, the first of g
 abbrev pub FollowsBy : Guarantee → List Step → Type 0

@@ -1,9 +1,10 @@
 -- What stands at the front of a text, as the reader's private functions read it.
 -- DerivationText says which texts derivations have.
-use Rattle.std.specs.Prelude.{◌≡◌, ℕ, zero, suc, ◌-◌, ◌==◌, ◌&&◌, nat_le, List, [], ◌∷◌, ◌++◌, length}
-use Rattle.std.specs.Prelude.{take, drop, codes}
+use Rattle.std.specs.Prelude.{◌≡◌, ℕ, zero, suc, ◌-◌, ◌==◌, ◌&&◌, nat_le, List, [], ◌∷◌, ◌++◌}
+use Rattle.std.specs.Prelude.{codes}
 use Rattle.std.specs.Prelude.{Option, Some, None, if◌then◌else◌}
-use Rattle.std.specs.Str.{bytes_eq}
+use Rattle.hls_text.specs.Cuts.{after_words}
+use Rattle.hls_text.specs.Options.{◌>>=◌, first_of_two}
 use Rattle.hls_chron.specs.declared.plain.Kind.{Kind}
 use Rattle.hls_chron.specs.declared.plain.Kind.TheVariants.{Cpu, Fp, Edf, Sfq, Rr, Wheel, Join}
 use Rattle.hls_guarantee.specs.declared.Guarantee.{Guarantee}
@@ -63,26 +64,6 @@ pub record StepsStand (text : List ℕ) (steps : List Step) (rest : List ℕ) : 
   pub all : (s : Step) (behind : List ℕ) → StepStands rest s behind → ⊥
 
 -- ---- words
-
-infixl 10 ◌>>=◌
-abbrev pub ◌>>=◌ : {A B : Type 0} → Option A → (A → Option B) → Option B
-None >>= f = None
-(Some x) >>= f = f x
-
--- the first reading, or else the second
-abbrev pub first_of_two : {A B : Type 0} → Option A → (A → Option B) → Option B → Option B
-first_of_two None f other = other
-first_of_two (Some x) f other = f x
-
--- what was returned, seen by view, is what reading gives
-abbrev pub Gives : {X Y : Type 0} → (X → Y) → Option X → Option Y → Type 0
-Gives view None read = read ≡ None
-Gives view (Some x) read = read ≡ Some (view x)
-
--- what stands after these words, where the text begins with them
-abbrev pub after_words : List ℕ → List ℕ → Option (List ℕ)
-after_words words text =
-    if bytes_eq (take (length words) text) words then Some (drop (length words) text) else None
 
 abbrev pub first_byte : List ℕ → Option (ℕ × List ℕ)
 first_byte [] = None

@@ -2,11 +2,13 @@
 ghost use Rattle.std.specs.Prelude.{◌≡◌, ◌≤◌, ◌++◌, [], ◌∷◌, codes, decimal, IfSome};
 ghost use Rattle.hls_derive.specs.Derivation.{PortFits};
 ghost use Rattle.hls_derive.specs.DerivationText.{rule_text, scheduler_text};
-ghost use Rattle.hls_derive.specs.Reading.{place_of_space, Gives, after_words, first_byte, rule_of, rule_at};
+ghost use Rattle.hls_derive.specs.Reading.{place_of_space, first_byte, rule_of, rule_at};
+ghost use Rattle.hls_text.specs.Options.{Gives};
 ghost use Rattle.hls_derive.specs.Reading.{port_of, port_at, scheduler_at};
 
 use hls_chron::Kind;
 use hls_guarantee::RuleName;
+use hls_text::after;
 
 /// Where the space stands before which there are so many, or where the text ends.
 pub fn space(text: &[u8], before: usize) -> usize
@@ -22,14 +24,6 @@ pub fn space(text: &[u8], before: usize) -> usize
         }
     }
     text.len()
-}
-
-/// What stands after these words, where the text begins with them.
-pub fn after<'a>(text: &'a [u8], words: &[u8]) -> Option<&'a [u8]>
-    ensures read { Gives (λ rest. rest.now) result (after_words words.now text.entry.now) }
-    ensures found { IfSome result (λ rest. text.entry.now ≡ words.now ++ rest.now) }
-{
-    text.strip_prefix(words)
 }
 
 fn first(text: &[u8]) -> Option<(u8, &[u8])>

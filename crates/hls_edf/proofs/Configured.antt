@@ -12,7 +12,7 @@ use Rattle.hls_chron.specs.Ranges.{TermsInRange}
 use Rattle.hls_chron.specs.Ledger.{Ledger, now_of}
 use Rattle.hls_chron.specs.Seats.{most_seats}
 use Rattle.hls_kinds.specs.Slots.{sum_below}
-use Rattle.hls_kinds.specs.Reservations.{all_parts, parts}
+use Rattle.hls_chron.specs.Parts.{all_parts, parts}
 use Rattle.hls_kinds.specs.Asks.{asks}
 use Rattle.hls_kinds.specs.Discipline.{Serves}
 use Rattle.hls_kinds.specs.Room.{room_used, occupant_at, IsFree, IsFull}

@@ -14,7 +14,8 @@ use Rattle.hls_kinds.specs.Slots.{any_below, IsFirst}
 use Rattle.hls_kinds.specs.declared.tenant.Tenant.{Tenant}
 use Rattle.hls_kinds.specs.declared.tenant.Tenant.TheVariants.{Vacant, Sits, Left}
 use Rattle.hls_kinds.specs.Tenants.{tenant_at}
-use Rattle.hls_kinds.specs.Reservations.{all_parts, deadline_at, budget_at, is_soft, is_soft_in}
+use Rattle.hls_chron.specs.Parts.{all_parts}
+use Rattle.hls_kinds.specs.Reservations.{deadline_at, budget_at, is_soft, is_soft_in}
 use Rattle.hls_kinds.specs.Asks.{asks, slot_asks, asks_in_budget, asks_softly}
 use Rattle.hls_kinds.specs.Discipline.{Serves, may_go}
 use Rattle.hls_kinds.proofs.SlotLaws.{any_below-at, any_below-or}

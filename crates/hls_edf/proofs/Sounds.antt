@@ -13,7 +13,7 @@ use Rattle.hls_chron.specs.declared.plain.Terms.TheVariants.{Res}
 use Rattle.hls_chron.specs.Ledger.{Ledger, now_of, before, with_row, with_mark}
 use Rattle.hls_chron.specs.Seats.{SlotAsks, terms_at, is_slot}
 use Rattle.hls_chron.proofs.BookLaws.{terms_at-mark, terms_at-row, terms_at-unmarked}
-use Rattle.hls_kinds.specs.Reservations.{all_parts, parts}
+use Rattle.hls_chron.specs.Parts.{all_parts, parts}
 use Rattle.hls_kinds.specs.Asks.{asks, slot_asks}
 use Rattle.hls_kinds.specs.Discipline.{Serves}
 use Rattle.hls_kinds.proofs.DisciplineLaws.{discipline-mark, discipline-row}

@@ -1,6 +1,6 @@
 -- What a tick and a settling make of the account of a slot, which a seat has taken or not.
 use Rattle.std.specs.Prelude.{ℕ, ◌+◌, Bool, Option, Some, None, if◌then◌else◌}
-use Rattle.hls_kinds.specs.Reservations.{all_parts}
+use Rattle.hls_chron.specs.Parts.{all_parts}
 use Rattle.hls_edf_laws.specs.declared.account.Account.{Account}
 use Rattle.hls_edf_laws.specs.Accounts.{vacant, fresh, replenished, charged}
 use Rattle.hls_edf_laws.specs.Books.{held}

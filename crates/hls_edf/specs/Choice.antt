@@ -5,7 +5,7 @@ use Rattle.std.specs.Prelude.{if◌then◌else◌, slice_index_or}
 use Rattle.std.specs.Option.{option_map}
 use Rattle.hls_chron.specs.declared.plain.Terms.{Terms}
 use Rattle.hls_chron.specs.declared.plain.Terms.TheVariants.{Res}
-use Rattle.hls_kinds.specs.Reservations.{all_parts}
+use Rattle.hls_chron.specs.Parts.{all_parts}
 use Rattle.hls_kinds.specs.Asks.{slot_asks}
 use Rattle.hls_edf_laws.specs.declared.account.Account.{Account}
 use Rattle.hls_edf_laws.specs.Accounts.{vacant, replenished}

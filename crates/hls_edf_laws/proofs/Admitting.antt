@@ -12,7 +12,7 @@ use Rattle.hls_chron.specs.Seats.{terms_at}
 use Rattle.hls_kinds.specs.declared.tenant.Tenant.{Tenant}
 use Rattle.hls_kinds.specs.declared.tenant.Tenant.TheVariants.{Vacant, Sits, Left}
 use Rattle.hls_kinds.specs.Tenants.{tenant_at}
-use Rattle.hls_kinds.specs.Reservations.{all_parts, parts}
+use Rattle.hls_chron.specs.Parts.{all_parts, parts}
 use Rattle.hls_kinds.specs.Room.{IsFree, room_used}
 use Rattle.hls_kinds.specs.Fits.{Fits}
 use Rattle.hls_kinds.proofs.TenantLaws.{seated_in, seated-terms}

@@ -6,7 +6,7 @@ use Rattle.std.proofs.Math.Nat.{mul-le-mul_left}
 use Rattle.std.proofs.lemmas.Bool.{cases_lt, cases_Bool}
 use Rattle.hls_chron.specs.Ticks.{one_if, count}
 use Rattle.hls_kinds.specs.declared.reservations.Reservation.{Reservation}
-use Rattle.hls_kinds.specs.Reservations.{all_parts, parts}
+use Rattle.hls_chron.specs.Parts.{all_parts, parts}
 use Rattle.hls_edf_laws.specs.declared.account.Account.{Account}
 use Rattle.hls_edf_laws.specs.Accounts.{replenished, is_due}
 use Rattle.hls_edf_laws.specs.Recomputed.{account_before, account_within}

@@ -10,7 +10,8 @@ use Rattle.hls_chron.specs.declared.book.TickRow.{TickRow}
 use Rattle.hls_chron.specs.declared.plain.Config.TheVariants.{Edf}
 use Rattle.hls_chron.specs.Ledger.{Ledger, now_of, with_row}
 use Rattle.hls_kinds.specs.Slots.{any_below}
-use Rattle.hls_kinds.specs.Reservations.{all_parts, is_soft, deadline_at, budget_at}
+use Rattle.hls_chron.specs.Parts.{all_parts}
+use Rattle.hls_kinds.specs.Reservations.{is_soft, deadline_at, budget_at}
 use Rattle.hls_kinds.specs.Asks.{asks, slot_asks, asks_in_budget, asks_softly}
 use Rattle.hls_kinds.specs.Discipline.{Serves, may_go}
 use Rattle.hls_kinds.proofs.SlotLaws.{any_below-at}

@@ -13,7 +13,8 @@ use Rattle.hls_kinds.specs.declared.tenant.Tenant.TheVariants.{Vacant, Sits, Lef
 use Rattle.hls_kinds.specs.declared.reservations.Reservation.{Reservation}
 use Rattle.hls_kinds.specs.declared.reservations.Claim.{Claim}
 use Rattle.hls_kinds.specs.Tenants.{tenant_at, asking}
-use Rattle.hls_kinds.specs.Reservations.{all_parts, deadline_after, budget_after, last_replenished, claim_of}
+use Rattle.hls_chron.specs.Parts.{all_parts}
+use Rattle.hls_kinds.specs.Reservations.{deadline_after, budget_after, last_replenished, claim_of}
 use Rattle.hls_kinds.specs.Reservations.{claim_in}
 use Rattle.hls_kinds.specs.Reservations.{claim_at, deadline_in, budget_in, deadline_at, budget_at}
 use Rattle.hls_kinds.specs.Asks.{slot_asks}

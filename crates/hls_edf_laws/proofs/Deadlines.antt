@@ -9,7 +9,8 @@ use Rattle.hls_chron.specs.Ticks.{one_if}
 use Rattle.hls_chron.specs.Ticks.{count}
 use Rattle.hls_chron.proofs.CountLaws.{count-none, count-push}
 use Rattle.hls_kinds.specs.declared.reservations.Reservation.{Reservation}
-use Rattle.hls_kinds.specs.Reservations.{all_parts, parts, deadline_after, budget_after, is_replenished}
+use Rattle.hls_chron.specs.Parts.{all_parts, parts}
+use Rattle.hls_kinds.specs.Reservations.{deadline_after, budget_after, is_replenished}
 use Rattle.hls_kinds.specs.Reservations.{last_replenished}
 use Rattle.hls_edf_laws.specs.Recomputed.{asked_before, account_before, account_within}
 use Rattle.hls_edf_laws.proofs.Replenishing.{replenished-off, replenished-set, replenished-kept}

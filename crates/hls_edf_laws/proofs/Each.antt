@@ -16,7 +16,8 @@ use Rattle.hls_kinds.specs.declared.tenant.Tenant.TheVariants.{Sits}
 use Rattle.hls_kinds.specs.declared.reservations.Reservation.{Reservation}
 use Rattle.hls_kinds.specs.Slots.{any_below}
 use Rattle.hls_kinds.specs.Tenants.{tenant_at}
-use Rattle.hls_kinds.specs.Reservations.{all_parts, is_soft, is_soft_in, budget_at}
+use Rattle.hls_chron.specs.Parts.{all_parts}
+use Rattle.hls_kinds.specs.Reservations.{is_soft, is_soft_in, budget_at}
 use Rattle.hls_kinds.specs.Asks.{slot_asks, asks_in_budget, asks_softly}
 use Rattle.hls_kinds.specs.Discipline.{Serves}
 use Rattle.hls_kinds.proofs.TenantLaws.{seated_in}

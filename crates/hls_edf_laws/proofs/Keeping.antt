@@ -18,7 +18,7 @@ use Rattle.hls_kinds.specs.declared.tenant.Tenant.{Tenant}
 use Rattle.hls_kinds.specs.declared.tenant.Tenant.TheVariants.{Vacant, Sits, Left}
 use Rattle.hls_kinds.specs.declared.reservations.Reservation.{Reservation}
 use Rattle.hls_kinds.specs.Tenants.{tenant_at, after_leaving, after_settling, settled_at}
-use Rattle.hls_kinds.specs.Reservations.{all_parts, parts}
+use Rattle.hls_chron.specs.Parts.{all_parts, parts}
 use Rattle.hls_kinds.specs.Asks.{asks}
 use Rattle.hls_promise.specs.Promise.{asked_by}
 use Rattle.hls_edf_laws.specs.Accounts.{AreSound, HaveRoom, vacant, parts_in}

@@ -18,12 +18,12 @@ use Rattle.hls_kinds.specs.declared.tenant.Tenant.{Tenant}
 use Rattle.hls_kinds.specs.declared.tenant.Tenant.TheVariants.{Vacant, Sits, Left}
 use Rattle.hls_kinds.specs.Tenants.{after_leaving, after_settling, tenant_after, tenant_at, settled_after}
 use Rattle.hls_kinds.specs.Tenants.{settled_at}
-use Rattle.hls_kinds.specs.Reservations.{all_parts, parts}
+use Rattle.hls_chron.specs.Parts.{all_parts, parts}
 use Rattle.hls_edf_laws.specs.declared.account.Account.{Account}
 use Rattle.hls_edf_laws.specs.Accounts.{AreSound, HaveRoom, vacant, fresh, marked, parts_in, offered}
 use Rattle.hls_edf_laws.specs.Recomputed.{account_before}
 use Rattle.hls_edf_laws.specs.Books.{held, account_of, account_at, IsTenant, IsReservation}
-use Rattle.hls_edf_laws.proofs.Parts.{parts-rate}
+use Rattle.hls_chron.proofs.PartLaws.{parts-rate}
 use Rattle.hls_edf_laws.proofs.Marks.{seating-sound, seating-room, leaving-sound, leaving-room}
 use Rattle.hls_edf_laws.proofs.Marks.{freeing-sound, freeing-room, settling-sound, settling-room}
 use Rattle.hls_edf_laws.proofs.Deadlines.{last-zero}

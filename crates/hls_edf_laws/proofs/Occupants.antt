@@ -13,7 +13,8 @@ use Rattle.hls_kinds.specs.declared.tenant.Tenant.TheVariants.{Vacant, Sits, Lef
 use Rattle.hls_kinds.specs.declared.reservations.Reservation.{Reservation}
 use Rattle.hls_kinds.specs.Slots.{sum_below}
 use Rattle.hls_kinds.specs.Tenants.{tenant_at}
-use Rattle.hls_kinds.specs.Reservations.{parts, is_held, is_held_in}
+use Rattle.hls_chron.specs.Parts.{parts}
+use Rattle.hls_kinds.specs.Reservations.{is_held, is_held_in}
 use Rattle.hls_kinds.specs.Room.{terms_left, occupant_at, parts_in, room_used}
 use Rattle.hls_kinds.proofs.TenantLaws.{seated_in, seated-terms}
 use Rattle.hls_edf_laws.specs.declared.account.Account.{Account}

@@ -170,8 +170,3 @@ pub last-charged : (whole x y rate budget deadline now : ℕ) → rate * y + 1 �
 last-charged whole x y rate budget deadline now l1 big near = omega (arith, mul-le-mul_left rate near)
 
 -- rounding up
-pub ceil_up : (n y : ℕ) → 0 < y → n ≤ (n + y - 1) / y * y
-ceil_up n y pos = omega arith
-
-pub ceil_near : (n y : ℕ) → 0 < y → (n + y - 1) / y * y + 1 ≤ n + y
-ceil_near n y pos = omega arith

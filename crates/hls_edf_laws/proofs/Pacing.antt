@@ -5,7 +5,7 @@ use Rattle.std.specs.Prelude.{if◌then◌else◌}
 use Rattle.std.proofs.lemmas.Bool.{cases_Bool}
 use Rattle.hls_chron.specs.Ticks.{one_if}
 use Rattle.hls_kinds.specs.declared.reservations.Reservation.{Reservation}
-use Rattle.hls_kinds.specs.Reservations.{all_parts}
+use Rattle.hls_chron.specs.Parts.{all_parts}
 use Rattle.hls_edf_laws.specs.declared.account.Account.{Account}
 use Rattle.hls_edf_laws.specs.Accounts.{marked, charged, replenished, is_due}
 use Rattle.hls_edf_laws.specs.Recomputed.{account_before, account_within}

@@ -14,11 +14,12 @@ use Rattle.hls_kinds.specs.declared.tenant.Tenant.TheVariants.{Vacant, Sits}
 use Rattle.hls_kinds.specs.declared.reservations.Reservation.{Reservation}
 use Rattle.hls_kinds.specs.Slots.{sum_below}
 use Rattle.hls_kinds.specs.Tenants.{tenant_at, settled_at}
-use Rattle.hls_kinds.specs.Reservations.{all_parts, parts, deadline_after, budget_after, last_replenished}
+use Rattle.hls_chron.specs.Parts.{all_parts, parts}
+use Rattle.hls_kinds.specs.Reservations.{deadline_after, budget_after, last_replenished}
 use Rattle.hls_guarantee.specs.declared.Guarantee.{Guarantee}
 use Rattle.hls_guarantee.specs.declared.Guarantee.TheVariants as guarantees
 use Rattle.hls_guarantee.specs.declared.Guarantee.TheVariants.{Resb}
-use Rattle.hls_guarantee.specs.Cap.{KeepsCap, parts_of}
+use Rattle.hls_guarantee.specs.Cap.{KeepsCap}
 use Rattle.hls_guarantee.specs.Supply.{Supplies}
 use Rattle.hls_guarantee.specs.Steps.{LendsByTerms, LendsNothing}
 use Rattle.hls_promise.specs.Promise as promises
@@ -29,7 +30,8 @@ use Rattle.hls_edf_laws.specs.Recomputed.{account_within}
 use Rattle.hls_edf_laws.specs.Books.{account_at, IsGiven, IsTenant, KeepsReservations, ReachesDeadline}
 use Rattle.hls_edf_laws.proofs.Sums.{sum-eq}
 use Rattle.hls_edf_laws.proofs.Claimed.{due-vacant}
-use Rattle.hls_edf_laws.proofs.Parts.{parts-rate, parts-near, parts-big, parts-cap}
+use Rattle.hls_chron.proofs.PartLaws.{parts-rate, parts-near}
+use Rattle.hls_edf_laws.proofs.Parts.{parts-big}
 use Rattle.hls_edf_laws.proofs.Deadlines.{count_more, last_before}
 use Rattle.hls_edf_laws.proofs.Caps.{cap}
 use Rattle.hls_edf_laws.proofs.Pieces.{run_satisfies}
@@ -163,9 +165,7 @@ cap-kept b slot r keeps sat i n lo hi =
     (parts-near r.x r.y wide) (parts-big r.x r.y some narrow stay.0.2) narrow wide (omega arith)
     (λ k from before. keeps.sure slot k before) (keeps.hard slot r sat) in
     let counted : count (served b slot) i n * all_parts ≤ parts r.x r.y * n + 2 * r.x * all_parts =
-    rw (to, at) at most in
-    let more : parts r.x r.y * n ≤ parts_of r.x r.y * n = mul-le-mul_right n (parts-cap r.x r.y wide) in
-    omega (arith, counted, more)
+    rw (to, at) at most in counted
 
 cap_case : (b : Ledger) (slot : ℕ) (hard : Bool) (r : Reservation) → KeepsReservations b → tenant_at b slot
     ≡ sits r hard

@@ -11,7 +11,7 @@ use Rattle.hls_kinds.specs.declared.tenant.Tenant.{Tenant}
 use Rattle.hls_kinds.specs.declared.tenant.Tenant.TheVariants.{Vacant, Sits, Left}
 use Rattle.hls_kinds.specs.declared.reservations.Reservation.{Reservation}
 use Rattle.hls_kinds.specs.Tenants.{tenant_at}
-use Rattle.hls_kinds.specs.Reservations.{all_parts}
+use Rattle.hls_chron.specs.Parts.{all_parts}
 use Rattle.hls_kinds.specs.Asks.{slot_asks}
 use Rattle.hls_kinds.proofs.TenantLaws.{seated_in}
 use Rattle.hls_edf_laws.specs.declared.account.Account.{Account}

@@ -11,7 +11,7 @@ use Rattle.hls_chron.specs.Seats.{asked, served, is_slot}
 use Rattle.hls_chron.proofs.BookLaws.{now_of-row, row_at-past, row_at-now}
 use Rattle.hls_kinds.specs.declared.reservations.Reservation.{Reservation}
 use Rattle.hls_kinds.specs.Tenants.{tenant_at}
-use Rattle.hls_kinds.specs.Reservations.{all_parts}
+use Rattle.hls_chron.specs.Parts.{all_parts}
 use Rattle.hls_kinds.specs.Asks.{slot_asks}
 use Rattle.hls_edf_laws.specs.declared.account.Account.{Account}
 use Rattle.hls_edf_laws.specs.Accounts.{vacant, marked, charged, replenished}

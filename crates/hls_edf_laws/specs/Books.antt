@@ -10,7 +10,8 @@ use Rattle.hls_kinds.specs.declared.tenant.Tenant.{Tenant}
 use Rattle.hls_kinds.specs.declared.tenant.Tenant.TheVariants.{Vacant, Sits, Left}
 use Rattle.hls_kinds.specs.declared.reservations.Reservation.{Reservation}
 use Rattle.hls_kinds.specs.Tenants.{tenant_at, settled_at}
-use Rattle.hls_kinds.specs.Reservations.{all_parts, deadline_after, last_replenished}
+use Rattle.hls_chron.specs.Parts.{all_parts}
+use Rattle.hls_kinds.specs.Reservations.{deadline_after, last_replenished}
 use Rattle.hls_kinds.specs.Asks.{asks, slot_asks}
 use Rattle.hls_promise.specs.Promise.{asked_by}
 use Rattle.hls_edf_laws.specs.declared.account.Account.{Account}

@@ -2,7 +2,8 @@
 -- and which of them served it.
 use Rattle.std.specs.Prelude.{ℕ, ◌+◌, Bool, false, zero, suc}
 use Rattle.hls_kinds.specs.declared.reservations.Reservation.{Reservation}
-use Rattle.hls_kinds.specs.Reservations.{parts, deadline_after, budget_after, last_replenished}
+use Rattle.hls_chron.specs.Parts.{parts}
+use Rattle.hls_kinds.specs.Reservations.{deadline_after, budget_after, last_replenished}
 use Rattle.hls_edf_laws.specs.declared.account.Account.{Account}
 
 -- it asked in the tick before the nth since

@@ -1,6 +1,6 @@
 // The running account of a slot.
 ghost use Rattle.std.specs.Prelude.{◌≡◌, ◌≤◌};
-ghost use Rattle.hls_kinds.specs.Reservations.{all_parts, parts as parts_of};
+ghost use Rattle.hls_chron.specs.Parts.{all_parts, parts as parts_of};
 ghost use Rattle.hls_edf_laws.specs.Accounts as accounts;
 ghost use Rattle.hls_edf_laws.specs.Books as books;
 

@@ -2,11 +2,12 @@
 use Rattle.std.proofs.Common.{ℕ, zero, suc, ◌+◌, ◌*◌, ◌-◌, ◌≤◌, ◌≡◌, Bool, true, arith, ap, inl, inr}
 use Rattle.std.proofs.Common.{mul-le-mul_right}
 use Rattle.std.proofs.lemmas.Bool.{cases_lt}
-use Rattle.std.proofs.lemmas.Grind.{div_ceil_times}
 use Rattle.hls_guarantee.specs.declared.Guarantee.TheVariants.{Resb, Resc}
 use Rattle.hls_chron.specs.Ticks.{count}
 use Rattle.hls_guarantee.specs.Service.{EveryPart}
-use Rattle.hls_guarantee.specs.Cap.{KeepsCap, processor_parts, parts_of}
+use Rattle.hls_guarantee.specs.Cap.{KeepsCap}
+use Rattle.hls_chron.proofs.PartLaws.{parts-rate}
+use Rattle.hls_chron.specs.Parts.{all_parts, parts}
 use Rattle.hls_chron.proofs.CountLaws.{count-add}
 
 -- of more than y ticks the first y get at most x; u of U parts are x of y ticks or more
@@ -34,6 +35,6 @@ far n y some = omega (arith, mul-le-mul_right {m = 1} {n = y} n some)
 pub windows_cap-blocks : (x y : ℕ) (f : ℕ → Bool) (lo hi : ℕ) → 1 ≤ y → KeepsCap (Resc true x y) f lo hi →
     KeepsCap (Resb true x y) f lo hi
 windows_cap-blocks x y f lo hi some kept = λ i n from to.
-    let rate = (div_ceil_times (x * processor_parts) y some).0 in
-    let most = cap-by processor_parts x y (parts_of x y) n f lo hi rate kept i n from to (far n y some) in
+    let rate = parts-rate x y some in
+    let most = cap-by all_parts x y (parts x y) n f lo hi rate kept i n from to (far n y some) in
     omega (arith, most)

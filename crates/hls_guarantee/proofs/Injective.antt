@@ -12,8 +12,9 @@ use Rattle.hls_guarantee.specs.declared.Guarantee.{Guarantee}
 use Rattle.hls_guarantee.specs.declared.Guarantee.TheVariants.{All, Null, Resb, Resc, Psbe}
 use Rattle.hls_guarantee.specs.Limits.{IsReservation, IsShare, IsValid}
 use Rattle.hls_guarantee.specs.Spelling.{fraction_text, spelling, HasFields}
-use Rattle.hls_guarantee.proofs.Texts.{position_first, parts_first}
-use Rattle.hls_guarantee.proofs.Spellings.{Parts, Kind, all, null, numbered, kind_of, has_mark, decimal-lacks}
+use Rattle.hls_text.proofs.FirstMarks.{position_first, parts_first}
+use Rattle.hls_guarantee.proofs.Spellings.{Parts, Kind, all, null, numbered, kind_of, has_mark}
+use Rattle.hls_text.proofs.Marks.{decimal-lacks}
 use Rattle.hls_guarantee.proofs.Spellings.{cases_whole, text_of_whole, text_of_ratio, fits_num}
 
 -- a text has one first mark

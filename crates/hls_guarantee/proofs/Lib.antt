@@ -4,7 +4,6 @@ pub mod Windows
 pub mod Slides
 pub mod Debts
 pub mod Blocks
-pub mod Texts
 pub mod Spellings
 pub mod Injective
 pub mod Pieces

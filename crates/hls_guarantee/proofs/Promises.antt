@@ -6,7 +6,8 @@ use Rattle.hls_guarantee.specs.declared.Guarantee.{Guarantee}
 use Rattle.hls_guarantee.specs.declared.Guarantee.TheVariants.{All, Null, Resb, Resc, Psbe}
 use Rattle.hls_guarantee.specs.Service.{EveryPart}
 use Rattle.hls_guarantee.specs.Satisfaction.{IsReserved, InPiece, HasShare, Satisfies, IsSoft}
-use Rattle.hls_guarantee.specs.Cap.{KeepsCap, processor_parts, parts_of}
+use Rattle.hls_guarantee.specs.Cap.{KeepsCap}
+use Rattle.hls_chron.specs.Parts.{all_parts, parts}
 use Rattle.hls_guarantee.specs.Supply.{Supplies}
 use Rattle.hls_chron.proofs.CountLaws.{count-agree, count-more}
 
@@ -63,7 +64,7 @@ keeps_cap-agree (Resc true x y) f h lo hi same c = every-agree (λ i n got. n �
 keeps_cap-agree (Resc false x y) f h lo hi same c = tt
 keeps_cap-agree (Resb true x y) f h lo hi same c =
     every-agree
-    (λ i n got. got * processor_parts ≤ parts_of x y * n + 2 * x * processor_parts) f h lo hi same c
+    (λ i n got. got * all_parts ≤ parts x y * n + 2 * x * all_parts) f h lo hi same c
 keeps_cap-agree (Resb false x y) f h lo hi same c = tt
 keeps_cap-agree (Psbe s d) f h lo hi same c = tt
 

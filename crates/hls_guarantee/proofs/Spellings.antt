@@ -7,6 +7,7 @@ use Rattle.std.proofs.lemmas.Bool.{eq-eqb}
 use Rattle.std.proofs.lemmas.Bool.Decides.{eqb_tells}
 use Rattle.std.proofs.lemmas.List.Folds.{list_any-append}
 use Rattle.std.proofs.lemmas.Fmt.{decimal_by_steps_wide}
+use Rattle.hls_text.proofs.Marks.{decimal-lacks}
 use Rattle.hls_frac.specs.declared.Frac.{Frac}
 use Rattle.hls_frac.specs.Frac.{IsQuotient, IsWithin}
 use Rattle.hls_frac.proofs.Quotients.{same_value-same, quotient-den}
@@ -20,17 +21,6 @@ cases_one n = elim (eqb_tells n 1) [ inl one ↦ inl one.1 | inr other ↦ inr o
 
 ne-eqb : (a b : ℕ) → a ≢ b → eqb a b ≡ false
 ne-eqb a b ne = elim (eqb_tells a b) [ inl same ↦ absurd (ne same.1) | inr other ↦ other.0 ]
-
--- digits are above every mark
-digit_lacks : (m d : ℕ) → m < 48 → list_any (λ b. b == m) ((48 + d) ∷ []) ≡ false
-digit_lacks m d lt = rw (ne-eqb (48 + d) m (λ e. omega arith)) refl
-
-pub decimal-lacks : (m n : ℕ) → m < 48 → n < 10 ^ 64 → list_any (λ b. b == m) (decimal n) ≡ false
-decimal-lacks m n lt fits =
-    decimal_by_steps_wide (λ k ds. list_any (λ b. b == m) ds ≡ false) (λ k small. digit_lacks m k lt)
-    (λ k ds big front.
-    let last = digit_lacks m (k % 10) lt in
-    list_any-append (λ b. b == m) ds ((48 + k % 10) ∷ []) ∙ rw front last) n fits
 
 -- a text with a mark
 pub has_mark : (m : ℕ) (front rest : List ℕ) → list_any (λ b. b == m) (front ++ (m ∷ rest)) ≡ true

@@ -7,7 +7,8 @@ use Rattle.hls_guarantee.specs.declared.Guarantee.TheVariants.{All, Null, Resb, 
 use Rattle.hls_chron.specs.Ticks.{count}
 use Rattle.hls_guarantee.specs.Service.{EveryPart, schedule_of, ServesMore}
 use Rattle.hls_guarantee.specs.Satisfaction.{IsReserved, InPiece, HasShare, Satisfies, ListSatisfies, IsSoft}
-use Rattle.hls_guarantee.specs.Cap.{KeepsCap, ListKeepsCap, processor_parts, parts_of}
+use Rattle.hls_guarantee.specs.Cap.{KeepsCap, ListKeepsCap}
+use Rattle.hls_chron.specs.Parts.{all_parts, parts}
 use Rattle.hls_chron.proofs.CountLaws.{count-shift}
 use Rattle.hls_guarantee.proofs.Offsets.{later_offset, earlier_offset, piece_later, piece_earlier}
 use Rattle.hls_guarantee.proofs.Promises.{satisfies-agree, satisfies-part, satisfies-more}
@@ -76,7 +77,7 @@ keeps_cap-earlier Null f k lo hi c = tt
 keeps_cap-earlier (Resc true x y) f k lo hi c = every-earlier (λ n got. n ≤ y → got ≤ x) f k lo hi c
 keeps_cap-earlier (Resc false x y) f k lo hi c = tt
 keeps_cap-earlier (Resb true x y) f k lo hi c =
-    every-earlier (λ n got. got * processor_parts ≤ parts_of x y * n + 2 * x * processor_parts) f k lo hi c
+    every-earlier (λ n got. got * all_parts ≤ parts x y * n + 2 * x * all_parts) f k lo hi c
 keeps_cap-earlier (Resb false x y) f k lo hi c = tt
 keeps_cap-earlier (Psbe s d) f k lo hi c = tt
 
@@ -87,7 +88,7 @@ keeps_cap-later Null f k lo hi c = tt
 keeps_cap-later (Resc true x y) f k lo hi c = every-later (λ n got. n ≤ y → got ≤ x) f k lo hi c
 keeps_cap-later (Resc false x y) f k lo hi c = tt
 keeps_cap-later (Resb true x y) f k lo hi c =
-    every-later (λ n got. got * processor_parts ≤ parts_of x y * n + 2 * x * processor_parts) f k lo hi c
+    every-later (λ n got. got * all_parts ≤ parts x y * n + 2 * x * all_parts) f k lo hi c
 keeps_cap-later (Resb false x y) f k lo hi c = tt
 keeps_cap-later (Psbe s d) f k lo hi c = tt
 

@@ -28,53 +28,16 @@ ghost use Rattle.hls_guarantee.specs.Spelling.{fraction_text, spelling, HasField
 
 use crate::{Guarantee, valid};
 use hls_frac::Frac;
-use itoa::{Buffer, Integer};
+use hls_text::{cut, decimal_number};
 
-/// The number that a text spells, without a leading zero.
+/// The number of 64 bits that a text spells, without a leading zero.
 fn number(text: &[u8]) -> Option<u64>
     ensures found { IfSome result (λ n. text.now ≡ decimal n) }
     ensures exact { (n : ℕ) → n < 2 ^ 64 → text.now ≡ decimal n → result ≡ Some n }
 {
-    match parsed(text) {
-        Some(n) if spells(text, n) => Some(n),
+    match decimal_number(text) {
+        Some(n) if n < 1 << 64 => Some(n as u64),
         _ => None,
-    }
-}
-
-/// The number that std reads, also where zeros or a sign lead.
-fn parsed(text: &[u8]) -> Option<u64>
-    ensures { (n : ℕ) → n < 2 ^ 64 → text.now ≡ decimal n → result ≡ Some n }
-{
-    match str::from_utf8(text) {
-        Ok(digits) => digits.parse().ok(),
-        Err(_) => None,
-    }
-}
-
-fn spells(text: &[u8], n: u64) -> bool
-    ensures { IsTrue result ↔ (text.now ≡ decimal n) }
-{
-    let mut buffer = Buffer::new();
-    text == buffer.format(n).as_bytes()
-}
-
-/// The index of the first byte that is the mark.
-fn first_mark(text: &[u8], mark: u8) -> Option<usize>
-    ensures { result ≡ position (λ b. b == mark) text.now }
-{
-    text.iter().position(|b| *b == mark)
-}
-
-/// What stands before and after the first mark.
-fn split_at_first(text: &[u8], mark: u8) -> Option<(&[u8], &[u8])>
-    ensures found { IfSome result (λ p. text.now ≡ p.0.now ++ (mark ∷ p.1.now)) }
-    ensures first { (front rest : List ℕ) → text.now ≡ front ++ (mark ∷ rest) →
-        list_any (λ b. b == mark) front ≡ false →
-        IsSomeAnd result (λ p. (p.0.now ≡ front) × (p.1.now ≡ rest)) }
-{
-    match first_mark(text, mark) {
-        Some(at) => Some((&text[..at], &text[at + 1..])),
-        None => None,
     }
 }
 
@@ -95,7 +58,7 @@ fn fraction(text: &[u8]) -> Option<Frac>
     ensures exact { (f : Frac) → IsWithin f (10 ^ 13) (10 ^ 8) → text.now ≡ fraction_text f →
         result ≡ Some f }
 {
-    match split_at_first(text, b'/') {
+    match cut(text, b'/') {
         Some((num, den)) => ratio(num, den),
         None => whole(text),
     }
@@ -194,7 +157,7 @@ fn after_word(word: &[u8], fields: &[u8]) -> Option<Guarantee>
     ensures exact { (g : Guarantee) (first second : List ℕ) → IsValid g → HasFields g word.now first second →
         fields.now ≡ first ++ (32 ∷ second) → list_any (λ b. b == 32) first ≡ false → result ≡ Some g }
 {
-    match split_at_first(fields, b' ') {
+    match cut(fields, b' ') {
         Some((first, second)) => with_numbers(word, first, second),
         None => None,
     }
@@ -206,7 +169,7 @@ fn numbered(text: &[u8]) -> Option<Guarantee>
     ensures exact { (g : Guarantee) → IsValid g → text.now ≢ codes "ALL" → text.now ≢ codes "NULL" →
         text.now ≡ spelling g → result ≡ Some g }
 {
-    match split_at_first(text, b' ') {
+    match cut(text, b' ') {
         Some((word, fields)) => after_word(word, fields),
         None => None,
     }

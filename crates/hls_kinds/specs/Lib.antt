@@ -12,3 +12,4 @@ pub mod Room
 pub mod Fits
 pub mod Rankings
 pub mod Made
+pub mod Faults

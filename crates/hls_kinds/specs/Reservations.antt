@@ -7,17 +7,10 @@ use Rattle.hls_kinds.specs.declared.tenant.Tenant.TheVariants.{Sits, Left}
 use Rattle.hls_kinds.specs.declared.reservations.Reservation.{Reservation}
 use Rattle.hls_kinds.specs.declared.reservations.Claim.{Claim}
 use Rattle.hls_chron.specs.Ledger.{Ledger, now_of}
+use Rattle.hls_chron.specs.Parts.{all_parts, parts}
 use Rattle.hls_chron.specs.Seats.{asked, served}
 use Rattle.hls_chron.specs.Ticks.{count}
 use Rattle.hls_kinds.specs.Tenants.{tenant_at, asking}
-
--- the parts that the processor has
-abbrev pub all_parts : ℕ
-all_parts = 133573286426580000
-
--- the parts that x ticks in every y cost, rounded up
-unfoldable pub parts : (x y : ℕ) → ℕ
-parts x y = (x * all_parts + y - 1) / y
 
 -- the deadline, by the last replenishment: before the first it is the tick of the seating or settling
 abbrev pub deadline_after : Reservation → Option ℕ → ℕ

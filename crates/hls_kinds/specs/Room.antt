@@ -11,7 +11,8 @@ use Rattle.hls_chron.specs.Ledger.{Ledger}
 use Rattle.hls_chron.specs.Seats.{terms_at, most_seats}
 use Rattle.hls_kinds.specs.Slots.{sum_below}
 use Rattle.hls_kinds.specs.Tenants.{tenant_at}
-use Rattle.hls_kinds.specs.Reservations.{all_parts, parts, is_held}
+use Rattle.hls_chron.specs.Parts.{all_parts, parts}
+use Rattle.hls_kinds.specs.Reservations.{is_held}
 use Rattle.hls_kinds.specs.Frames.{owned_places}
 
 abbrev pub terms_left : Tenant → Option Terms

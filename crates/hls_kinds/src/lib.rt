@@ -3,6 +3,7 @@
 #![tactic(auto)]
 
 mod choice;
+mod fault;
 mod frames;
 pub mod laws;
 mod reservations;
@@ -15,8 +16,10 @@ mod tests;
 mod turns;
 
 pub use choice::{Ranking, asks_at, discipline_choice};
+pub use fault::SeatFault;
 pub use frames::{owned_places, owner_now};
-pub use reservations::{Claim, Reservation, claim_at, is_held, is_soft, parts};
+pub use hls_chron::parts;
+pub use reservations::{Claim, Reservation, claim_at, is_held, is_soft};
 pub use room::{occupant, room_asked, room_total, room_used};
 pub use tags::{Share, start_tag};
 pub use tenant::{Tenant, tenant_at, terms_at};

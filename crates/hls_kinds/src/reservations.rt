@@ -3,7 +3,7 @@ ghost use Rattle.std.specs.Prelude.{◌≡◌, ◌+◌, ◌^◌, ◌<◌, ◌≤
 ghost use Rattle.hls_chron.specs.Ledger.{now_of};
 ghost use Rattle.hls_chron.specs.Seats.{served as served_in};
 ghost use Rattle.hls_kinds.specs.Tenants.{asking};
-ghost use Rattle.hls_kinds.specs.Reservations.{parts as parts_of, deadline_after as deadline_by};
+ghost use Rattle.hls_kinds.specs.Reservations.{deadline_after as deadline_by};
 ghost use Rattle.hls_kinds.specs.Reservations.{budget_after as budget_by, is_too_much as too_much};
 ghost use Rattle.hls_kinds.specs.Reservations.{is_replenished as replenishes};
 ghost use Rattle.hls_kinds.specs.Reservations.{last_replenished as replenished_last};
@@ -13,10 +13,7 @@ ghost use Rattle.hls_kinds.specs.Reservations.{is_held as held, deadline_left as
 use crate::Tenant;
 use crate::rows::{asks_in, count_served};
 use crate::tenant::tenant_at;
-use hls_chron::{Book, Terms};
-
-/// The parts that the processor has.
-pub const ALL_PARTS: u128 = 133573286426580000;
+use hls_chron::{ALL_PARTS, Book, Terms, parts};
 
 /// A reservation of `x` ticks in every `y`, since the tick of its seating or of a later settling.
 #[derive(Clone, Copy, Debug, PartialEq, Eq)]
@@ -31,18 +28,6 @@ pub struct Reservation {
 pub struct Claim {
     pub deadline: u64,
     pub budget: u32,
-}
-
-/// The parts that `x` ticks in every `y` cost, rounded up.
-#[tactic(auto, unfolding(crate::specs::Reservations::parts))]
-pub fn parts(x: u32, y: u32) -> u128
-    ensures parts { result ≡ parts_of x y }
-    ensures within { result < 2 ^ 90 }
-{
-    if y == 0 {
-        return 0;
-    }
-    (u128::from(x) * ALL_PARTS + u128::from(y) - 1) / u128::from(y)
 }
 
 /// The deadline, by the last replenishment.
@@ -82,7 +67,8 @@ fn is_too_much(reservation: Reservation, deadline: u64, budget: u32, tick: u32) 
 {
     let rate = parts(reservation.x, reservation.y);
     deadline <= u64::from(tick)
-        || rate * u128::from(deadline - u64::from(tick)) < u128::from(budget) * ALL_PARTS
+        || rate * u128::from(deadline - u64::from(tick))
+            < u128::from(budget) * u128::from(ALL_PARTS)
 }
 
 /// Whether the reservation of a slot is replenished so many ticks after its seating or settling,

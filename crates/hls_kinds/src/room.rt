@@ -8,9 +8,9 @@ ghost use Rattle.hls_kinds.specs.Room.{room_used as room_of, room_total as total
 
 use crate::Tenant;
 use crate::frames::owned_places;
-use crate::reservations::{ALL_PARTS, is_held, parts};
+use crate::reservations::is_held;
 use crate::tenant::{tenant_at, terms_at};
-use hls_chron::{Book, Config, Terms};
+use hls_chron::{ALL_PARTS, Book, Config, Terms, parts};
 
 /// The terms that a seat left behind.
 fn terms_left(tenant: Tenant) -> Option<Terms>
@@ -102,7 +102,7 @@ pub fn room_total(config: &Config) -> u128
     ensures { result ≡ total_of config.now }
 {
     match *config {
-        Config::Edf => ALL_PARTS,
+        Config::Edf => u128::from(ALL_PARTS),
         Config::Sfq { total, .. } => u128::from(total),
         Config::Wheel { frame } => u128::from(frame),
         _ => 0,

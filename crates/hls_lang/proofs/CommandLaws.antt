@@ -10,17 +10,17 @@ use Rattle.hls_chron.specs.Ranges.{IsWithin}
 use Rattle.hls_chron.specs.declared.plain.Config.{Config}
 use Rattle.hls_chron.specs.declared.plain.Config.TheVariants as configs
 use Rattle.hls_lang.specs.declared.fault.Cause.{Cause}
-use Rattle.hls_lang.specs.declared.scenario.Perch.{Perch}
-use Rattle.hls_lang.specs.declared.scenario.Command.{Command}
-use Rattle.hls_lang.specs.declared.scenario.Command.TheVariants.{Load, Thread, End, Unload, Move, Wake, Block}
-use Rattle.hls_lang.specs.declared.scenario.Item.{Item}
+use Rattle.hls_scenario.specs.declared.scenario.Perch.{Perch}
+use Rattle.hls_scenario.specs.declared.scenario.Command.{Command}
+use Rattle.hls_scenario.specs.declared.scenario.Command.TheVariants.{Load, Thread, End, Unload, Move, Wake, Block}
+use Rattle.hls_scenario.specs.declared.scenario.Item.{Item}
 use Rattle.hls_lang.specs.Words.{◌>>=◌, token_at, no_more, word_at, name_at, number_at, tick_at}
 use Rattle.hls_lang.specs.Reading.{config_by, last_perch_at, ports_at, join_at, one_perch_at, load_by}
 use Rattle.hls_lang.specs.Reading.{load_at, thread_at, move_at, last_name_at, burst_at, wake_at}
 use Rattle.hls_lang.specs.Reading.{command_by, command_at, item_at}
-use Rattle.hls_lang.specs.Forms.{Form, the, number, config_forms, perch_forms, perches_forms, burst_forms}
-use Rattle.hls_lang.specs.Forms.{command_forms, item_forms}
-use Rattle.hls_lang.specs.Grammar.{IsPerch, IsLoad, IsBurst, IsCommand, IsLine}
+use Rattle.hls_scenario.specs.Forms.{Form, the, number, config_forms, perch_forms, perches_forms, burst_forms}
+use Rattle.hls_scenario.specs.Forms.{command_forms, item_forms}
+use Rattle.hls_scenario.specs.Grammar.{IsPerch, IsLoad, IsBurst, IsCommand, IsLine}
 use Rattle.hls_lang.proofs.Binds.{bind_ok, bind_again, carried, ok_is, choice, same_bytes, bytes_same}
 use Rattle.hls_lang.proofs.Fronts.{Front, front_join, front_split, line_of_front, front_of_line}
 use Rattle.hls_lang.proofs.WordLaws.{none_left, word_is, word_next, name_front, name_next}

@@ -12,15 +12,15 @@ use Rattle.hls_chron.specs.Ranges.{IsWithin, ConfigInRange}
 use Rattle.hls_guarantee.specs.declared.Guarantee.{Guarantee}
 use Rattle.hls_lang.specs.declared.fault.Cause.{Cause}
 use Rattle.hls_lang.specs.declared.fault.Cause.TheVariants as causes
-use Rattle.hls_lang.specs.declared.scenario.Spot.{Spot}
-use Rattle.hls_lang.specs.declared.scenario.Spot.TheVariants as spots
-use Rattle.hls_lang.specs.declared.scenario.Perch.{Perch}
+use Rattle.hls_scenario.specs.declared.scenario.Spot.{Spot}
+use Rattle.hls_scenario.specs.declared.scenario.Spot.TheVariants as spots
+use Rattle.hls_scenario.specs.declared.scenario.Perch.{Perch}
 use Rattle.hls_lang.specs.Words.{◌>>=◌, no_more, word_at, number_at}
 use Rattle.hls_lang.specs.Reading.{terms_at, guarantee_at, shares_at, numbered_config_at, config_by}
 use Rattle.hls_lang.specs.Reading.{under_at, spot_by, spot_at, wanted_at, perch_at, last_perch_at}
-use Rattle.hls_lang.specs.Forms.{the, number, terms_forms, config_forms, spot_forms, perch_forms}
-use Rattle.hls_lang.specs.Forms.{guarantee_forms}
-use Rattle.hls_lang.specs.Grammar.{IsTerms, IsSpot, IsPerch}
+use Rattle.hls_scenario.specs.Forms.{the, number, terms_forms, config_forms, spot_forms, perch_forms}
+use Rattle.hls_scenario.specs.Forms.{guarantee_forms}
+use Rattle.hls_scenario.specs.Grammar.{IsTerms, IsSpot, IsPerch}
 use Rattle.hls_lang.proofs.Binds.{bind_ok, bind_again, carried, choice, same_bytes}
 use Rattle.hls_lang.proofs.Fronts.{Front, front_join, front_split}
 use Rattle.hls_lang.proofs.WordLaws.{none_left, word_is, word_next, number_front, number_next}

@@ -7,14 +7,15 @@ use Rattle.std.proofs.lemmas.Fmt.{decimal_digit}
 use Rattle.hls_text.specs.Lines.{Text}
 use Rattle.hls_text.specs.Tokens.{tokens_of}
 use Rattle.hls_lang.specs.declared.fault.Cause.{Cause}
-use Rattle.hls_lang.specs.declared.scenario.Scenario.{Scenario}
+use Rattle.hls_scenario.specs.declared.scenario.Scenario.{Scenario}
 use Rattle.hls_lang.specs.declared.fault.ScenarioFault.{ScenarioFault}
 use Rattle.hls_lang.specs.declared.fault.ScenarioFault.TheVariants as faults
 use Rattle.hls_lang.specs.declared.reader.Stage.{Stage}
 use Rattle.hls_lang.specs.declared.reader.Stage.TheVariants.{AtHeader, AtHorizon, AtDepth, AtItems}
 use Rattle.hls_lang.specs.ReadingLines.{State, Fault, start, line_step, read_of, finish_at, goes_on}
 use Rattle.hls_lang.specs.ReadingLines.{lines_from, ReadGives}
-use Rattle.hls_lang.specs.Grammar.{token_lines, AreScenarioLines, Begins, IsFirstBad, AtLine}
+use Rattle.hls_scenario.specs.Grammar.{token_lines, AreScenarioLines, Begins, IsFirstBad}
+use Rattle.hls_lang.specs.Faults.{AtLine}
 use Rattle.hls_lang.proofs.ScenarioLaws.{Good, start_good, Ahead, DepthAhead, ItemsAhead, AllClean}
 use Rattle.hls_lang.proofs.ScenarioLaws.{line_stepped, whole_is, lines_read, lines_taken, none_ahead}
 

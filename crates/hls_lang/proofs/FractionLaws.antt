@@ -15,13 +15,14 @@ use Rattle.hls_text.proofs.NumberLaws.{number_is, number_again}
 use Rattle.hls_frac.specs.declared.Frac.{Frac}
 use Rattle.hls_frac.specs.Frac.{IsQuotient}
 use Rattle.hls_frac.proofs.Quotients.{quotient_of}
-use Rattle.hls_guarantee.proofs.Texts.{position_first}
-use Rattle.hls_guarantee.proofs.Spellings.{decimal-lacks}
+use Rattle.hls_text.proofs.FirstMarks.{position_first}
+use Rattle.hls_text.proofs.Marks.{decimal-lacks}
 use Rattle.hls_lang.specs.declared.fault.Cause.TheVariants as causes
-use Rattle.hls_lang.specs.Words.{cut_at, quotient, narrow_quotient, parts_fraction, fraction_of}
+use Rattle.hls_text.specs.Cuts.{cut_at}
+use Rattle.hls_lang.specs.Words.{quotient, narrow_quotient, parts_fraction, fraction_of}
 use Rattle.hls_lang.specs.Words.{fraction_test, fraction_at, rate_test, rate_at}
-use Rattle.hls_lang.specs.Forms.{fraction}
-use Rattle.hls_lang.specs.Grammar.{IsSpelled, IsFraction}
+use Rattle.hls_scenario.specs.Forms.{fraction}
+use Rattle.hls_scenario.specs.Grammar.{IsSpelled, IsFraction}
 use Rattle.hls_lang.proofs.Binds.{bind_ok, bind_again, carried, some_is, test_ok, test_again, and_left}
 use Rattle.hls_lang.proofs.Binds.{and_right, and_both}
 use Rattle.hls_lang.proofs.Fronts.{Front}

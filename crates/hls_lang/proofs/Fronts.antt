@@ -1,8 +1,8 @@
 -- Tokens that begin with the words of some forms.
 use Rattle.std.proofs.Common.{◌≡◌, List, [], ◌∷◌, ◌++◌, refl, sym, subst}
 use Rattle.hls_text.specs.Lines.{Text}
-use Rattle.hls_lang.specs.Forms.{Form}
-use Rattle.hls_lang.specs.Grammar.{IsToken, IsLine}
+use Rattle.hls_scenario.specs.Forms.{Form}
+use Rattle.hls_scenario.specs.Grammar.{IsToken, IsLine}
 
 -- the tokens are those of the forms, and then the rest
 abbrev pub Front : List Form → List Text → List Text → Type 0

@@ -7,8 +7,8 @@ use Rattle.hls_chron.specs.Ranges.{IsWithin}
 use Rattle.hls_lang.specs.declared.fault.Cause.{Cause}
 use Rattle.hls_lang.specs.Words.{◌>>=◌, no_more, word_at, number_at}
 use Rattle.hls_lang.specs.ReadingLines.{header_at, horizon_at, depth_at, caused}
-use Rattle.hls_lang.specs.Forms.{the, number, header_forms, horizon_forms, depth_forms}
-use Rattle.hls_lang.specs.Grammar.{IsLine}
+use Rattle.hls_scenario.specs.Forms.{the, number, header_forms, horizon_forms, depth_forms}
+use Rattle.hls_scenario.specs.Grammar.{IsLine}
 use Rattle.hls_lang.proofs.Binds.{bind_ok, bind_again, carried}
 use Rattle.hls_lang.proofs.Fronts.{Front, front_join, front_split, line_of_front, front_of_line}
 use Rattle.hls_lang.proofs.WordLaws.{none_left, word_is, word_next, number_front, number_next}

@@ -11,3 +11,4 @@ pub mod CommandLaws
 pub mod HeadLaws
 pub mod ScenarioLaws
 pub mod FaultLaws
+pub mod OneText

@@ -6,7 +6,7 @@ use Rattle.hls_lang.specs.declared.fault.Cause.{Cause}
 use Rattle.hls_lang.specs.declared.line_error.LineError.{LineError}
 use Rattle.hls_lang.specs.declared.line_error.LineError.TheVariants as errors
 use Rattle.hls_lang.specs.declared.fault.ScenarioFault.{ScenarioFault}
-use Rattle.hls_lang.specs.declared.scenario.Scenario.{Scenario}
+use Rattle.hls_scenario.specs.declared.scenario.Scenario.{Scenario}
 use Rattle.hls_lang.specs.ReadingLines.{State, Fault, lines_from, line_step, goes_on, finish_at}
 use Rattle.hls_lang.specs.ReadingLines.{StepGives, ReadGives, fault_of}
 

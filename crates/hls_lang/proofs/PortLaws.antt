@@ -9,16 +9,16 @@ use Rattle.hls_text.specs.Lines.{Text}
 use Rattle.hls_chron.specs.Ranges.{IsWithin}
 use Rattle.hls_chron.specs.declared.plain.Terms.{Terms}
 use Rattle.hls_lang.specs.declared.fault.Cause.TheVariants as causes
-use Rattle.hls_lang.specs.declared.scenario.Spot.{Spot}
-use Rattle.hls_lang.specs.declared.scenario.Spot.TheVariants as spots
-use Rattle.hls_lang.specs.declared.scenario.Perch.{Perch}
+use Rattle.hls_scenario.specs.declared.scenario.Spot.{Spot}
+use Rattle.hls_scenario.specs.declared.scenario.Spot.TheVariants as spots
+use Rattle.hls_scenario.specs.declared.scenario.Perch.{Perch}
 use Rattle.hls_lang.specs.Words.{◌>>=◌, no_more, word_at, name_at}
 use Rattle.hls_lang.specs.Reading.{terms_at, guarantee_at, is_at, is_used, fresh_test, fresh_name_at}
 use Rattle.hls_lang.specs.Reading.{under_at, wanted_at, port_at, next_port_at, comma_port_at}
 use Rattle.hls_lang.specs.Reading.{third_port_at, fourth_port_at, ports_at}
-use Rattle.hls_lang.specs.Forms.{the, terms_forms, spot_forms, perch_forms, more_perches_forms}
-use Rattle.hls_lang.specs.Forms.{perches_forms, guarantee_forms}
-use Rattle.hls_lang.specs.Grammar.{IsSpot, IsPerch, Differ, ArePorts}
+use Rattle.hls_scenario.specs.Forms.{the, terms_forms, spot_forms, perch_forms, more_perches_forms}
+use Rattle.hls_scenario.specs.Forms.{perches_forms, guarantee_forms}
+use Rattle.hls_scenario.specs.Grammar.{IsSpot, IsPerch, Differ, ArePorts}
 use Rattle.hls_lang.proofs.Binds.{bind_ok, bind_again, carried, order_ok, same_bytes, bytes_same}
 use Rattle.hls_lang.proofs.Fronts.{Front, front_join, front_split}
 use Rattle.hls_lang.proofs.WordLaws.{none_left, no_more_again, word_is, word_next, NameFront, name_front}

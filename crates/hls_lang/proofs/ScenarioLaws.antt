@@ -11,8 +11,8 @@ use Rattle.hls_text.specs.Tokens.{tokens_of}
 use Rattle.hls_chron.specs.Ranges.{IsWithin}
 use Rattle.hls_lang.specs.declared.fault.Cause.{Cause}
 use Rattle.hls_lang.specs.declared.fault.Cause.TheVariants as causes
-use Rattle.hls_lang.specs.declared.scenario.Item.{Item}
-use Rattle.hls_lang.specs.declared.scenario.Scenario.{Scenario}
+use Rattle.hls_scenario.specs.declared.scenario.Item.{Item}
+use Rattle.hls_scenario.specs.declared.scenario.Scenario.{Scenario}
 use Rattle.hls_lang.specs.declared.reader.Stage.{Stage}
 use Rattle.hls_lang.specs.declared.reader.Stage.TheVariants.{AtHeader, AtHorizon, AtDepth, AtItems}
 use Rattle.hls_lang.specs.Words.{◌>>=◌}
@@ -21,10 +21,10 @@ use Rattle.hls_lang.specs.ReadingLines.{State, Fault, start, header_at, horizon_
 use Rattle.hls_lang.specs.ReadingLines.{begins_with, is_full, with_item, item_step, with_depth}
 use Rattle.hls_lang.specs.ReadingLines.{depth_step, stage_step, tokens_step, line_step, read_of}
 use Rattle.hls_lang.specs.ReadingLines.{finish_at, goes_on, lines_from}
-use Rattle.hls_lang.specs.Forms.{item_forms, header_forms, horizon_forms, depth_forms}
-use Rattle.hls_lang.specs.Forms.{depth_lines, scenario_lines}
-use Rattle.hls_lang.specs.Grammar.{IsCommand, AreItems, IsDepth, IsScenario, IsLine, AreLines, onto_lines}
-use Rattle.hls_lang.specs.Grammar.{token_lines, AreScenarioLines}
+use Rattle.hls_scenario.specs.Forms.{item_forms, header_forms, horizon_forms, depth_forms}
+use Rattle.hls_scenario.specs.Forms.{depth_lines, scenario_lines}
+use Rattle.hls_scenario.specs.Grammar.{IsCommand, AreItems, IsDepth, IsScenario, IsLine, AreLines, onto_lines}
+use Rattle.hls_scenario.specs.Grammar.{token_lines, AreScenarioLines}
 use Rattle.hls_lang.proofs.Binds.{bind_ok, carried, choice}
 use Rattle.hls_lang.proofs.Binds.{bytes_same}
 use Rattle.hls_lang.proofs.CommandLaws.{item_is, item_next}

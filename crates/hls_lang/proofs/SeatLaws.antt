@@ -14,8 +14,8 @@ use Rattle.hls_guarantee.specs.Limits.{IsReservation, IsNarrow}
 use Rattle.hls_lang.specs.Words.{◌>>=◌, number_at, pair_at, fraction_at, rate_at}
 use Rattle.hls_lang.specs.Reading.{reservation_at, share_at, guarantee_by, guarantee_at, hardness_test}
 use Rattle.hls_lang.specs.Reading.{hardness_at, budget_at, numbered_terms_at, terms_by, terms_at}
-use Rattle.hls_lang.specs.Forms.{the, fraction, number, guarantee_forms, terms_forms}
-use Rattle.hls_lang.specs.Grammar.{IsFraction, IsTerms}
+use Rattle.hls_scenario.specs.Forms.{the, fraction, number, guarantee_forms, terms_forms}
+use Rattle.hls_scenario.specs.Grammar.{IsFraction, IsTerms}
 use Rattle.hls_lang.proofs.Binds.{bind_ok, bind_again, carried, choice, same_bytes}
 use Rattle.hls_lang.proofs.Fronts.{Front, front_join}
 use Rattle.hls_lang.proofs.WordLaws.{number_front, number_next, pair_front, pair_next}

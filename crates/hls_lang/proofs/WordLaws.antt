@@ -12,7 +12,7 @@ use Rattle.hls_lang.specs.declared.fault.Cause.{Cause}
 use Rattle.hls_lang.specs.declared.fault.Cause.TheVariants as causes
 use Rattle.hls_lang.specs.Words.{◌>>=◌, no_more, word_at, name_at, in_range, number_test}
 use Rattle.hls_lang.specs.Words.{number_at, tick_test, tick_at, pair_at}
-use Rattle.hls_lang.specs.Forms.{the, number}
+use Rattle.hls_scenario.specs.Forms.{the, number}
 use Rattle.hls_lang.proofs.Binds.{bind_ok, bind_again, carried, test_ok, test_again}
 use Rattle.hls_lang.proofs.Binds.{order_ok, same_bytes, bytes_same, and_left, and_right, and_both}
 use Rattle.hls_lang.proofs.Fronts.{Front, front_join}

@@ -1,5 +1,4 @@
+pub mod Faults
 pub mod Words
 pub mod Reading
 pub mod ReadingLines
-pub mod Forms
-pub mod Grammar

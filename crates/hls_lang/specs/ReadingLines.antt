@@ -8,8 +8,8 @@ use Rattle.hls_lang.specs.declared.fault.Cause.{Cause}
 use Rattle.hls_lang.specs.declared.fault.Cause.TheVariants.{Byte, Header, Horizon, Many}
 use Rattle.hls_lang.specs.declared.fault.ScenarioFault.{ScenarioFault}
 use Rattle.hls_lang.specs.declared.fault.ScenarioFault.TheVariants as faults
-use Rattle.hls_lang.specs.declared.scenario.Item.{Item}
-use Rattle.hls_lang.specs.declared.scenario.Scenario.{Scenario}
+use Rattle.hls_scenario.specs.declared.scenario.Item.{Item}
+use Rattle.hls_scenario.specs.declared.scenario.Scenario.{Scenario}
 use Rattle.hls_lang.specs.declared.reader.Stage.{Stage}
 use Rattle.hls_lang.specs.declared.reader.Stage.TheVariants.{AtHeader, AtHorizon, AtDepth, AtItems}
 use Rattle.hls_lang.specs.declared.line_error.LineError.{LineError}

@@ -10,6 +10,7 @@ use Rattle.hls_frac.specs.declared.Frac.{Frac}
 use Rattle.hls_frac.proofs.Quotients.{quotient_of}
 use Rattle.hls_text.specs.Lines.{Text}
 use Rattle.hls_text.specs.Numbers.{number_of}
+use Rattle.hls_text.specs.Cuts.{cut_at}
 use Rattle.hls_chron.specs.Name.{is_name}
 use Rattle.hls_lang.specs.declared.fault.Cause.{Cause}
 use Rattle.hls_lang.specs.declared.fault.Cause.TheVariants.{Short, Extra, Word, Number, Name, Order, Late}
@@ -74,10 +75,6 @@ pair_at most ts = number_at 1 most ts >>= λ x. number_at x.0 most x.1 >>= λ y.
 
 -- ---- fractions
 
--- what stands before and after the first such byte
-abbrev pub cut_at : ℕ → Text → Option (Text × Text)
-cut_at byte text = option_map (λ i. (take i text, drop (i + 1) text)) (position (λ b. b == byte) text)
-
 -- the fraction num / den in lowest terms
 abbrev pub quotient : (num den : ℕ) → Option Frac
 quotient num zero = None
@@ -113,11 +110,6 @@ abbrev pub rate_at : List Text → Found Frac
 rate_at ts = fraction_at ts >>= rate_test
 
 -- ---- what the code gives
-
--- the same of an optional value
-abbrev pub Cuts : {X Y : Type 0} → (X → Y) → Option X → Option Y → Type 0
-Cuts view None read = read ≡ None
-Cuts view (Some x) read = read ≡ Some (view x)
 
 -- what was returned, seen by view, is what reading gives
 abbrev pub Gives : {X Y : Type 0} → (X → Y) → Result X Cause → Result Y Cause → Type 0

@@ -1,6 +1,6 @@
 // Commands and items.
 ghost use Rattle.std.specs.Prelude.{◌≡◌, ◌∷◌, [], IfOk, IfSome, Some};
-ghost use Rattle.hls_lang.specs.Grammar.{IsItemLine};
+ghost use Rattle.hls_scenario.specs.Grammar.{IsItemLine};
 ghost use Rattle.hls_text.specs.Tokens.{tokens_of};
 ghost use Rattle.hls_lang.specs.Words.{Gives, Keeps};
 ghost use Rattle.hls_lang.specs.Reading.{join_at, one_perch_at, load_by, load_at, thread_at, move_at};

@@ -1,34 +1,19 @@
 // Fractions, as a scenario may write them.
-ghost use Rattle.std.specs.Prelude.{◌≡◌, ◌==◌, ◌<◌, IfSome, length};
-ghost use Rattle.std.specs.List.{position};
+ghost use Rattle.std.specs.Prelude.{◌≡◌};
 ghost use Rattle.hls_text.specs.Numbers.{number_of};
 ghost use Rattle.hls_text.specs.Tokens.{tokens_of};
-ghost use Rattle.hls_lang.specs.Words.{Gives, Cuts, cut_at, quotient, narrow_quotient, fraction_of};
+ghost use Rattle.hls_lang.specs.Words.{Gives, quotient, narrow_quotient, fraction_of};
 ghost use Rattle.hls_lang.specs.Words.{fraction_at, rate_at};
 
 use crate::Cause;
 use crate::words::token;
 use hls_frac::Frac;
+use hls_text::cut;
 
 /// The greatest numerator and the greatest denominator, as written.
 const MOST_NUM: u64 = 10_000_000_000;
 
 const MOST_DEN: u64 = 1_000_000;
-
-fn place_of(token: &[u8], byte: u8) -> Option<usize>
-    ensures place { result ≡ position (λ b. b == byte) token.now }
-    ensures bound { IfSome result (λ place. place < length token.now) }
-{
-    token.iter().position(|b| *b == byte)
-}
-
-/// What stands before and after the first such byte.
-fn cut(token: &[u8], byte: u8) -> Option<(&[u8], &[u8])>
-    ensures { Cuts (λ p. (p.0.now, p.1.now)) result (cut_at byte token.now) }
-{
-    let place = place_of(token, byte)?;
-    Some((&token[..place], &token[place + 1..]))
-}
 
 fn quotient(num: u64, den: u64) -> Option<Frac>
     ensures { result ≡ quotient num den }

@@ -4,11 +4,13 @@
 mod commands;
 mod fault;
 mod fractions;
+pub mod laws;
 mod line_error;
 mod ports;
+#[cfg(test)]
+mod printing_tests;
 mod reader;
 mod reading;
-mod scenario;
 mod seats;
 #[cfg(test)]
 mod tests;
@@ -16,5 +18,5 @@ mod words;
 
 pub use commands::read_item;
 pub use fault::{Cause, ScenarioFault};
+pub use hls_scenario::{Command, Item, Perch, Scenario, Spot, print_command, print_scenario};
 pub use reading::read_scenario;
-pub use scenario::{Command, Item, Perch, Scenario, Spot};

@@ -1,7 +1,8 @@
 // Reading a scenario.
 ghost use Rattle.std.specs.Prelude.{◌≡◌, ◌<◌, ◌^◌, ◌-◌, length, Ok, IfOk, IfErr};
 ghost use Rattle.hls_text.specs.Lines.{lines_of};
-ghost use Rattle.hls_lang.specs.Grammar.{IsScenarioText, IsFirstBad, AtLine};
+ghost use Rattle.hls_scenario.specs.Grammar.{IsScenarioText, IsFirstBad};
+ghost use Rattle.hls_lang.specs.Faults.{AtLine};
 ghost use Rattle.hls_lang.specs.ReadingLines.{ReadGives, scenario_of};
 
 use crate::reader::read_lines;

@@ -9,7 +9,8 @@ use Rattle.hls_kinds.specs.Discipline.{Serves}
 use Rattle.hls_guarantee.specs.Steps.{IsPort}
 use Rattle.hls_legal.specs.Hierarchy.{Hierarchy, Loaded, Scheduler, Place, Processor, At}
 use Rattle.hls_legal.specs.Steps.{Hop, Path, hop_at, hops_of, row_by}
-use Rattle.hls_legal.specs.Legal.{Walk, MayRun, port_count}
+use Rattle.hls_legal.specs.Legal.{Walk, MayRun}
+use Rattle.hls_chron.specs.Kinds.{port_count}
 use Rattle.hls_legal.proofs.Kept.{at_same, at_other}
 
 pub record GoesThrough (s : Scheduler) (mask : ℕ) (hop : Hop) : Type 0 where

@@ -17,7 +17,8 @@ use Rattle.hls_legal.specs.Ledgers.{empty_book}
 use Rattle.hls_legal.specs.Hierarchy.{Node, Loaded, Admitted, Scheduler, Tick, Wake, Place, Seat, seats_of}
 use Rattle.hls_legal.specs.Hierarchy.{seat_of, book_of, config_of, since_of, asking_of, given_of}
 use Rattle.hls_legal.specs.Steps.{marked, renewed, reseated, roused}
-use Rattle.hls_legal.specs.Legal.{port_count, MayMoveTo}
+use Rattle.hls_chron.specs.Kinds.{port_count}
+use Rattle.hls_legal.specs.Legal.{MayMoveTo}
 use Rattle.hls_legal.proofs.Marks.{now_of-marks, tenant_at-marks, settled_at-marks, asked_by-marks}
 use Rattle.hls_legal.proofs.Marks.{asked-marks, served-marks, given-marks, settled_grows, dated-marks}
 use Rattle.hls_legal.proofs.Marks.{ports-marks}

@@ -7,7 +7,8 @@ use Rattle.hls_legal.specs.Ledgers.{empty_book}
 use Rattle.hls_legal.specs.Hierarchy.{Hierarchy, Seat, Loaded, Admitted, start}
 use Rattle.hls_legal.specs.Steps.{Step, Refuse, Load, Admit, End, Unload, Move, Rouse, Block, Elapse, nobody}
 use Rattle.hls_legal.specs.Steps.{loaded, admitted, reseated, after, state}
-use Rattle.hls_legal.specs.Legal.{Can, IsLegal, port_count}
+use Rattle.hls_legal.specs.Legal.{Can, IsLegal}
+use Rattle.hls_chron.specs.Kinds.{port_count}
 use Rattle.hls_legal.specs.Linked.{KeepsPromises}
 use Rattle.hls_legal.specs.Supplied.{KeepsStays}
 use Rattle.hls_legal.proofs.Marks.{ports-empty}

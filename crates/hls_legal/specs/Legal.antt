@@ -5,7 +5,7 @@ use Rattle.std.specs.Prelude.{Bool, true, false, slice_get}
 use Rattle.hls_chron.specs.declared.plain.Config.{Config}
 use Rattle.hls_chron.specs.declared.plain.Config.TheVariants as configs
 use Rattle.hls_chron.specs.declared.plain.Kind.TheVariants as kinds
-use Rattle.hls_chron.specs.Kinds.{kind_of, terms_kind}
+use Rattle.hls_chron.specs.Kinds.{kind_of, terms_kind, port_count}
 use Rattle.hls_chron.specs.Name.{IsName}
 use Rattle.hls_chron.specs.Ranges.{ConfigInRange, TermsInRange}
 use Rattle.hls_chron.specs.Seats.{terms_at}
@@ -97,11 +97,6 @@ pub record MayTakeEach (h : Hierarchy) (seats : List Seat) : Type 0 where
   pub apart : (port other : ℕ) (one two : Seat) → slice_get seats port ≡ Some one
       → slice_get seats other ≡ Some two
       → scheduler_at one.place ≡ scheduler_at two.place → port ≡ other
-
--- how many ports a scheduler has
-abbrev pub port_count : Config → ℕ
-port_count (configs.Join ports) = ports
-port_count _ = 1
 
 pub record CanLoad (h : Hierarchy) (k : ℕ) (name : List ℕ) (config : Config) (seats : List Seat) : Type 0
   where

@@ -23,7 +23,8 @@ use Rattle.hls_guarantee.specs.declared.Guarantee.{Guarantee}
 use Rattle.hls_guarantee.specs.declared.Guarantee.TheVariants.{All, Null, Resb, Resc, Psbe}
 use Rattle.hls_guarantee.specs.Service.{EveryPart}
 use Rattle.hls_guarantee.specs.Satisfaction.{IsSoft}
-use Rattle.hls_guarantee.specs.Cap.{KeepsCap, processor_parts, parts_of}
+use Rattle.hls_guarantee.specs.Cap.{KeepsCap}
+use Rattle.hls_chron.specs.Parts.{all_parts, parts}
 use Rattle.hls_guarantee.specs.Supply.{Supplies}
 use Rattle.hls_guarantee.specs.Steps.{LendsByTerms}
 use Rattle.hls_guarantee.proofs.Promises.{satisfies-agree, satisfies-more, keeps_cap-part}
@@ -37,9 +38,9 @@ every-less P f h lo hi less down each = λ i n a b.
     down i n (count h i n) (count f i n) (count-more h f i n less) (each i n a b)
 
 block_cap : (x y n less more : ℕ) → less ≤ more
-    → more * processor_parts ≤ parts_of x y * n + 2 * x * processor_parts
-    → less * processor_parts ≤ parts_of x y * n + 2 * x * processor_parts
-block_cap x y n less more le cap = omega (arith, mul-le-mul_right processor_parts le, cap)
+    → more * all_parts ≤ parts x y * n + 2 * x * all_parts
+    → less * all_parts ≤ parts x y * n + 2 * x * all_parts
+block_cap x y n less more le cap = omega (arith, mul-le-mul_right all_parts le, cap)
 
 pub keeps_cap-less : (g : Guarantee) (f h : ℕ → Bool) (lo hi : ℕ) → ((t : ℕ) → h t ≡ true → f t ≡ true)
     → KeepsCap g f lo hi → KeepsCap g h lo hi
@@ -50,7 +51,7 @@ keeps_cap-less (Resc true x y) f h lo hi less c =
     (λ i n few many le cap short. omega (arith, le, cap short)) c
 keeps_cap-less (Resc false x y) f h lo hi less c = tt
 keeps_cap-less (Resb true x y) f h lo hi less c =
-    every-less (λ i n got. got * processor_parts ≤ parts_of x y * n + 2 * x * processor_parts) f h lo hi less
+    every-less (λ i n got. got * all_parts ≤ parts x y * n + 2 * x * all_parts) f h lo hi less
     (λ i n few many le cap. block_cap x y n few many le cap) c
 keeps_cap-less (Resb false x y) f h lo hi less c = tt
 keeps_cap-less (Psbe s d) f h lo hi less c = tt

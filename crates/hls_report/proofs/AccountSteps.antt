@@ -5,8 +5,8 @@ use Rattle.std.specs.Prelude.{codes, decimal, map, Some}
 use Rattle.std.specs.List.{AllByRecursion}
 use Rattle.std.proofs.lemmas.List.{map-append}
 use Rattle.hls_text.specs.Lines.{Text}
-use Rattle.hls_derive.specs.Reading.{after_words}
-use Rattle.hls_print.proofs.CanonicalLines.{all_append}
+use Rattle.hls_text.specs.Cuts.{after_words}
+use Rattle.hls_scenario.proofs.CanonicalLines.{all_append}
 use Rattle.hls_report.specs.declared.lines.Lines.{Lines}
 use Rattle.hls_report_text.specs.declared.report.Account.{Account}
 use Rattle.hls_report_text.specs.ReportText.{account_text}

@@ -5,10 +5,10 @@ use Rattle.std.specs.Prelude.{codes, map, Some, None}
 use Rattle.std.proofs.lemmas.List.{map-append, append-nil, length-append}
 use Rattle.std.proofs.lemmas.Grind.{flat_map-append}
 use Rattle.hls_text.specs.Lines.{Text}
-use Rattle.hls_derive.specs.Reading.{after_words}
-use Rattle.hls_print.proofs.CanonicalLines.{all_append}
-use Rattle.hls_lang.specs.declared.scenario.Command.{Command}
-use Rattle.hls_lang.specs.declared.scenario.Item.{Item}
+use Rattle.hls_text.specs.Cuts.{after_words}
+use Rattle.hls_scenario.proofs.CanonicalLines.{all_append}
+use Rattle.hls_scenario.specs.declared.scenario.Command.{Command}
+use Rattle.hls_scenario.specs.declared.scenario.Item.{Item}
 use Rattle.hls_report.specs.declared.lines.Lines.{Lines}
 use Rattle.hls_report_text.specs.declared.refusal.Refusal.{Refusal}
 use Rattle.hls_report_text.specs.declared.report.Seated.{Seated}

@@ -3,11 +3,13 @@ use Rattle.std.proofs.Common.{◌≡◌, ℕ, ◌≤◌, ◌++◌, List, ◌∷�
 use Rattle.std.specs.Prelude.{codes, decimal, Some}
 use Rattle.hls_text.specs.Lines.{Text}
 use Rattle.hls_chron.specs.Ranges.{IsWithin}
-use Rattle.hls_derive.specs.Reading.{after_words}
-use Rattle.hls_report_text.specs.Reading.{number_below, count_at}
+use Rattle.hls_text.specs.Cuts.{after_words}
+use Rattle.hls_text.specs.Decimals.{number_below}
+use Rattle.hls_report_text.specs.Reading.{count_at}
 use Rattle.hls_report.specs.Rests.{HorizonRest, DepthRest}
-use Rattle.hls_report_text.proofs.Sections.{first_line}
-use Rattle.hls_report_text.proofs.RefusalTexts.{number_again, count_again}
+use Rattle.hls_report.proofs.Sections.{first_line}
+use Rattle.hls_text.proofs.Marks.{number_again}
+use Rattle.hls_report_text.proofs.RefusalTexts.{count_again}
 
 pub some_text : (a b : Text) → Some a ≡ Some b → a ≡ b
 some_text a b e = cc

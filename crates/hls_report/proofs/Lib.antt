@@ -1,5 +1,4 @@
 pub mod PathLaws
-pub mod WordLaws
 pub mod Stuck
 pub mod RestLaws
 pub mod LineReadings
@@ -9,3 +8,5 @@ pub mod AccountSteps
 pub mod CommandSteps
 pub mod Reports
 pub mod RunSteps
+pub mod ItemTexts
+pub mod Sections

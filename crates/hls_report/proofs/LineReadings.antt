@@ -9,22 +9,27 @@ use Rattle.hls_guarantee.specs.Spelling.{spelling}
 use Rattle.hls_guarantee.specs.Limits.{IsValid}
 use Rattle.hls_derive.specs.declared.derivation.Derivation.{Derivation}
 use Rattle.hls_derive.specs.DerivationText.{derivation_text}
-use Rattle.hls_derive.specs.Reading.{◌>>=◌, Stands, after_words}
+use Rattle.hls_text.specs.Options.{◌>>=◌}
+use Rattle.hls_derive.specs.Reading.{Stands}
+use Rattle.hls_text.specs.Cuts.{after_words}
 use Rattle.hls_derive.proofs.Fronts.{one_guarantee}
-use Rattle.hls_lang.specs.declared.scenario.Item.{Item}
-use Rattle.hls_lang.specs.Forms.{item_forms}
-use Rattle.hls_lang.specs.Grammar.{IsLine, IsItemLine}
-use Rattle.hls_lang.specs.Words.{cut_at}
+use Rattle.hls_scenario.specs.declared.scenario.Item.{Item}
+use Rattle.hls_scenario.specs.Forms.{item_forms}
+use Rattle.hls_scenario.specs.Grammar.{IsLine, IsItemLine}
+use Rattle.hls_text.specs.Cuts.{cut_at}
 use Rattle.hls_report_text.specs.declared.report.Seated.{Seated}
 use Rattle.hls_report_text.specs.declared.report.Account.{Account}
 use Rattle.hls_report_text.specs.ReportText.{two_words, item_text, seat_text, span_text, ticks_text}
 use Rattle.hls_report_text.specs.ReportText.{account_text}
 use Rattle.hls_report_text.specs.WellFormed.{IsSeated, IsAccount}
 use Rattle.hls_report.specs.Rests.{IsNext}
-use Rattle.hls_report_text.specs.Reading.{name_at, count_at, number_below, seat_front_at, span_at, spanned_at}
+use Rattle.hls_report_text.specs.Reading.{name_at, count_at, seat_front_at, span_at, spanned_at}
+use Rattle.hls_text.specs.Decimals.{number_below}
 use Rattle.hls_report_text.specs.Reading.{account_front_at, ticks_at}
-use Rattle.hls_report_text.proofs.Marks.{name_lacks, number_lacks}
-use Rattle.hls_report_text.proofs.RefusalTexts.{name_again, number_again, count_again, cut_again}
+use Rattle.hls_report_text.proofs.Marks.{name_lacks}
+use Rattle.hls_text.proofs.Marks.{number_lacks}
+use Rattle.hls_report_text.proofs.RefusalTexts.{name_again, count_again, cut_again}
+use Rattle.hls_text.proofs.Marks.{number_again}
 use Rattle.hls_report_text.proofs.LineTexts.{IsItem, item_stands, span_lacks}
 
 -- ---- items

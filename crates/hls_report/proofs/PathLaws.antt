@@ -11,14 +11,15 @@ use Rattle.std.proofs.lemmas.List.{append-nil, length-append, map-append}
 use Rattle.std.proofs.lemmas.Grind.{flat_map-append}
 use Rattle.hls_text.specs.Lines.{Text}
 use Rattle.hls_chron.specs.Name.{IsName}
-use Rattle.hls_print.proofs.CanonicalLines.{all_append}
-use Rattle.hls_derive.specs.Reading.{◌>>=◌}
+use Rattle.hls_scenario.proofs.CanonicalLines.{all_append}
+use Rattle.hls_text.specs.Options.{◌>>=◌}
 use Rattle.hls_report_text.specs.declared.report.Path.{Path}
 use Rattle.hls_report_text.specs.Content.{path_names}
 use Rattle.hls_report_text.specs.WellFormed.{with_name, with_names}
 use Rattle.hls_report_text.specs.Reading.{name_at}
 use Rattle.hls_report.specs.Paths.{names_text, name_length, first_name_at, FitIn, IsPathRead}
-use Rattle.hls_report_text.proofs.Marks.{Lacks, name_lacks}
+use Rattle.hls_text.proofs.Marks.{Lacks}
+use Rattle.hls_report_text.proofs.Marks.{name_lacks}
 use Rattle.hls_report_text.proofs.RefusalTexts.{name_again}
 use Rattle.hls_report_text.proofs.NameLaws.{Grows, name_grows, names_grow, grown_length, named_at, AreIn}
 use Rattle.hls_report_text.proofs.NameLaws.{grown_in}

@@ -18,7 +18,7 @@ use Rattle.hls_report_text.specs.WellFormed.{IsReportText, HasShort, IsContent}
 use Rattle.hls_report.specs.Rests.{Passes, FailsAt, HeaderRest, CommandRest, RunRest, AccountRest}
 use Rattle.hls_report.specs.Reports.{ReadsAs, IsBadAt}
 use Rattle.hls_report.proofs.ContentLaws.{first_bad, never_stuck}
-use Rattle.hls_report_text.proofs.Sections.{report_same}
+use Rattle.hls_report.proofs.Sections.{report_same}
 use Rattle.hls_report.proofs.Stuck.{pass_on}
 use Rattle.hls_report_text.proofs.Writings.{ended-append}
 

@@ -9,8 +9,8 @@ use Rattle.std.proofs.lemmas.Slice.Eq.{bytes_eq-Decides}
 use Rattle.hls_text.specs.Lines.{Text}
 use Rattle.hls_chron.specs.Name.{IsName}
 use Rattle.hls_chron.specs.Ranges.{IsWithin}
-use Rattle.hls_lang.specs.declared.scenario.Command.{Command}
-use Rattle.hls_lang.specs.declared.scenario.Item.{Item}
+use Rattle.hls_scenario.specs.declared.scenario.Command.{Command}
+use Rattle.hls_scenario.specs.declared.scenario.Item.{Item}
 use Rattle.hls_report_text.specs.declared.refusal.Refusal.{Refusal}
 use Rattle.hls_report_text.specs.declared.report.Seated.{Seated}
 use Rattle.hls_report_text.specs.declared.report.Answer.{Answer}
@@ -26,10 +26,11 @@ use Rattle.hls_report_text.specs.WellFormed.{IsPath}
 use Rattle.hls_report_text.specs.WellFormed.{Cover, with_name, with_path, FewNames, IsAccount}
 use Rattle.hls_report.specs.Rests.{EndRest, AccountRest, RunRest, CommandRest, SeatRest, AnswerRest}
 use Rattle.hls_report.specs.Rests.{DepthRest, HorizonRest, HeaderRest, NextStretch, IsNext}
-use Rattle.hls_report_text.proofs.Marks.{number_same}
-use Rattle.hls_report_text.proofs.LineTexts.{IsItem, item_same, IsStretch, stretch_same, apart}
-use Rattle.hls_report_text.proofs.Sections.{first_line, later_lines, idle_text, account_not_idle}
-use Rattle.hls_report_text.proofs.Sections.{stretch_not_accounts, cover_reaches}
+use Rattle.hls_text.proofs.Marks.{number_same}
+use Rattle.hls_report_text.proofs.LineTexts.{IsItem, IsStretch, stretch_same, apart}
+use Rattle.hls_report.proofs.ItemTexts.{item_same}
+use Rattle.hls_report.proofs.Sections.{first_line, later_lines, idle_text, account_not_idle}
+use Rattle.hls_report.proofs.Sections.{stretch_not_accounts, cover_reaches}
 
 -- ---- accounts
 

@@ -8,7 +8,7 @@ use Rattle.std.specs.List.{AllByRecursion}
 use Rattle.std.proofs.lemmas.List.{map-append}
 use Rattle.hls_text.specs.Lines.{Text}
 use Rattle.hls_chron.specs.Name.{IsName}
-use Rattle.hls_print.proofs.CanonicalLines.{all_append}
+use Rattle.hls_scenario.proofs.CanonicalLines.{all_append}
 use Rattle.hls_report.specs.declared.fault.ReportFault.{ReportFault}
 use Rattle.hls_report.specs.declared.fault.ReportFault.TheVariants as faults
 use Rattle.hls_report.specs.declared.lines.Lines.{Lines}
@@ -23,7 +23,7 @@ use Rattle.hls_report.specs.Rests.{NextStretch, RunRest, AccountRest, Passes, Fa
 use Rattle.hls_report.specs.RunLines.{FitsPath, IsInside, IsNextRun, IsRunTold, IsLast, AreNames, IsRunRead}
 use Rattle.hls_report.specs.RunLines.{RunFails, AccountsPass, AccountsFail, IsSchedule}
 use Rattle.hls_report_text.specs.WellFormed.{names_after}
-use Rattle.hls_report_text.proofs.Marks.{cut_same}
+use Rattle.hls_text.proofs.Marks.{cut_same}
 use Rattle.hls_report_text.proofs.LineTexts.{span_lacks, path_same}
 use Rattle.hls_report.proofs.LineReadings.{spanned_again}
 use Rattle.hls_report_text.proofs.NameLaws.{Grows, grown_in, grown_names, names_named}

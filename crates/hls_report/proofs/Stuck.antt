@@ -7,14 +7,14 @@ use Rattle.std.specs.Prelude.{◌==◌, ◌||◌}
 use Rattle.std.specs.List.{AllByRecursion}
 use Rattle.std.proofs.lemmas.List.{take-append-drop, length-append, append-nil}
 use Rattle.hls_text.specs.Lines.{Text}
-use Rattle.hls_print.proofs.CanonicalLines.{all_append}
+use Rattle.hls_scenario.proofs.CanonicalLines.{all_append}
 use Rattle.hls_report.specs.declared.lines.Lines.{Lines}
 use Rattle.hls_report.specs.declared.fault.ReportFault.{ReportFault}
 use Rattle.hls_report.specs.declared.fault.ReportFault.TheVariants as faults
 use Rattle.hls_report_text.specs.ReportText.{ended}
 use Rattle.hls_report_text.specs.WellFormed.{IsOneLine}
 use Rattle.hls_report.specs.Rests.{BeginsIn, IsStuck, FailsAt, Passes, NoRest}
-use Rattle.hls_report_text.proofs.Marks.{cut_same}
+use Rattle.hls_text.proofs.Marks.{cut_same}
 use Rattle.hls_report_text.proofs.Writings.{ended-append}
 
 abbrev pub AreOneLine : List Text → Type 0

@@ -1,8 +1,8 @@
 -- What the lines of commands, answers and seats leave to come.
 use Rattle.std.specs.Prelude.{ℕ, ◌-◌, ◌<◌, List, [], ◌∷◌, codes, Option, Some, None}
 use Rattle.hls_text.specs.Lines.{Text}
-use Rattle.hls_lang.specs.declared.scenario.Command.{Command}
-use Rattle.hls_lang.specs.declared.scenario.Item.{Item}
+use Rattle.hls_scenario.specs.declared.scenario.Command.{Command}
+use Rattle.hls_scenario.specs.declared.scenario.Item.{Item}
 use Rattle.hls_report.specs.declared.lines.Lines.{Lines}
 use Rattle.hls_report_text.specs.declared.report.Seated.{Seated}
 use Rattle.hls_report_text.specs.declared.report.Answered.{Answered}

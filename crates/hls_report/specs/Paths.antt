@@ -3,7 +3,8 @@ use Rattle.std.specs.Prelude.{◌≡◌, ℕ, ◌^◌, ◌≤◌, ◌<◌, ◌==
 use Rattle.std.specs.Prelude.{flat_map, Option, Some}
 use Rattle.std.specs.List.{AllByRecursion, position_or_len}
 use Rattle.hls_text.specs.Lines.{Text}
-use Rattle.hls_derive.specs.Reading.{◌>>=◌, after_words}
+use Rattle.hls_text.specs.Options.{◌>>=◌}
+use Rattle.hls_text.specs.Cuts.{after_words}
 use Rattle.hls_report_text.specs.declared.report.Path.{Path}
 use Rattle.hls_report_text.specs.Content.{path_names}
 use Rattle.hls_report_text.specs.WellFormed.{IsPath, with_names}

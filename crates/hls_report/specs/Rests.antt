@@ -5,7 +5,7 @@ use Rattle.std.specs.Prelude.{flat_map, Option, Some, None}
 use Rattle.std.specs.List.{AllByRecursion}
 use Rattle.hls_text.specs.Lines.{Text}
 use Rattle.hls_chron.specs.Ranges.{IsWithin}
-use Rattle.hls_lang.specs.declared.scenario.Command.{Command}
+use Rattle.hls_scenario.specs.declared.scenario.Command.{Command}
 use Rattle.hls_report.specs.declared.fault.ReportFault.{ReportFault}
 use Rattle.hls_report.specs.declared.fault.ReportFault.TheVariants as faults
 use Rattle.hls_report.specs.declared.lines.Lines.{Lines}
@@ -20,8 +20,8 @@ use Rattle.hls_report_text.specs.ReportText.{ended}
 use Rattle.hls_report_text.specs.WellFormed.{IsAnswer, AreSeats, AreAnswered, IsPath, Cover, FewNames}
 use Rattle.hls_report_text.specs.WellFormed.{IsAccount}
 use Rattle.hls_report_text.specs.WellFormed.{with_path, IsOneLine}
-use Rattle.hls_lang.specs.declared.scenario.Item.{Item}
-use Rattle.hls_lang.specs.Grammar.{IsCommand}
+use Rattle.hls_scenario.specs.declared.scenario.Item.{Item}
+use Rattle.hls_scenario.specs.Grammar.{IsCommand}
 
 -- ---- lists of lines that may still come
 

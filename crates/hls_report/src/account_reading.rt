@@ -10,8 +10,9 @@ ghost use Rattle.hls_report.specs.AccountLines.{AccountPasses};
 use crate::ReportFault;
 use crate::line_reading::account;
 use crate::lines::Lines;
-use crate::words::{after, count};
+use crate::words::count;
 use hls_report_text::Account;
+use hls_text::after;
 use std::alloc::{AllocError, Global};
 
 /// A line of the accounts.

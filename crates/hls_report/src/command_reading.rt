@@ -11,10 +11,10 @@ use crate::ReportFault;
 use crate::line_reading::{item, seat};
 use crate::lines::Lines;
 use crate::refusal_reading::refusal;
-use crate::words::after;
 use hls_chron::List;
-use hls_lang::{Command, Item};
 use hls_report_text::{Answer, Answered, Refusal, Seated};
+use hls_scenario::{Command, Item};
+use hls_text::after;
 use std::alloc::{AllocError, Global};
 
 /// How many commands a report has at most.

@@ -4,6 +4,7 @@
 mod account_reading;
 mod command_reading;
 mod fault;
+pub mod laws;
 mod line_reading;
 mod lines;
 mod path_reading;

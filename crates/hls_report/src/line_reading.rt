@@ -4,8 +4,8 @@ ghost use Rattle.std.specs.Prelude.{IsTrue, ◌↔◌};
 ghost use Rattle.hls_guarantee.specs.Limits.{IsValid};
 ghost use Rattle.hls_guarantee.specs.Spelling.{spelling};
 ghost use Rattle.hls_chron.specs.Name.{IsName};
-ghost use Rattle.hls_derive.specs.Reading.{Gives};
-ghost use Rattle.hls_lang.specs.Grammar.{IsCommand};
+ghost use Rattle.hls_text.specs.Options.{Gives};
+ghost use Rattle.hls_scenario.specs.Grammar.{IsCommand};
 ghost use Rattle.hls_report_text.specs.ReportText.{two_words, item_text, seat_text, span_text, ticks_text};
 ghost use Rattle.hls_report_text.specs.ReportText.{account_text};
 ghost use Rattle.hls_report_text.specs.WellFormed.{IsSeated, IsAccount};
@@ -13,12 +13,13 @@ ghost use Rattle.hls_report_text.specs.Reading.{seat_front_at, span_at, spanned_
 ghost use Rattle.hls_report_text.specs.Reading.{ticks_at};
 ghost use Rattle.hls_report.specs.Rests.{IsNext};
 
-use crate::words::{after, count, cut, digit, name};
+use crate::words::{count, digit, name};
 use hls_chron::Name;
 use hls_derive::{guarantee, read_derivation};
 use hls_guarantee::Guarantee;
 use hls_lang::{Item, read_item};
 use hls_report_text::{Account, Seated, put_command};
+use hls_text::{after, cut};
 use std::alloc::{AllocError, Global};
 
 /// The item that a line spells, of a tick from the last one on and below the horizon.

@@ -4,7 +4,7 @@ ghost use Rattle.hls_report_text.specs.WellFormed.{IsOneLine};
 ghost use Rattle.hls_report.specs.Rests.{HasRoom};
 
 use crate::ReportFault;
-use crate::words::cut;
+use hls_text::cut;
 
 /// The rest of a text, and the number of the line that was asked for last.
 #[derive(Debug, Drop)]

@@ -4,13 +4,14 @@ ghost use Rattle.std.specs.Prelude.{codes, IfSome, IfOk, MatchOption};
 ghost use Rattle.std.specs.List.{position_or_len};
 ghost use Rattle.hls_text.specs.Lines.{Text};
 ghost use Rattle.hls_chron.specs.Name.{IsName};
-ghost use Rattle.hls_derive.specs.Reading.{Gives};
+ghost use Rattle.hls_text.specs.Options.{Gives};
 ghost use Rattle.hls_report.specs.Paths.{names_text, first_name_at, FitIn, IsPathRead};
 
 use crate::places::place_in;
-use crate::words::{after, name, place_of};
+use crate::words::name;
 use hls_chron::Name;
 use hls_report_text::Path;
+use hls_text::{after, place_of};
 use indexmap::IndexSet;
 use std::alloc::AllocError;
 

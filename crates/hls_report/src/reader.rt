@@ -11,8 +11,9 @@ ghost use Rattle.hls_report.specs.Rests.{CommandRest, AccountRest, EndRest};
 use crate::ReportFault;
 use crate::line_reading::account;
 use crate::lines::Lines;
-use crate::words::{after, count, digit};
+use crate::words::{count, digit};
 use hls_report_text::Account;
+use hls_text::after;
 use std::alloc::{AllocError, Global};
 
 /// How many ticks a report has at most.

@@ -1,14 +1,15 @@
 // Reading a refusal.
 ghost use Rattle.std.specs.Prelude.{◌≡◌, ◌∷◌, ◌++◌, codes, decimal, IfSome};
-ghost use Rattle.hls_derive.specs.Reading.{Gives};
+ghost use Rattle.hls_text.specs.Options.{Gives};
 ghost use Rattle.hls_report_text.specs.ReportText.{two_words, place_text, kind_text, refusal_text};
 ghost use Rattle.hls_report_text.specs.WellFormed.{IsRefusal};
 ghost use Rattle.hls_report_text.specs.Reading.{not_empty_at, seats_full_at, kit_empty_at, no_room_at};
 ghost use Rattle.hls_report_text.specs.Reading.{no_derivation_at, refusal_at, seat_refusal_at};
 ghost use Rattle.hls_report_text.specs.Reading.{late_refusal_at};
 
-use crate::words::{after, count, cut, digit, kind, name, number, place};
+use crate::words::{count, digit, kind, name, place};
 use hls_report_text::Refusal;
+use hls_text::{after, cut, decimal_number};
 
 /// The refusal that a text spells.
 #[tactic(auto, unfolding(hls_report_text::specs::Reading::refusal_at))]
@@ -132,8 +133,8 @@ fn no_room(text: &[u8]) -> Option<Refusal>
     ensures found { IfSome result (λ r. IsRefusal r × (codes "23 NoRoom " ++ text.now ≡ refusal_text r)) }
 {
     let (front, rest) = cut(text, b' ')?;
-    let free = number(front)?;
-    let asked = number(rest)?;
+    let free = decimal_number(front)?;
+    let asked = decimal_number(rest)?;
     Some(Refusal::NoRoom { free, asked })
 }
 

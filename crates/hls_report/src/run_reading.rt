@@ -16,9 +16,9 @@ use crate::ReportFault;
 use crate::line_reading::spanned;
 use crate::lines::Lines;
 use crate::path_reading::path;
-use crate::words::after;
 use hls_chron::{List, Name};
 use hls_report_text::{Path, Run};
+use hls_text::after;
 use indexmap::IndexSet;
 use std::alloc::{AllocError, Global};
 

@@ -4,4 +4,3 @@ pub mod Contents
 pub mod Marks
 pub mod RefusalTexts
 pub mod LineTexts
-pub mod Sections

@@ -31,14 +31,12 @@ use Rattle.hls_derive.specs.DerivationText.{derivation_text}
 use Rattle.hls_derive.specs.Reading.{Stands}
 use Rattle.hls_derive.proofs.Fronts.{one_guarantee}
 use Rattle.hls_derive.proofs.Parses.{derivation-same}
-use Rattle.hls_lang.specs.declared.scenario.Item.{Item}
-use Rattle.hls_lang.specs.Forms.{item_forms}
-use Rattle.hls_lang.specs.Grammar.{IsCommand, IsLine}
-use Rattle.hls_lang.specs.Reading.{item_at}
-use Rattle.hls_lang.proofs.CommandLaws.{item_next}
-use Rattle.hls_print.proofs.CanonicalLines.{IsWord, joined_tokens, joined_plain, decimal_word}
-use Rattle.hls_print.proofs.CanonicalWords.{ArePrintable, forms_words, canonical_line}
-use Rattle.hls_print.proofs.CanonicalForms.{command_printable}
+use Rattle.hls_scenario.specs.declared.scenario.Item.{Item}
+use Rattle.hls_scenario.specs.Forms.{item_forms}
+use Rattle.hls_scenario.specs.Grammar.{IsCommand, IsLine}
+use Rattle.hls_scenario.proofs.CanonicalLines.{IsWord, joined_tokens, joined_plain, decimal_word}
+use Rattle.hls_scenario.proofs.CanonicalWords.{ArePrintable, forms_words, canonical_line}
+use Rattle.hls_scenario.proofs.CanonicalForms.{command_printable}
 use Rattle.hls_report_text.specs.declared.report.Seated.{Seated}
 use Rattle.hls_report_text.specs.declared.report.Account.{Account}
 use Rattle.hls_report_text.specs.declared.stretch.Stretch.{Stretch}
@@ -46,8 +44,10 @@ use Rattle.hls_report_text.specs.ReportText.{item_text, two_words, seat_text, sp
 use Rattle.hls_report_text.specs.ReportText.{stretch_text}
 use Rattle.hls_report_text.specs.ReportText.{ticks_text, account_text}
 use Rattle.hls_report_text.specs.WellFormed.{IsSeated, IsPath, IsAccount}
-use Rattle.hls_report_text.proofs.Marks.{Lacks, lacks_both, cut_same, name_lacks, number_lacks, number_same}
-use Rattle.hls_report_text.proofs.Marks.{plain_lacks, lacks_byte, marked, marked_same, named, both}
+use Rattle.hls_text.proofs.Marks.{Lacks, lacks_both, cut_same, number_lacks, number_same}
+use Rattle.hls_report_text.proofs.Marks.{name_lacks}
+use Rattle.hls_report_text.proofs.Marks.{plain_lacks, marked, marked_same, named}
+use Rattle.hls_text.proofs.Marks.{lacks_byte, both}
 
 -- ---- items
 
@@ -73,18 +73,6 @@ item_stands item is =
     subst (IsLine (item_forms item)) (sym (joined_tokens (item_forms item) (forms_words (item_forms item)
     printable)))
     (canonical_line (item_forms item) printable)
-
-pub item_read : (item : Item) → IsItem item → item_at 100000 0 (tokens_of (item_text item)) ≡ Ok item
-item_read item is =
-    item_next 100000 0 (tokens_of (item_text item)) item (omega arith)
-    (is.0, omega arith, is.1, item_stands item is)
-
-pub item_same : (a b : Item) → IsItem a → IsItem b → item_text a ≡ item_text b → a ≡ b
-item_same a b is is_too e =
-    let f : item_at 100000 0 (tokens_of (item_text b)) ≡ Ok a =
-    subst (λ (t : Text). item_at 100000 0 (tokens_of t) ≡ Ok a) e (item_read a is) in
-    let g = item_read b is_too in
-    let h : Ok a ≡ Ok b = sym f ∙ g in cc
 
 pub item_line : (item : Item) → IsItem item → Lacks 10 (item_text item)
 item_line item is =

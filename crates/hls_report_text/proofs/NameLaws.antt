@@ -12,7 +12,7 @@ use Rattle.hls_text.specs.Lines.{Text}
 use Rattle.hls_chron.specs.Name.{IsName}
 use Rattle.hls_chron.specs.contracts.name.NamePartialEq.TheImpl.{eq-value}
 use Rattle.hls_report_text.specs.WellFormed.{with_name, with_names}
-use Rattle.hls_report_text.proofs.Marks.{both}
+use Rattle.hls_text.proofs.Marks.{both}
 
 -- ---- equality
 

@@ -10,16 +10,18 @@ use Rattle.hls_text.specs.Lines.{Text}
 use Rattle.hls_chron.specs.Name.{is_name, IsName}
 use Rattle.hls_chron.specs.declared.plain.Kind.{Kind}
 use Rattle.hls_chron.specs.declared.plain.Kind.TheVariants as kinds
-use Rattle.hls_lang.specs.Words.{cut_at}
-use Rattle.hls_derive.specs.Reading.{◌>>=◌}
-use Rattle.hls_guarantee.proofs.Texts.{position_first}
+use Rattle.hls_text.specs.Cuts.{cut_at}
+use Rattle.hls_text.specs.Options.{◌>>=◌}
+use Rattle.hls_text.proofs.FirstMarks.{position_first}
 use Rattle.hls_report_text.specs.declared.refusal.Refusal.{Refusal}
 use Rattle.hls_report_text.specs.declared.refusal.Refusal.TheVariants as refusals
 use Rattle.hls_report_text.specs.ReportText.{kind_text, place_text, refusal_text}
 use Rattle.hls_report_text.specs.WellFormed.{IsPlace, HasBoxes, IsRefusal}
-use Rattle.hls_report_text.specs.Reading.{name_at, place_at, number_below, kind_at, refusal_at}
+use Rattle.hls_report_text.specs.Reading.{name_at, place_at, kind_at, refusal_at}
+use Rattle.hls_text.specs.Decimals.{number_below}
 use Rattle.hls_report_text.specs.Reading.{seat_refusal_at, late_refusal_at, count_at}
-use Rattle.hls_report_text.proofs.Marks.{Lacks, lacks_both, name_lacks, number_lacks, value_decimal}
+use Rattle.hls_text.proofs.Marks.{Lacks, lacks_both, number_lacks, number_again}
+use Rattle.hls_report_text.proofs.Marks.{name_lacks}
 
 -- ---- words
 
@@ -38,13 +40,6 @@ no_cpu name is = by_bool (bytes_eq name (codes "cpu")) refl
 pub place_again : (place : Option Text) → IsPlace place → place_at (place_text place) ≡ Some place
 place_again None is = refl
 place_again (Some name) is = rw (no_cpu name is) (ap (λ o. o >>= λ n. Some (Some n)) (name_again name is))
-
-pub number_again : (limit n : ℕ) → n < limit → n < 10 ^ 64 → number_below limit (decimal n) ≡ Some n
-unfolding number_below
-number_again limit n lt fits =
-    let v = value_decimal n fits in
-    let same : bytes_eq (decimal n) (decimal n) ≡ true = (bytes_eq-Decides (decimal n) (decimal n)).1 refl in
-    rw (v, lt-ltb n limit lt, same) refl
 
 pub kind_again : (kind : Kind) → HasBoxes kind → kind_at (kind_text kind) ≡ Some kind
 kind_again kinds.Cpu is = absurd is

@@ -7,7 +7,7 @@ use Rattle.std.proofs.lemmas.List.{append-nil}
 use Rattle.std.proofs.lemmas.List.Folds.{flat_map-map}
 use Rattle.hls_text.specs.Lines.{Text}
 use Rattle.hls_guarantee.specs.Limits.{IsValid}
-use Rattle.hls_lang.specs.Grammar.{IsCommand}
+use Rattle.hls_scenario.specs.Grammar.{IsCommand}
 use Rattle.hls_report_text.specs.declared.report.Seated.{Seated}
 use Rattle.hls_report_text.specs.declared.report.Answered.{Answered}
 use Rattle.hls_report_text.specs.declared.report.Account.{Account}
@@ -16,7 +16,7 @@ use Rattle.hls_report_text.specs.Content.{stretch_of}
 use Rattle.hls_report_text.specs.ReportText.{answered_lines, stretch_text, account_text, head_lines}
 use Rattle.hls_report_text.specs.ReportText.{end_lines, with_end, ended, report_text}
 use Rattle.hls_report_text.specs.WellFormed.{AreAnswered, IsAnswer, IsAccount, AreSeats, IsSeated}
-use Rattle.hls_lang.specs.declared.scenario.Command.{Command}
+use Rattle.hls_scenario.specs.declared.scenario.Command.{Command}
 
 pub commands_answers : (horizon last : ℕ) (answered : List Answered) → AreAnswered horizon last answered
     → AllByRecursion (λ a. IsCommand a.command × IsAnswer a.command a.answer) answered

@@ -6,8 +6,10 @@ use Rattle.hls_text.specs.Lines.{Text}
 use Rattle.hls_chron.specs.Name.{is_name}
 use Rattle.hls_chron.specs.declared.plain.Kind.{Kind}
 use Rattle.hls_chron.specs.declared.plain.Kind.TheVariants.{Fp, Edf, Sfq, Rr, Wheel, Join}
-use Rattle.hls_lang.specs.Words.{cut_at}
-use Rattle.hls_derive.specs.Reading.{◌>>=◌, first_of_two, after_words}
+use Rattle.hls_text.specs.Cuts.{cut_at}
+use Rattle.hls_text.specs.Options.{◌>>=◌, first_of_two}
+use Rattle.hls_text.specs.Cuts.{after_words}
+use Rattle.hls_text.specs.Decimals.{number_below}
 use Rattle.hls_report_text.specs.declared.refusal.Refusal.{Refusal}
 use Rattle.hls_report_text.specs.declared.refusal.Refusal.TheVariants as refusals
 
@@ -18,20 +20,6 @@ name_at text = if is_name text then Some text else None
 
 abbrev pub place_at : Text → Option (Option Text)
 place_at text = if bytes_eq text (codes "cpu") then Some None else (name_at text >>= λ name. Some (Some name))
-
-abbrev pub digit_step : ℕ → ℕ → ℕ
-digit_step v b = 10 * v + (b - 48)
-
--- the number that digits stand for
-abbrev pub value : Text → ℕ
-value ds = fold digit_step 0 ds
-
-abbrev pub is_number_below : (limit : ℕ) → Text → Bool
-is_number_below limit text = nat_lt (value text) limit && bytes_eq (decimal (value text)) text
-
--- the number below a limit that a text spells
-unfoldable pub number_below : (limit : ℕ) → Text → Option ℕ
-number_below limit text = if is_number_below limit text then Some (value text) else None
 
 abbrev pub count_at : Text → Option ℕ
 count_at text = number_below (2 ^ 32) text

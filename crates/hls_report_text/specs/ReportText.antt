@@ -5,8 +5,8 @@ use Rattle.hls_chron.specs.declared.plain.Kind.{Kind}
 use Rattle.hls_chron.specs.declared.plain.Kind.TheVariants as kinds
 use Rattle.hls_guarantee.specs.Spelling.{spelling}
 use Rattle.hls_derive.specs.DerivationText.{derivation_text}
-use Rattle.hls_lang.specs.declared.scenario.Item.{Item}
-use Rattle.hls_lang.specs.Forms.{joined, item_forms}
+use Rattle.hls_scenario.specs.declared.scenario.Item.{Item}
+use Rattle.hls_scenario.specs.Forms.{joined, item_forms}
 use Rattle.hls_report_text.specs.declared.refusal.Refusal.{Refusal}
 use Rattle.hls_report_text.specs.declared.refusal.Refusal.TheVariants as refusals
 use Rattle.hls_report_text.specs.declared.report.Seated.{Seated}

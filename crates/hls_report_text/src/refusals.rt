@@ -3,8 +3,8 @@ ghost use Rattle.std.specs.Prelude.{◌≡◌, ◌++◌, OnOk, codes, decimal};
 ghost use Rattle.hls_report_text.specs.ReportText.{two_words, kind_text, place_text, refusal_text};
 
 use crate::Refusal;
-use crate::writing::{put, put_number};
 use hls_chron::{Kind, Name};
+use hls_text::{put, put_number};
 use std::alloc::AllocError;
 
 /// Appends the text of a refusal.

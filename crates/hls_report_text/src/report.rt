@@ -3,7 +3,7 @@ use crate::Refusal;
 use hls_chron::{List, Name};
 use hls_derive::Derivation;
 use hls_guarantee::Guarantee;
-use hls_lang::Command;
+use hls_scenario::Command;
 
 /// A seat that was taken: its child, the child's port, and how the kept guarantee is derived.
 #[derive(Debug, Drop)]

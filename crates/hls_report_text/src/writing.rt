@@ -2,7 +2,7 @@
 ghost use Rattle.std.specs.Prelude.{◌≡◌, ◌≤◌, ◌++◌, ◌∷◌, [], OnOk, IfOk, codes, decimal, flat_map, get_or};
 ghost use Rattle.std.specs.List.{AllByRecursion};
 ghost use Rattle.hls_guarantee.specs.Limits.{IsValid};
-ghost use Rattle.hls_lang.specs.Grammar.{IsCommand};
+ghost use Rattle.hls_scenario.specs.Grammar.{IsCommand};
 ghost use Rattle.hls_report_text.specs.Content.{path_names, stretch_of};
 ghost use Rattle.hls_report_text.specs.ReportText.{item_of, item_text, seat_text, answer_lines};
 ghost use Rattle.hls_report_text.specs.ReportText.{answered_lines};
@@ -16,9 +16,8 @@ use crate::{Account, Answer, Answered, Path, Report, Run, Seated};
 use hls_chron::Name;
 use hls_derive::write_derivation;
 use hls_guarantee::write_guarantee;
-use hls_lang::Command;
-use hls_print::print_command;
-use itoa::{Buffer, Integer};
+use hls_scenario::{Command, print_command};
+use hls_text::{put, put_number};
 use std::alloc::{AllocError, Global};
 
 /// The text of a report.
@@ -234,19 +233,4 @@ pub fn put_end(out: &mut Vec<u8>, idle: u32) -> Result<(), AllocError>
     put(out, b"idle ")?;
     put_number(out, u128::from(idle))?;
     put(out, b"\nend\n")
-}
-
-/// Appends a number in decimal.
-pub fn put_number(out: &mut Vec<u8>, number: u128) -> Result<(), AllocError>
-    ensures { OnOk result (out.new.items ≡ out.old.items ++ decimal number) }
-{
-    let mut buffer = Buffer::new();
-    put(out, buffer.format(number).as_bytes())
-}
-
-/// Appends a text.
-pub fn put(out: &mut Vec<u8>, text: &[u8]) -> Result<(), AllocError>
-    ensures { OnOk result (out.new.items ≡ out.old.items ++ text.now) }
-{
-    out.extend_from_slice(text)
 }

@@ -9,7 +9,8 @@ use Rattle.hls_chron.specs.Seats.{asked, served}
 use Rattle.hls_chron.specs.Ticks.{count}
 use Rattle.hls_kinds.specs.Slots.{any_below}
 use Rattle.hls_kinds.specs.Tenants.{tenant_at}
-use Rattle.hls_kinds.specs.Reservations.{parts, last_replenished, claim_at}
+use Rattle.hls_chron.specs.Parts.{parts}
+use Rattle.hls_kinds.specs.Reservations.{last_replenished, claim_at}
 use Rattle.hls_kinds.specs.Asks.{asks}
 use Rattle.hls_legal.specs.Ledgers.{empty_book}
 

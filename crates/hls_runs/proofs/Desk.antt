@@ -14,7 +14,8 @@ use Rattle.hls_kinds.specs.Slots.{IsFirst}
 use Rattle.hls_legal.specs.Ledgers.{empty_book}
 use Rattle.hls_legal.specs.Hierarchy.{Hierarchy, Node, Loaded, Admitted, Thread, Awake, At, start}
 use Rattle.hls_legal.specs.Steps.{Step, Load, Elapse, Hop, Path, after, row_by, hop_at, hops_of, ticked}
-use Rattle.hls_legal.specs.Legal.{IsAsking, IsShallow, Can, asks_now, root_asks, port_count}
+use Rattle.hls_legal.specs.Legal.{IsAsking, IsShallow, Can, asks_now, root_asks}
+use Rattle.hls_chron.specs.Kinds.{port_count}
 use Rattle.hls_runs.specs.Moves.{root_seat}
 use Rattle.hls_runs.proofs.Small.{Few, few_after, each_of_three, LowSeats, low_seat, no_low}
 use Rattle.hls_runs.proofs.Small.{thread_low, flat, take_one, root_all, SeatsAsk, seat_asks, root_asks_so}

@@ -14,7 +14,8 @@ use Rattle.hls_chron.specs.Ticks.{count}
 use Rattle.hls_kinds.specs.Slots.{any_below, sum_below, IsFirst}
 use Rattle.hls_kinds.specs.Ticks.{last_of}
 use Rattle.hls_kinds.specs.Tenants.{tenant_at, settled_at, left_at}
-use Rattle.hls_kinds.specs.Reservations.{parts, last_replenished, claim_at, is_held}
+use Rattle.hls_chron.specs.Parts.{parts}
+use Rattle.hls_kinds.specs.Reservations.{last_replenished, claim_at, is_held}
 use Rattle.hls_kinds.specs.Turns.{turn_slot, turns_after, turn_goes_on}
 use Rattle.hls_kinds.specs.Asks.{asks, slot_asks}
 use Rattle.hls_kinds.specs.Discipline.{Serves, may_go}

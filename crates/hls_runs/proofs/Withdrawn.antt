@@ -11,7 +11,8 @@ use Rattle.hls_chron.specs.Seats.{terms_at, asked, served}
 use Rattle.hls_chron.specs.Ticks.{count}
 use Rattle.hls_kinds.specs.Slots.{any_below, sum_below}
 use Rattle.hls_kinds.specs.Tenants.{tenant_at}
-use Rattle.hls_kinds.specs.Reservations.{parts, last_replenished, claim_at, is_held}
+use Rattle.hls_chron.specs.Parts.{parts}
+use Rattle.hls_kinds.specs.Reservations.{last_replenished, claim_at, is_held}
 use Rattle.hls_kinds.specs.Asks.{asks}
 use Rattle.hls_kinds.specs.Fits.{Fits}
 use Rattle.hls_guarantee.specs.declared.Guarantee.TheVariants.{All, Null}

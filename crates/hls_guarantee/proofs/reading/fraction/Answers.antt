@@ -1,7 +1,8 @@
 use Rattle.std.proofs.Common.{◌≡◌, true, false, arith, sym, ◌∙◌, ap, inl, inr}
 use Rattle.std.specs.Prelude.{◌==◌, decimal}
 use Rattle.std.specs.List.{list_any}
-use Rattle.hls_guarantee.proofs.Spellings.{cases_whole, text_of_whole, text_of_ratio, decimal-lacks}
+use Rattle.hls_guarantee.proofs.Spellings.{cases_whole, text_of_whole, text_of_ratio}
+use Rattle.hls_text.proofs.Marks.{decimal-lacks}
 use Rattle.hls_guarantee.proofs.Spellings.{has_mark, fits_num}
 use Rattle.hls_guarantee.proofs.reading.fraction.Goals as goal
 

@@ -1,7 +1,7 @@
 use Rattle.std.proofs.Common.{◌≡◌, ℕ, List, ◌++◌, codes, ◌∙◌, ap, append_assoc}
 use Rattle.std.proofs.lemmas.Result.{on_err_weaker}
 use Rattle.hls_guarantee.specs.Spelling.{fraction_text}
-use Rattle.hls_guarantee.proofs.Texts.{begins_still}
+use Rattle.hls_text.proofs.FirstMarks.{begins_still}
 use Rattle.hls_guarantee.proofs.writing.append_share.Goals as goal
 
 pub returns-clause-err : goal.returns-clause-err

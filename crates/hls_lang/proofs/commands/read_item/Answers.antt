@@ -1,7 +1,7 @@
 use Rattle.std.proofs.Common.{◌≡◌, Some, sym, ◌∙◌, ap, arith}
 use Rattle.std.specs.Prelude.{Ok, Err}
 use Rattle.hls_text.specs.Tokens.{tokens_of}
-use Rattle.hls_lang.specs.declared.scenario.Item.{Item}
+use Rattle.hls_scenario.specs.declared.scenario.Item.{Item}
 use Rattle.hls_lang.proofs.CommandLaws.{item_is, item_next}
 use Rattle.hls_lang.proofs.commands.read_item.Goals as goal
 

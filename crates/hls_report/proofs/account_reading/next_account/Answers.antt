@@ -5,7 +5,7 @@ use Rattle.hls_report_text.specs.WellFormed.{IsOneLine}
 use Rattle.hls_report.specs.Rests.{AccountRest, EndRest}
 use Rattle.hls_report.proofs.AccountSteps.{no_account}
 use Rattle.hls_report.proofs.LineReadings.{none_some}
-use Rattle.hls_report_text.proofs.Sections.{idle_text}
+use Rattle.hls_report.proofs.Sections.{idle_text}
 use Rattle.hls_report.proofs.RestLaws.{last_lines, some_account, some_end, account_onto, account_off}
 use Rattle.hls_report.proofs.RestLaws.{idle_onto, idle_off, no_last_account}
 use Rattle.hls_report.proofs.Stuck.{pass_line, fail_line, fail_end}

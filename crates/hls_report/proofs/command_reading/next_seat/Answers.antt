@@ -2,7 +2,7 @@ use Rattle.std.proofs.Common.{◌≡◌, ◌∷◌, ◌++◌, ap, ◌∙◌, ref
 use Rattle.hls_report_text.specs.WellFormed.{IsOneLine}
 use Rattle.hls_report.proofs.CommandSteps.{no_seat_comes, seat_comes}
 use Rattle.hls_report.proofs.LineReadings.{none_some}
-use Rattle.hls_report_text.proofs.Marks.{cut_same}
+use Rattle.hls_text.proofs.Marks.{cut_same}
 use Rattle.hls_report.proofs.Stuck.{has_end}
 use Rattle.hls_report.proofs.command_reading.next_seat.Goals as goal
 

@@ -1,5 +1,5 @@
 use Rattle.std.proofs.Common.{◌^◌, sym, arith}
-use Rattle.hls_report.proofs.WordLaws.{below_again, above_limit, no_lesser, below_is}
+use Rattle.hls_text.proofs.WordLaws.{below_again, above_limit, no_lesser, below_is}
 use Rattle.hls_report.proofs.words.digit.Goals as goal
 
 pub returns-in-Some-clause-read : goal.returns-in-Some-clause-read

@@ -1,6 +1,6 @@
 use Rattle.std.proofs.Common.{rules, ◌≡◌, ◌≤◌, ◌<◌, ◌-◌}
 use Rattle.std.specs.Prelude.{IsNone}
-use Rattle.hls_kinds.specs.Reservations.{all_parts}
+use Rattle.hls_chron.specs.Parts.{all_parts}
 use Rattle.hls_edf.proofs.Configured.{fits_full, fits_lack, fits_none}
 use Rattle.hls_edf.proofs.edf.EdfScheduler.fits.Goals as goal
 

@@ -1,0 +1,16 @@
+pub mod Found
+pub mod OneAnswer
+pub mod Chains
+pub mod Taken
+pub mod Grows
+pub mod Shallow
+pub mod Below
+pub mod FreeSlots
+pub mod Loads
+pub mod Follows
+pub mod Unrefused
+pub mod LoadsDone
+pub mod Done
+pub mod MovesDone
+pub mod Converse
+pub mod Exists

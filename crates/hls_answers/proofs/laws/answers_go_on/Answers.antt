@@ -1,0 +1,10 @@
+use Rattle.hls_answers.proofs.Grows.{along_command, along_tick}
+use Rattle.hls_answers.proofs.laws.answers_go_on.Goals as goal
+
+pub returns-clause-command : goal.returns-clause-command
+returns-clause-command c = λ depth h boxes steps answered step a along not answer.
+    along_command depth steps h boxes answered step a along not answer
+
+pub returns-clause-tick : goal.returns-clause-tick
+returns-clause-tick c = λ depth h boxes steps answered tick along is.
+    along_tick depth steps h boxes answered tick along is

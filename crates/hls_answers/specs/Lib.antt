@@ -1,0 +1,9 @@
+pub mod Moment
+pub mod Levels
+pub mod Dues
+pub mod Refusals
+pub mod Answers
+pub mod Kit
+pub mod Along
+pub mod Alike
+pub mod Doable

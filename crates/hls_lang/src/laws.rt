@@ -1,0 +1,29 @@
+//! What holds of texts and scenarios: each function's contract is a law, and its body does nothing.
+
+ghost use Rattle.std.specs.Prelude.{◌≡◌, Ok};
+ghost use Rattle.hls_text.specs.Lines.{Text};
+ghost use Rattle.hls_scenario.specs.Forms.{command_text, scenario_text};
+ghost use Rattle.hls_scenario.specs.Grammar.{IsCommand, IsScenario, IsScenarioText};
+ghost use Rattle.hls_lang.specs.ReadingLines.{scenario_of};
+
+use crate::{Command, Scenario};
+
+/// The canonical text of a scenario is read as that scenario.
+pub fn canonical_text_is_read()
+    ensures { (s : Scenario) → IsScenario s → scenario_of (scenario_text s) ≡ Ok s }
+{}
+
+/// A text stands for at most one scenario.
+pub fn text_stands_for_one()
+    ensures { (text : Text) (s t : Scenario) → IsScenarioText text s → IsScenarioText text t → s ≡ t }
+{}
+
+/// No two scenarios within the grammar have one canonical text.
+pub fn canonical_text_is_injective()
+    ensures { (s t : Scenario) → IsScenario s → IsScenario t → scenario_text s ≡ scenario_text t → s ≡ t }
+{}
+
+/// No two commands within the grammar have one canonical text.
+pub fn command_text_is_injective()
+    ensures { (c d : Command) → IsCommand c → IsCommand d → command_text c ≡ command_text d → c ≡ d }
+{}

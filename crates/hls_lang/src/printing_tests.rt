@@ -1,0 +1,113 @@
+// Texts, and the canonical texts of the scenarios that they are of.
+use crate::{Command, print_command, print_scenario, read_scenario};
+use hls_chron::Name;
+use std::alloc::Global;
+use std::test::Fail;
+
+/// The canonical text of the scenario of a text.
+fn printed(alloc: Global, text: &[u8]) -> Result<Vec<u8>, Fail> {
+    if text.len() > 4_000_000 {
+        return Err(Fail::from("a long text"));
+    }
+    match read_scenario(alloc, text) {
+        Ok(scenario) => Ok(print_scenario(alloc, &scenario)?),
+        Err(_) => Err(Fail::from("no scenario")),
+    }
+}
+
+/// A text of that one line, and its canonical spelling.
+fn printed_line(alloc: Global, line: &[u8]) -> Result<Vec<u8>, Fail> {
+    let mut text = Vec::new(alloc);
+    text.extend_from_slice(b"hls 1\nhorizon 9\n")?;
+    text.extend_from_slice(line)?;
+    printed(alloc, &text)
+}
+
+#[test]
+fn prints_a_canonical_text_as_it_is(rt: HostRuntime) -> Result<(), Fail> {
+    let table = [
+        b"hls 1\nhorizon 1\n".as_slice(),
+        b"hls 1\nhorizon 100000\ndepth 0\n".as_slice(),
+        b"hls 1
+horizon 6
+at 0 load root fp on cpu as ALL
+at 0 thread a on root prio 0 as ALL
+at 0 thread b on root prio 1 as NULL
+at 0 wake b
+at 1 wake a for 2
+at 4 wake a for 1
+"
+            .as_slice(),
+    ];
+    for text in table {
+        assert_eq!(rt; printed(rt.alloc(), text)?.as_slice(), text);
+    }
+    Ok(())
+}
+
+#[test]
+fn prints_each_part_in_one_way(rt: HostRuntime) -> Result<(), Fail> {
+    let table = [
+        (
+            b"at 0  load\tr fp on cpu as ALL # the root".as_slice(),
+            b"at 0 load r fp on cpu as ALL\n".as_slice(),
+        ),
+        (
+            b"at 0 load r edf on s weight 20 as NULL\r\n".as_slice(),
+            b"at 0 load r edf on s weight 20 as NULL\n".as_slice(),
+        ),
+        (
+            b"\n# seats\nat 1 load s sfq 10 5 on e res 3 10 hard as PSBE 30/100 42/1".as_slice(),
+            b"at 1 load s sfq 10 5 on e res 3 10 hard as PSBE 3/10 42\n".as_slice(),
+        ),
+        (
+            b"at 2 load r rr 5 on w slots 40 as PSBE 7/7 0/3".as_slice(),
+            b"at 2 load r rr 5 on w slots 40 as PSBE 1 0\n".as_slice(),
+        ),
+        (
+            b"at 3 load w wheel 1000 on j sole as RESBS 3 10".as_slice(),
+            b"at 3 load w wheel 1000 on j sole as RESBS 3 10\n".as_slice(),
+        ),
+        (
+            b"at 4 load j join on e res 2 10 soft as RESBH 2 10  , r turn as RESCS 3 17 , f turn as NULL".as_slice(),
+            b"at 4 load j join on e res 2 10 soft as RESBH 2 10 , r turn as RESCS 3 17 , f turn as NULL\n".as_slice(),
+        ),
+        (
+            b" at 5 thread at on hard turn as RESCH 2 5".as_slice(),
+            b"at 5 thread at on hard turn as RESCH 2 5\n".as_slice(),
+        ),
+        (
+            b"at 6 move e to root prio 2 as PSBE 6/40 830/200".as_slice(),
+            b"at 6 move e to root prio 2 as PSBE 3/20 83/20\n".as_slice(),
+        ),
+        (
+            b"at 7 wake a for 100000\nat 7 wake b".as_slice(),
+            b"at 7 wake a for 100000\nat 7 wake b\n".as_slice(),
+        ),
+        (
+            b"at 8 block a\nat 8 end a\nat 8 unload r".as_slice(),
+            b"at 8 block a\nat 8 end a\nat 8 unload r\n".as_slice(),
+        ),
+        (b"depth\t6\n\n".as_slice(), b"depth 6\n".as_slice()),
+    ];
+    for (line, want) in table {
+        let text = printed_line(rt.alloc(), line)?;
+        let mut whole = Vec::new(rt.alloc());
+        whole.extend_from_slice(b"hls 1\nhorizon 9\n")?;
+        whole.extend_from_slice(want)?;
+        assert_eq!(rt; text.as_slice(), whole.as_slice(), "at {line:?}");
+    }
+    Ok(())
+}
+
+#[test]
+fn prints_a_command_without_its_tick(rt: HostRuntime) -> Result<(), Fail> {
+    let name = Name::read(b"a").ok_or("no name")?;
+    let wake = Command::Wake {
+        name,
+        burst: Some(3),
+    };
+    let text = print_command(rt.alloc(), &wake)?;
+    assert_eq!(rt; text.as_slice(), b"wake a for 3".as_slice());
+    Ok(())
+}

@@ -1,0 +1,126 @@
+-- What is said of a book does not go by the room that it has for more.
+use Rattle.std.proofs.Common.{◌≡◌, ◌≢◌, ◌⊎◌, ℕ, zero, suc, ◌+◌, inl, inr, Option, Some, None, refl, sym, ap, ◌∙◌, subst, arith}
+use Rattle.std.proofs.Common.{cond}
+use Rattle.std.proofs.lemmas.Bool.{cases_lt}
+use Rattle.hls_chron.specs.declared.plain.Config.{Config}
+use Rattle.hls_chron.specs.declared.plain.Config.TheVariants.{Cpu, Fp, Edf, Sfq, Rr, Wheel, Join}
+use Rattle.hls_chron.specs.declared.plain.Terms.{Terms}
+use Rattle.hls_chron.specs.Ledger.{Ledger, now_of, row_at, before}
+use Rattle.hls_chron.specs.Seats.{terms_at, asked, served}
+use Rattle.hls_kinds.specs.declared.fault.SeatFault.{SeatFault}
+use Rattle.hls_kinds.specs.declared.fault.SeatFault.TheVariants as faults
+use Rattle.hls_kinds.specs.Faults as seats
+use Rattle.hls_kinds.specs.Slots.{IsFirst, sum_below}
+use Rattle.hls_kinds.specs.Tenants.{tenant_at, settled_at, left_at}
+use Rattle.hls_kinds.specs.Reservations.{claim_at, is_held}
+use Rattle.hls_kinds.specs.Tags.{start_by, start_tags, start_tag}
+use Rattle.hls_kinds.specs.Frames.{owner_at}
+use Rattle.hls_kinds.specs.Room.{occupant_at, room_used, IsFree}
+use Rattle.hls_kinds.specs.Asks.{slot_asks}
+use Rattle.hls_kinds.specs.Discipline.{HasLeastPriority, TakesTurn, Serves}
+use Rattle.hls_kinds.proofs.Rooms.{roomless, serves-room}
+
+pub terms-bare : (b : Ledger) (slot : ℕ) → terms_at (roomless b) slot ≡ terms_at b slot
+unfolding terms_at
+terms-bare b slot = refl
+
+tags-bare : (b : Ledger) (n : ℕ) → start_tags (roomless b) n ≡ start_tags b n
+unfolding start_tags asked served row_at tenant_at before
+tags-bare b zero = refl
+tags-bare b (suc n) = λ i t slot. start_by b (tags-bare b n i) t slot
+
+tag-bare : (b : Ledger) (t : ℕ) → start_tag (roomless b) t ≡ start_tag b t
+tag-bare b t = λ i slot. tags-bare b (t + 1) i t slot
+
+least-bare : (b : Ledger) (mask slot : ℕ) → HasLeastPriority (roomless b) mask slot → HasLeastPriority b mask slot
+unfolding terms_at
+least-bare b mask slot least = record { asks = least.asks; seated = least.seated; least = least.least }
+
+turn-bare : (quantum : ℕ) (b : Ledger) (mask slot : ℕ) → TakesTurn quantum (roomless b) mask slot
+    → TakesTurn quantum b mask slot
+unfolding asked served row_at settled_at left_at
+turn-bare quantum b mask slot turn = record { goes_on = turn.goes_on; passes = turn.passes }
+
+serves-bare : (config : Config) (b : Ledger) (mask slot : ℕ) → Serves config (roomless b) mask slot
+    → Serves config b mask slot
+unfolding asked served row_at claim_at tenant_at owner_at
+serves-bare Cpu b mask slot serves = serves
+serves-bare Fp b mask slot serves = least-bare b mask slot serves
+serves-bare Edf b mask slot serves = serves
+serves-bare (Sfq total most) b mask slot serves =
+    subst (λ (key : ℕ → ℕ). IsFirst 32 (slot_asks mask) key slot) (tag-bare b (now_of b)) serves
+serves-bare (Rr quantum) b mask slot serves = turn-bare quantum b mask slot serves
+serves-bare (Wheel frame) b mask slot serves = record { owns = serves.owns; asks = serves.asks }
+serves-bare (Join ports) b mask slot serves = serves
+
+pub serves_like : (config : Config) (b c : Ledger) (mask slot : ℕ) → roomless b ≡ roomless c
+    → Serves config c mask slot → Serves config b mask slot
+serves_like config b c mask slot same serves =
+    serves-bare config b mask slot
+    (subst (λ (x : Ledger). Serves config x mask slot) (sym same) (serves-room config c mask slot serves))
+
+occupant-bare : (config : Config) (b : Ledger) (slot : ℕ) → occupant_at config (roomless b) slot
+    ≡ occupant_at config b slot
+unfolding terms_at tenant_at is_held asked served row_at
+occupant-bare Edf b slot = refl
+occupant-bare Cpu b slot = refl
+occupant-bare Fp b slot = refl
+occupant-bare (Sfq total most) b slot = refl
+occupant-bare (Rr quantum) b slot = refl
+occupant-bare (Wheel frame) b slot = refl
+occupant-bare (Join ports) b slot = refl
+
+pub occupant_like : (config : Config) (b c : Ledger) (slot : ℕ) → roomless b ≡ roomless c
+    → occupant_at config b slot ≡ occupant_at config c slot
+occupant_like config b c slot same =
+    sym (occupant-bare config b slot) ∙ ap (λ (x : Ledger). occupant_at config x slot) same
+    ∙ occupant-bare config c slot
+
+used-bare : (config : Config) (b : Ledger) → room_used config (roomless b) ≡ room_used config b
+unfolding terms_at tenant_at is_held asked served row_at owner_at
+used-bare Edf b = refl
+used-bare (Sfq total most) b = refl
+used-bare (Wheel frame) b = refl
+used-bare Cpu b = refl
+used-bare Fp b = refl
+used-bare (Rr quantum) b = refl
+used-bare (Join ports) b = refl
+
+used_like : (config : Config) (b c : Ledger) → roomless b ≡ roomless c → room_used config b ≡ room_used config c
+used_like config b c same =
+    sym (used-bare config b) ∙ ap (room_used config) same ∙ used-bare config c
+
+pub terms_like : (b c : Ledger) (slot : ℕ) → roomless b ≡ roomless c → terms_at b slot ≡ terms_at c slot
+terms_like b c slot same =
+    sym (terms-bare b slot) ∙ ap (λ (x : Ledger). terms_at x slot) same ∙ terms-bare c slot
+
+-- the faults of a seat
+pub fault_like : (config : Config) (b c : Ledger) (terms : Terms) (fault : SeatFault) → roomless b ≡ roomless c
+    → seats.Applies config b terms fault → seats.Applies config c terms fault
+fault_like config b c terms faults.Unfit same f = f
+fault_like config b c terms (faults.PriorityTaken priority) same f = (
+  f.0,
+  record {
+    slot = f.1.slot;
+    has = ap Rattle.hls_chron.specs.Seats.priority_in (sym (terms_like b c f.1.slot same)) ∙ f.1.has;
+  },
+)
+fault_like config b c terms (faults.Full n) same f =
+    (λ slot lt none. f.0 slot lt (occupant_like config b c slot same ∙ none), f.1)
+fault_like config b c terms (faults.NoRoom free asked) same f = record {
+  left = f.left ∙ ap (λ n. Rattle.std.specs.Prelude.◌-◌ (Rattle.hls_kinds.specs.Room.room_total config) n)
+      (used_like config b c same);
+  asks = f.asks;
+  lacks = f.lacks;
+}
+
+-- the free slot
+pub free_like : (config : Config) (b c : Ledger) (slot other : ℕ) → roomless b ≡ roomless c
+    → IsFree config b slot → IsFree config c other → slot ≡ other
+free_like config b c slot other same f g = elim (cases_lt slot other) [
+  | inl lt ↦ absurd (g.least slot lt (sym (occupant_like config b c slot same) ∙ f.free))
+  | inr ge ↦ elim (cases_lt other slot) [
+    | inl lt ↦ absurd (f.least other lt (occupant_like config b c other same ∙ g.free))
+    | inr le ↦ omega (arith, ge, le)
+  ]
+]

@@ -1,5 +1,0 @@
-use Rattle.hls_print.proofs.CanonicalLaws.{canonical_of_one}
-use Rattle.hls_print.proofs.laws.canonical_text_is_injective.Goals as goal
-
-pub returns : goal.returns
-returns c = canonical_of_one

@@ -1,5 +1,0 @@
-use Rattle.hls_print.proofs.CanonicalLaws.{command_of_one}
-use Rattle.hls_print.proofs.laws.command_text_is_injective.Goals as goal
-
-pub returns : goal.returns
-returns c = command_of_one

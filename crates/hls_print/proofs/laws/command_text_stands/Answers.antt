@@ -1,5 +1,0 @@
-use Rattle.hls_print.proofs.CanonicalLaws.{command_stands}
-use Rattle.hls_print.proofs.laws.command_text_stands.Goals as goal
-
-pub returns : goal.returns
-returns c = command_stands

@@ -1,9 +1,0 @@
-use Rattle.std.proofs.Common.{subst}
-use Rattle.hls_lang.specs.Grammar.{IsCommand}
-use Rattle.hls_print.proofs.CanonicalPrinting.{load_narrow}
-use Rattle.hls_print.proofs.printing.put_command.Goals as goal
-
-pub put_perches-requires : goal.put_perches-requires
-put_perches-requires c =
-    let is = subst IsCommand c.in-Load.is c.requires in
-    rw c.items.ensures (load_narrow _ _ is.1)

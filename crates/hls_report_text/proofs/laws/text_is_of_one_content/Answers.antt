@@ -1,5 +1,0 @@
-use Rattle.hls_report_text.proofs.Sections.{report_same}
-use Rattle.hls_report_text.proofs.laws.text_is_of_one_content.Goals as goal
-
-pub returns : goal.returns
-returns c = report_same

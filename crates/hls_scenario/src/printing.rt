@@ -1,0 +1,242 @@
+// The canonical text of a scenario, and of a command.
+ghost use Rattle.std.specs.Prelude.{◌≡◌, ◌++◌, ◌∷◌, [], OnOk, IfOk, codes, decimal, flat_map};
+ghost use Rattle.std.specs.List.{AllByRecursion};
+ghost use Rattle.hls_guarantee.specs.Limits.{IsNarrow};
+ghost use Rattle.hls_scenario.specs.Forms.{the, fraction, number, spaced, joined, line_text, header_forms};
+ghost use Rattle.hls_scenario.specs.Forms.{horizon_forms, depth_lines, guarantee_forms, terms_forms};
+ghost use Rattle.hls_scenario.specs.Forms.{config_forms, spot_forms, perch_forms, perches_forms, burst_forms};
+ghost use Rattle.hls_scenario.specs.Printing.{comma_text};
+ghost use Rattle.hls_scenario.specs.Forms.{command_forms, item_forms, command_text, scenario_text};
+ghost use Rattle.hls_scenario.specs.Grammar.{IsScenario, IsCommand, IsScenarioText};
+
+use crate::{Command, Item, Perch, Scenario, Spot};
+use hls_chron::{Config, Name, Terms};
+use hls_guarantee::{Guarantee, write_guarantee};
+use hls_text::put;
+use std::alloc::{AllocError, Global};
+
+/// The canonical text of a scenario: one space between words, a line for each item, no comment, and
+/// fractions in lowest terms.
+#[tactic(auto, unfolding(crate::specs::Forms::scenario_text))]
+pub fn print_scenario(alloc: Global, scenario: &Scenario) -> Result<Vec<u8>, AllocError>
+    requires { IsScenario scenario.now }
+    ensures text { IfOk result (λ text. text.items ≡ scenario_text scenario.now) }
+    // It is in the grammar, and so is read back as the same scenario.
+    ensures stands { IfOk result (λ text. IsScenarioText text.items scenario.now) }
+{
+    let mut out = Vec::new(alloc);
+    put_head(&mut out, scenario)?;
+    put_items(&mut out, scenario.items.items())?;
+    Ok(out)
+}
+
+/// The canonical text of a command without its tick, as reports have it.
+pub fn print_command(alloc: Global, command: &Command) -> Result<Vec<u8>, AllocError>
+    requires { IsCommand command.now }
+    ensures { IfOk result (λ text. text.items ≡ command_text command.now) }
+{
+    let mut out = Vec::new(alloc);
+    put_command(&mut out, command)?;
+    Ok(out)
+}
+
+fn put_head(out: &mut Vec<u8>, scenario: &Scenario) -> Result<(), AllocError>
+    ensures { OnOk result (out.new.items ≡ out.old.items
+        ++ flat_map line_text
+        (header_forms ∷ horizon_forms scenario.now.horizon ∷ depth_lines scenario.now.depth)) }
+{
+    put(out, b"hls 1\nhorizon")?;
+    put_number(out, scenario.horizon)?;
+    put(out, b"\n")?;
+    put_depth(out, scenario.depth)
+}
+
+fn put_depth(out: &mut Vec<u8>, depth: Option<u8>) -> Result<(), AllocError>
+    ensures { OnOk result (out.new.items ≡ out.old.items ++ flat_map line_text (depth_lines depth)) }
+{
+    let Some(depth) = depth else {
+        return Ok(());
+    };
+    put(out, b"depth")?;
+    put_number(out, u32::from(depth))?;
+    put(out, b"\n")
+}
+
+fn put_items(out: &mut Vec<u8>, items: &[Item]) -> Result<(), AllocError>
+    requires { AllByRecursion (λ item. IsCommand item.command) items.now }
+    ensures { OnOk result (out.new.items
+        ≡ out.old.items ++ flat_map (λ item. line_text (item_forms item)) items.now) }
+{
+    for item in items {
+        put_item(out, item)?;
+    }
+    Ok(())
+}
+
+fn put_item(out: &mut Vec<u8>, item: &Item) -> Result<(), AllocError>
+    requires { IsCommand item.now.command }
+    ensures { OnOk result (out.new.items ≡ out.old.items ++ line_text (item_forms item.now)) }
+{
+    put(out, b"at")?;
+    put_number(out, item.tick)?;
+    put(out, b" ")?;
+    put_command(out, &item.command)?;
+    put(out, b"\n")
+}
+
+fn put_command(out: &mut Vec<u8>, command: &Command) -> Result<(), AllocError>
+    requires { IsCommand command.now }
+    ensures { OnOk result (out.new.items ≡ out.old.items ++ command_text command.now) }
+{
+    match command {
+        Command::Load {
+            name,
+            config,
+            perches,
+        } => {
+            put_named(out, b"load", name)?;
+            put_config(out, config)?;
+            put(out, b" on")?;
+            put_perches(out, perches.items())
+        }
+        Command::Thread { name, perch } => {
+            put_named(out, b"thread", name)?;
+            put(out, b" on")?;
+            put_perch(out, perch)
+        }
+        Command::End { name } => put_named(out, b"end", name),
+        Command::Unload { name } => put_named(out, b"unload", name),
+        Command::Move { name, perch } => {
+            put_named(out, b"move", name)?;
+            put(out, b" to")?;
+            put_perch(out, perch)
+        }
+        Command::Wake { name, burst } => {
+            put_named(out, b"wake", name)?;
+            put_burst(out, *burst)
+        }
+        Command::Block { name } => put_named(out, b"block", name),
+    }
+}
+
+fn put_config(out: &mut Vec<u8>, config: &Config) -> Result<(), AllocError>
+    ensures { OnOk result (out.new.items ≡ out.old.items ++ spaced (config_forms config.now)) }
+{
+    match config {
+        Config::Cpu => Ok(()),
+        Config::Fp => put(out, b" fp"),
+        Config::Edf => put(out, b" edf"),
+        Config::Sfq { total, most } => {
+            put(out, b" sfq")?;
+            put_number(out, *total)?;
+            put_number(out, *most)
+        }
+        Config::Rr { quantum } => {
+            put(out, b" rr")?;
+            put_number(out, *quantum)
+        }
+        Config::Wheel { frame } => {
+            put(out, b" wheel")?;
+            put_number(out, *frame)
+        }
+        Config::Join { .. } => put(out, b" join"),
+    }
+}
+
+fn put_perches(out: &mut Vec<u8>, perches: &[Perch]) -> Result<(), AllocError>
+    requires { AllByRecursion (λ perch. IsNarrow perch.want) perches.now }
+    ensures { OnOk result (out.new.items ≡ out.old.items ++ spaced (perches_forms perches.now)) }
+{
+    let [first, rest @ ..] = perches else {
+        return Ok(());
+    };
+    put_perch(out, first)?;
+    put_more_perches(out, rest)
+}
+
+fn put_more_perches(out: &mut Vec<u8>, perches: &[Perch]) -> Result<(), AllocError>
+    requires { AllByRecursion (λ perch. IsNarrow perch.want) perches.now }
+    ensures { OnOk result (out.new.items ≡ out.old.items ++ flat_map comma_text perches.now) }
+{
+    for perch in perches {
+        put(out, b" ,")?;
+        put_perch(out, perch)?;
+    }
+    Ok(())
+}
+
+fn put_perch(out: &mut Vec<u8>, perch: &Perch) -> Result<(), AllocError>
+    requires { IsNarrow perch.now.want }
+    ensures { OnOk result (out.new.items ≡ out.old.items ++ spaced (perch_forms perch.now)) }
+{
+    put_spot(out, &perch.spot)?;
+    put(out, b" as ")?;
+    write_guarantee(&perch.want, out)
+}
+
+fn put_spot(out: &mut Vec<u8>, spot: &Spot) -> Result<(), AllocError>
+    ensures { OnOk result (out.new.items ≡ out.old.items ++ spaced (spot_forms spot.now)) }
+{
+    match spot {
+        Spot::Cpu => put(out, b" cpu"),
+        Spot::Under { sched, terms } => {
+            put_named(out, b"", sched)?;
+            put_terms(out, terms)
+        }
+    }
+}
+
+fn put_terms(out: &mut Vec<u8>, terms: &Terms) -> Result<(), AllocError>
+    ensures { OnOk result (out.new.items ≡ out.old.items ++ spaced (terms_forms terms.now)) }
+{
+    match terms {
+        Terms::Cpu => Ok(()),
+        Terms::Prio(priority) => {
+            put(out, b" prio")?;
+            put_number(out, *priority)
+        }
+        Terms::Res { hard, x, y } => {
+            put(out, b" res")?;
+            put_number(out, *x)?;
+            put_number(out, *y)?;
+            put(out, if *hard { b" hard" } else { b" soft" })
+        }
+        Terms::Weight(weight) => {
+            put(out, b" weight")?;
+            put_number(out, *weight)
+        }
+        Terms::Slots(places) => {
+            put(out, b" slots")?;
+            put_number(out, *places)
+        }
+        Terms::Turn => put(out, b" turn"),
+        Terms::Sole => put(out, b" sole"),
+    }
+}
+
+fn put_burst(out: &mut Vec<u8>, burst: Option<u32>) -> Result<(), AllocError>
+    ensures { OnOk result (out.new.items ≡ out.old.items ++ spaced (burst_forms burst)) }
+{
+    let Some(ticks) = burst else {
+        return Ok(());
+    };
+    put(out, b" for")?;
+    put_number(out, ticks)
+}
+
+// The words, a space and a name.
+fn put_named(out: &mut Vec<u8>, words: &[u8], name: &Name) -> Result<(), AllocError>
+    ensures { OnOk result (out.new.items ≡ out.old.items ++ (words.now ++ (32 ∷ name.now))) }
+{
+    put(out, words)?;
+    put(out, b" ")?;
+    put(out, name.bytes())
+}
+
+// A space and a number.
+fn put_number(out: &mut Vec<u8>, number: u32) -> Result<(), AllocError>
+    ensures { OnOk result (out.new.items ≡ out.old.items ++ (32 ∷ decimal number)) }
+{
+    put(out, b" ")?;
+    hls_text::put_number(out, u128::from(number))
+}

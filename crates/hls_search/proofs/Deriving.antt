@@ -1,0 +1,114 @@
+-- Derivations from their parts, and what a place lends.
+use Rattle.std.proofs.Common.{◌≡◌, ℕ, ◌+◌, ◌≤◌, ◌<◌, ◌⊎◌, inl, inr, List, [], length, refl, sym, subst, arith}
+use Rattle.std.specs.Prelude.{Some, slice_get}
+use Rattle.std.proofs.lemmas.Option.{slice_get_within}
+use Rattle.hls_chron.specs.declared.plain.Config.{Config}
+use Rattle.hls_chron.specs.declared.plain.Config.TheVariants as configs
+use Rattle.hls_chron.specs.declared.plain.Terms.{Terms}
+use Rattle.hls_chron.specs.declared.plain.Terms.TheVariants as terms
+use Rattle.hls_chron.specs.Ranges.{ConfigInRange, TermsInRange}
+use Rattle.hls_guarantee.specs.declared.Guarantee.{Guarantee}
+use Rattle.hls_guarantee.specs.declared.Guarantee.TheVariants.{All, Psbe}
+use Rattle.hls_guarantee.specs.Limits.{IsValid, IsNarrow}
+use Rattle.hls_guarantee.specs.Steps.{IsPort, LendsByTerms, LendsNothing, LendsThrough}
+use Rattle.hls_derive.specs.declared.derivation.Place.{Place}
+use Rattle.hls_derive.specs.declared.derivation.Step.{Step}
+use Rattle.hls_chron.specs.Kinds.{port_count}
+use Rattle.hls_search_laws.proofs.Makes.{narrow-valid}
+use Rattle.hls_search.specs.Inside.Chains.{LeadsTo}
+use Rattle.hls_search.specs.Inside.Found.{through, Derives}
+use Rattle.hls_search.specs.Inside.Places.{LendsOfAll, LendsShares}
+use Rattle.hls_search.proofs.Shares.{fair-valid, fair-error}
+use Rattle.hls_search.proofs.Completing.{weight-of}
+
+pub ports-some : (config : Config) → ConfigInRange config → 0 < port_count config
+ports-some configs.Cpu range = omega arith
+ports-some configs.Fp range = omega arith
+ports-some configs.Edf range = omega arith
+ports-some (configs.Sfq total most) range = omega arith
+ports-some (configs.Rr quantum) range = omega arith
+ports-some (configs.Wheel frame) range = omega arith
+ports-some (configs.Join ports) range = omega (arith, range.0)
+
+pub port-zero : (config : Config) → ConfigInRange config → IsPort config 0
+port-zero configs.Cpu range = refl
+port-zero configs.Fp range = refl
+port-zero configs.Edf range = refl
+port-zero (configs.Sfq total most) range = refl
+port-zero (configs.Rr quantum) range = refl
+port-zero (configs.Wheel frame) range = refl
+port-zero (configs.Join ports) range = omega (arith, range.0)
+
+-- what is lent of a narrow guarantee is valid
+pub lent-valid : (config : Config) (its : Terms) (g h : Guarantee) → ConfigInRange config → TermsInRange its
+    → IsNarrow g → LendsByTerms config its g h → IsValid h
+lent-valid configs.Cpu terms.Cpu All h rc rt narrow lends = subst IsValid (sym lends) tt
+lent-valid configs.Fp (terms.Prio priority) g h rc rt narrow lends =
+    subst IsValid (sym lends.1) (narrow-valid g narrow)
+lent-valid configs.Edf (terms.Res hard x y) All h rc rt narrow lends =
+    subst IsValid (sym lends) (record { some = rt.0; fits = rt.1; size = omega (arith, rt.2) })
+lent-valid (configs.Wheel frame) (terms.Slots places) All h rc rt narrow lends =
+    subst IsValid (sym lends.1) (record { some = rt.0; fits = lends.0; size = omega (arith, rc.1) })
+lent-valid (configs.Sfq total most) (terms.Weight weight) (Psbe s d) (Psbe p e) rc rt narrow lends =
+    fair-valid total most weight s d p e (weight-of total most weight lends.rest rc rt lends.weights) narrow
+    lends.rate (fair-error total most weight s d p e lends)
+lent-valid (configs.Join ports) terms.Sole g h rc rt narrow lends =
+    subst IsValid (sym lends.1) (narrow-valid g narrow)
+lent-valid _ _ _ _ rc rt narrow lends = absurd lends
+
+-- what lends nothing anyway is lent at each port
+pub nothing-lent : (config : Config) (its : Terms) (have want : Guarantee) → ConfigInRange config → IsValid have
+    → IsValid want → LendsNothing config want → LendsThrough config its 0 have want
+nothing-lent config its have want range from to nothing = record {
+  from = from;
+  to = to;
+  port_of = port-zero config range;
+  lends = inr nothing;
+}
+
+or-nothing : (config : Config) (its : Terms) (g h : Guarantee) → (LendsNothing config h → ⊥)
+    → LendsByTerms config its g h ⊎ LendsNothing config h → LendsByTerms config its g h
+or-nothing config its g h some (inl lends) = lends
+or-nothing config its g h some (inr lends) = absurd (some lends)
+
+pub by-its-terms : (config : Config) (its : Terms) (port : ℕ) (g h : Guarantee) → (LendsNothing config h → ⊥)
+    → LendsThrough config its port g h → LendsByTerms config its g h
+by-its-terms config its port g h some lends = or-nothing config its g h some lends.lends
+
+pub sole-port : (config : Config) (port : ℕ) → LendsOfAll config ⊎ LendsShares config → IsPort config port → port ≡ 0
+sole-port configs.Cpu port kind is = is
+sole-port configs.Fp port (inl kind) is = absurd kind
+sole-port configs.Fp port (inr kind) is = absurd kind
+sole-port configs.Edf port kind is = is
+sole-port (configs.Sfq total most) port kind is = is
+sole-port (configs.Rr quantum) port kind is = is
+sole-port (configs.Wheel frame) port kind is = is
+sole-port (configs.Join ports) port (inl kind) is = absurd kind
+sole-port (configs.Join ports) port (inr kind) is = absurd kind
+
+-- no conversion
+pub leads-none : (g : Guarantee) → LeadsTo 0 g g []
+leads-none g = record { follows = tt; ends = refl; fits = omega arith }
+
+pub leads-exact : (n : ℕ) (g h : Guarantee) (steps : List Step) → LeadsTo n g h steps
+    → LeadsTo (length steps) g h steps
+leads-exact n g h steps leads = record { follows = leads.follows; ends = leads.ends; fits = omega arith }
+
+pub derives : (place : Place) (haves : List Guarantee) (want : Guarantee) (n a b port : ℕ) (from into to : Guarantee)
+    (before after : List Step) → slice_get haves port ≡ Some from → LendsThrough place.config place.terms port into to
+    → LeadsTo a from into before → LeadsTo b to want after → a + b ≤ n
+    → Derives place haves want n (through place port from before to after)
+derives place haves want n a b port from into to before after there lends first last fits = record {
+  is = record {
+    starts = there;
+    before = first.follows;
+    kind = refl;
+    sched = record {
+      has = slice_get_within haves port from there;
+      through = subst (λ v. LendsThrough place.config place.terms port v to) (sym first.ends) lends;
+    };
+    after = last.follows;
+    ends = last.ends;
+  };
+  few = (let x = first.fits in let y = last.fits in omega arith);
+}

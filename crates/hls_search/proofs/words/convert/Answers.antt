@@ -1,0 +1,14 @@
+use Rattle.std.proofs.Common.{◌≤◌, List, length}
+use Rattle.std.specs.List.{All}
+use Rattle.std.proofs.lemmas.List.Elements.{All-contains}
+use Rattle.hls_guarantee.specs.declared.rule.RuleName.{RuleName}
+use Rattle.hls_search_laws.specs.Words.{words, Walks}
+use Rattle.hls_search.proofs.words.convert.Goals as goal
+
+pub returns-clause-none : goal.returns-clause-none
+returns-clause-none g c = λ none found.
+    let from = c.args.from.now in
+    let want = c.args.want.now in
+    let fails : List RuleName → Type 0 = λ word. length word ≤ c.args.room → Walks word from want → ⊥ in
+    let each : All fails words = c.first_walk.ensures.none none in
+    All-contains fails words found.word each found.known found.fits found.walks

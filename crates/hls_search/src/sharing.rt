@@ -1,0 +1,121 @@
+// Shares of shares, at fair queueing.
+ghost use Rattle.std.specs.Prelude.{◌≡◌, ℕ, ◌*◌, ◌≤◌, ◌^◌, IfSome, IsNone, IsSome, length};
+ghost use Rattle.hls_chron.specs.Ranges.{ConfigInRange, TermsInRange};
+ghost use Rattle.hls_guarantee.specs.Limits.{IsNarrow, IsShare, IsValid};
+ghost use Rattle.hls_guarantee.specs.Conversions.{Converts};
+ghost use Rattle.hls_guarantee.specs.Steps.{IsFairShare, LendsByTerms};
+ghost use Rattle.hls_derive.specs.Derives.{IsWholeShare};
+ghost use Rattle.hls_search.specs.Inside.Chains.{LeadsTo};
+ghost use Rattle.hls_search.specs.Inside.Places.{IsBestShare, LendsShares, ToShare};
+
+use crate::chain::Chain;
+use crate::words::ask;
+use hls_chron::{Config, Terms};
+use hls_derive::{Place, Step};
+use hls_frac::Frac;
+use hls_guarantee::{Guarantee, RuleName};
+use hls_rules::{RuleBook, quotient};
+
+/// A share, and the conversions that lead to it.
+#[derive(Drop)]
+pub struct Share {
+    pub before: Chain,
+    pub share: Guarantee,
+}
+
+/// The best share of a guarantee, if it gives one.
+pub fn best_share(book: &RuleBook, have: &Guarantee) -> Option<Share>
+    requires { IsNarrow have.now }
+    ensures best { IfSome result (λ best. IsBestShare have.now (length best.before) best.share) }
+    ensures narrow { IfSome result (λ best. IsNarrow best.share) }
+    ensures leads { IfSome result (λ best. LeadsTo 1 have.now best.share best.before) }
+    ensures none { IsNone result → (count : ℕ) (share : Guarantee) → IsBestShare have.now count share → ⊥ }
+{
+    match *have {
+        Guarantee::Psbe { .. } => Some(Share {
+            before: Chain::none(),
+            share: *have,
+        }),
+        Guarantee::All => Some(converted(book, RuleName::R8, have)),
+        Guarantee::Resb { .. } => Some(converted(book, RuleName::R4, have)),
+        Guarantee::Resc { .. } => Some(converted(book, RuleName::R5, have)),
+        Guarantee::Null => None,
+    }
+}
+
+/// The best share by the rule that makes a share of such a guarantee.
+fn converted(book: &RuleBook, rule: RuleName, have: &Guarantee) -> Share
+    requires rule { ToShare rule have.now }
+    requires have { IsNarrow have.now }
+    ensures best { IsBestShare have.now (length result.before) result.share }
+    ensures narrow { IsNarrow result.share }
+    ensures leads { LeadsTo 1 have.now result.share result.before }
+{
+    match ask(book, rule, have, &whole_share()) {
+        Some(share) => Share {
+            before: Chain::one(Step { rule, to: share }),
+            share,
+        },
+        None => unreachable!(),
+    }
+}
+
+/// Every tick as a share.
+fn whole_share() -> Guarantee
+    ensures whole { IsWholeShare result }
+    ensures valid { IsValid result }
+{
+    Guarantee::Psbe {
+        s: quotient(1, 1),
+        d: quotient(0, 1),
+    }
+}
+
+/// A share of which a seat at the place is lent what is wanted, if there is one.
+pub fn share_for(place: &Place, want: &Guarantee) -> Option<Guarantee>
+    requires config { ConfigInRange place.now.config }
+    requires terms { TermsInRange place.now.terms }
+    requires kind { LendsShares place.now.config }
+    requires want { IsNarrow want.now }
+    ensures some { IfSome result (λ goal. LendsByTerms place.now.config place.now.terms goal want.now) }
+    ensures of_all { IfSome result (λ goal. Converts RuleName.R8 Guarantee.All goal) }
+    ensures none { IsNone result → (goal : Guarantee) → IsValid goal →
+        LendsByTerms place.now.config place.now.terms goal want.now → ⊥ }
+{
+    match (place.config, place.terms, *want) {
+        (
+            Config::Sfq { total, most },
+            Terms::Weight(weight),
+            Guarantee::Psbe { s: rate, d: error },
+        ) => share_before(total, most, weight, &rate, &error),
+        _ => None,
+    }
+}
+
+/// The share of which a seat of this weight is lent the share `rate` with the error `error`, if there is one.
+fn share_before(total: u32, most: u32, weight: u32, rate: &Frac, error: &Frac) -> Option<Guarantee>
+    requires config { ConfigInRange (Config.Sfq total most) }
+    requires terms { TermsInRange (Terms.Weight weight) }
+    requires narrow { IsShare (10 ^ 10) (10 ^ 6) rate.now error.now }
+    ensures some { IfSome result (λ goal. LendsByTerms (Config.Sfq total most) (Terms.Weight weight) goal
+        (Guarantee.Psbe rate.now error.now)) }
+    ensures of_all { IfSome result (λ goal. Converts RuleName.R8 Guarantee.All goal) }
+    ensures none { IsNone result → (s d : Frac) → IsShare (10 ^ 13) (10 ^ 8) s d →
+        IsFairShare total most weight s d rate.now error.now → ⊥ }
+{
+    if weight > total {
+        return None;
+    }
+    let others = (most as u128 - 1) * weight as u128 + (total - weight) as u128;
+    let lost = others * error.den;
+    let num = rate.num * total as u128;
+    let den = rate.den * weight as u128;
+    let owed = error.num * total as u128;
+    if num > den || lost > owed {
+        return None;
+    }
+    Some(Guarantee::Psbe {
+        s: quotient(num, den),
+        d: quotient(owed - lost, error.den * weight as u128),
+    })
+}

@@ -1,0 +1,11 @@
+pub mod Numbers
+pub mod Quads
+pub mod Ways
+pub mod Closed
+pub mod Bounds
+pub mod Shapes
+pub mod Reached
+pub mod Makes
+pub mod Finding
+pub mod Ends
+pub mod Gains

@@ -1,0 +1,418 @@
+//! Searches, held against worked derivations, and against all chains over small guarantees.
+ghost use Rattle.std.specs.Prelude.{◌≡◌, ◌<◌, IfOk};
+ghost use Rattle.hls_chron.specs.Ranges.{ConfigInRange, IsWithin, TermsInRange};
+ghost use Rattle.hls_guarantee.specs.Limits.{IsNarrow, IsValid};
+ghost use Rattle.hls_chron.specs.Kinds.{port_count};
+
+use crate::chains::differences;
+use hls_check::lent;
+use hls_chron::{Config, Terms};
+use hls_derive::{Derivation, Place, read_derivation};
+use hls_guarantee::{Guarantee, RuleName, narrow, read_guarantee, valid};
+use hls_rules::{Rule, RuleBook, answer, strongest};
+use hls_search::search;
+use std::alloc::{AllocError, Global};
+use std::process::Abort;
+use std::test::Fail;
+
+/// The guarantee of that text, within the limits of a scenario.
+fn read(text: &str) -> Result<Guarantee, Fail>
+    ensures { IfOk result (λ g. IsNarrow g) }
+{
+    let g = read_guarantee(text.as_bytes()).ok_or("a guarantee")?;
+    if narrow(&g) {
+        return Ok(g);
+    }
+    Err(Fail::from("a narrow guarantee"))
+}
+
+/// What is found at a place with one port.
+fn found(
+    alloc: Global,
+    book: &RuleBook,
+    place: &Place,
+    have: &str,
+    want: &str,
+    depth: u8,
+) -> Result<Option<Derivation>, Fail>
+    requires config { ConfigInRange place.now.config }
+    requires terms { TermsInRange place.now.terms }
+    requires ports { port_count place.now.config ≡ 1 }
+{
+    let haves = [read(have)?];
+    let want = read(want)?;
+    Ok(search(alloc, book, place, &haves, &want, depth)?)
+}
+
+/// What is found at a join of two ports.
+fn joined(
+    alloc: Global,
+    book: &RuleBook,
+    first: &str,
+    second: &str,
+    want: &str,
+    depth: u8,
+) -> Result<Option<Derivation>, Fail> {
+    let place = Place {
+        config: Config::Join { ports: 2 },
+        terms: Terms::Sole,
+    };
+    let haves = [read(first)?, read(second)?];
+    let want = read(want)?;
+    Ok(search(alloc, book, &place, &haves, &want, depth)?)
+}
+
+/// Whether a derivation is the one of that text, which is empty for none.
+fn is_text(alloc: Global, found: &Option<Derivation>, text: &str) -> Result<bool, AllocError> {
+    let told = read_derivation(alloc, text.as_bytes())?;
+    match (found, &told) {
+        (Some(d), Some(e)) => Ok(d.from == e.from
+            && d.before.items() == e.before.items()
+            && d.sched == e.sched
+            && d.after.items() == e.after.items()),
+        (None, None) => Ok(text.is_empty()),
+        _ => Ok(false),
+    }
+}
+
+const PASSING: Place = Place {
+    config: Config::Fp,
+    terms: Terms::Prio(0),
+};
+
+/// What is there, what is wanted, the least depth at which it is found, and whether it is found at all.
+const AT_FIXED_PRIORITY: [(&str, &str, u8, bool); 32] = [
+    ("RESBH 1 2", "RESBS 1 2", 1, true),
+    ("RESBH 1 2", "RESCS 1 3", 1, true),
+    ("RESBH 1 2", "PSBE 1/2 1", 1, true),
+    ("RESCH 1 2", "PSBE 1/2 1/2", 1, true),
+    ("PSBE 1 0", "RESBS 1 1", 1, true),
+    ("RESCH 1 2", "RESBH 1 2", 1, true),
+    ("ALL", "RESBS 1 1", 1, true),
+    ("PSBE 1 0", "PSBE 1 1", 1, true),
+    ("RESCS 1 3", "RESBS 1 4", 2, true),
+    ("RESCH 1 3", "RESCS 1 4", 2, true),
+    ("RESCH 1 2", "RESBS 1 2", 2, true),
+    ("RESBH 1 2", "RESBS 1 3", 2, true),
+    ("RESBH 1 2", "PSBE 1/2 2", 2, true),
+    ("RESBH 1 2", "RESBS 2 6", 2, true),
+    ("RESCH 1 2", "PSBE 1/2 1", 2, true),
+    ("RESCH 1 2", "RESBS 2 5", 2, true),
+    ("RESCH 1 3", "RESBS 1 4", 3, true),
+    ("RESBS 3 10", "RESCS 3 16", 0, false),
+    ("RESBS 3 10", "RESCS 3 17", 1, true),
+    ("RESBS 3 10", "RESCS 4 28", 2, true),
+    ("RESBS 3 10", "PSBE 3/10 21/5", 1, true),
+    ("RESBS 3 10", "PSBE 3/10 4", 0, false),
+    ("RESBS 3 10", "PSBE 1/5 14/5", 2, true),
+    ("RESBS 3 10", "RESBS 3 10", 0, true),
+    ("ALL", "ALL", 0, true),
+    ("RESBS 3 10", "NULL", 0, true),
+    ("NULL", "RESBS 1 20000", 0, false),
+    ("RESBS 3 10", "RESBH 3 10", 0, false),
+    ("RESCS 1 3", "ALL", 0, false),
+    ("RESBH 5 20000", "RESCS 5 20000", 0, false),
+    ("ALL", "RESCH 1 2", 0, false),
+    ("RESCH 2 5", "RESBH 2 5", 1, true),
+];
+
+/// What is there, what is wanted, at which depth, and the one derivation, which is empty for none.
+type Case = (&'static str, &'static str, u8, &'static str);
+
+const AT_LIGHT_WEIGHT: [Case; 4] = [
+    (
+        "ALL",
+        "PSBE 1/8 1",
+        1,
+        "ALL R8 PSBE 1/2 0 SFQ PSBE 1/8 1",
+    ),
+    ("ALL", "PSBE 1/8 1", 0, ""),
+    ("ALL", "PSBE 1/4 1", 1, "ALL R8 PSBE 1 0 SFQ PSBE 1/4 1"),
+    ("RESBS 3 10", "PSBE 9/40 4", 6, ""),
+];
+
+const AT_HEAVY_WEIGHT: [Case; 5] = [
+    (
+        "RESBS 3 10",
+        "PSBE 9/40 83/20",
+        1,
+        "RESBS 3 10 R4 PSBE 3/10 21/5 SFQ PSBE 9/40 83/20",
+    ),
+    ("RESBS 3 10", "PSBE 9/40 83/20", 0, ""),
+    ("ALL", "PSBE 3/8 3/4", 1, ""),
+    (
+        "ALL",
+        "PSBE 3/8 3/4",
+        2,
+        "ALL R8 PSBE 1 0 SFQ PSBE 3/4 1 R1 PSBE 3/8 3/4",
+    ),
+    ("PSBE 1/2 20", "PSBE 3/8 16", 0, "PSBE 1/2 20 SFQ PSBE 3/8 16"),
+];
+
+const AT_RESERVATION: [Case; 4] = [
+    ("ALL", "RESBH 20 40", 0, "ALL EDF RESBH 20 40"),
+    (
+        "ALL",
+        "PSBE 1/2 20",
+        1,
+        "ALL EDF RESBH 20 40 R4 PSBE 1/2 20",
+    ),
+    ("ALL", "PSBE 1/2 19", 6, ""),
+    ("RESBH 20 40", "RESBS 1 40", 6, ""),
+];
+
+const AT_FRAME: [Case; 3] = [
+    ("ALL", "RESCH 2 5", 0, "ALL WHEEL RESCH 2 5"),
+    ("ALL", "NULL", 0, "ALL WHEEL NULL"),
+    ("ALL", "RESCH 3 5", 6, ""),
+];
+
+const AT_TURNS: [Case; 2] = [
+    ("NULL", "NULL", 0, "NULL RR NULL"),
+    ("ALL", "RESBS 1 20000", 6, ""),
+];
+
+const AT_PROCESSOR: [Case; 4] = [
+    ("ALL", "ALL", 0, "ALL CPU ALL"),
+    ("ALL", "NULL", 0, ""),
+    ("ALL", "NULL", 1, "ALL CPU ALL R9 NULL"),
+    ("NULL", "NULL", 6, ""),
+];
+
+/// The first of these cases that goes otherwise at the place.
+fn otherwise(
+    alloc: Global,
+    book: &RuleBook,
+    place: &Place,
+    cases: &[Case],
+) -> Result<Option<usize>, Fail>
+    requires config { ConfigInRange place.now.config }
+    requires terms { TermsInRange place.now.terms }
+    requires ports { port_count place.now.config ≡ 1 }
+{
+    for at in 0..cases.len() {
+        let (have, want, depth, told) = cases[at];
+        if !is_text(alloc, &found(alloc, book, place, have, want, depth)?, told)? {
+            return Ok(Some(at));
+        }
+    }
+    Ok(None)
+}
+
+/// The first pair at fixed priority that is not found from its least depth on.
+fn not_from_depth(alloc: Global, book: &RuleBook) -> Result<Option<usize>, Fail> {
+    for at in 0..AT_FIXED_PRIORITY.len() {
+        let (have, want, least, is_there) = AT_FIXED_PRIORITY[at];
+        let deep = found(alloc, book, &PASSING, have, want, 6)?;
+        if deep.is_some() != is_there {
+            return Ok(Some(at));
+        }
+        if is_there && found(alloc, book, &PASSING, have, want, least)?.is_none() {
+            return Ok(Some(at));
+        }
+        if least > 0 && found(alloc, book, &PASSING, have, want, least - 1)?.is_some() {
+            return Ok(Some(at));
+        }
+    }
+    Ok(None)
+}
+
+/// The reservations of at most `size` ticks, and the shares that they are.
+fn known_up_to(alloc: Global, size: u32) -> Result<Vec<Guarantee>, AllocError>
+    requires { size < 10 }
+{
+    let mut known = vec![in alloc; Guarantee::All, Guarantee::Null]?;
+    for y in 1..size + 1 {
+        for x in 1..y + 1 {
+            for hard in [true, false] {
+                let blocks = Guarantee::Resb { hard, x, y };
+                let windows = Guarantee::Resc { hard, x, y };
+                known.push(blocks)?;
+                known.push(windows)?;
+                if !hard && valid(&blocks) && valid(&windows) {
+                    known.extend(strongest(RuleName::R4, &blocks))?;
+                    known.extend(strongest(RuleName::R5, &windows))?;
+                }
+            }
+        }
+    }
+    Ok(known)
+}
+
+/// These and what a place lends of them.
+fn with_lent(
+    alloc: Global,
+    place: &Place,
+    known: &[Guarantee],
+) -> Result<Vec<Guarantee>, AllocError>
+    requires config { ConfigInRange place.now.config }
+    requires terms { TermsInRange place.now.terms }
+{
+    let mut all = Vec::new(alloc);
+    for g in known {
+        all.push(*g)?;
+        if valid(g) {
+            all.extend(lent(place, g))?;
+        }
+    }
+    Ok(all)
+}
+
+fn worked_derivations(rt: &impl Abort, alloc: Global, book: &RuleBook) -> Result<(), Fail> {
+    let light = otherwise(alloc, book, &fair_queueing(1), &AT_LIGHT_WEIGHT)?;
+    assert_eq!(rt; light, None, "a light weight");
+    let heavy = otherwise(alloc, book, &fair_queueing(3), &AT_HEAVY_WEIGHT)?;
+    assert_eq!(rt; heavy, None, "a heavy weight");
+    let reserved = Place {
+        config: Config::Edf,
+        terms: Terms::Res {
+            hard: true,
+            x: 20,
+            y: 40,
+        },
+    };
+    assert_eq!(rt; otherwise(alloc, book, &reserved, &AT_RESERVATION)?, None, "a reservation");
+    let framed = Place {
+        config: Config::Wheel { frame: 5 },
+        terms: Terms::Slots(2),
+    };
+    assert_eq!(rt; otherwise(alloc, book, &framed, &AT_FRAME)?, None, "a frame");
+    let turning = Place {
+        config: Config::Rr { quantum: 1 },
+        terms: Terms::Turn,
+    };
+    assert_eq!(rt; otherwise(alloc, book, &turning, &AT_TURNS)?, None, "turns");
+    let processor = Place {
+        config: Config::Cpu,
+        terms: Terms::Cpu,
+    };
+    assert_eq!(rt; otherwise(alloc, book, &processor, &AT_PROCESSOR)?, None, "the processor");
+    Ok(())
+}
+
+/// A seat of this weight of four, beside one other.
+fn fair_queueing(weight: u32) -> Place
+    requires { IsWithin 1 4 weight }
+    ensures { result ≡ record { config = Config.Sfq 4 2; terms = Terms.Weight weight } }
+{
+    Place {
+        config: Config::Sfq { total: 4, most: 2 },
+        terms: Terms::Weight(weight),
+    }
+}
+
+fn joins(rt: &impl Abort, alloc: Global, book: &RuleBook) -> Result<(), Fail> {
+    let cases = [
+        ("RESBH 2 10", "NULL", "RESBS 2 10", "RESBH 2 10 R2 RESBS 2 10 JOIN 0 RESBS 2 10"),
+        ("NULL", "RESBH 2 10", "RESBS 2 10", "RESBH 2 10 R2 RESBS 2 10 JOIN 1 RESBS 2 10"),
+        ("RESBH 2 10", "NULL", "NULL", "RESBH 2 10 JOIN 0 NULL"),
+        ("RESBH 2 10", "NULL", "RESBH 2 10", ""),
+    ];
+    for (first, second, want, told) in cases {
+        let found = joined(alloc, book, first, second, want, 3)?;
+        assert!(rt; is_text(alloc, &found, told)?, "{first} {second} {want}");
+    }
+    Ok(())
+}
+
+fn small_chains(rt: &impl Abort, alloc: Global, book: &RuleBook) -> Result<(), Fail> {
+    let known = known_up_to(alloc, 3)?;
+    for depth in 0..4 {
+        let differ = differences(alloc, book, &known, &PASSING, depth)?;
+        assert_eq!(rt; differ, (0, 0), "fixed priority, depth {depth}");
+    }
+    let fair = Place {
+        config: Config::Sfq { total: 3, most: 2 },
+        terms: Terms::Weight(2),
+    };
+    let few = known_up_to(alloc, 2)?;
+    let known = with_lent(alloc, &fair, &few)?;
+    for depth in 0..3 {
+        let (missed, _) = differences(alloc, book, &known, &fair, depth)?;
+        assert_eq!(rt; missed, 0, "fair queueing, depth {depth}");
+    }
+    Ok(())
+}
+
+#[test]
+fn searches_by_stored_rules(rt: HostRuntime) -> Result<(), Fail> {
+    let alloc = rt.alloc();
+    let r1 = Box::new(
+        alloc,
+        |have: Guarantee, want: Guarantee| -> Option<Guarantee>
+            requires have { IsValid have }
+            requires want { IsValid want }
+        { answer(RuleName::R1, have, want) },
+    )?;
+    let r2 = Box::new(
+        alloc,
+        |have: Guarantee, want: Guarantee| -> Option<Guarantee>
+            requires have { IsValid have }
+            requires want { IsValid want }
+        { answer(RuleName::R2, have, want) },
+    )?;
+    let r3 = Box::new(
+        alloc,
+        |have: Guarantee, want: Guarantee| -> Option<Guarantee>
+            requires have { IsValid have }
+            requires want { IsValid want }
+        { answer(RuleName::R3, have, want) },
+    )?;
+    let r4 = Box::new(
+        alloc,
+        |have: Guarantee, want: Guarantee| -> Option<Guarantee>
+            requires have { IsValid have }
+            requires want { IsValid want }
+        { answer(RuleName::R4, have, want) },
+    )?;
+    let r5 = Box::new(
+        alloc,
+        |have: Guarantee, want: Guarantee| -> Option<Guarantee>
+            requires have { IsValid have }
+            requires want { IsValid want }
+        { answer(RuleName::R5, have, want) },
+    )?;
+    let r6 = Box::new(
+        alloc,
+        |have: Guarantee, want: Guarantee| -> Option<Guarantee>
+            requires have { IsValid have }
+            requires want { IsValid want }
+        { answer(RuleName::R6, have, want) },
+    )?;
+    let r7 = Box::new(
+        alloc,
+        |have: Guarantee, want: Guarantee| -> Option<Guarantee>
+            requires have { IsValid have }
+            requires want { IsValid want }
+        { answer(RuleName::R7, have, want) },
+    )?;
+    let r8 = Box::new(
+        alloc,
+        |have: Guarantee, want: Guarantee| -> Option<Guarantee>
+            requires have { IsValid have }
+            requires want { IsValid want }
+        { answer(RuleName::R8, have, want) },
+    )?;
+    let r9 = Box::new(
+        alloc,
+        |have: Guarantee, want: Guarantee| -> Option<Guarantee>
+            requires have { IsValid have }
+            requires want { IsValid want }
+        { answer(RuleName::R9, have, want) },
+    )?;
+    let mut rules = Vec::new(alloc);
+    rules.push(Rule::new(RuleName::R1, r1))?;
+    rules.push(Rule::new(RuleName::R2, r2))?;
+    rules.push(Rule::new(RuleName::R3, r3))?;
+    rules.push(Rule::new(RuleName::R4, r4))?;
+    rules.push(Rule::new(RuleName::R5, r5))?;
+    rules.push(Rule::new(RuleName::R6, r6))?;
+    rules.push(Rule::new(RuleName::R7, r7))?;
+    rules.push(Rule::new(RuleName::R8, r8))?;
+    rules.push(Rule::new(RuleName::R9, r9))?;
+    let book = RuleBook::new(rules);
+    assert_eq!(rt; not_from_depth(alloc, &book)?, None);
+    worked_derivations(&rt, alloc, &book)?;
+    joins(&rt, alloc, &book)?;
+    small_chains(&rt, alloc, &book)
+}

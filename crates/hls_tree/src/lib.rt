@@ -1,0 +1,11 @@
+//! Boxes of schedulers and threads, seated on each other: the hierarchy that runs.
+#![tactic(auto)]
+
+mod names;
+mod seat;
+mod seating;
+mod tree;
+
+pub use hls_walks::{Body, NodeId};
+pub use seat::{Seat, Sort};
+pub use tree::Tree;

@@ -1,0 +1,330 @@
+// Walks over the nodes.
+ghost use Rattle.std.specs.Prelude.{◌≡◌, ◌≢◌, ℕ, ◌+◌, ◌<◌, Option, Some, None, true, IfSome, IsNone};
+ghost use Rattle.slab.specs.Slab.{get};
+ghost use Rattle.hls_chron.specs.Seats.{terms_at};
+ghost use Rattle.hls_legal.specs.Hierarchy.{Processor};
+ghost use Rattle.hls_walks.specs.Shown.{PostedIn, ToldIn, RoomIn, ServesIn, book_in, asks_in, level_in, place_in};
+ghost use Rattle.hls_walks.specs.Shown.{grant_in, is_sched, on_post, post_revoked, post_granted, post_turned, with_ready};
+ghost use Rattle.hls_walks.specs.Views.{shown_at, choice_at, told_place, is_place, place_view};
+ghost use Rattle.hls_walks.specs.TreeOf.{IsLaid, IsAlike, IsTelling, ToldBy, Sitter, Led, Ran, RootAt, Passed};
+
+use crate::node::same_place;
+use crate::{Node, NodeId, Place, Role, Route};
+use slab::Slab;
+
+/// Tells a scheduler whether a seat on it asks.
+fn tell_at(nodes: &mut Slab<Node>, key: usize, slot: u32, asks: bool)
+    requires posted { PostedIn (shown_at seen nodes.old key) }
+    requires taken { terms_at (book_in (shown_at seen nodes.old key)) slot ≢ None }
+    requires within { slot < 32 }
+    ensures here { ToldIn slot asks (shown_at seen nodes.old key) (shown_at seen nodes.new key) }
+    ensures others { (k : ℕ) → k ≢ key → shown_at seen nodes.new k ≡ shown_at seen nodes.old k }
+{
+    match nodes.get_mut(key) {
+        Some(node) => match &mut node.role {
+            Role::Sched(station) => station.tell(slot, asks),
+            Role::Thread { .. } => {}
+        },
+        None => {}
+    }
+}
+
+/// Whether a node asks.
+fn asks_at(nodes: &Slab<Node>, key: usize) -> bool
+    requires posted { PostedIn (shown_at seen nodes.now key) }
+    ensures { result ≡ asks_in (shown_at seen nodes.now key) }
+{
+    match nodes.get(key) {
+        Some(node) => match &node.role {
+            Role::Sched(station) => station.asks(),
+            Role::Thread { ready } => *ready,
+        },
+        None => false,
+    }
+}
+
+/// The level of a node.
+pub fn level_at(nodes: &Slab<Node>, key: usize) -> u8
+    ensures { result ≡ level_in (shown_at seen nodes.now key) }
+{
+    match nodes.get(key) {
+        Some(node) => node.level,
+        None => 0,
+    }
+}
+
+/// The scheduler and the slot of a place that is not the processor.
+fn slot_of(place: Place) -> Option<(usize, u32)>
+    ensures { result ≡ told_place (Some (place_view place)) }
+{
+    match place {
+        Place::Processor => None,
+        Place::At { scheduler, slot } => Some((scheduler, slot)),
+    }
+}
+
+/// The scheduler and the slot where a port sits.
+fn slot_at(nodes: &Slab<Node>, key: usize, port: u8) -> Option<(usize, u32)>
+    ensures { result ≡ told_place (place_in (shown_at seen nodes.now key) port) }
+{
+    match nodes.get(key) {
+        Some(node) => match node.seats.get(port as usize) {
+            Some(seat) => slot_of(seat.place),
+            None => None,
+        },
+        None => None,
+    }
+}
+
+/// Tells where a port sits whether the node asks.
+fn tell_port(nodes: &mut Slab<Node>, key: usize, port: u8, asks: bool)
+    requires laid { IsLaid (shown_at seen nodes.old) }
+    requires posted { (k : ℕ) → PostedIn (shown_at seen nodes.old k) }
+    ensures { ToldBy (told_place (place_in (shown_at seen nodes.old key) port)) asks
+        (shown_at seen nodes.old) (shown_at seen nodes.new) }
+{
+    match slot_at(nodes, key, port) {
+        Some((scheduler, slot)) => tell_at(nodes, scheduler, slot, asks),
+        None => {}
+    }
+}
+
+/// Tells at each port of a node what it asks.
+fn tell_ports(nodes: &mut Slab<Node>, key: usize, level: u8)
+    requires telling { IsTelling (shown_at seen nodes.old) (level + 1) key }
+    requires level { level_in (shown_at seen nodes.old key) ≡ level }
+    ensures telling { IsTelling (shown_at seen nodes.new) (level + 1) (key + 1) }
+    ensures alike { IsAlike (shown_at seen nodes.old) (shown_at seen nodes.new) }
+{
+    let asks = asks_at(nodes, key);
+    for port in 0..4u8 {
+        tell_port(nodes, key, port, asks);
+    }
+}
+
+/// Tells what a node asks, if it is at the level.
+fn tell_node(nodes: &mut Slab<Node>, key: usize, level: u8)
+    requires telling { IsTelling (shown_at seen nodes.old) (level + 1) key }
+    ensures telling { IsTelling (shown_at seen nodes.new) (level + 1) (key + 1) }
+    ensures alike { IsAlike (shown_at seen nodes.old) (shown_at seen nodes.new) }
+{
+    if level_at(nodes, key) != level {
+        return;
+    }
+    tell_ports(nodes, key, level);
+}
+
+/// Tells what the nodes at a level ask.
+fn tell_level(nodes: &mut Slab<Node>, level: u8)
+    requires telling { IsTelling (shown_at seen nodes.old) (level + 1) 0 }
+    ensures telling { IsTelling (shown_at seen nodes.new) level 0 }
+    ensures alike { IsAlike (shown_at seen nodes.old) (shown_at seen nodes.new) }
+{
+    let end = nodes.capacity();
+    for key in 0..end {
+        tell_node(nodes, key, level);
+    }
+}
+
+/// Tells what each node asks, from the deepest level up.
+fn tell_all(nodes: &mut Slab<Node>)
+    requires telling { IsTelling (shown_at seen nodes.old) 10 0 }
+    ensures telling { IsTelling (shown_at seen nodes.new) 0 0 }
+    ensures alike { IsAlike (shown_at seen nodes.old) (shown_at seen nodes.new) }
+{
+    for step in 0..10u8 {
+        tell_level(nodes, 9 - step);
+    }
+}
+
+/// Takes the processor back from a node, if it has it.
+fn revoke_at(nodes: &mut Slab<Node>, key: usize)
+    requires posted { PostedIn (shown_at seen nodes.old key) }
+    ensures here { shown_at seen nodes.new key ≡ on_post post_revoked (shown_at seen nodes.old key) }
+    ensures others { (k : ℕ) → k ≢ key → shown_at seen nodes.new k ≡ shown_at seen nodes.old k }
+{
+    match nodes.get_mut(key) {
+        Some(node) => match &mut node.role {
+            Role::Sched(station) => station.revoke(),
+            Role::Thread { .. } => {}
+        },
+        None => {}
+    }
+}
+
+/// Takes the processor back from all.
+fn revoke_all(nodes: &mut Slab<Node>)
+    requires posted { (k : ℕ) → PostedIn (shown_at seen nodes.old k) }
+    ensures { (k : ℕ) → shown_at seen nodes.new k ≡ on_post post_revoked (shown_at seen nodes.old k) }
+{
+    let end = nodes.capacity();
+    for key in 0..end {
+        revoke_at(nodes, key);
+    }
+}
+
+/// Grants a scheduler through a port, and names the slot that it serves; nothing at a thread.
+fn grant_at(nodes: &mut Slab<Node>, key: usize, port: u8) -> Option<u32>
+    requires posted { PostedIn (shown_at seen nodes.old key) }
+    requires asks { asks_in (shown_at seen nodes.old key) ≡ true }
+    requires free { grant_in (shown_at seen nodes.old key) ≡ None }
+    ensures others { (k : ℕ) → k ≢ key → get nodes.new k ≡ get nodes.old k }
+    ensures granted { shown_at seen nodes.new key ≡ on_post (post_granted port) (shown_at seen nodes.old key) }
+    ensures choice { choice_at choice nodes.new key ≡ choice_at choice nodes.old key }
+    ensures value { result ≡ choice_at choice nodes.old key }
+    ensures serves { IfSome result (ServesIn (shown_at seen nodes.old key)) }
+    ensures some { is_sched (shown_at seen nodes.old key) ≡ true → result ≢ None }
+{
+    match nodes.get_mut(key) {
+        Some(node) => match &mut node.role {
+            Role::Sched(station) => station.grant(port),
+            Role::Thread { .. } => None,
+        },
+        None => None,
+    }
+}
+
+/// Whether a port sits at a place.
+fn sits_at(nodes: &Slab<Node>, key: usize, port: u8, place: Place) -> bool
+    ensures { result ≡ is_place (place_in (shown_at seen nodes.now key) port) (place_view place) }
+{
+    match nodes.get(key) {
+        Some(node) => match node.seats.get(port as usize) {
+            Some(seat) => same_place(seat.place, place),
+            None => false,
+        },
+        None => false,
+    }
+}
+
+/// The port of a node that sits at a place.
+fn port_at(nodes: &Slab<Node>, key: usize, place: Place) -> Option<u8>
+    ensures some { IfSome result
+        (λ port. is_place (place_in (shown_at seen nodes.now key) port) (place_view place) ≡ true) }
+    ensures none { IsNone result → (port : ℕ) → port < 4 →
+        is_place (place_in (shown_at seen nodes.now key) port) (place_view place) ≢ true }
+{
+    for port in 0..4u8 {
+        if sits_at(nodes, key, port, place) {
+            return Some(port);
+        }
+    }
+    None
+}
+
+/// Who sits at a place, and by which port.
+fn sitter_at(nodes: &Slab<Node>, place: Place) -> Option<(usize, u8)>
+    ensures some { IfSome result
+        (λ who. is_place (place_in (shown_at seen nodes.now who.0) who.1) (place_view place) ≡ true) }
+    ensures none { IsNone result → (key port : ℕ) → port < 4 →
+        is_place (place_in (shown_at seen nodes.now key) port) (place_view place) ≢ true }
+{
+    let end = nodes.capacity();
+    for key in 0..end {
+        if let Some(port) = port_at(nodes, key, place) {
+            return Some((key, port));
+        }
+    }
+    None
+}
+
+/// Grants along the choices down to a thread, and tells the way.
+fn grant_path(nodes: &mut Slab<Node>) -> Route
+    requires telling { IsTelling (shown_at seen nodes.old) 0 0 }
+    requires root { (sitter : Sitter (shown_at seen nodes.old) Processor) ×
+        (asks_in (shown_at seen nodes.old sitter.node) ≡ true) }
+    ensures { Led (shown_at seen nodes.old) (shown_at seen nodes.new) (choice_at choice nodes.new) result }
+{
+    let mut route = Route::new();
+    let mut place = Place::Processor;
+    for step in 0..9u8 {
+        let Some((key, port)) = sitter_at(nodes, place) else {
+            unreachable!()
+        };
+        route.push(NodeId::of(key));
+        match grant_at(nodes, key, port) {
+            None => return route,
+            Some(slot) => {
+                place = Place::At {
+                    scheduler: key,
+                    slot,
+                }
+            }
+        }
+    }
+    unreachable!()
+}
+
+/// Grants from the root down, if it asks.
+fn grant_root(nodes: &mut Slab<Node>, root: Option<NodeId>) -> Option<Route>
+    requires telling { IsTelling (shown_at seen nodes.old) 0 0 }
+    requires root { RootAt (shown_at seen nodes.old) root }
+    ensures { Ran (shown_at seen nodes.old) (shown_at seen nodes.new) (choice_at choice nodes.new) root result }
+{
+    match root {
+        None => None,
+        Some(root) => {
+            if asks_at(nodes, root.key()) {
+                Some(grant_path(nodes))
+            } else {
+                None
+            }
+        }
+    }
+}
+
+/// Tells what asks, and grants along the choices.
+pub fn pass(nodes: &mut Slab<Node>, root: Option<NodeId>) -> Option<Route>
+    requires laid { IsLaid (shown_at seen nodes.old) }
+    requires posted { (k : ℕ) → PostedIn (shown_at seen nodes.old k) }
+    requires root { RootAt (shown_at seen nodes.old) root }
+    ensures { Passed (shown_at seen nodes.old) (shown_at seen nodes.new) (choice_at choice nodes.new) root result }
+{
+    revoke_all(nodes);
+    tell_all(nodes);
+    grant_root(nodes, root)
+}
+
+/// One tick of a node.
+fn turn_at(nodes: &mut Slab<Node>, key: usize)
+    requires posted { PostedIn (shown_at seen nodes.old key) }
+    requires room { RoomIn 1 (shown_at seen nodes.old key) }
+    ensures here { shown_at seen nodes.new key ≡
+        on_post (post_turned (choice_at choice nodes.old key)) (shown_at seen nodes.old key) }
+    ensures others { (k : ℕ) → k ≢ key → get nodes.new k ≡ get nodes.old k }
+{
+    match nodes.get_mut(key) {
+        Some(node) => match &mut node.role {
+            Role::Sched(station) => station.turn(),
+            Role::Thread { .. } => {}
+        },
+        None => {}
+    }
+}
+
+/// One tick of each node.
+pub fn turn_all(nodes: &mut Slab<Node>)
+    requires posted { (k : ℕ) → PostedIn (shown_at seen nodes.old k) }
+    requires room { (k : ℕ) → RoomIn 1 (shown_at seen nodes.old k) }
+    ensures { (k : ℕ) → shown_at seen nodes.new k ≡
+        on_post (post_turned (choice_at choice nodes.old k)) (shown_at seen nodes.old k) }
+{
+    let end = nodes.capacity();
+    for key in 0..end {
+        turn_at(nodes, key);
+    }
+}
+
+/// Sets whether a thread is ready.
+pub fn set_ready(nodes: &mut Slab<Node>, key: usize, to: bool)
+    ensures here { shown_at seen nodes.new key ≡ with_ready to (shown_at seen nodes.old key) }
+    ensures others { (k : ℕ) → k ≢ key → shown_at seen nodes.new k ≡ shown_at seen nodes.old k }
+{
+    match nodes.get_mut(key) {
+        Some(node) => match &mut node.role {
+            Role::Sched(_) => {}
+            Role::Thread { ready } => *ready = to,
+        },
+        None => {}
+    }
+}

@@ -1,0 +1,9 @@
+//! The words of a command line: the table of those that the program knows, read beside `clap`.
+#![tactic(auto)]
+
+mod jobs;
+mod parsing;
+mod table;
+
+pub use jobs::Job;
+pub use parsing::asked_for;
