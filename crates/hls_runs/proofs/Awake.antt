@@ -66,7 +66,7 @@ pub off_two : (slot : ℕ) → slot_asks 3 (suc (suc slot)) ≡ false
 off_two slot = let a = bit_at-suc 3 (suc slot) in let b = bit_at-suc 1 slot in let c = bit_at-zero slot in
     rw (a, b, c) refl
 
-two_silent : (masks : ℕ → ℕ) (p : ℕ) (b : Ledger) → masks p ≡ 3 → terms_at b 0 ≢ None → terms_at b 1 ≢ None
+pub two_silent : (masks : ℕ → ℕ) (p : ℕ) (b : Ledger) → masks p ≡ 3 → terms_at b 0 ≢ None → terms_at b 1 ≢ None
     → (slot : ℕ) → terms_at b slot ≡ None → slot_asks (masks p) slot ≡ false
 two_silent masks p b is first second zero none = absurd (first none)
 two_silent masks p b is first second (suc zero) none = absurd (second none)

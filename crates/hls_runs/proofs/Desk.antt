@@ -1,5 +1,5 @@
 -- A scheduler at the processor with at most two threads on it: its ticks, and what they leave.
-use Rattle.std.proofs.Common.{◌≡◌, ◌≢◌, ℕ, ◌≤◌, [], ◌∷◌, Option, Some, None, Bool, true}
+use Rattle.std.proofs.Common.{◌≡◌, ◌≢◌, ℕ, zero, suc, ◌<◌, ◌≤◌, [], ◌∷◌, Option, Some, None, Bool, true}
 use Rattle.std.proofs.Common.{false, refl, sym, ap, ◌∙◌, arith}
 use Rattle.std.specs.Prelude.{codes}
 use Rattle.hls_chron.specs.declared.plain.Config.{Config}
@@ -10,6 +10,7 @@ use Rattle.hls_chron.specs.Ledger.{Ledger, with_row}
 use Rattle.hls_chron.specs.Seats.{terms_at}
 use Rattle.hls_kinds.specs.Asks.{asks, slot_asks}
 use Rattle.hls_kinds.specs.Discipline.{Serves}
+use Rattle.hls_kinds.specs.Slots.{IsFirst}
 use Rattle.hls_legal.specs.Ledgers.{empty_book}
 use Rattle.hls_legal.specs.Hierarchy.{Hierarchy, Node, Loaded, Admitted, Thread, Awake, At, start}
 use Rattle.hls_legal.specs.Steps.{Step, Load, Elapse, Hop, Path, after, row_by, hop_at, hops_of, ticked}
@@ -19,6 +20,38 @@ use Rattle.hls_runs.specs.Moves.{root_seat}
 use Rattle.hls_runs.proofs.Small.{Few, few_after, each_of_three, LowSeats, low_seat, no_low}
 use Rattle.hls_runs.proofs.Small.{thread_low, flat, take_one, root_all, SeatsAsk, seat_asks, root_asks_so}
 use Rattle.hls_runs.proofs.Small.{FreeSilent, all_silent}
+use Rattle.hls_runs.proofs.Awake.{off_two}
+
+-- of two slots that ask, the one of least key is first, and the lesser where both are the same
+pub second_first : (key : ℕ → ℕ) → key 1 < key 0 → IsFirst 32 (slot_asks 3) key 1
+second_first key less = record {
+  within = omega arith;
+  chosen = refl;
+  least = λ other lt on. least other on;
+  first = λ other lt on same. tie other same;
+}
+  where
+    least : (other : ℕ) → slot_asks 3 other ≡ true → key 1 ≤ key other
+    least zero on = omega (arith, less)
+    least (suc zero) on = omega arith
+    least (suc (suc other)) on = absurd (let off = off_two other in cc)
+
+    tie : (other : ℕ) → key 1 ≡ key other → 1 ≤ other
+    tie zero same = absurd (omega (arith, less, same))
+    tie (suc other) same = omega arith
+
+pub first_first : (key : ℕ → ℕ) → key 0 ≤ key 1 → IsFirst 32 (slot_asks 3) key 0
+first_first key le = record {
+  within = omega arith;
+  chosen = refl;
+  least = λ other lt on. least other on;
+  first = λ other lt on same. omega arith;
+}
+  where
+    least : (other : ℕ) → slot_asks 3 other ≡ true → key 0 ≤ key other
+    least zero on = omega arith
+    least (suc zero) on = le
+    least (suc (suc other)) on = absurd (let off = off_two other in cc)
 
 abbrev pub thread_node : Option Thread → Option Node
 thread_node None = None

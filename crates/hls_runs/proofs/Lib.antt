@@ -10,3 +10,5 @@ pub mod Reserved
 pub mod Withdrawn
 pub mod Tagged
 pub mod Shared
+pub mod Joints
+pub mod Joined

@@ -126,7 +126,7 @@ sole b zero goes = refl
 sole b (suc other) goes =
     absurd (let on = or_asks b 1 (suc other) goes in let off = bit_off 0 (suc other) (λ e. omega (arith, e)) in cc)
 
-lone_first : (b : Ledger) → may_go b 1 0 ≡ true → Serves Edf b 1 0
+pub lone_first : (b : Ledger) → may_go b 1 0 ≡ true → Serves Edf b 1 0
 lone_first b go = record {
   within = omega arith;
   chosen = go;

@@ -1,5 +1,5 @@
 -- The run of shares is legal, and no share starts at tag zero.
-use Rattle.std.proofs.Common.{◌≡◌, ◌≢◌, ℕ, zero, suc, ◌<◌, ◌≤◌, [], ◌∷◌, Option, Some, None, Bool, true}
+use Rattle.std.proofs.Common.{◌≡◌, ◌≢◌, ℕ, zero, suc, ◌<◌, ◌≤◌, [], ◌∷◌, Option, Some, None, Bool}
 use Rattle.std.proofs.Common.{false, ◌+◌, refl, ap, arith, inl}
 use Rattle.std.specs.Prelude.{codes}
 use Rattle.std.proofs.Math.Nat.{one-dvd}
@@ -8,9 +8,9 @@ use Rattle.hls_frac.specs.declared.Frac.{Frac}
 use Rattle.hls_chron.specs.declared.plain.Terms.TheVariants.{Weight}
 use Rattle.hls_chron.specs.Ledger.{Ledger, now_of}
 use Rattle.hls_chron.specs.Seats.{terms_at}
-use Rattle.hls_kinds.specs.Slots.{sum_below, IsFirst}
+use Rattle.hls_kinds.specs.Slots.{sum_below}
 use Rattle.hls_kinds.specs.Tags.{start_tag}
-use Rattle.hls_kinds.specs.Asks.{asks, slot_asks}
+use Rattle.hls_kinds.specs.Asks.{slot_asks}
 use Rattle.hls_kinds.specs.Discipline.{Serves}
 use Rattle.hls_kinds.specs.Fits.{Fits}
 use Rattle.hls_kinds.specs.Room.{room_used}
@@ -33,7 +33,7 @@ use Rattle.hls_runs.proofs.Small.{Few, few_after, each_of_three, beyond, take_on
 use Rattle.hls_runs.proofs.Awake.{off_two}
 use Rattle.hls_runs.proofs.Tagged.{lone, pair, first, again, second, third, tags_pair, tags_again, tags_second}
 use Rattle.hls_runs.proofs.Tagged.{tags_third}
-use Rattle.hls_runs.proofs.Desk.{IsDesk, can_load_desk, desk_flat, desk_asking, desk_ticked, desk_runs}
+use Rattle.hls_runs.proofs.Desk.{first_first, second_first, IsDesk, can_load_desk, desk_flat, desk_asking, desk_ticked, desk_runs}
 
 -- what a seat of weight 1 or 2 is guaranteed
 unit : (den : ℕ) → 1 ≤ den → Frac
@@ -242,37 +242,6 @@ can_admit_heavier = record {
       });
 }
 
--- whose tag is least is served, and the lesser slot where both are the same
-heavier_first : (key : ℕ → ℕ) → key 1 < key 0 → IsFirst 32 (slot_asks 3) key 1
-heavier_first key less = record {
-  within = omega arith;
-  chosen = refl;
-  least = λ other lt asks. least other asks;
-  first = λ other lt asks same. tie other same;
-}
-  where
-    least : (other : ℕ) → slot_asks 3 other ≡ true → key 1 ≤ key other
-    least zero asks = omega (arith, less)
-    least (suc zero) asks = omega arith
-    least (suc (suc other)) asks = absurd (let off = off_two other in cc)
-
-    tie : (other : ℕ) → key 1 ≡ key other → 1 ≤ other
-    tie zero same = absurd (omega (arith, less, same))
-    tie (suc other) same = omega arith
-
-lighter_first : (key : ℕ → ℕ) → key 0 ≤ key 1 → IsFirst 32 (slot_asks 3) key 0
-lighter_first key le = record {
-  within = omega arith;
-  chosen = refl;
-  least = λ other lt asks. least other asks;
-  first = λ other lt asks same. omega arith;
-}
-  where
-    least : (other : ℕ) → slot_asks 3 other ≡ true → key 0 ≤ key other
-    least zero asks = omega arith
-    least (suc zero) asks = le
-    least (suc (suc other)) asks = absurd (let off = off_two other in cc)
-
 abbrev lighter_thread : (stay : ℕ) → Thread
 lighter_thread stay = record { name = codes "a"; seat = lighter_seat; wake = Awake; stay = stay }
 
@@ -343,16 +312,16 @@ at_h4 = desk_ticked h3 queue second (Some (lighter_thread 1)) (Some heavier_thre
     (Some (path_to 0 1))
 
 serves_pair : Serves queue pair 3 1
-serves_pair = heavier_first (start_tag pair (now_of pair)) (omega (arith, tags_pair.0, tags_pair.1))
+serves_pair = second_first (start_tag pair (now_of pair)) (omega (arith, tags_pair.0, tags_pair.1))
 
 serves_again : Serves queue again 3 1
-serves_again = heavier_first (start_tag again (now_of again)) (omega (arith, tags_again.0, tags_again.1))
+serves_again = second_first (start_tag again (now_of again)) (omega (arith, tags_again.0, tags_again.1))
 
 serves_second : Serves queue second 3 0
-serves_second = lighter_first (start_tag second (now_of second)) (omega (arith, tags_second.0, tags_second.1))
+serves_second = first_first (start_tag second (now_of second)) (omega (arith, tags_second.0, tags_second.1))
 
 serves_third : Serves queue third 3 1
-serves_third = heavier_first (start_tag third (now_of third)) (omega (arith, tags_third.0, tags_third.1))
+serves_third = second_first (start_tag third (now_of third)) (omega (arith, tags_third.0, tags_third.1))
 
 -- the move
 three_used : room_used queue first ≡ 3

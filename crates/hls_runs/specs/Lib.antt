@@ -2,3 +2,4 @@ pub mod Example
 pub mod Moves
 pub mod Reserved
 pub mod Shared
+pub mod Joined
