@@ -1,6 +1,8 @@
 pub mod Sounds
-pub mod Standing
-pub mod Promises
-pub mod Calls
+pub mod Tables
+pub mod LeastLaws
 pub mod Props
+pub mod Calls
 pub mod Choosing
+pub mod Faults
+pub mod Keyed

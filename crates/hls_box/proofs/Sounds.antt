@@ -12,8 +12,8 @@ use Rattle.hls_chron.specs.declared.plain.Kind.{Kind}
 use Rattle.hls_chron.specs.declared.plain.Kind.TheVariants as kinds
 use Rattle.hls_chron.specs.declared.plain.Terms.{Terms}
 use Rattle.hls_chron.specs.Kinds.{kind_of, terms_kind}
-use Rattle.hls_chron.specs.Ledger.{Ledger, now_of, before, with_row, with_mark, IsDated}
-use Rattle.hls_chron.specs.Ranges.{ConfigInRange}
+use Rattle.hls_chron.specs.Ledger.{Ledger, with_row, with_mark}
+use Rattle.hls_chron.specs.Ranges.{ConfigInRange, TermsInRange}
 use Rattle.hls_chron.specs.Seats.{SlotAsks, terms_at, most_seats}
 use Rattle.hls_chron.proofs.BookLaws.{terms_at-mark, terms_at-row}
 use Rattle.hls_kinds.specs.Fits.{Fits}
@@ -22,41 +22,37 @@ use Rattle.hls_sched.specs.Fits.{IsAnswer}
 use Rattle.hls_sched.specs.declared.fault.SeatFault.TheVariants.{Unfit, PriorityTaken, NoRoom}
 use Rattle.hls_chron.specs.declared.plain.Config.TheVariants as configs
 use Rattle.std.specs.Prelude.{◌⊎◌}
-use Rattle.hls_kinds.specs.Shares.{KeepsShares}
-use Rattle.hls_kinds.proofs.DisciplineLaws.{ServesInTick, discipline-mark}
-use Rattle.hls_kinds.proofs.DisciplineLaws.{discipline-row, discipline-unwritten}
-use Rattle.hls_promise.proofs.AdmissionLaws.{admission-mark, admission-row, admission-unwritten}
-use Rattle.hls_sched.specs.Seen.{Seen, IsBlank, IsSetUp, config_of, without_slot}
+use Rattle.hls_kinds.specs.Discipline.{Serves}
+use Rattle.hls_kinds.specs.Made.{IsRow}
+use Rattle.hls_kinds.proofs.MadeLaws.{made_new, made_mark, made_row}
+use Rattle.hls_made.proofs.Books.{admission_made, range_made}
+use Rattle.hls_sched.specs.Seen.{Seen, IsBlank, IsSetUp, IsConfigured, config_of, without_slot}
 use Rattle.hls_sched.specs.Seen.{requested, released, seated, left}
 use Rattle.hls_sched.specs.Seen.{settled, granted, revoked, turned, tick_row}
 use Rattle.hls_sched.proofs.Masks.{asks_with, asks_without, silent_without, silent_zero}
 use Rattle.hls_box.specs.Sound.{IsSound}
-use Rattle.hls_box.proofs.Standing.{before_row, asks_without_room, serves_without_room}
 use Rattle.hls_chron.specs.declared.book.TickRow.{TickRow}
 
 -- a box that is not set up yet, and one that was just set up
-pub sound_blank : (kind : Kind) (s : Seen) → IsBlank kind s → s.book.rows ≡ [] → s.book.marks ≡ []
-    → s.mask ≡ 0 → IsSound kind s
-sound_blank kind s blank rows marks silent = record {
+pub sound_blank : (kind : Kind) (s : Seen) → IsBlank kind s → s.mask ≡ 0 → IsSound kind s
+sound_blank kind s blank silent = record {
   of_kind = blank.of_kind;
   configured = λ is. absurd (is blank.blank);
-  ranges = rw blank.blank tt;
   width = rw silent (omega arith);
   seated = λ slot asks. absurd (silent_zero slot (rw silent at asks));
-  admission = admission-unwritten (config_of s) s.book rows marks;
-  discipline = discipline-unwritten (config_of s) s.book rows;
+  made = λ is. absurd (is blank.blank);
 }
 
 pub sound_set_up : (kind : Kind) (config : Config) (now horizon commands : ℕ) (s : Seen)
-    → kind_of config ≡ kind → ConfigInRange config → IsSetUp config now horizon commands s → IsSound kind s
-sound_set_up kind config now horizon commands s same ranges up = record {
+    → kind_of config ≡ kind → kind ≢ kinds.Cpu → ConfigInRange config
+    → IsSetUp config now horizon commands s → IsSound kind s
+sound_set_up kind config now horizon commands s same boxed ranges up = record {
   of_kind = up.of_kind ∙ same;
   configured = λ is. rw up.configured same;
-  ranges = rw up.configured ranges;
   width = rw up.silent (omega arith);
   seated = λ slot asks. absurd (silent_zero slot (rw up.silent at asks));
-  admission = admission-unwritten (config_of s) s.book up.rows up.marks;
-  discipline = discipline-unwritten (config_of s) s.book up.rows;
+  made = λ is. rw up.configured
+      (made_new config s.book (λ cpu. boxed (sym same ∙ cpu)) ranges up.rows up.marks);
 }
 
 pub sound_requested : (kind : Kind) (slot : ℕ) (s : Seen) → IsSound kind s → slot < 32
@@ -64,58 +60,48 @@ pub sound_requested : (kind : Kind) (slot : ℕ) (s : Seen) → IsSound kind s �
 sound_requested kind slot s sound lt taken = record {
   of_kind = sound.of_kind;
   configured = sound.configured;
-  ranges = sound.ranges;
   width = or_lt 32 s.mask (2 ^ slot) sound.width (pow-lt lt);
   seated = λ k asks. elim (cases_eq k slot) [
     | inl same ↦ (let P : ℕ → Type 0 = λ n. terms_at s.book n ≢ None in subst P (sym same) taken)
     | inr other ↦ sound.seated k (asks_with s.mask slot k asks other)
   ];
-  admission = sound.admission;
-  discipline = sound.discipline;
+  made = sound.made;
 }
 
 pub sound_released : (kind : Kind) (slot : ℕ) (s : Seen) → IsSound kind s → IsSound kind (released slot s)
 sound_released kind slot s sound = record {
   of_kind = sound.of_kind;
   configured = sound.configured;
-  ranges = sound.ranges;
   width = omega (arith, sound.width, and_le_l s.mask (bit_not w32 (2 ^ slot)));
   seated = λ k asks. sound.seated k (asks_without s.mask slot k asks);
-  admission = sound.admission;
-  discipline = sound.discipline;
+  made = sound.made;
 }
 
 pub sound_granted : (kind : Kind) (port : ℕ) (s : Seen) → IsSound kind s → IsSound kind (granted port s)
 sound_granted kind port s sound = record {
   of_kind = sound.of_kind;
   configured = sound.configured;
-  ranges = sound.ranges;
   width = sound.width;
   seated = sound.seated;
-  admission = sound.admission;
-  discipline = sound.discipline;
+  made = sound.made;
 }
 
 pub sound_revoked : (kind : Kind) (s : Seen) → IsSound kind s → IsSound kind (revoked s)
 sound_revoked kind s sound = record {
   of_kind = sound.of_kind;
   configured = sound.configured;
-  ranges = sound.ranges;
   width = sound.width;
   seated = sound.seated;
-  admission = sound.admission;
-  discipline = sound.discipline;
+  made = sound.made;
 }
 
 pub sound_settled : (kind : Kind) (s : Seen) → IsSound kind s → IsSound kind (settled s)
 sound_settled kind s sound = record {
   of_kind = sound.of_kind;
   configured = sound.configured;
-  ranges = sound.ranges;
   width = sound.width;
   seated = λ slot asks. rw terms_at-mark (sound.seated slot asks);
-  admission = admission-mark (config_of s) s.book Settle tt sound.admission;
-  discipline = discipline-mark (config_of s) s.book Settle sound.discipline;
+  made = λ is. made_mark (config_of s) s.book Settle (sound.made is) tt;
 }
 
 -- two kinds are the same or not, as their numbers
@@ -153,51 +139,51 @@ same_kind a b = elim (cases_eq (number_of a) (number_of b)) [
 ]
 
 -- the terms at a slot after a seating and after a leaving
-seat_same : (b : Ledger) (at slot : ℕ) (terms : Terms) → at ≡ slot
+pub seat_same : (b : Ledger) (at slot : ℕ) (terms : Terms) → at ≡ slot
     → terms_at (with_mark b (Seat at terms)) slot ≡ Some terms
 seat_same b at slot terms same = terms_at-mark b (Seat at terms) slot ∙ rw (eq-eqb at slot same) refl
 
-seat_other : (b : Ledger) (at slot : ℕ) (terms : Terms) → at ≢ slot
+pub seat_other : (b : Ledger) (at slot : ℕ) (terms : Terms) → at ≢ slot
     → terms_at (with_mark b (Seat at terms)) slot ≡ terms_at b slot
 seat_other b at slot terms other = terms_at-mark b (Seat at terms) slot ∙ rw (ne_eqb at slot other) refl
 
-leave_other : (b : Ledger) (at slot : ℕ) → at ≢ slot
+pub leave_same : (b : Ledger) (at slot : ℕ) → at ≡ slot → terms_at (with_mark b (Leave at)) slot ≡ None
+leave_same b at slot same = terms_at-mark b (Leave at) slot ∙ rw (eq-eqb at slot same) refl
+
+pub leave_other : (b : Ledger) (at slot : ℕ) → at ≢ slot
     → terms_at (with_mark b (Leave at)) slot ≡ terms_at b slot
 leave_other b at slot other = terms_at-mark b (Leave at) slot ∙ rw (ne_eqb at slot other) refl
 
 pub sound_seated : (kind : Kind) (slot : ℕ) (terms : Terms) (s : Seen) → IsSound kind s
-    → slot < most_seats (config_of s) → Fits (config_of s) s.book terms → IsSound kind (seated slot terms s)
-sound_seated kind slot terms s sound lt fits = record {
+    → TermsInRange terms → Fits (config_of s) s.book terms → IsFree (config_of s) s.book slot
+    → IsSound kind (seated slot terms s)
+sound_seated kind slot terms s sound ranges fits free = record {
   of_kind = sound.of_kind;
   configured = sound.configured;
-  ranges = sound.ranges;
   width = sound.width;
   seated = λ k asks. elim (cases_eq slot k) [
     | inl same ↦ rw (seat_same s.book slot k terms same) (λ none. absurd cc)
     | inr other ↦ rw (seat_other s.book slot k terms other) (sound.seated k asks)
   ];
-  admission = admission-mark (config_of s) s.book (Seat slot terms) (lt, fits) sound.admission;
-  discipline = discipline-mark (config_of s) s.book (Seat slot terms) sound.discipline;
+  made = λ is. made_mark (config_of s) s.book (Seat slot terms) (sound.made is) (ranges, fits, free);
 }
 
 pub sound_left : (kind : Kind) (slot : ℕ) (s : Seen) → IsSound kind s → slot < 32
-    → IsSound kind (left slot s)
-sound_left kind slot s sound lt = record {
+    → terms_at s.book slot ≢ None → IsSound kind (left slot s)
+sound_left kind slot s sound lt taken = record {
   of_kind = sound.of_kind;
   configured = sound.configured;
-  ranges = sound.ranges;
   width = omega (arith, sound.width, and_le_l s.mask (bit_not w32 (2 ^ slot)));
   seated = λ k asks. elim (cases_eq slot k) [
     | inl same ↦ absurd (let P : ℕ → Type 0 = λ n. SlotAsks (without_slot slot s.mask) n in
         silent_without s.mask slot lt (subst P (sym same) asks))
     | inr other ↦ rw (leave_other s.book slot k other) (sound.seated k (asks_without s.mask slot k asks))
   ];
-  admission = admission-mark (config_of s) s.book (Leave slot) tt sound.admission;
-  discipline = discipline-mark (config_of s) s.book (Leave slot) sound.discipline;
+  made = λ is. made_mark (config_of s) s.book (Leave slot) (sound.made is) taken;
 }
 
 -- there are 32 slots at most
-seats_within : (config : Config) → ConfigInRange config → most_seats config ≤ 32
+pub seats_within : (config : Config) → ConfigInRange config → most_seats config ≤ 32
 seats_within configs.Cpu ranges = omega arith
 seats_within configs.Fp ranges = omega arith
 seats_within configs.Edf ranges = omega arith
@@ -206,19 +192,23 @@ seats_within (configs.Rr quantum) ranges = omega arith
 seats_within (configs.Wheel frame) ranges = omega arith
 seats_within (configs.Join ports) ranges = omega arith
 
-pub free_within : (kind : Kind) (slot : ℕ) (s : Seen) → IsSound kind s
-    → IsFree (config_of s) s.book slot → slot < 32
-free_within kind slot s sound free = omega (arith, free.within, seats_within (config_of s) sound.ranges)
+pub ranges_of : (kind : Kind) (s : Seen) → IsSound kind s → IsConfigured s → ConfigInRange (config_of s)
+ranges_of kind s sound configured = range_made (config_of s) s.book (sound.made configured)
 
-pub taken_within : (kind : Kind) (slot : ℕ) (s : Seen) → IsSound kind s → terms_at s.book slot ≢ None
-    → slot < 32
-taken_within kind slot s sound taken =
+pub free_within : (kind : Kind) (slot : ℕ) (s : Seen) → IsSound kind s → IsConfigured s
+    → IsFree (config_of s) s.book slot → slot < 32
+free_within kind slot s sound configured free =
+    omega (arith, free.within, seats_within (config_of s) (ranges_of kind s sound configured))
+
+pub taken_within : (kind : Kind) (slot : ℕ) (s : Seen) → IsSound kind s → IsConfigured s
+    → terms_at s.book slot ≢ None → slot < 32
+taken_within kind slot s sound configured taken =
     elim (terms_at s.book slot) as (λ found. terms_at s.book slot ≡ found → slot < 32) [
       | None ↦ λ none. absurd (taken none)
       | Some terms ↦ λ is. omega (
         arith,
-        sound.admission.seats.within slot terms is,
-        seats_within (config_of s) sound.ranges,
+        (admission_made (config_of s) s.book (sound.made configured)).seats.within slot terms is,
+        seats_within (config_of s) (ranges_of kind s sound configured),
       )
     ] refl
 
@@ -247,31 +237,26 @@ row_mask mask (Some port) (Some at) = refl
 row_mask mask (Some port) None = refl
 row_mask mask None choice = refl
 
--- before the row of the present tick, the book asks and is to serve as it does now
-tick_kept : (config : Config) (b : Ledger) (row : TickRow) (mask slot : ℕ) → IsDated b
-    → ServesInTick config b mask slot → ServesInTick config (before (now_of b) (with_row b row)) mask slot
-tick_kept config b row mask slot dated serves = rw (before_row b row dated) (record {
-  asked = asks_without_room config b mask ∙ serves.asked;
-  served = serves_without_room config b mask slot serves.served;
-})
-
--- A tick keeps the discipline where the choice asks and is to be served.
-pub sound_turned : (kind : Kind) (choice : Option ℕ) (s : Seen) → IsSound kind s
-    → ((slot : ℕ) → choice ≡ Some slot → ServesInTick (config_of s) s.book s.mask slot)
-    → KeepsShares (config_of s) (with_row s.book (tick_row s.mask s.grant choice))
-    → IsSound kind (turned choice s)
-sound_turned kind choice s sound serves shares =
-    let row = tick_row s.mask s.grant choice in
+-- what a choice that is to be served makes of the book's next row
+pub row_allowed : (s : Seen) (choice : Option ℕ) → ((slot : ℕ) → SlotAsks s.mask slot → terms_at s.book slot ≢ None)
+    → ((slot : ℕ) → choice ≡ Some slot → Serves (config_of s) s.book s.mask slot)
+    → IsRow (config_of s) s.book (tick_row s.mask s.grant choice)
+row_allowed s choice seated serves =
     let same = row_mask s.mask s.grant choice in
     record {
-      of_kind = sound.of_kind;
-      configured = sound.configured;
-      ranges = sound.ranges;
-      width = sound.width;
-      seated = λ slot asks. rw terms_at-row (sound.seated slot asks);
-      admission = admission-row (config_of s) s.book row
-          (λ slot asks. sound.seated slot (rw same at asks)) sound.admission;
-      discipline = discipline-row (config_of s) s.book row sound.discipline
-          (λ slot is. rw same (tick_kept (config_of s) s.book row s.mask slot sound.admission.dated
-          (serves slot (row_serves s.mask s.grant choice slot is)))) shares;
+      seats = λ slot asks. seated slot (rw same at asks);
+      serves = λ slot is. rw same (serves slot (row_serves s.mask s.grant choice slot is));
     }
+
+-- a tick keeps the book made where the choice is the slot to serve
+pub sound_turned : (kind : Kind) (choice : Option ℕ) (s : Seen) → IsSound kind s
+    → ((slot : ℕ) → choice ≡ Some slot → Serves (config_of s) s.book s.mask slot)
+    → IsSound kind (turned choice s)
+sound_turned kind choice s sound serves = record {
+  of_kind = sound.of_kind;
+  configured = sound.configured;
+  width = sound.width;
+  seated = λ slot asks. rw terms_at-row (sound.seated slot asks);
+  made = λ is. made_row (config_of s) s.book (tick_row s.mask s.grant choice) (sound.made is)
+      (row_allowed s choice sound.seated serves);
+}

@@ -1,9 +1,11 @@
-//! What a box of a scheduler keeps, of whichever kind it is: its configuration, its book, the slots that ask
-//! and the grant.
+//! The state of a box of a scheduler, of whichever kind it is: its configuration, its book, its seats, the slots
+//! that ask and the grant.
 #![tactic(auto)]
 
-mod keeper;
+mod least;
 mod slots;
+mod state;
 
-pub use keeper::Keeper;
-pub use slots::{bit, has_slot};
+pub use least::least_slot;
+pub use slots::has_slot;
+pub use state::BoxState;

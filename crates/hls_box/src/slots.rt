@@ -1,5 +1,5 @@
 // The slots that ask, a bit each, and the row of a tick.
-ghost use Rattle.std.specs.Prelude.{◌≡◌, ◌^◌, ◌<◌, IfSome};
+ghost use Rattle.std.specs.Prelude.{◌≡◌, ◌^◌, ◌<◌, true, IfSome};
 ghost use Rattle.hls_kinds.specs.Asks.{slot_asks};
 ghost use Rattle.hls_sched.specs.Seen.{tick_row};
 
@@ -15,7 +15,8 @@ pub fn bit(slot: u32) -> u32
 
 /// Whether a slot is among those that ask.
 pub fn has_slot(mask: u32, slot: u32) -> bool
-    ensures { result ≡ slot_asks mask slot }
+    ensures value { result ≡ slot_asks mask slot }
+    ensures within { result ≡ true → slot < 32 }
 {
     slot < 32 && (mask >> slot) & 1 == 1
 }

@@ -1,7 +1,13 @@
-//! Boxes of turns, of frames and of joins, driven through their trait.
+//! Boxes of all kinds, driven through their trait.
 #![tactic(auto)]
 
 #[cfg(test)]
-mod tests;
+mod harness;
+#[cfg(test)]
+mod kits;
+#[cfg(test)]
+mod reservations;
 #[cfg(test)]
 mod trials;
+#[cfg(test)]
+mod worked;

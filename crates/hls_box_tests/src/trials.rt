@@ -6,14 +6,17 @@ ghost use Rattle.hls_chron.specs.Kinds.{kind_of};
 ghost use Rattle.hls_chron.specs.Ranges.{ConfigInRange};
 ghost use Rattle.hls_sched.specs.Seen.{IsBlank, IsConfigured};
 
-use crate::tests::{Known, Step, compare, free_in, is_asking, most_seats, take};
+use crate::harness::{Known, Step, compare, free_in, is_asking, most_seats, take};
 use hls_chron::{Book, Config, Terms, TickRow};
+use hls_edf::Edf;
+use hls_fp::Fp;
 use hls_frac::Frac;
 use hls_guarantee::{Guarantee, holds, valid};
 use hls_join::Join;
 use hls_kinds::{Tenant, room_asked, room_total, room_used, tenant_at, terms_at};
 use hls_rr::Rr;
 use hls_sched::{Scheduler, SeatFault};
+use hls_sfq::Sfq;
 use hls_wheel::Wheel;
 use std::alloc::{AllocError, Global};
 use std::process::Abort;
@@ -70,24 +73,45 @@ fn draw_tick(giving: Giving, series: &mut Series) -> Step {
     }
 }
 
+fn draw_reservation(series: &mut Series) -> Terms {
+    let y = 1 + series.below(12);
+    let x = 1 + series.below(y);
+    let hard = series.below(2) == 0;
+    Terms::Res { hard, x, y }
+}
+
 /// Terms, mostly of the kind of a configuration.
 fn draw_terms(config: &Config, series: &mut Series) -> Terms {
     if series.below(16) == 0 {
-        return Terms::Weight(1);
+        return Terms::Slots(11);
     }
     match config {
+        Config::Fp => Terms::Prio(series.below(6)),
+        Config::Edf => draw_reservation(series),
+        Config::Sfq { .. } => Terms::Weight(1 + series.below(4)),
         Config::Wheel { .. } => Terms::Slots(1 + series.below(5)),
         Config::Join { .. } => Terms::Sole,
         _ => Terms::Turn,
     }
 }
 
-/// Whether more places of a frame are asked than there are.
+/// Whether more of a frame or of a total is asked than there is.
 fn exceeds(config: &Config, terms: &Terms) -> bool {
     match (*config, *terms) {
+        (Config::Sfq { total, .. }, Terms::Weight(weight)) => total < weight,
         (Config::Wheel { frame }, Terms::Slots(places)) => frame < places,
         _ => false,
     }
+}
+
+/// Whether a seat has the priority number that is asked for.
+fn is_taken(book: &Book, terms: &Terms) -> bool {
+    for slot in 0..32 {
+        if matches!(terms, Terms::Prio(_)) && terms_at(book, slot) == Some(*terms) {
+            return true;
+        }
+    }
+    false
 }
 
 /// Why a seat cannot be taken, by the definitions.
@@ -96,6 +120,11 @@ fn fault_in(book: &Book, config: &Config, terms: &Terms) -> Option<SeatFault>
 {
     if terms.kind() != config.kind() || exceeds(config, terms) {
         return Some(SeatFault::Unfit);
+    }
+    if let Terms::Prio(priority) = *terms {
+        if is_taken(book, terms) {
+            return Some(SeatFault::PriorityTaken { priority });
+        }
     }
     if free_in(book, config).is_none() {
         let seats = most_seats(config);
@@ -244,6 +273,8 @@ fn premises(rt: &impl Abort) -> [Guarantee; 6] {
 fn lent(config: &Config, terms: &Terms, given: Guarantee) -> Guarantee {
     match (*config, *terms, given) {
         (Config::Join { .. }, _, _) => given,
+        (Config::Fp, Terms::Prio(0), _) => given,
+        (Config::Edf, Terms::Res { hard, x, y }, Guarantee::All) => Guarantee::Resb { hard, x, y },
         (Config::Wheel { frame }, Terms::Slots(places), Guarantee::All) => Guarantee::Resc {
             hard: true,
             x: places,
@@ -387,6 +418,44 @@ fn play(
     compare(scheduler, config, known.mask, rt);
     check_caps(scheduler.book(), config, rt);
     check_ports(scheduler.book(), config, settled, &ticks, rt, alloc)
+}
+
+#[test]
+fn keeps_priorities_in_drawn_calls(rt: HostRuntime) -> Result<(), Fail> {
+    let mut series = Series { state: 7 };
+    for _list in 0..LISTS {
+        let mut fp = Fp::blank(rt.alloc());
+        play(&mut fp, &Config::Fp, &mut series, &rt, rt.alloc())?;
+    }
+    Ok(())
+}
+
+#[test]
+fn keeps_reservations_in_drawn_calls(rt: HostRuntime) -> Result<(), Fail> {
+    let mut series = Series { state: 7 };
+    for _list in 0..LISTS {
+        let mut edf = Edf::blank(rt.alloc());
+        play(&mut edf, &Config::Edf, &mut series, &rt, rt.alloc())?;
+    }
+    Ok(())
+}
+
+#[test]
+fn keeps_tags_in_drawn_calls(rt: HostRuntime) -> Result<(), Fail> {
+    let mut series = Series { state: 7 };
+    for _list in 0..LISTS {
+        let total = 1 + series.below(10);
+        let most = 1 + series.below(4);
+        let mut sfq = Sfq::blank(rt.alloc());
+        play(
+            &mut sfq,
+            &Config::Sfq { total, most },
+            &mut series,
+            &rt,
+            rt.alloc(),
+        )?;
+    }
+    Ok(())
 }
 
 #[test]

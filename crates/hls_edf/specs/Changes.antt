@@ -1,5 +1,5 @@
--- What a tick and a settling make of the account of a slot, which a seat has taken or not.
-use Rattle.std.specs.Prelude.{ℕ, ◌+◌, Bool, Option, Some, None, if◌then◌else◌}
+-- What a tick and a settling make of the server of a slot, which a seat has taken or not.
+use Rattle.std.specs.Prelude.{ℕ, ◌+◌, Bool, if◌then◌else◌}
 use Rattle.hls_chron.specs.Parts.{all_parts}
 use Rattle.hls_edf_laws.specs.declared.account.Account.{Account}
 use Rattle.hls_edf_laws.specs.Accounts.{vacant, fresh, replenished, charged}
@@ -13,8 +13,3 @@ next_of account taken asks served now =
 
 abbrev pub settled_of : Account → (taken : Bool) → (now : ℕ) → Account
 settled_of account taken now = if taken then fresh account now else vacant
-
--- the slot that a tick serves
-abbrev pub served_of : (grant choice : Option ℕ) → Option ℕ
-served_of None choice = None
-served_of (Some port) choice = choice

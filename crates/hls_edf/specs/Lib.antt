@@ -1,3 +1,2 @@
 pub mod Choice
 pub mod Changes
-pub mod Sound

@@ -1,17 +1,21 @@
 // A box of reservations.
-ghost use Rattle.std.proofs.Props.{props};
+ghost use Rattle.std.specs.Prelude.{◌≡◌, ℕ, ◌<◌, IfSome, is_some};
+ghost use Rattle.hls_chron.specs.declared.plain.Kind.{Kind};
 ghost use Rattle.hls_chron.specs.Ledger.{now_of};
-ghost use Rattle.hls_edf_laws.specs.Props.{tenant_prop};
-ghost use Rattle.hls_edf.specs.Choice.{choice_of};
-ghost use Rattle.hls_edf.specs.Sound.{edf_seen, IsSound, keeps_discipline, keeps_promise};
+ghost use Rattle.hls_chron.specs.Seats.{terms_at, is_slot};
+ghost use Rattle.hls_kinds.specs.Asks.{slot_asks};
 ghost use Rattle.hls_sched.specs.Seen.{IsBlank};
+ghost use Rattle.hls_box.specs.Keys.{keys_in, least_of};
+ghost use Rattle.hls_box.specs.Sound.{IsSound};
+ghost use Rattle.hls_box.proofs.Props.{sound_prop};
+ghost use Rattle.hls_box.proofs.Choosing.{lawful};
+ghost use Rattle.hls_edf.specs.Choice.{account_in, deadline_asking, choice_of, HasServers};
+ghost use Rattle.hls_edf.specs.Changes.{next_of, settled_of};
 
-use crate::slots::{
-    SEATS, after_settle, after_tick, bit, choose, first_free, parts_used, row, served,
-};
-use hls_chron::{Book, Config, Event, Kind, Terms};
-use hls_edf_laws::{ALL_PARTS, Account};
-use hls_kinds::parts;
+use crate::servers::{Need, SLOTS, Servers, deadline_where, first_free, next, parts_used, settled};
+use hls_box::{BoxState, has_slot, least_slot};
+use hls_chron::{Book, Config, Kind, Terms};
+use hls_edf_laws::Account;
 use hls_sched::{Scheduler, SeatFault};
 use std::alloc::{AllocError, Global};
 
@@ -19,14 +23,10 @@ use std::alloc::{AllocError, Global};
 /// have budget, the one of earliest deadline is served, and where there is none, of those that are soft.
 #[derive(Drop)]
 pub struct Edf {
-    alloc: Global,
-    configured: bool,
-    book: Book,
-    mask: u32,
-    grant: Option<u8>,
-    seats: [Option<Terms>; 32],
-    accounts: [Account; 32],
-    ghost sound: { IsSound book mask seats accounts } by { Prim.hlevel (props, tenant_prop) },
+    state: BoxState,
+    servers: Servers,
+    ghost sound: { IsSound Kind.Edf state } by { sound_prop Kind.Edf state },
+    ghost held: { HasServers state.book servers },
 }
 
 impl Edf {
@@ -35,133 +35,169 @@ impl Edf {
         ensures { IsBlank Kind.Edf (⟦<Edf as Scheduler>⟧.seen result) }
     {
         Edf {
-            alloc,
-            configured: false,
-            book: Book::new(alloc, 0),
-            mask: 0,
-            grant: None,
-            seats: [None; 32],
-            accounts: [Account::vacant(); 32],
+            state: BoxState::blank(alloc, Kind::Edf),
+            servers: [Account::vacant(); 32],
         }
+    }
+
+    /// The deadline of each slot that asks and may be served by this.
+    fn deadlines(&self, need: Need) -> [Option<u128>; 32]
+        ensures { (slot : ℕ) → slot < 32 → keys_in result slot
+            ≡ deadline_asking need self.now.servers self.now.state.book self.now.state.mask slot }
+    {
+        let now = self.state.book().now();
+        let mask = self.state.mask();
+        let mut deadlines = [None; 32];
+        for slot in 0..SLOTS {
+            let server = self.servers[slot as usize].replenished(has_slot(mask, slot), now);
+            deadlines[slot as usize] = deadline_where(server, self.state.seat_at(slot), need);
+        }
+        deadlines
+    }
+
+    /// The slot of earliest deadline, of those that ask and may be served by this.
+    fn first(&self, need: Need) -> Option<u32>
+        ensures value { result
+            ≡ least_of (deadline_asking need self.now.servers self.now.state.book self.now.state.mask) }
+        ensures within { IfSome result (λ slot. slot < 32) }
+    {
+        least_slot(&self.deadlines(need))
+    }
+
+    /// The slot to serve: of the asking seats with budget, or where there is none of the asking soft seats.
+    fn choose(&self) -> Option<u32>
+        ensures value { result ≡ choice_of self.now.servers self.now.state.book self.now.state.mask }
+        ensures within { IfSome result (λ slot. slot < 32) }
+    {
+        match self.first(Need::Budget) {
+            None => self.first(Need::Soft),
+            Some(slot) => Some(slot),
+        }
+    }
+
+    /// The servers after a tick that serves this slot, or none.
+    fn after_tick(&self, served: Option<u32>) -> Servers
+        ensures { (slot : ℕ) → slot < 32 → account_in result slot ≡ next_of (account_in self.now.servers slot)
+            (is_some (terms_at self.now.state.book slot)) (slot_asks self.now.state.mask slot) (is_slot served slot)
+            (now_of self.now.state.book) }
+    {
+        let now = self.state.book().now();
+        let mask = self.state.mask();
+        let mut after = self.servers;
+        for slot in 0..SLOTS {
+            let taken = self.state.seat_at(slot).is_some();
+            after[slot as usize] = next(
+                self.servers[slot as usize],
+                taken,
+                has_slot(mask, slot),
+                served == Some(slot),
+                now,
+            );
+        }
+        after
+    }
+
+    /// The servers after a settling.
+    fn after_settle(&self) -> Servers
+        ensures { (slot : ℕ) → slot < 32 → account_in result slot ≡ settled_of (account_in self.now.servers slot)
+            (is_some (terms_at self.now.state.book slot)) (now_of self.now.state.book) }
+    {
+        let now = self.state.book().now();
+        let mut after = self.servers;
+        for slot in 0..SLOTS {
+            let taken = self.state.seat_at(slot).is_some();
+            after[slot as usize] = settled(self.servers[slot as usize], taken, now);
+        }
+        after
     }
 }
 
 impl Scheduler for Edf {
-    ghost seen = { λ s. edf_seen s.configured s.book s.mask s.grant };
+    ghost seen = { λ s. s.state };
 
-    ghost choice = { λ s. choice_of s.accounts s.seats s.mask (now_of s.book) };
+    ghost choice = { λ s. choice_of s.servers s.state.book s.state.mask };
 
-    ghost keeps = { λ s configured.
-        keeps_discipline s.configured s.book s.mask s.grant s.sound.discipline configured };
-
-    ghost promises = { λ s configured.
-        keeps_promise s.configured s.book s.mask s.grant s.sound.keeps configured };
+    ghost lawful = { λ s configured. lawful Kind.Edf s.state s.sound configured };
 
     fn kind(&self) -> Kind {
-        Kind::Edf
+        self.state.kind()
     }
 
     fn book(&self) -> &Book {
-        &self.book
+        self.state.book()
     }
 
     fn setup(
         &mut self,
-        _config: &Config,
+        config: &Config,
         now: u32,
         horizon: u32,
         commands: u32,
     ) -> Result<(), AllocError> {
-        let mut book = Book::new(self.alloc, now);
-        book.reserve(horizon - now, 2 * commands)?;
-        self.book = book;
-        self.configured = true;
-        self.mask = 0;
-        self.grant = None;
-        self.seats = [None; 32];
-        self.accounts = [Account::vacant(); 32];
+        self.state.setup(config, now, horizon, commands)?;
+        self.servers = [Account::vacant(); 32];
         Ok(())
     }
 
     fn fits(&self, terms: &Terms) -> Option<SeatFault> {
-        let Terms::Res { x, y, .. } = *terms else {
-            return Some(SeatFault::Unfit);
-        };
-        if first_free(&self.accounts).is_none() {
-            return Some(SeatFault::Full { seats: SEATS });
-        }
-        let free = u128::from(ALL_PARTS).saturating_sub(parts_used(&self.accounts));
-        let asked = parts(x, y);
-        if free < asked {
-            return Some(SeatFault::NoRoom { free, asked });
-        }
-        None
+        self.state.fits(terms, self.free_slot(), self.parts_used())
     }
 
     fn free_slot(&self) -> Option<u32> {
-        first_free(&self.accounts)
+        first_free(&self.servers)
     }
 
     fn seat(&mut self, slot: u32, terms: &Terms) {
         let Terms::Res { x, y, .. } = *terms else {
             unreachable!()
         };
-        let now = self.book.now();
-        self.book.push_mark(Event::Seat {
-            slot: slot as u8,
-            terms: *terms,
-        });
-        self.seats[slot as usize] = Some(*terms);
-        self.accounts[slot as usize] = Account::offered(x, y).fresh(now);
+        let now = self.state.book().now();
+        self.state.seat(slot, terms);
+        self.servers[slot as usize] = Account::offered(x, y).fresh(now);
     }
 
     fn leave(&mut self, slot: u32) {
-        let now = self.book.now();
-        self.book.push_mark(Event::Leave { slot: slot as u8 });
-        self.seats[slot as usize] = None;
-        self.accounts[slot as usize] = self.accounts[slot as usize].held(u64::from(now));
-        self.mask &= !bit(slot);
+        let now = self.state.book().now();
+        self.state.leave(slot);
+        self.servers[slot as usize] = self.servers[slot as usize].held(u64::from(now));
     }
 
     fn request(&mut self, slot: u32) {
-        self.mask |= bit(slot);
+        self.state.request(slot);
     }
 
     fn release(&mut self, slot: u32) {
-        self.mask &= !bit(slot);
+        self.state.release(slot);
     }
 
     fn asks(&self) -> bool {
-        choose(&self.accounts, &self.seats, self.mask, self.book.now()).is_some()
+        self.choose().is_some()
     }
 
     fn grant(&mut self, port: u8) {
-        self.grant = Some(port);
+        self.state.grant(port);
     }
 
     fn revoke(&mut self) {
-        self.grant = None;
+        self.state.revoke();
     }
 
     fn choice(&self) -> Option<u32> {
-        choose(&self.accounts, &self.seats, self.mask, self.book.now())
+        self.choose()
     }
 
     fn turn(&mut self) {
-        let now = self.book.now();
-        let choice = choose(&self.accounts, &self.seats, self.mask, now);
-        let served = served(self.grant, choice);
-        self.book.push_tick(row(self.mask, self.grant, choice));
-        self.accounts = after_tick(self.accounts, &self.seats, self.mask, now, served);
+        let choice = self.choose();
+        self.servers = self.after_tick(self.state.served(choice));
+        self.state.turn(choice);
     }
 
     fn settle(&mut self) {
-        let now = self.book.now();
-        self.book.push_mark(Event::Settle);
-        self.accounts = after_settle(self.accounts, &self.seats, now);
+        self.servers = self.after_settle();
+        self.state.settle();
     }
 
     fn parts_used(&self) -> u128 {
-        parts_used(&self.accounts)
+        parts_used(&self.servers)
     }
 }

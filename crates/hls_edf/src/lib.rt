@@ -2,10 +2,7 @@
 #![tactic(auto)]
 
 mod edf;
-mod slots;
-#[cfg(test)]
-mod tests;
-#[cfg(test)]
-mod trials;
+mod servers;
 
 pub use edf::Edf;
+pub use hls_kinds::parts;

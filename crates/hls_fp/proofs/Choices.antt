@@ -1,142 +1,105 @@
--- The choice asks, and no asking slot has a lesser priority number.
-use Rattle.std.proofs.Common.{◌≡◌, ℕ, ◌+◌, ◌<◌, ◌≤◌, List, Option, Some, None, suc, zero, refl, arith}
-use Rattle.std.proofs.Common.{add-one, true, false, Bool, inl, inr, subst, sym}
-use Rattle.std.specs.Prelude.{if◌then◌else◌, nat_lt, IfSome, slice_index_or}
+-- The choice of fixed priority is the slot to serve, and there is one exactly where some slot asks.
+use Rattle.std.proofs.Common.{◌≡◌, ◌≢◌, ℕ, ◌<◌, ◌^◌, ◌≤◌, Some, None, Bool, true, false, refl, sym, ◌∙◌, ap, arith}
+use Rattle.std.specs.Prelude.{Option, is_some, IfSome}
 use Rattle.std.specs.Int.{bit_at}
-use Rattle.std.specs.Option.{option_map}
-use Rattle.std.proofs.lemmas.Bool.{cases_lt}
-use Rattle.std.proofs.lemmas.Bool.Decides.{nat_tests}
-use Rattle.hls_fp.specs.declared.slots.Candidate.{Candidate}
-use Rattle.hls_fp.specs.Choice.{better_of, priority_asking, best_below, choice_of}
+use Rattle.std.proofs.lemmas.Bool.{eqb-true, eq-eqb}
+use Rattle.hls_chron.specs.declared.plain.Kind.TheVariants as kinds
+use Rattle.hls_chron.specs.declared.plain.Config.{Config}
+use Rattle.hls_chron.specs.declared.plain.Config.TheVariants.{Cpu, Fp, Edf, Sfq, Rr, Wheel, Join}
+use Rattle.hls_chron.specs.declared.plain.Terms.{Terms}
+use Rattle.hls_chron.specs.declared.plain.Terms.TheVariants as terms
+use Rattle.hls_chron.specs.Kinds.{kind_of, terms_kind}
+use Rattle.hls_chron.specs.Ledger.{Ledger}
+use Rattle.hls_chron.specs.Seats.{SlotAsks, terms_at, priority_in, priority_at}
+use Rattle.hls_kinds.specs.Asks.{asks, slot_asks, some_slot_asks}
+use Rattle.hls_kinds.specs.Slots.{IsFirst}
+use Rattle.hls_kinds.specs.Discipline.{Serves, HasLeastPriority}
+use Rattle.hls_kinds.specs.Made.{IsMade}
+use Rattle.hls_made.proofs.Books.{admission_made}
+use Rattle.hls_sched.specs.Seen.{Seen, IsConfigured, config_of}
+use Rattle.hls_sched.proofs.Masks.{within_width}
+use Rattle.hls_box.specs.Keys.{key_or, has_key, key_at, least_of}
+use Rattle.hls_box.specs.Sound.{IsSound}
+use Rattle.hls_box.proofs.Choosing.{IsRight}
+use Rattle.hls_box.proofs.Keyed.{least_asks, least_serves}
+use Rattle.hls_fp.specs.Choice.{priority_if, priority_asking, choice_of}
 
-pub best_below-suc : (priorities : List (Option ℕ)) (mask n : ℕ)
-    → best_below priorities mask (n + 1)
-    ≡ better_of (best_below priorities mask n) n (priority_asking priorities mask n)
-unfolding best_below
-best_below-suc priorities mask n = rw add-one refl
+-- a seat of fixed priority has a priority number
+numbered : (found : Option Terms) → found ≢ None → ((m : Terms) → found ≡ Some m → terms_kind m ≡ kinds.Fp)
+    → is_some (priority_in found) ≡ true
+numbered (Some (terms.Prio priority)) taken kind = refl
+numbered (Some terms.Cpu) taken kind = absurd (let e = kind terms.Cpu refl in cc)
+numbered (Some (terms.Res hard x y)) taken kind = absurd (let e = kind (terms.Res hard x y) refl in cc)
+numbered (Some (terms.Weight weight)) taken kind = absurd (let e = kind (terms.Weight weight) refl in cc)
+numbered (Some (terms.Slots places)) taken kind = absurd (let e = kind (terms.Slots places) refl in cc)
+numbered (Some terms.Turn) taken kind = absurd (let e = kind terms.Turn refl in cc)
+numbered (Some terms.Sole) taken kind = absurd (let e = kind terms.Sole refl in cc)
+numbered None taken kind = absurd (taken refl)
 
-pub best_below-zero : (priorities : List (Option ℕ)) (mask : ℕ) → best_below priorities mask 0 ≡ None
-unfolding best_below
-best_below-zero priorities mask = refl
+-- a key there is where the slot asks, and it is the priority number
+asking_if : (on : Bool) (found : Option Terms) → is_some (priority_if on found) ≡ true → on ≡ true
+asking_if true found is = refl
+asking_if false found is = is
 
--- the best of the first n slots, where f tells the priority number of each that asks
-pub record IsBest (f : ℕ → Option ℕ) (n : ℕ) (best : Candidate) : Type 0 where
-  pub has : f best.slot ≡ Some best.priority
-  pub least : (slot priority : ℕ) → slot < n → f slot ≡ Some priority → best.priority ≤ priority
-  pub within : best.slot < n
+number_if : (on : Bool) (found : Option Terms) → on ≡ true → priority_if on found ≡ priority_in found
+number_if on found is = rw is refl
 
-abbrev pub BestIs : (ℕ → Option ℕ) → ℕ → Option Candidate → Type 0
-BestIs f n None = (slot priority : ℕ) → slot < n → f slot ≡ Some priority → ⊥
-BestIs f n (Some best) = IsBest f n best
+module _ (b : Ledger) (mask : ℕ) (width : mask < 2 ^ 32) (made : IsMade Fp b)
+    (seated : (slot : ℕ) → SlotAsks mask slot → terms_at b slot ≢ None) where
+  keys : ℕ → Option ℕ
+  keys = priority_asking b mask
 
--- what holds below n and at n holds below the next
-split_below : (P : ℕ → Type 0) (n : ℕ) → ((k : ℕ) → k < n → P k) → P n → (k : ℕ) → k < suc n → P k
-split_below P n below here k lt = elim (cases_lt k n) [
-  | inl less ↦ below k less
-  | inr more ↦ let e : n ≡ k = omega arith in subst P e here
-]
+  shown : (slot : ℕ) → slot < 32 → SlotAsks mask slot → has_key (priority_asking b mask) slot ≡ true
+  shown slot lt on =
+      let asks : slot_asks mask slot ≡ true = eq-eqb (bit_at mask slot) 1 on in
+      ap is_some (number_if (slot_asks mask slot) (terms_at b slot) asks)
+      ∙ numbered (terms_at b slot) (seated slot on) ((admission_made Fp b made).seats.of_kind slot)
 
-best_of_two : (f : ℕ → Option ℕ) (n : ℕ) (held : Candidate) (priority : ℕ) → f n ≡ Some priority
-    → IsBest f n held
-    → (less : Bool) → nat_lt priority held.priority ≡ less
-    → BestIs f (suc n) (if less then Some (record { slot = n; priority = priority }) else Some held)
-best_of_two f n held priority has best true test = record {
-  has = has;
-  least = λ slot rival lt. split_below (λ k. f k ≡ Some rival → priority ≤ rival) n
-      (λ k lt is. let le = best.least k rival lt is in
-      let less : priority < held.priority = grind (arith, nat_tests, test) in omega arith)
-      (λ is. let same : priority ≡ rival = cc in omega arith) slot lt;
-  within = omega arith;
-}
-best_of_two f n held priority has best false test = record {
-  has = best.has;
-  least = λ slot rival lt. split_below (λ k. f k ≡ Some rival → held.priority ≤ rival) n
-      (λ k lt is. best.least k rival lt is)
-      (λ is. let same : priority ≡ rival = cc in
-      let least : held.priority ≤ priority = grind (arith, nat_tests, test) in omega arith) slot lt;
-  within = omega (arith, best.within);
-}
+  only : (slot : ℕ) → has_key (priority_asking b mask) slot ≡ true → SlotAsks mask slot
+  only slot has = eqb-true (bit_at mask slot) 1 (asking_if (slot_asks mask slot) (terms_at b slot) has)
 
-best_step : (f : ℕ → Option ℕ) (n : ℕ) (best : Option Candidate) (next : Option ℕ) → f n ≡ next
-    → BestIs f n best → BestIs f (suc n) (better_of best n next)
-best_step f n None None e none = λ slot priority lt.
-    split_below (λ k. f k ≡ Some priority → ⊥) n (λ k lt. none k priority lt) (λ is. cc) slot lt
-best_step f n (Some held) None e best = record {
-  has = best.has;
-  least = λ slot rival lt. split_below (λ k. f k ≡ Some rival → held.priority ≤ rival) n
-      (λ k lt. best.least k rival lt) (λ is. absurd cc) slot lt;
-  within = omega (arith, best.within);
-}
-best_step f n None (Some priority) e none = record {
-  has = e;
-  least = λ slot rival lt. split_below (λ k. f k ≡ Some rival → priority ≤ rival) n
-      (λ k lt is. absurd (none k rival lt is))
-      (λ is. let same : priority ≡ rival = cc in omega arith) slot lt;
-  within = omega arith;
-}
-best_step f n (Some held) (Some priority) e best =
-    best_of_two f n held priority e best (nat_lt priority held.priority) refl
+  at_key : (slot priority : ℕ) → SlotAsks mask slot → priority_at b slot ≡ Some priority
+      → key_at (priority_asking b mask) slot ≡ priority
+  at_key slot priority on is =
+      ap key_or (number_if (slot_asks mask slot) (terms_at b slot) (eq-eqb (bit_at mask slot) 1 on) ∙ is)
 
-best_is : (priorities : List (Option ℕ)) (mask n : ℕ)
-    → BestIs (priority_asking priorities mask) n (best_below priorities mask n)
-unfolding best_below
-best_is priorities mask zero = λ slot priority lt is. absurd (omega arith)
-best_is priorities mask (suc n) =
-    best_step (priority_asking priorities mask) n (best_below priorities mask n)
-    (priority_asking priorities mask n) refl (best_is priorities mask n)
+  serves : (slot : ℕ) → IsFirst 32 (has_key (priority_asking b mask)) (key_at (priority_asking b mask)) slot
+      → HasLeastPriority b mask slot
+  serves slot is =
+      let on = only slot is.chosen in
+      record {
+        asks = on;
+        seated = λ none.
+            let has = sym (shown slot is.within on)
+            ∙ ap is_some (number_if (slot_asks mask slot) (terms_at b slot) (eq-eqb (bit_at mask slot) 1 on) ∙ none) in
+            cc;
+        least = λ other priority rival on_other has has_rival.
+            let lt = within_width mask other width on_other in
+            let mine = at_key slot priority on has in
+            let its = at_key other rival on_other has_rival in
+            omega (arith, mine, its, is.least other lt (shown other lt on_other));
+      }
 
--- the chosen slot, with its priority number
-pub record IsChosen (priorities : List (Option ℕ)) (mask slot : ℕ) : Type 0 where
-  pub priority : ℕ
-  pub has : priority_asking priorities mask slot ≡ Some priority
-  pub least : (other rival : ℕ) → other < 32 → priority_asking priorities mask other ≡ Some rival
-      → priority ≤ rival
-  pub within : slot < 32
+  fixed_right : (is_some (choice_of b mask) ≡ some_slot_asks mask) × IfSome (choice_of b mask) (HasLeastPriority b mask)
+  fixed_right = (
+    least_asks (priority_asking b mask) mask width shown only,
+    least_serves (priority_asking b mask) (HasLeastPriority b mask) serves,
+  )
 
-from_best : (priorities : List (Option ℕ)) (mask slot : ℕ) (best : Option Candidate)
-    → BestIs (priority_asking priorities mask) 32 best
-    → option_map (λ (best : Candidate). best.slot) best ≡ Some slot → IsChosen priorities mask slot
-from_best priorities mask slot None none is = absurd cc
-from_best priorities mask slot (Some best) h is =
-    let e : best.slot ≡ slot = cc in
-    record {
-      priority = best.priority;
-      has = rw (← e) h.has;
-      least = h.least;
-      within = omega (arith, h.within);
-    }
+right_of : (config : Config) (b : Ledger) (mask : ℕ) → kind_of config ≡ kinds.Fp → mask < 2 ^ 32 → IsMade config b
+    → ((slot : ℕ) → SlotAsks mask slot → terms_at b slot ≢ None)
+    → (is_some (choice_of b mask) ≡ asks config b mask) × IfSome (choice_of b mask) (Serves config b mask)
+right_of Fp b mask is width made seated = fixed_right b mask width made seated
+right_of Cpu b mask is width made seated = absurd cc
+right_of Edf b mask is width made seated = absurd cc
+right_of (Sfq total most) b mask is width made seated = absurd cc
+right_of (Rr quantum) b mask is width made seated = absurd cc
+right_of (Wheel frame) b mask is width made seated = absurd cc
+right_of (Join ports) b mask is width made seated = absurd cc
 
-pub choice_is : (priorities : List (Option ℕ)) (mask slot : ℕ) → choice_of priorities mask ≡ Some slot
-    → IsChosen priorities mask slot
-choice_is priorities mask slot is =
-    from_best priorities mask slot (best_below priorities mask 32) (best_is priorities mask 32) is
-
-from_none : (priorities : List (Option ℕ)) (mask : ℕ) (best : Option Candidate)
-    → BestIs (priority_asking priorities mask) 32 best
-    → option_map (λ (best : Candidate). best.slot) best ≡ None
-    → (slot priority : ℕ) → slot < 32 → priority_asking priorities mask slot ≡ Some priority → ⊥
-from_none priorities mask None none is = none
-from_none priorities mask (Some best) h is = absurd cc
-
--- where there is no choice, no slot asks
-pub no_choice : (priorities : List (Option ℕ)) (mask : ℕ) → choice_of priorities mask ≡ None
-    → (slot priority : ℕ) → slot < 32 → priority_asking priorities mask slot ≡ Some priority → ⊥
-no_choice priorities mask is =
-    from_none priorities mask (best_below priorities mask 32) (best_is priorities mask 32) is
-
-pub choice_within : (priorities : List (Option ℕ)) (mask : ℕ) (choice : Option ℕ)
-    → choice ≡ choice_of priorities mask
-    → IfSome choice (λ slot. slot < 32)
-choice_within priorities mask None e = tt
-choice_within priorities mask (Some slot) e = (choice_is priorities mask slot (sym e)).within
-
--- a slot with an asking priority number asks, and has it
-pub asking_is : (priorities : List (Option ℕ)) (mask slot priority : ℕ)
-    → priority_asking priorities mask slot ≡ Some priority
-    → (bit_at mask slot ≡ 1) × (slice_index_or priorities slot None ≡ Some priority)
-asking_is priorities mask slot priority is = grind (arith, nat_tests, is)
-
-pub is_asking : (priorities : List (Option ℕ)) (mask slot priority : ℕ) → bit_at mask slot ≡ 1
-    → slice_index_or priorities slot None ≡ Some priority
-    → priority_asking priorities mask slot ≡ Some priority
-is_asking priorities mask slot priority asks is = rw (asks, is) refl
+pub choice_right : (s : Seen) (choice : Option ℕ) → IsSound kinds.Fp s → IsConfigured s
+    → choice ≡ choice_of s.book s.mask → IsRight s choice
+choice_right s choice sound configured is =
+    let right = right_of (config_of s) s.book s.mask (sound.configured configured) sound.width
+    (sound.made configured) sound.seated in
+    rw is (record { asks = right.0; serves = right.1 })

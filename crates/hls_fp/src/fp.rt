@@ -1,10 +1,15 @@
 // A box of fixed priority.
-ghost use Rattle.hls_fp.specs.Choice.{choice_of};
-ghost use Rattle.hls_fp.specs.Sound.{fp_seen, IsSound, keeps_discipline, keeps_promise};
+ghost use Rattle.std.specs.Prelude.{◌≡◌, ℕ, ◌<◌, IfSome};
+ghost use Rattle.hls_chron.specs.declared.plain.Kind.{Kind};
 ghost use Rattle.hls_sched.specs.Seen.{IsBlank};
+ghost use Rattle.hls_box.specs.Keys.{keys_in};
+ghost use Rattle.hls_box.specs.Sound.{IsSound};
+ghost use Rattle.hls_box.proofs.Props.{sound_prop};
+ghost use Rattle.hls_box.proofs.Choosing.{lawful};
+ghost use Rattle.hls_fp.specs.Choice.{priority_asking, priority_if, choice_of};
 
-use crate::slots::{Priorities, SEATS, best_slot, bit, find_priority, first_free, row};
-use hls_chron::{Book, Config, Event, Kind, Terms};
+use hls_box::{BoxState, has_slot, least_slot};
+use hls_chron::{Book, Config, Kind, Terms};
 use hls_sched::{Scheduler, SeatFault};
 use std::alloc::{AllocError, Global};
 
@@ -12,13 +17,18 @@ use std::alloc::{AllocError, Global};
 /// priority number is served.
 #[derive(Drop)]
 pub struct Fp {
-    alloc: Global,
-    configured: bool,
-    book: Book,
-    mask: u32,
-    grant: Option<u8>,
-    priorities: Priorities,
-    ghost sound: { IsSound book mask priorities },
+    state: BoxState,
+    ghost sound: { IsSound Kind.Fp state } by { sound_prop Kind.Fp state },
+}
+
+/// The priority number of a seat, where it asks.
+fn priority_where(asks: bool, terms: Option<Terms>) -> Option<u128>
+    ensures { result ≡ priority_if asks terms }
+{
+    match terms {
+        Some(Terms::Prio(priority)) if asks => Some(u128::from(priority)),
+        _ => None,
+    }
 }
 
 impl Fp {
@@ -27,118 +37,104 @@ impl Fp {
         ensures { IsBlank Kind.Fp (⟦<Fp as Scheduler>⟧.seen result) }
     {
         Fp {
-            alloc,
-            configured: false,
-            book: Book::new(alloc, 0),
-            mask: 0,
-            grant: None,
-            priorities: [None; 32],
+            state: BoxState::blank(alloc, Kind::Fp),
         }
+    }
+
+    /// The priority number of each slot that asks.
+    fn priorities(&self) -> [Option<u128>; 32]
+        ensures { (slot : ℕ) → slot < 32
+            → keys_in result slot ≡ priority_asking self.now.state.book self.now.state.mask slot }
+    {
+        let mask = self.state.mask();
+        let mut priorities = [None; 32];
+        for slot in 0..32 {
+            priorities[slot as usize] = priority_where(has_slot(mask, slot), self.state.seat_at(slot));
+        }
+        priorities
+    }
+
+    /// The asking slot of least priority number.
+    fn best(&self) -> Option<u32>
+        ensures value { result ≡ choice_of self.now.state.book self.now.state.mask }
+        ensures within { IfSome result (λ slot. slot < 32) }
+    {
+        least_slot(&self.priorities())
     }
 }
 
 impl Scheduler for Fp {
-    ghost seen = { λ s. fp_seen s.configured s.book s.mask s.grant };
+    ghost seen = { λ s. s.state };
 
-    ghost choice = { λ s. choice_of s.priorities s.mask };
+    ghost choice = { λ s. choice_of s.state.book s.state.mask };
 
-    ghost keeps = { λ s configured.
-        keeps_discipline s.configured s.book s.mask s.grant s.sound.discipline configured };
-
-    ghost promises = { λ s configured. keeps_promise s.configured s.book s.mask s.grant s.sound.admission
-        s.sound.discipline configured };
+    ghost lawful = { λ s configured. lawful Kind.Fp s.state s.sound configured };
 
     fn kind(&self) -> Kind {
-        Kind::Fp
+        self.state.kind()
     }
 
     fn book(&self) -> &Book {
-        &self.book
+        self.state.book()
     }
 
     fn setup(
         &mut self,
-        _config: &Config,
+        config: &Config,
         now: u32,
         horizon: u32,
         commands: u32,
     ) -> Result<(), AllocError> {
-        let mut book = Book::new(self.alloc, now);
-        book.reserve(horizon - now, 2 * commands)?;
-        self.book = book;
-        self.configured = true;
-        self.mask = 0;
-        self.grant = None;
-        self.priorities = [None; 32];
-        Ok(())
+        self.state.setup(config, now, horizon, commands)
     }
 
     fn fits(&self, terms: &Terms) -> Option<SeatFault> {
-        let Terms::Prio(priority) = *terms else {
-            return Some(SeatFault::Unfit);
-        };
-        if find_priority(&self.priorities, priority).is_some() {
-            return Some(SeatFault::PriorityTaken { priority });
-        }
-        if first_free(&self.priorities).is_none() {
-            return Some(SeatFault::Full { seats: SEATS });
-        }
-        None
+        self.state.fits(terms, self.free_slot(), 0)
     }
 
     fn free_slot(&self) -> Option<u32> {
-        first_free(&self.priorities)
+        self.state.free_slot()
     }
 
     fn seat(&mut self, slot: u32, terms: &Terms) {
-        let Terms::Prio(priority) = *terms else {
-            unreachable!()
-        };
-        self.book.push_mark(Event::Seat {
-            slot: slot as u8,
-            terms: *terms,
-        });
-        self.priorities[slot as usize] = Some(priority);
+        self.state.seat(slot, terms);
     }
 
     fn leave(&mut self, slot: u32) {
-        self.book.push_mark(Event::Leave { slot: slot as u8 });
-        self.priorities[slot as usize] = None;
-        self.mask &= !bit(slot);
+        self.state.leave(slot);
     }
 
     fn request(&mut self, slot: u32) {
-        self.mask |= bit(slot);
+        self.state.request(slot);
     }
 
     fn release(&mut self, slot: u32) {
-        self.mask &= !bit(slot);
+        self.state.release(slot);
     }
 
     fn asks(&self) -> bool {
-        self.mask != 0
+        self.best().is_some()
     }
 
     fn grant(&mut self, port: u8) {
-        self.grant = Some(port);
+        self.state.grant(port);
     }
 
     fn revoke(&mut self) {
-        self.grant = None;
+        self.state.revoke();
     }
 
     fn choice(&self) -> Option<u32> {
-        let mask = self.mask;
-        best_slot(&self.priorities, mask)
+        self.best()
     }
 
     fn turn(&mut self) {
-        let choice = best_slot(&self.priorities, self.mask);
-        self.book.push_tick(row(self.mask, self.grant, choice));
+        let choice = self.best();
+        self.state.turn(choice);
     }
 
     fn settle(&mut self) {
-        self.book.push_mark(Event::Settle);
+        self.state.settle();
     }
 
     fn parts_used(&self) -> u128 {

@@ -11,7 +11,8 @@ use Rattle.hls_chron.specs.Kinds.{kind_of}
 use Rattle.hls_chron.specs.Ledger.{Ledger}
 use Rattle.hls_chron.specs.Seats.{SlotAsks, terms_at}
 use Rattle.hls_kinds.specs.Asks.{asks, slot_asks, some_slot_asks}
-use Rattle.hls_promise.specs.Admission.{KeepsAdmission}
+use Rattle.hls_kinds.specs.Made.{IsMade}
+use Rattle.hls_made.proofs.Books.{admission_made}
 use Rattle.hls_sched.specs.Seen.{Seen, IsConfigured, config_of}
 use Rattle.hls_sched.proofs.Masks.{some_slot, some_if_asks}
 use Rattle.hls_box.specs.Sound.{IsSound}
@@ -20,15 +21,15 @@ use Rattle.hls_kinds.specs.Discipline.{Serves, IsSole}
 use Rattle.hls_join.specs.Sole.{choice_of}
 
 -- only the sole slot asks
-sole_asks : (ports : ℕ) (b : Ledger) (mask : ℕ) → mask < 2 ^ 32 → KeepsAdmission (Join ports) b
+sole_asks : (ports : ℕ) (b : Ledger) (mask : ℕ) → mask < 2 ^ 32 → IsMade (Join ports) b
     → ((slot : ℕ) → SlotAsks mask slot → terms_at b slot ≢ None) → some_slot_asks mask ≡ true
     → SlotAsks mask 0
-sole_asks ports b mask width kept seated some =
+sole_asks ports b mask width made seated some =
     let found = some_slot mask width some in
     elim (terms_at b found.slot) as (λ terms. terms_at b found.slot ≡ terms → SlotAsks mask 0) [
       | None ↦ λ none. absurd (seated found.slot found.asks none)
       | Some terms ↦ λ is.
-          let lt : found.slot < 1 = kept.seats.within found.slot terms is in
+          let lt : found.slot < 1 = (admission_made (Join ports) b made).seats.within found.slot terms is in
           let zero : found.slot ≡ 0 = omega (arith, lt) in
           subst (λ slot. SlotAsks mask slot) zero found.asks
     ] refl
@@ -54,24 +55,20 @@ chosen_by ports b mask false is shown = (
 )
 
 right_of : (config : Config) (b : Ledger) (mask : ℕ) → kind_of config ≡ kinds.Join → mask < 2 ^ 32
-    → KeepsAdmission config b → ((slot : ℕ) → SlotAsks mask slot → terms_at b slot ≢ None)
+    → IsMade config b → ((slot : ℕ) → SlotAsks mask slot → terms_at b slot ≢ None)
     → (is_some (choice_of mask) ≡ asks config b mask) × IfSome (choice_of mask) (Serves config b mask)
-right_of (Join ports) b mask is width kept seated =
-    chosen_by ports b mask (slot_asks mask 0) refl (sole_asks ports b mask width kept seated)
-right_of Cpu b mask is width kept seated = absurd cc
-right_of Fp b mask is width kept seated = absurd cc
-right_of Edf b mask is width kept seated = absurd cc
-right_of (Sfq total most) b mask is width kept seated = absurd cc
-right_of (Rr quantum) b mask is width kept seated = absurd cc
-right_of (Wheel frame) b mask is width kept seated = absurd cc
+right_of (Join ports) b mask is width made seated =
+    chosen_by ports b mask (slot_asks mask 0) refl (sole_asks ports b mask width made seated)
+right_of Cpu b mask is width made seated = absurd cc
+right_of Fp b mask is width made seated = absurd cc
+right_of Edf b mask is width made seated = absurd cc
+right_of (Sfq total most) b mask is width made seated = absurd cc
+right_of (Rr quantum) b mask is width made seated = absurd cc
+right_of (Wheel frame) b mask is width made seated = absurd cc
 
 pub choice_right : (s : Seen) (choice : Option ℕ) → IsSound kinds.Join s → IsConfigured s
     → choice ≡ choice_of s.mask → IsRight s choice
 choice_right s choice sound configured is =
-    let right = right_of (config_of s) s.book s.mask (sound.configured configured) sound.width sound.admission
-    sound.seated in
+    let right = right_of (config_of s) s.book s.mask (sound.configured configured) sound.width
+    (sound.made configured) sound.seated in
     rw is (record { asks = right.0; serves = right.1 })
-
-pub unshared : (s : Seen) → IsSound kinds.Join s → IsConfigured s → kind_of (config_of s) ≢ kinds.Sfq
-unshared s sound configured = λ shared.
-    let no : kinds.Join ≡ kinds.Sfq = sym (sound.configured configured) ∙ shared in cc

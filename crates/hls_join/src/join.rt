@@ -4,11 +4,11 @@ ghost use Rattle.hls_chron.specs.declared.plain.Kind.{Kind};
 ghost use Rattle.hls_sched.specs.Seen.{IsBlank};
 ghost use Rattle.hls_box.specs.Sound.{IsSound};
 ghost use Rattle.hls_box.proofs.Props.{sound_prop};
-ghost use Rattle.hls_box.proofs.Promises.{join_promises};
+ghost use Rattle.hls_box.proofs.Choosing.{lawful};
 ghost use Rattle.hls_join.specs.Sole.{choice_of};
 
+use hls_box::{BoxState, has_slot};
 use hls_chron::{Book, Config, Kind, Terms};
-use hls_box::{Keeper, has_slot};
 use hls_sched::{Scheduler, SeatFault};
 use std::alloc::{AllocError, Global};
 
@@ -16,8 +16,8 @@ use std::alloc::{AllocError, Global};
 /// granted.
 #[derive(Drop)]
 pub struct Join {
-    keeper: Keeper,
-    ghost sound: { IsSound Kind.Join keeper } by { sound_prop Kind.Join keeper },
+    state: BoxState,
+    ghost sound: { IsSound Kind.Join state } by { sound_prop Kind.Join state },
 }
 
 impl Join {
@@ -26,15 +26,15 @@ impl Join {
         ensures { IsBlank Kind.Join (⟦<Join as Scheduler>⟧.seen result) }
     {
         Join {
-            keeper: Keeper::blank(alloc, Kind::Join),
+            state: BoxState::blank(alloc, Kind::Join),
         }
     }
 
     /// The sole slot, where it asks.
     fn sole(&self) -> Option<u32>
-        ensures { result ≡ choice_of self.now.keeper.mask }
+        ensures { result ≡ choice_of self.now.state.mask }
     {
-        if has_slot(self.keeper.mask(), 0) {
+        if has_slot(self.state.mask(), 0) {
             Some(0)
         } else {
             None
@@ -43,20 +43,18 @@ impl Join {
 }
 
 impl Scheduler for Join {
-    ghost seen = { λ s. s.keeper };
+    ghost seen = { λ s. s.state };
 
-    ghost choice = { λ s. choice_of s.keeper.mask };
+    ghost choice = { λ s. choice_of s.state.mask };
 
-    ghost keeps = { λ s configured. s.sound.discipline };
-
-    ghost promises = { λ s configured. join_promises s.keeper s.sound configured };
+    ghost lawful = { λ s configured. lawful Kind.Join s.state s.sound configured };
 
     fn kind(&self) -> Kind {
-        self.keeper.kind()
+        self.state.kind()
     }
 
     fn book(&self) -> &Book {
-        self.keeper.book()
+        self.state.book()
     }
 
     fn setup(
@@ -66,31 +64,31 @@ impl Scheduler for Join {
         horizon: u32,
         commands: u32,
     ) -> Result<(), AllocError> {
-        self.keeper.setup(config, now, horizon, commands)
+        self.state.setup(config, now, horizon, commands)
     }
 
     fn fits(&self, terms: &Terms) -> Option<SeatFault> {
-        self.keeper.fits(terms, self.keeper.room_used())
+        self.state.fits(terms, self.free_slot(), 0)
     }
 
     fn free_slot(&self) -> Option<u32> {
-        self.keeper.free_slot()
+        self.state.free_slot()
     }
 
     fn seat(&mut self, slot: u32, terms: &Terms) {
-        self.keeper.seat(slot, terms);
+        self.state.seat(slot, terms);
     }
 
     fn leave(&mut self, slot: u32) {
-        self.keeper.leave(slot);
+        self.state.leave(slot);
     }
 
     fn request(&mut self, slot: u32) {
-        self.keeper.request(slot);
+        self.state.request(slot);
     }
 
     fn release(&mut self, slot: u32) {
-        self.keeper.release(slot);
+        self.state.release(slot);
     }
 
     fn asks(&self) -> bool {
@@ -98,11 +96,11 @@ impl Scheduler for Join {
     }
 
     fn grant(&mut self, port: u8) {
-        self.keeper.grant(port);
+        self.state.grant(port);
     }
 
     fn revoke(&mut self) {
-        self.keeper.revoke();
+        self.state.revoke();
     }
 
     fn choice(&self) -> Option<u32> {
@@ -111,14 +109,14 @@ impl Scheduler for Join {
 
     fn turn(&mut self) {
         let choice = self.sole();
-        self.keeper.turn(choice);
+        self.state.turn(choice);
     }
 
     fn settle(&mut self) {
-        self.keeper.settle();
+        self.state.settle();
     }
 
     fn parts_used(&self) -> u128 {
-        self.keeper.room_used()
+        0
     }
 }

@@ -3,10 +3,15 @@
 #![tactic(auto)]
 
 use hls_chron::Kind;
+use hls_edf::Edf;
 use hls_fp::Fp;
 use hls_io::{Status, StdSink, StdSource};
+use hls_join::Join;
+use hls_rr::Rr;
 use hls_sched::Kit;
+use hls_sfq::Sfq;
 use hls_top::hls_run;
+use hls_wheel::Wheel;
 use std::env;
 use std::process::ExitCode;
 
@@ -19,6 +24,18 @@ const NO_WORDS: u8 = 8;
 /// The exit status where there is no memory to begin with.
 fn out_of_memory() -> ExitCode {
     ExitCode::from(Status::Memory.code())
+}
+
+/// Puts one more blank box into the kit. The program ends where there is no memory for it.
+macro_rules! put_blank {
+    ($kit:ident, $alloc:ident, $kind:expr, $blank:expr) => {
+        let Ok(blank) = Box::new($alloc, $blank) else {
+            return out_of_memory();
+        };
+        if $kit.put($kind, blank).is_err() {
+            return out_of_memory();
+        }
+    };
 }
 
 fn main(rt: HostRuntime) -> ExitCode {
@@ -39,12 +56,12 @@ fn main(rt: HostRuntime) -> ExitCode {
         used: [0; 6],
     };
     while kit.fp.len() < BOXES {
-        let Ok(blank) = Box::new(alloc, Fp::blank(alloc)) else {
-            return out_of_memory();
-        };
-        if kit.put(Kind::Fp, blank).is_err() {
-            return out_of_memory();
-        }
+        put_blank!(kit, alloc, Kind::Fp, Fp::blank(alloc));
+        put_blank!(kit, alloc, Kind::Edf, Edf::blank(alloc));
+        put_blank!(kit, alloc, Kind::Sfq, Sfq::blank(alloc));
+        put_blank!(kit, alloc, Kind::Rr, Rr::blank(alloc));
+        put_blank!(kit, alloc, Kind::Wheel, Wheel::blank(alloc));
+        put_blank!(kit, alloc, Kind::Join, Join::blank(alloc));
     }
     let mut source = StdSource::new(rt.stdin());
     let mut sink = StdSink::new(rt.stdout());

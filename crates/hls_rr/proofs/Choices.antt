@@ -1,5 +1,5 @@
 -- The choice of round robin is the slot to serve, and there is one exactly where some slot asks.
-use Rattle.std.proofs.Common.{◌≡◌, ◌≢◌, ℕ, ◌<◌, ◌^◌, Some, None, Bool, true, false, refl, sym, ◌∙◌}
+use Rattle.std.proofs.Common.{◌≡◌, ℕ, ◌<◌, ◌^◌, Some, None, Bool, true, false, refl, sym, ◌∙◌}
 use Rattle.std.specs.Prelude.{Option, is_some, IfSome, if◌then◌else◌}
 use Rattle.std.specs.Int.{bit_at}
 use Rattle.std.proofs.lemmas.Bool.{eqb-true, eq-eqb}
@@ -9,16 +9,21 @@ use Rattle.hls_chron.specs.declared.plain.Config.TheVariants.{Cpu, Fp, Edf, Sfq,
 use Rattle.hls_chron.specs.Kinds.{kind_of}
 use Rattle.hls_chron.specs.Ledger.{Ledger}
 use Rattle.hls_kinds.specs.Asks.{asks, slot_asks, some_slot_asks}
-use Rattle.hls_kinds.specs.Discipline.{Serves, TakesTurn, KeepsDiscipline}
+use Rattle.hls_kinds.specs.Discipline.{Serves, TakesTurn}
+use Rattle.hls_kinds.specs.Made.{IsMade}
 use Rattle.hls_kinds.specs.Turns.{turn_slot, turn_goes_on}
-use Rattle.hls_promise.specs.Admission.{KeepsAdmission}
+use Rattle.hls_made.proofs.Books.{admission_made, discipline_made}
 use Rattle.hls_sched.specs.Seen.{Seen, IsConfigured, config_of}
 use Rattle.hls_sched.proofs.Masks.{some_slot, some_if_asks}
 use Rattle.hls_box.specs.Sound.{IsSound}
-use Rattle.hls_box.proofs.Choosing.{IsRight}
+use Rattle.hls_box.proofs.Choosing.{IsRight, right_asks}
 use Rattle.hls_rr.specs.Turns.{quantum_of, next_of, choice_of}
 use Rattle.hls_rr.proofs.Nexts.{next_first, next_none}
 use Rattle.hls_rr.proofs.Bounds.{turn_within, goes_on_asks}
+
+turn_made : (quantum : ℕ) (b : Ledger) → IsMade (Rr quantum) b → turn_slot b < 32
+turn_made quantum b made =
+    turn_within quantum b (admission_made (Rr quantum) b made) (discipline_made (Rr quantum) b made)
 
 silent_if_none : (mask turn : ℕ) → mask < 2 ^ 32 → turn < 32 → next_of mask turn 32 ≡ None → (some : Bool)
     → some_slot_asks mask ≡ some → some ≡ false
@@ -60,57 +65,41 @@ turn_right quantum b mask true width lt is = (
 turn_right quantum b mask false width lt is =
     next_right quantum b mask (next_of mask (turn_slot b) 32) width lt is refl
 
-right_of : (config : Config) (b : Ledger) (mask : ℕ) → kind_of config ≡ kinds.Rr → mask < 2 ^ 32
-    → KeepsAdmission config b → KeepsDiscipline config b
+right_of : (config : Config) (b : Ledger) (mask : ℕ) → kind_of config ≡ kinds.Rr → mask < 2 ^ 32 → IsMade config b
     → (is_some (choice_of config b mask) ≡ asks config b mask) × IfSome (choice_of config b mask)
     (Serves config b mask)
-right_of (Rr quantum) b mask is width kept discipline =
-    turn_right quantum b mask (turn_goes_on quantum b mask) width (turn_within quantum b kept discipline) refl
-right_of Cpu b mask is width kept discipline = absurd cc
-right_of Fp b mask is width kept discipline = absurd cc
-right_of Edf b mask is width kept discipline = absurd cc
-right_of (Sfq total most) b mask is width kept discipline = absurd cc
-right_of (Wheel frame) b mask is width kept discipline = absurd cc
-right_of (Join ports) b mask is width kept discipline = absurd cc
+right_of (Rr quantum) b mask is width made =
+    turn_right quantum b mask (turn_goes_on quantum b mask) width (turn_made quantum b made) refl
+right_of Cpu b mask is width made = absurd cc
+right_of Fp b mask is width made = absurd cc
+right_of Edf b mask is width made = absurd cc
+right_of (Sfq total most) b mask is width made = absurd cc
+right_of (Wheel frame) b mask is width made = absurd cc
+right_of (Join ports) b mask is width made = absurd cc
 
 pub choice_right : (s : Seen) (choice : Option ℕ) → IsSound kinds.Rr s → IsConfigured s
     → choice ≡ choice_of (config_of s) s.book s.mask → IsRight s choice
 choice_right s choice sound configured is =
-    let right = right_of (config_of s) s.book s.mask (sound.configured configured) sound.width sound.admission
-    sound.discipline in
+    let right = right_of (config_of s) s.book s.mask (sound.configured configured) sound.width
+    (sound.made configured) in
     rw is (record { asks = right.0; serves = right.1 })
 
-pub unshared : (s : Seen) → IsSound kinds.Rr s → IsConfigured s → kind_of (config_of s) ≢ kinds.Sfq
-unshared s sound configured = λ shared.
-    let no : kinds.Rr ≡ kinds.Sfq = sym (sound.configured configured) ∙ shared in cc
-
-slot_of : (config : Config) (b : Ledger) → kind_of config ≡ kinds.Rr → KeepsAdmission config b
-    → KeepsDiscipline config b → turn_slot b < 32
-slot_of (Rr quantum) b is kept discipline = turn_within quantum b kept discipline
-slot_of Cpu b is kept discipline = absurd cc
-slot_of Fp b is kept discipline = absurd cc
-slot_of Edf b is kept discipline = absurd cc
-slot_of (Sfq total most) b is kept discipline = absurd cc
-slot_of (Wheel frame) b is kept discipline = absurd cc
-slot_of (Join ports) b is kept discipline = absurd cc
+slot_of : (config : Config) (b : Ledger) → kind_of config ≡ kinds.Rr → IsMade config b → turn_slot b < 32
+slot_of (Rr quantum) b is made = turn_made quantum b made
+slot_of Cpu b is made = absurd cc
+slot_of Fp b is made = absurd cc
+slot_of Edf b is made = absurd cc
+slot_of (Sfq total most) b is made = absurd cc
+slot_of (Wheel frame) b is made = absurd cc
+slot_of (Join ports) b is made = absurd cc
 
 pub turn_slot_within : (s : Seen) → IsSound kinds.Rr s → IsConfigured s → turn_slot s.book < 32
 turn_slot_within s sound configured =
-    slot_of (config_of s) s.book (sound.configured configured) sound.admission sound.discipline
-
-asks_by : (quantum : ℕ) (b : Ledger) (mask slot : ℕ) (on : Bool) → turn_slot b < 32
-    → turn_goes_on quantum b mask ≡ on
-    → choice_by on (turn_slot b) (next_of mask (turn_slot b) 32) ≡ Some slot
-    → slot_asks mask slot ≡ true
-asks_by quantum b mask slot true lt on is =
-    let here : turn_slot b ≡ slot = cc in
-    rw (← here) (eq-eqb (bit_at mask (turn_slot b)) 1 (goes_on_asks quantum b mask on))
-asks_by quantum b mask slot false lt off is = (next_first mask (turn_slot b) slot lt is).chosen
+    slot_of (config_of s) s.book (sound.configured configured) (sound.made configured)
 
 -- the choice asks
 pub choice_asks : (s : Seen) (slot : ℕ) → IsSound kinds.Rr s → IsConfigured s
     → choice_of (config_of s) s.book s.mask ≡ Some slot → slot_asks s.mask slot ≡ true
 choice_asks s slot sound configured is =
-    asks_by (quantum_of (config_of s)) s.book s.mask slot
-    (turn_goes_on (quantum_of (config_of s)) s.book s.mask)
-    (turn_slot_within s sound configured) refl is
+    let choice = choice_of (config_of s) s.book s.mask in
+    eq-eqb (bit_at s.mask slot) 1 (right_asks s choice slot (choice_right s choice sound configured refl) is)

@@ -5,12 +5,12 @@ ghost use Rattle.hls_kinds.specs.Turns.{turn_goes_on};
 ghost use Rattle.hls_sched.specs.Seen.{IsBlank, IsConfigured, config_of};
 ghost use Rattle.hls_box.specs.Sound.{IsSound};
 ghost use Rattle.hls_box.proofs.Props.{sound_prop};
-ghost use Rattle.hls_box.proofs.Promises.{turns_promise};
+ghost use Rattle.hls_box.proofs.Choosing.{lawful};
 ghost use Rattle.hls_rr.specs.Turns.{quantum_of, choice_of, KeepsTurn};
 
 use crate::turns::{NO_TURN, Turn, next_asking, turn_after, turn_left};
 use hls_chron::{Book, Config, Kind, Terms};
-use hls_box::{Keeper, has_slot};
+use hls_box::{BoxState, has_slot};
 use hls_sched::{Scheduler, SeatFault};
 use std::alloc::{AllocError, Global};
 
@@ -18,10 +18,10 @@ use std::alloc::{AllocError, Global};
 /// their slots. A seat that ceases to ask ends its turn.
 #[derive(Drop)]
 pub struct Rr {
-    keeper: Keeper,
+    state: BoxState,
     turn: Turn,
-    ghost sound: { IsSound Kind.Rr keeper } by { sound_prop Kind.Rr keeper },
-    ghost kept: { KeepsTurn (quantum_of (config_of keeper)) keeper.book turn },
+    ghost sound: { IsSound Kind.Rr state } by { sound_prop Kind.Rr state },
+    ghost kept: { KeepsTurn (quantum_of (config_of state)) state.book turn },
 }
 
 impl Rr {
@@ -30,18 +30,18 @@ impl Rr {
         ensures { IsBlank Kind.Rr (⟦<Rr as Scheduler>⟧.seen result) }
     {
         Rr {
-            keeper: Keeper::blank(alloc, Kind::Rr),
+            state: BoxState::blank(alloc, Kind::Rr),
             turn: NO_TURN,
         }
     }
 
     /// The ticks of a turn.
     fn quantum(&self) -> u32
-        requires { IsConfigured self.now.keeper }
-        ensures value { result ≡ quantum_of (config_of self.now.keeper) }
+        requires { IsConfigured self.now.state }
+        ensures value { result ≡ quantum_of (config_of self.now.state) }
         ensures some { 0 < result }
     {
-        match self.keeper.config() {
+        match self.state.config() {
             Config::Rr { quantum } => quantum,
             _ => 1,
         }
@@ -49,19 +49,19 @@ impl Rr {
 
     /// Whether the turn goes on, where these slots ask.
     fn goes_on(&self, mask: u32) -> bool
-        ensures { result ≡ turn_goes_on (quantum_of (config_of self.now.keeper)) self.now.keeper.book mask }
+        ensures { result ≡ turn_goes_on (quantum_of (config_of self.now.state)) self.now.state.book mask }
     {
         has_slot(mask, self.turn.slot) && self.turn.ticks != 0
     }
 
     /// The slot of the turn where it goes on, else the next that asks.
     fn next(&self) -> Option<u32>
-        requires { IsConfigured self.now.keeper }
+        requires { IsConfigured self.now.state }
         ensures value { result
-            ≡ choice_of (config_of self.now.keeper) self.now.keeper.book self.now.keeper.mask }
+            ≡ choice_of (config_of self.now.state) self.now.state.book self.now.state.mask }
         ensures within { IfSome result (λ slot. slot < 32) }
     {
-        let mask = self.keeper.mask();
+        let mask = self.state.mask();
         if self.goes_on(mask) {
             Some(self.turn.slot)
         } else {
@@ -71,20 +71,18 @@ impl Rr {
 }
 
 impl Scheduler for Rr {
-    ghost seen = { λ s. s.keeper };
+    ghost seen = { λ s. s.state };
 
-    ghost choice = { λ s. choice_of (config_of s.keeper) s.keeper.book s.keeper.mask };
+    ghost choice = { λ s. choice_of (config_of s.state) s.state.book s.state.mask };
 
-    ghost keeps = { λ s configured. s.sound.discipline };
-
-    ghost promises = { λ s configured. turns_promise s.keeper s.sound configured };
+    ghost lawful = { λ s configured. lawful Kind.Rr s.state s.sound configured };
 
     fn kind(&self) -> Kind {
-        self.keeper.kind()
+        self.state.kind()
     }
 
     fn book(&self) -> &Book {
-        self.keeper.book()
+        self.state.book()
     }
 
     fn setup(
@@ -94,34 +92,34 @@ impl Scheduler for Rr {
         horizon: u32,
         commands: u32,
     ) -> Result<(), AllocError> {
-        self.keeper.setup(config, now, horizon, commands)?;
+        self.state.setup(config, now, horizon, commands)?;
         self.turn = NO_TURN;
         Ok(())
     }
 
     fn fits(&self, terms: &Terms) -> Option<SeatFault> {
-        self.keeper.fits(terms, self.keeper.room_used())
+        self.state.fits(terms, self.free_slot(), 0)
     }
 
     fn free_slot(&self) -> Option<u32> {
-        self.keeper.free_slot()
+        self.state.free_slot()
     }
 
     fn seat(&mut self, slot: u32, terms: &Terms) {
-        self.keeper.seat(slot, terms);
+        self.state.seat(slot, terms);
     }
 
     fn leave(&mut self, slot: u32) {
         self.turn = turn_left(self.turn, slot);
-        self.keeper.leave(slot);
+        self.state.leave(slot);
     }
 
     fn request(&mut self, slot: u32) {
-        self.keeper.request(slot);
+        self.state.request(slot);
     }
 
     fn release(&mut self, slot: u32) {
-        self.keeper.release(slot);
+        self.state.release(slot);
     }
 
     fn asks(&self) -> bool {
@@ -129,11 +127,11 @@ impl Scheduler for Rr {
     }
 
     fn grant(&mut self, port: u8) {
-        self.keeper.grant(port);
+        self.state.grant(port);
     }
 
     fn revoke(&mut self) {
-        self.keeper.revoke();
+        self.state.revoke();
     }
 
     fn choice(&self) -> Option<u32> {
@@ -142,17 +140,17 @@ impl Scheduler for Rr {
 
     fn turn(&mut self) {
         let choice = self.next();
-        let served = self.keeper.served(choice);
-        self.turn = turn_after(self.quantum(), self.keeper.mask(), self.turn, served);
-        self.keeper.turn(choice);
+        let served = self.state.served(choice);
+        self.turn = turn_after(self.quantum(), self.state.mask(), self.turn, served);
+        self.state.turn(choice);
     }
 
     fn settle(&mut self) {
         self.turn = NO_TURN;
-        self.keeper.settle();
+        self.state.settle();
     }
 
     fn parts_used(&self) -> u128 {
-        self.keeper.room_used()
+        0
     }
 }

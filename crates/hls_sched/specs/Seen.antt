@@ -10,7 +10,9 @@ use Rattle.hls_chron.specs.declared.plain.Config.{Config}
 use Rattle.hls_chron.specs.declared.plain.Config.TheVariants.{Cpu}
 use Rattle.hls_chron.specs.Kinds.{kind_of}
 use Rattle.hls_chron.specs.Ledger.{Ledger, with_row, with_mark}
+use Rattle.hls_chron.specs.Seats.{SlotAsks, terms_at}
 use Rattle.hls_kinds.specs.Asks.{asks}
+use Rattle.hls_kinds.specs.Made.{IsMade}
 
 -- the kind, the configuration if there is one yet, the book, the slots that ask, a bit each, and the port
 -- of the grant
@@ -46,6 +48,11 @@ pub record IsSetUp (config : Config) (now horizon commands : ℕ) (s : Seen) : T
   pub spare_marks : 2 * commands ≤ s.book.spare_marks
   pub silent : s.mask ≡ 0
   pub ungranted : s.grant ≡ None
+
+-- its book is made by what it allows, and only seats ask
+pub record IsLawful (s : Seen) : Type 0 where
+  pub made : IsMade (config_of s) s.book
+  pub seats : (slot : ℕ) → SlotAsks s.mask slot → terms_at s.book slot ≢ None
 
 abbrev pub seen_asks : Seen → Bool
 seen_asks s = asks (config_of s) s.book s.mask

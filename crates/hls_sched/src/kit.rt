@@ -140,8 +140,11 @@ impl Kit {
         }
     }
 
-    /// Puts a blank box behind the others of its kind, as whoever makes a kit does. The kit is
-    /// as before where memory is wanting, and the box is dropped.
+    /// Puts a blank box behind the others of its kind, as whoever makes a kit does.
+    ///
+    /// # Errors
+    /// Returns `AllocError` where there is no memory for a longer list; the kit is as before then, and
+    /// the box is dropped.
     pub fn put(&mut self, kind: Kind, blank: Box<dyn Scheduler>) -> Result<(), AllocError>
         requires good { IsGood seen self.old }
         requires boxed { kind ≢ Kind.Cpu }

@@ -1,13 +1,15 @@
 // The trait of a scheduler.
-ghost use Rattle.std.specs.Prelude.{◌≡◌, ◌≢◌, ℕ, ◌<◌, ◌≤◌, ◌↔◌, Option, None, true, false, is_some};
+ghost use Rattle.std.specs.Prelude.{◌≡◌, ◌≢◌, ℕ, ◌<◌, ◌≤◌, ◌↔◌, Option, Some, None, true, false, is_some};
 ghost use Rattle.std.specs.Prelude.{OnOk, OnErr, IsNone, IfSome};
 ghost use Rattle.hls_chron.specs.Kinds.{kind_of};
+ghost use Rattle.hls_chron.specs.Ledger.{now_of, row_at, before};
 ghost use Rattle.hls_chron.specs.Ranges.{ConfigInRange, TermsInRange};
 ghost use Rattle.hls_chron.specs.Seats.{terms_at, SlotAsks};
 ghost use Rattle.hls_kinds.specs.Discipline.{Serves, KeepsDiscipline};
+ghost use Rattle.hls_kinds.specs.Made.{IsMade};
 ghost use Rattle.hls_kinds.specs.Room.{room_used, IsFree, IsFull};
 ghost use Rattle.hls_promise.specs.Promise.{KeepsPromise};
-ghost use Rattle.hls_sched.specs.Seen.{Seen, config_of, IsConfigured, IsSetUp, seen_asks};
+ghost use Rattle.hls_sched.specs.Seen.{Seen, config_of, IsConfigured, IsSetUp, IsLawful, seen_asks};
 ghost use Rattle.hls_sched.specs.Seen.{requested, released, seated, left, settled, granted, revoked, turned};
 ghost use Rattle.hls_sched.specs.Fits.{IsAnswer};
 
@@ -37,7 +39,10 @@ pub trait Scheduler: Drop {
         ensures { result.now ≡ (seen self.now).book };
 
     /// Sets a blank box up at a tick, with room for the ticks up to the horizon and for two
-    /// marks a command. Nothing has changed where memory is wanting.
+    /// marks a command.
+    ///
+    /// # Errors
+    /// Returns `AllocError` where there is no memory for the room; nothing has changed then.
     fn setup(
         &mut self,
         config: &Config,
@@ -142,16 +147,22 @@ pub trait Scheduler: Drop {
         requires configured { IsConfigured (seen self.now) }
         ensures { result ≡ room_used (config_of (seen self.now)) (seen self.now).book };
 
-    /// Tells a caller that the book keeps the discipline and its promise, and does nothing.
+    /// Tells a caller what holds of the book, and that only seats ask and are served, and does
+    /// nothing.
     fn vouch(&self)
         requires configured { IsConfigured (seen self.now) }
+        ensures made { IsMade (config_of (seen self.now)) (seen self.now).book }
         ensures discipline { KeepsDiscipline (config_of (seen self.now)) (seen self.now).book }
         ensures promise { KeepsPromise (config_of (seen self.now)) (seen self.now).book }
+        ensures seats { (slot : ℕ) → SlotAsks (seen self.now).mask slot
+            → terms_at (seen self.now).book slot ≢ None }
+        ensures served { (t slot : ℕ) → t < now_of (seen self.now).book
+            → (row_at (seen self.now).book t).to ≡ Some slot → SlotAsks (row_at (seen self.now).book t).mask slot }
+        ensures asked { (t slot : ℕ) → t < now_of (seen self.now).book
+            → SlotAsks (row_at (seen self.now).book t).mask slot → terms_at (before t (seen self.now).book) slot ≢ None }
     {}
 
-    /// Whatever was called, the book keeps the discipline of the configuration.
-    ghost keeps: { (s : Self) → IsConfigured (seen s) → KeepsDiscipline (config_of (seen s)) (seen s).book };
-
-    /// And it keeps its promise: each seat gets what the scheduler lends it of what the scheduler is given.
-    ghost promises: { (s : Self) → IsConfigured (seen s) → KeepsPromise (config_of (seen s)) (seen s).book };
+    /// Whatever was called, the book is made by what it allows, and only seats ask. What it keeps and
+    /// promises follows from that.
+    ghost lawful: { (s : Self) → IsConfigured (seen s) → IsLawful (seen s) };
 }

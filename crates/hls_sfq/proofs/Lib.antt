@@ -1,4 +1,3 @@
+pub mod TagLaws
 pub mod Choices
-pub mod Tables
-pub mod Sounds
-pub mod Configured
+pub mod Calls

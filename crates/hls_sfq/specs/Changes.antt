@@ -1,7 +1,7 @@
 -- What a tick and a settling make of the virtual time and of the seats.
 use Rattle.std.specs.Prelude.{ℕ, ◌+◌, List, Option, Some, None, max, slice_index_or, slice_set}
 use Rattle.hls_kinds.specs.Tags.{tag_step}
-use Rattle.hls_sfq.specs.declared.slots.FairSeat.{FairSeat}
+use Rattle.hls_sfq.specs.declared.shares.FairSeat.{FairSeat}
 
 -- a step after its start tag, once it is served
 abbrev pub served_seat : (time : ℕ) → Option FairSeat → Option FairSeat

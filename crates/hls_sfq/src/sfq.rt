@@ -1,37 +1,29 @@
 // A box of fair queueing.
-ghost use Rattle.std.specs.Option.{ForSome};
-ghost use Rattle.hls_sfq.specs.Choice.{choice_of};
-ghost use Rattle.hls_sfq.specs.Sound.{sfq_seen, IsSound, keeps_discipline, keeps_promise};
-ghost use Rattle.hls_sfq.specs.Weights.{IsSmall};
+ghost use Rattle.std.specs.Prelude.{◌≡◌, ◌<◌, IfSome};
+ghost use Rattle.hls_chron.specs.declared.plain.Kind.{Kind};
 ghost use Rattle.hls_sched.specs.Seen.{IsBlank, IsConfigured};
+ghost use Rattle.hls_box.specs.Sound.{IsSound};
+ghost use Rattle.hls_box.proofs.Props.{sound_prop};
+ghost use Rattle.hls_box.proofs.Choosing.{lawful};
+ghost use Rattle.hls_sfq.specs.Choice.{choice_of};
+ghost use Rattle.hls_sfq.specs.Tags.{KeepsTags};
+ghost use Rattle.hls_sfq.specs.Weights.{IsSmall};
 
-use crate::slots::{
-    FairSeat, Seats, after_settle, after_tick, bit, first_free, first_slot, fresh, row, serve,
-    served, weight_used,
-};
-use hls_chron::{Book, Config, Event, Kind, Terms};
+use crate::shares::{Seats, after_settle, after_tick, fresh, serve, tags, weight_used};
+use hls_box::{BoxState, least_slot};
+use hls_chron::{Book, Config, Kind, Terms};
 use hls_sched::{Scheduler, SeatFault};
 use std::alloc::{AllocError, Global};
-
-/// The configuration: the weights of the seats sum to at most the total, and so many seats are there.
-#[derive(Clone, Copy, Debug, PartialEq, Eq)]
-pub struct Limits {
-    pub total: u32,
-    pub most: u32,
-}
 
 /// A scheduler of fair queueing (after Goyal, Guo and Vin 1996): of the seats that ask, the one
 /// of least start tag is served.
 #[derive(Drop)]
 pub struct Sfq {
-    alloc: Global,
-    limits: Option<Limits>,
-    book: Book,
-    mask: u32,
-    grant: Option<u8>,
+    state: BoxState,
     time: u128,
     seats: Seats,
-    ghost sound: { ForSome limits (IsSound book mask time seats) },
+    ghost sound: { IsSound Kind.Sfq state } by { sound_prop Kind.Sfq state },
+    ghost held: { KeepsTags state.book time seats },
 }
 
 impl Sfq {
@@ -40,42 +32,42 @@ impl Sfq {
         ensures { IsBlank Kind.Sfq (⟦<Sfq as Scheduler>⟧.seen result) }
     {
         Sfq {
-            alloc,
-            limits: None,
-            book: Book::new(alloc, 0),
-            mask: 0,
-            grant: None,
+            state: BoxState::blank(alloc, Kind::Sfq),
             time: 0,
             seats: [None; 32],
         }
     }
 
+    /// The asking slot of least start tag.
+    fn first(&self) -> Option<u32>
+        ensures value { result ≡ choice_of self.now.time self.now.seats self.now.state.mask }
+        ensures within { IfSome result (λ slot. slot < 32) }
+    {
+        least_slot(&tags(self.time, &self.seats, self.state.mask()))
+    }
+
     /// Tells that tags are far below what their numbers can hold, and does nothing.
     fn bound_tags(&self)
-        requires { IsConfigured (sfq_seen self.now.limits self.now.book self.now.mask self.now.grant) }
+        requires { IsConfigured self.now.state }
         ensures { IsSmall self.now.time self.now.seats }
     {
-        let _ = self.book.now();
+        let _ = self.state.book().now();
     }
 }
 
 impl Scheduler for Sfq {
-    ghost seen = { λ s. sfq_seen s.limits s.book s.mask s.grant };
+    ghost seen = { λ s. s.state };
 
-    ghost choice = { λ s. choice_of s.time s.seats s.mask };
+    ghost choice = { λ s. choice_of s.time s.seats s.state.mask };
 
-    ghost keeps = { λ s configured.
-        keeps_discipline s.limits s.book s.mask s.grant s.time s.seats s.sound configured };
-
-    ghost promises = { λ s configured.
-        keeps_promise s.limits s.book s.mask s.grant s.time s.seats s.sound configured };
+    ghost lawful = { λ s configured. lawful Kind.Sfq s.state s.sound configured };
 
     fn kind(&self) -> Kind {
-        Kind::Sfq
+        self.state.kind()
     }
 
     fn book(&self) -> &Book {
-        &self.book
+        self.state.book()
     }
 
     fn setup(
@@ -85,41 +77,18 @@ impl Scheduler for Sfq {
         horizon: u32,
         commands: u32,
     ) -> Result<(), AllocError> {
-        let Config::Sfq { total, most } = *config else {
-            unreachable!()
-        };
-        let mut book = Book::new(self.alloc, now);
-        book.reserve(horizon - now, 2 * commands)?;
-        self.book = book;
-        self.limits = Some(Limits { total, most });
-        self.mask = 0;
-        self.grant = None;
+        self.state.setup(config, now, horizon, commands)?;
         self.time = 0;
         self.seats = [None; 32];
         Ok(())
     }
 
     fn fits(&self, terms: &Terms) -> Option<SeatFault> {
-        let Limits { total, most } = self.limits.unwrap();
-        let Terms::Weight(weight) = *terms else {
-            return Some(SeatFault::Unfit);
-        };
-        if weight > total {
-            return Some(SeatFault::Unfit);
-        }
-        if first_free(&self.seats, most).is_none() {
-            return Some(SeatFault::Full { seats: most });
-        }
-        let free = u128::from(total).saturating_sub(weight_used(&self.seats));
-        let asked = u128::from(weight);
-        if free < asked {
-            return Some(SeatFault::NoRoom { free, asked });
-        }
-        None
+        self.state.fits(terms, self.free_slot(), self.parts_used())
     }
 
     fn free_slot(&self) -> Option<u32> {
-        first_free(&self.seats, self.limits.unwrap().most)
+        self.state.free_slot()
     }
 
     fn seat(&mut self, slot: u32, terms: &Terms) {
@@ -127,57 +96,52 @@ impl Scheduler for Sfq {
             unreachable!()
         };
         self.bound_tags();
-        self.book.push_mark(Event::Seat {
-            slot: slot as u8,
-            terms: *terms,
-        });
+        self.state.seat(slot, terms);
         self.seats[slot as usize] = Some(fresh(self.time, weight));
     }
 
     fn leave(&mut self, slot: u32) {
-        self.book.push_mark(Event::Leave { slot: slot as u8 });
+        self.state.leave(slot);
         self.seats[slot as usize] = None;
-        self.mask &= !bit(slot);
     }
 
     fn request(&mut self, slot: u32) {
-        self.mask |= bit(slot);
+        self.state.request(slot);
     }
 
     fn release(&mut self, slot: u32) {
-        self.mask &= !bit(slot);
+        self.state.release(slot);
     }
 
     fn asks(&self) -> bool {
-        self.mask != 0
+        self.first().is_some()
     }
 
     fn grant(&mut self, port: u8) {
-        self.grant = Some(port);
+        self.state.grant(port);
     }
 
     fn revoke(&mut self) {
-        self.grant = None;
+        self.state.revoke();
     }
 
     fn choice(&self) -> Option<u32> {
-        let mask = self.mask;
-        first_slot(self.time, &self.seats, mask)
+        self.first()
     }
 
     fn turn(&mut self) {
         self.bound_tags();
-        let choice = first_slot(self.time, &self.seats, self.mask);
-        let slot = served(self.grant, choice);
+        let choice = self.first();
+        let slot = self.state.served(choice);
         let time = after_tick(self.time, &self.seats, slot);
         serve(self.time, &mut self.seats, slot);
         self.time = time;
-        self.book.push_tick(row(self.mask, self.grant, choice));
+        self.state.turn(choice);
     }
 
     fn settle(&mut self) {
         self.bound_tags();
-        self.book.push_mark(Event::Settle);
+        self.state.settle();
         self.seats = after_settle(self.time, self.seats);
     }
 

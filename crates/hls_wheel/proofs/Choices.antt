@@ -46,7 +46,3 @@ pub choice_right : (s : Seen) (choice : Option ℕ) → IsSound kinds.Wheel s �
 choice_right s choice sound configured is =
     let right = right_of (config_of s) s.book s.mask (sound.configured configured) in
     rw is (record { asks = right.0; serves = right.1 })
-
-pub unshared : (s : Seen) → IsSound kinds.Wheel s → IsConfigured s → kind_of (config_of s) ≢ kinds.Sfq
-unshared s sound configured = λ shared.
-    let no : kinds.Wheel ≡ kinds.Sfq = sym (sound.configured configured) ∙ shared in cc

@@ -4,13 +4,13 @@ ghost use Rattle.hls_chron.specs.declared.plain.Kind.{Kind};
 ghost use Rattle.hls_sched.specs.Seen.{IsBlank, IsConfigured, config_of};
 ghost use Rattle.hls_box.specs.Sound.{IsSound};
 ghost use Rattle.hls_box.proofs.Props.{sound_prop};
-ghost use Rattle.hls_wheel_laws.specs.Places.{frame_of, KeepsPlaces};
-ghost use Rattle.hls_wheel_laws.proofs.WheelLaws.{wheel_of};
+ghost use Rattle.hls_box.proofs.Choosing.{lawful};
+ghost use Rattle.hls_wheel_laws.specs.Places.{frame_of};
 ghost use Rattle.hls_wheel.specs.Owners.{IsTable, choice_of};
 
 use crate::owners::{Owners, PLACES, after_event, owned_below};
 use hls_chron::{Book, Config, Event, Kind, Terms};
-use hls_box::{Keeper, has_slot};
+use hls_box::{BoxState, has_slot};
 use hls_sched::{Scheduler, SeatFault};
 use std::alloc::{AllocError, Global};
 
@@ -18,11 +18,10 @@ use std::alloc::{AllocError, Global};
 /// place belongs to a seat or to nobody, and a tick is its owner's alone.
 #[derive(Drop)]
 pub struct Wheel {
-    keeper: Keeper,
+    state: BoxState,
     owners: Owners,
-    ghost sound: { IsSound Kind.Wheel keeper } by { sound_prop Kind.Wheel keeper },
-    ghost places: { KeepsPlaces (frame_of (config_of keeper)) keeper.book },
-    ghost table: { IsTable owners keeper.book },
+    ghost sound: { IsSound Kind.Wheel state } by { sound_prop Kind.Wheel state },
+    ghost table: { IsTable owners state.book },
 }
 
 impl Wheel {
@@ -31,19 +30,19 @@ impl Wheel {
         ensures { IsBlank Kind.Wheel (⟦<Wheel as Scheduler>⟧.seen result) }
     {
         Wheel {
-            keeper: Keeper::blank(alloc, Kind::Wheel),
+            state: BoxState::blank(alloc, Kind::Wheel),
             owners: [None; PLACES],
         }
     }
 
     /// The places of the frame.
     fn frame(&self) -> u32
-        requires { IsConfigured self.now.keeper }
-        ensures value { result ≡ frame_of (config_of self.now.keeper) }
+        requires { IsConfigured self.now.state }
+        ensures value { result ≡ frame_of (config_of self.now.state) }
         ensures some { 0 < result }
         ensures most { result ≤ 1000 }
     {
-        match self.keeper.config() {
+        match self.state.config() {
             Config::Wheel { frame } => frame,
             _ => 1,
         }
@@ -51,13 +50,13 @@ impl Wheel {
 
     /// The owner of the present tick's place, where it asks.
     fn owner(&self) -> Option<u32>
-        requires { IsConfigured self.now.keeper }
+        requires { IsConfigured self.now.state }
         ensures value { result
-            ≡ choice_of (config_of self.now.keeper) self.now.keeper.book self.now.keeper.mask }
+            ≡ choice_of (config_of self.now.state) self.now.state.book self.now.state.mask }
         ensures within { IfSome result (λ slot. slot < 32) }
     {
-        let mask = self.keeper.mask();
-        let place = self.keeper.book().now() % self.frame();
+        let mask = self.state.mask();
+        let place = self.state.book().now() % self.frame();
         let owner = self.owners[place as usize];
         match owner {
             Some(owner) if has_slot(mask, u32::from(owner)) => Some(u32::from(owner)),
@@ -67,21 +66,18 @@ impl Wheel {
 }
 
 impl Scheduler for Wheel {
-    ghost seen = { λ s. s.keeper };
+    ghost seen = { λ s. s.state };
 
-    ghost choice = { λ s. choice_of (config_of s.keeper) s.keeper.book s.keeper.mask };
+    ghost choice = { λ s. choice_of (config_of s.state) s.state.book s.state.mask };
 
-    ghost keeps = { λ s configured. s.sound.discipline };
-
-    ghost promises = { λ s configured. wheel_of (config_of s.keeper) s.keeper.book
-        (s.sound.configured configured) s.sound.admission s.sound.discipline s.places };
+    ghost lawful = { λ s configured. lawful Kind.Wheel s.state s.sound configured };
 
     fn kind(&self) -> Kind {
-        self.keeper.kind()
+        self.state.kind()
     }
 
     fn book(&self) -> &Book {
-        self.keeper.book()
+        self.state.book()
     }
 
     fn setup(
@@ -91,17 +87,17 @@ impl Scheduler for Wheel {
         horizon: u32,
         commands: u32,
     ) -> Result<(), AllocError> {
-        self.keeper.setup(config, now, horizon, commands)?;
+        self.state.setup(config, now, horizon, commands)?;
         self.owners = [None; PLACES];
         Ok(())
     }
 
     fn fits(&self, terms: &Terms) -> Option<SeatFault> {
-        self.keeper.fits(terms, self.parts_used())
+        self.state.fits(terms, self.free_slot(), self.parts_used())
     }
 
     fn free_slot(&self) -> Option<u32> {
-        self.keeper.free_slot()
+        self.state.free_slot()
     }
 
     fn seat(&mut self, slot: u32, terms: &Terms) {
@@ -110,20 +106,20 @@ impl Scheduler for Wheel {
             terms: *terms,
         };
         self.owners = after_event(&self.owners, event);
-        self.keeper.seat(slot, terms);
+        self.state.seat(slot, terms);
     }
 
     fn leave(&mut self, slot: u32) {
         self.owners = after_event(&self.owners, Event::Leave { slot: slot as u8 });
-        self.keeper.leave(slot);
+        self.state.leave(slot);
     }
 
     fn request(&mut self, slot: u32) {
-        self.keeper.request(slot);
+        self.state.request(slot);
     }
 
     fn release(&mut self, slot: u32) {
-        self.keeper.release(slot);
+        self.state.release(slot);
     }
 
     fn asks(&self) -> bool {
@@ -131,11 +127,11 @@ impl Scheduler for Wheel {
     }
 
     fn grant(&mut self, port: u8) {
-        self.keeper.grant(port);
+        self.state.grant(port);
     }
 
     fn revoke(&mut self) {
-        self.keeper.revoke();
+        self.state.revoke();
     }
 
     fn choice(&self) -> Option<u32> {
@@ -144,11 +140,11 @@ impl Scheduler for Wheel {
 
     fn turn(&mut self) {
         let choice = self.owner();
-        self.keeper.turn(choice);
+        self.state.turn(choice);
     }
 
     fn settle(&mut self) {
-        self.keeper.settle();
+        self.state.settle();
     }
 
     fn parts_used(&self) -> u128 {

@@ -7,13 +7,13 @@ loop-init c = (c.requires, refl)
 
 pub returns-then-has_slot-clause-value : goal.returns-then-has_slot-clause-value
 returns-then-has_slot-clause-value c = sym (found_in_loop _ _ _ _ c.loop-test.true c.loop.invariant.1
-    (sym c.has_slot.ensures ∙ c.if-has_slot.true))
+    (sym c.has_slot.ensures.value ∙ c.if-has_slot.true))
 
 pub loop-preserved : goal.loop-preserved
 loop-preserved c = (
   omega arith,
   on_in_loop _ _ _ _ c.loop-test.true c.loop.invariant.1
-      (sym c.has_slot.ensures ∙ c.if-has_slot.false),
+      (sym c.has_slot.ensures.value ∙ c.if-has_slot.false),
 )
 
 pub returns-clause-value : goal.returns-clause-value

@@ -1,11 +1,8 @@
-use Rattle.hls_edf.proofs.Sounds.{sound_request}
+use Rattle.hls_box.proofs.Calls.{after_request}
 use Rattle.hls_edf.proofs.edf.EdfScheduler.request.Goals as goal
 
 pub invariant_of-self : goal.invariant_of-self
-invariant_of-self c =
-    record {
-      sound = rw c.bit.ensures
-          (sound_request c.args.self.now.book c.args.self.now.mask c.args.self.now.seats
-          c.args.self.now.accounts
-          c.args.slot c.args.self.now.sound c.requires.taken);
-    }
+invariant_of-self c = record {
+  sound = after_request _ _ _ _ c.request.ensures c.args.self.now.sound c.requires.configured c.requires.taken;
+  held = rw c.request.ensures c.args.self.now.held;
+}

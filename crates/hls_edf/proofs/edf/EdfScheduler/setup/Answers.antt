@@ -1,13 +1,17 @@
-use Rattle.std.proofs.Common.{ap, ◌∙◌}
-use Rattle.hls_chron.specs.Ledger.{Ledger}
-use Rattle.hls_edf.proofs.Sounds.{sound_empty}
+use Rattle.hls_box.proofs.Calls.{after_setup}
+use Rattle.hls_edf.proofs.Calls.{servers_new}
 use Rattle.hls_edf.proofs.edf.EdfScheduler.setup.Goals as goal
 
 pub invariant_of-self : goal.invariant_of-self
 invariant_of-self c = record {
-  sound = rw c.vacant-self.ensures (sound_empty c.reserve.new.self
-      (ap (λ (b : Ledger). b.rows) c.in_ok-reserve.ensures.written
-      ∙ ap (λ (b : Ledger). b.rows) c.new-book.ensures)
-      (ap (λ (b : Ledger). b.marks) c.in_ok-reserve.ensures.written
-      ∙ ap (λ (b : Ledger). b.marks) c.new-book.ensures));
+  sound = after_setup c.setup.result _ _ _ _ _ _ _ c.setup.ensures.done c.setup.ensures.unchanged
+      c.args.self.now.sound c.requires.kind (λ e. cc) c.requires.ranges;
+  held = rw c.in_err-setup.ensures.unchanged c.args.self.now.held;
+}
+
+pub invariant_of-self-2 : goal.invariant_of-self-2
+invariant_of-self-2 c = record {
+  sound = after_setup c.setup.result _ _ _ _ _ _ _ c.setup.ensures.done c.setup.ensures.unchanged
+      c.args.self.now.sound c.requires.kind (λ e. cc) c.requires.ranges;
+  held = rw c.vacant-self.ensures (servers_new c.setup.new.self.book c.in_ok-setup.ensures.done.marks);
 }

@@ -1,12 +1,15 @@
-use Rattle.hls_edf.proofs.Sounds.{sound_row}
+use Rattle.hls_box.proofs.Choosing.{IsRight, after_turn}
+use Rattle.hls_edf.proofs.Serving.{choice_right}
+use Rattle.hls_edf.proofs.Calls as calls
 use Rattle.hls_edf.proofs.edf.EdfScheduler.turn.Goals as goal
 
 pub invariant_of-self : goal.invariant_of-self
 invariant_of-self c =
+    let right : IsRight c.args.self.now.state c.choose-choice.result =
+    choice_right _ _ c.choose-choice.result c.args.self.now.sound c.args.self.now.held c.requires.configured
+    c.choose-choice.ensures.value in
     record {
-      sound = rw (c.push_tick.ensures, c.row.ensures, c.choose-choice.ensures.value, c.now-now.ensures.now)
-          (sound_row c.args.self.now.book c.args.self.now.mask c.args.self.now.seats c.args.self.now.accounts
-          c.after_tick-self.result c.args.self.now.grant c.args.self.now.sound
-          (rw (c.served-served.ensures, c.choose-choice.ensures.value, c.now-now.ensures.now) at
-          c.after_tick-self.ensures));
+      sound = after_turn _ _ _ _ c.turn.ensures c.args.self.now.sound right;
+      held = calls.after_turn _ _ c.args.self.now.sound c.args.self.now.held c.requires.configured _ _ _ _
+          c.turn.ensures right c.served.ensures.served c.after_tick-self.ensures;
     }

@@ -1,10 +1,5 @@
-use Rattle.hls_fp.proofs.Sounds.{sound_release}
+use Rattle.hls_box.proofs.Calls.{after_release}
 use Rattle.hls_fp.proofs.fp.FpScheduler.release.Goals as goal
 
 pub invariant_of-self : goal.invariant_of-self
-invariant_of-self c =
-    record {
-      sound = rw c.bit.ensures
-          (sound_release c.args.self.now.book c.args.self.now.mask c.args.self.now.priorities
-          c.args.slot c.args.self.now.sound);
-    }
+invariant_of-self c = record { sound = after_release _ _ _ _ c.release.ensures c.args.self.now.sound }

@@ -1,13 +1,10 @@
-use Rattle.std.proofs.Common.{ap, ◌∙◌}
-use Rattle.hls_chron.specs.Ledger.{Ledger}
-use Rattle.hls_fp.proofs.Sounds.{sound_empty}
+use Rattle.hls_box.proofs.Calls.{after_setup}
 use Rattle.hls_fp.proofs.fp.FpScheduler.setup.Goals as goal
 
 pub invariant_of-self : goal.invariant_of-self
-invariant_of-self c = record {
-  sound = sound_empty c.reserve.new.self
-      (ap (λ (b : Ledger). b.rows) c.in_ok-reserve.ensures.written
-      ∙ ap (λ (b : Ledger). b.rows) c.new-book.ensures)
-      (ap (λ (b : Ledger). b.marks) c.in_ok-reserve.ensures.written
-      ∙ ap (λ (b : Ledger). b.marks) c.new-book.ensures);
-}
+invariant_of-self c =
+    record {
+      sound =
+          after_setup c.setup.result _ _ _ _ _ _ _ c.setup.ensures.done c.setup.ensures.unchanged
+          c.args.self.now.sound c.requires.kind (λ e. cc) c.requires.ranges;
+    }

@@ -1,21 +1,17 @@
-use Rattle.std.proofs.Common.{◌≡◌, ap, ◌∙◌, replicate, None, subst}
-use Rattle.hls_chron.specs.Ledger.{Ledger}
-use Rattle.hls_sfq.specs.declared.sfq.Limits.{Limits}
-use Rattle.hls_sfq.specs.Sound.{IsSound}
-use Rattle.hls_sfq.proofs.Sounds.{sound_empty}
+use Rattle.hls_box.proofs.Calls.{after_setup}
+use Rattle.hls_sfq.proofs.TagLaws.{tags_new}
 use Rattle.hls_sfq.proofs.sfq.SfqScheduler.setup.Goals as goal
 
 pub invariant_of-self : goal.invariant_of-self
-invariant_of-self c =
-    let limits : Limits = record { total = c.in-Sfq.total; most = c.in-Sfq.most } in
-    let empty : IsSound c.reserve.new.self 0 0 (replicate 32 None) limits =
-    sound_empty c.reserve.new.self limits (rw c.in-Sfq.is at c.requires.ranges)
-    (ap (λ (b : Ledger). b.rows) c.in_ok-reserve.ensures.written ∙ ap (λ (b : Ledger). b.rows)
-    c.new-book.ensures)
-    (ap (λ (b : Ledger). b.marks) c.in_ok-reserve.ensures.written ∙ ap (λ (b : Ledger). b.marks)
-    c.new-book.ensures)
-    in record {
-      sound = λ l is.
-          let same : limits ≡ l = cc in
-          subst (IsSound c.reserve.new.self 0 0 (replicate 32 None)) same empty;
-    }
+invariant_of-self c = record {
+  sound = after_setup c.setup.result _ _ _ _ _ _ _ c.setup.ensures.done c.setup.ensures.unchanged
+      c.args.self.now.sound c.requires.kind (λ e. cc) c.requires.ranges;
+  held = rw c.in_err-setup.ensures.unchanged c.args.self.now.held;
+}
+
+pub invariant_of-self-2 : goal.invariant_of-self-2
+invariant_of-self-2 c = record {
+  sound = after_setup c.setup.result _ _ _ _ _ _ _ c.setup.ensures.done c.setup.ensures.unchanged
+      c.args.self.now.sound c.requires.kind (λ e. cc) c.requires.ranges;
+  held = tags_new c.setup.new.self.book c.in_ok-setup.ensures.done.rows c.in_ok-setup.ensures.done.marks;
+}

@@ -1,6 +1,0 @@
-use Rattle.std.proofs.Common.{◌≢◌, ℕ, ◌<◌}
-use Rattle.hls_edf.specs.Choice.{account_in}
-use Rattle.hls_edf.proofs.slots.first_free.Given as goal
-
-abbrev pub invariant-loop-slot : goal.invariant-loop-slot
-invariant-loop-slot l = (k : ℕ) → k < l.slot → (account_in l.accounts k).parts ≢ 0

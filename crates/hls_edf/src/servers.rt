@@ -1,0 +1,103 @@
+// The servers of the slots: what each may claim, and what a tick and a settling make of it.
+ghost use Rattle.std.specs.Prelude.{◌≡◌, ◌≢◌, ℕ, ◌<◌, length, IfSome, IsNone};
+ghost use Rattle.hls_kinds.specs.Slots.{sum_below};
+ghost use Rattle.hls_edf.specs.Choice.{account_in, soft_in, may_use, deadline_if, IsFirstFree, AllPaid};
+ghost use Rattle.hls_edf.specs.Changes.{next_of, settled_of};
+
+use hls_chron::Terms;
+use hls_edf_laws::Account;
+
+/// How many slots there are.
+pub const SLOTS: u32 = 32;
+
+/// The server of each slot.
+pub type Servers = [Account; 32];
+
+/// What a seat is served by.
+#[derive(Clone, Copy, Debug, PartialEq, Eq)]
+pub enum Need {
+    /// Its budget.
+    Budget,
+    /// Its being soft.
+    Soft,
+}
+
+/// Whether the seat is soft.
+fn is_soft(seat: Option<Terms>) -> bool
+    ensures { result ≡ soft_in seat }
+{
+    match seat {
+        Some(Terms::Res { hard, .. }) => !hard,
+        _ => false,
+    }
+}
+
+/// Whether a slot may be served by this.
+fn may_go(server: Account, seat: Option<Terms>, need: Need) -> bool
+    ensures { result ≡ may_use need server seat }
+{
+    match need {
+        Need::Budget => server.asked && 0 < server.budget,
+        Need::Soft => server.asked && is_soft(seat),
+    }
+}
+
+/// The deadline of a slot that may be served by this.
+pub fn deadline_where(server: Account, seat: Option<Terms>, need: Need) -> Option<u128>
+    ensures { result ≡ deadline_if need server seat }
+{
+    if may_go(server, seat, need) {
+        Some(u128::from(server.deadline))
+    } else {
+        None
+    }
+}
+
+/// The least free slot.
+pub fn first_free(servers: &[Account]) -> Option<u32>
+    requires { length servers.now ≡ 32 }
+    ensures free { IfSome result (IsFirstFree servers.now) }
+    ensures full { IsNone result → AllPaid servers.now }
+{
+    for slot in 0..SLOTS {
+        if servers[slot as usize].parts == 0 {
+            return Some(slot);
+        }
+    }
+    None
+}
+
+/// The parts that all slots take up.
+#[tactic(auto, using(hls_kinds::proofs::SlotLaws::slot_sums))]
+pub fn parts_used(servers: &[Account]) -> u128
+    requires { length servers.now ≡ 32 }
+    ensures { result ≡ sum_below (λ slot. (account_in servers.now slot).parts) 32 }
+{
+    let mut used: u128 = 0;
+    for slot in 0..SLOTS {
+        used += u128::from(servers[slot as usize].parts);
+    }
+    used
+}
+
+/// The server of a slot after a tick.
+pub fn next(server: Account, taken: bool, asks: bool, served: bool, now: u32) -> Account
+    ensures { result ≡ next_of server taken asks served now }
+{
+    if !taken {
+        return server.held(u64::from(now) + 1);
+    }
+    let within = server.replenished(asks, now);
+    if served { within.charged() } else { within }
+}
+
+/// The server of a slot after a settling.
+pub fn settled(server: Account, taken: bool, now: u32) -> Account
+    ensures { result ≡ settled_of server taken now }
+{
+    if taken {
+        server.fresh(now)
+    } else {
+        Account::vacant()
+    }
+}

@@ -1,0 +1,9 @@
+use Rattle.hls_box.proofs.Sounds.{sound_blank}
+use Rattle.hls_sfq.proofs.TagLaws.{tags_new}
+use Rattle.hls_sfq.proofs.sfq.Sfq.blank.Goals as goal
+
+pub invariant_of-result : goal.invariant_of-result
+invariant_of-result c = record {
+  sound = sound_blank _ _ c.blank.ensures.blank c.blank.ensures.silent;
+  held = tags_new _ c.blank.ensures.rows c.blank.ensures.marks;
+}
