@@ -9,3 +9,4 @@ pub mod Renumbered
 pub mod TwinSteps
 pub mod Covers
 pub mod OneReport
+pub mod Keeping

@@ -2,3 +2,4 @@ pub mod Legal
 pub mod Grown
 pub mod Without
 pub mod Alike
+pub mod Kept

@@ -1,6 +1,6 @@
 //! What holds of legal reports: each function's contract is a law, and its body does nothing.
 
-ghost use Rattle.std.specs.Prelude.{◌≡◌, ◌∷◌, ◌++◌, [], ℕ, List, Option, Some, Bool, slice_get};
+ghost use Rattle.std.specs.Prelude.{◌≡◌, ◌∷◌, ◌++◌, [], ℕ, List, All, Option, Some, Bool, slice_get};
 ghost use Rattle.hls_text.specs.Lines.{Text};
 ghost use Rattle.hls_scenario.specs.declared.scenario.Scenario.{Scenario};
 ghost use Rattle.hls_report_text.specs.declared.refusal.Refusal.{Refusal};
@@ -17,7 +17,15 @@ ghost use Rattle.hls_answers.specs.Kit.{boxes_left};
 ghost use Rattle.hls_legal_report.specs.Legal.{IsRun, IsLegalContent};
 ghost use Rattle.hls_legal_report.specs.Grown.{with_answer, IsTickMore};
 ghost use Rattle.hls_legal_report.specs.Alike.{IsAlikeContent};
+ghost use Rattle.hls_legal_report.specs.Kept.{KeepsAccount};
 ghost use Rattle.hls_legal_report.specs.Without.{scenario_without, content_without};
+
+/// A legal report keeps each guarantee that it prints: in every run of ticks of the account in all of which the
+/// thread is ready, the schedule gives it what is guaranteed, and over the whole account the cap is kept.
+pub fn legal_reports_keep_every_stay()
+    ensures { (s : Scenario) (given : ℕ) (boxes : Boxes) (c : Content) → IsLegalContent s given boxes c →
+        All (KeepsAccount c) c.accounts }
+{}
 
 /// Two legal reports of one scenario, depth and kit differ in derivations alone: they have the same answers,
 /// refusals with their kept values included, one schedule, one list of accounts and the same idle ticks. Their
