@@ -7,7 +7,6 @@ pub mod Shallow
 pub mod Below
 pub mod FreeSlots
 pub mod Loads
-pub mod Follows
 pub mod Unrefused
 pub mod LoadsDone
 pub mod Done

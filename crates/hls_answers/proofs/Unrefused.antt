@@ -39,7 +39,7 @@ use Rattle.hls_answers.specs.Kit.{is_kind}
 use Rattle.hls_answers.specs.Doable.{AreDerivable}
 use Rattle.hls_answers.proofs.Found.{named_there}
 use Rattle.hls_answers.proofs.FreeSlots.{some_free}
-use Rattle.hls_answers.proofs.Follows.{derivation_follows}
+use Rattle.hls_supply.proofs.Follows.{derivation_follows}
 use Rattle.hls_answers.proofs.Shallow.{none_greatest}
 
 -- ---- kinds can be told apart

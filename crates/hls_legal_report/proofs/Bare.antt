@@ -1,6 +1,5 @@
 -- What is said of a book does not go by the room that it has for more.
-use Rattle.std.proofs.Common.{◌≡◌, ◌≢◌, ◌⊎◌, ℕ, zero, suc, ◌+◌, inl, inr, Option, Some, None, refl, sym, ap, ◌∙◌, subst, arith}
-use Rattle.std.proofs.Common.{cond}
+use Rattle.std.proofs.Common.{◌≡◌, ℕ, zero, suc, ◌+◌, inl, inr, refl, sym, ap, ◌∙◌, subst, arith}
 use Rattle.std.proofs.lemmas.Bool.{cases_lt}
 use Rattle.hls_chron.specs.declared.plain.Config.{Config}
 use Rattle.hls_chron.specs.declared.plain.Config.TheVariants.{Cpu, Fp, Edf, Sfq, Rr, Wheel, Join}
@@ -10,7 +9,7 @@ use Rattle.hls_chron.specs.Seats.{terms_at, asked, served}
 use Rattle.hls_kinds.specs.declared.fault.SeatFault.{SeatFault}
 use Rattle.hls_kinds.specs.declared.fault.SeatFault.TheVariants as faults
 use Rattle.hls_kinds.specs.Faults as seats
-use Rattle.hls_kinds.specs.Slots.{IsFirst, sum_below}
+use Rattle.hls_kinds.specs.Slots.{IsFirst}
 use Rattle.hls_kinds.specs.Tenants.{tenant_at, settled_at, left_at}
 use Rattle.hls_kinds.specs.Reservations.{claim_at, is_held}
 use Rattle.hls_kinds.specs.Tags.{start_by, start_tags, start_tag}

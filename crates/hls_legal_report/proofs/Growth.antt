@@ -10,12 +10,12 @@ use Rattle.hls_report_text.specs.declared.report.Answer.TheVariants.{Done, Refus
 use Rattle.hls_report_text.specs.declared.report.Answered.{Answered}
 use Rattle.hls_report_text.specs.Content.{Content}
 use Rattle.hls_legal.specs.Hierarchy.{Hierarchy, start}
-use Rattle.hls_legal.specs.Steps.{Step, Refuse, Elapse, Path, after, state}
-use Rattle.hls_legal.specs.Legal.{Can, IsLegal}
+use Rattle.hls_legal.specs.Steps.{Step, Elapse, Path, after, state}
+use Rattle.hls_legal.specs.Legal.{Can}
 use Rattle.hls_legal.proofs.Goes.{legal_goes}
 use Rattle.hls_accounts.specs.Schedule.{path_at}
 use Rattle.hls_accounts.specs.Tells.{Names, Answers, TellsFrom}
-use Rattle.hls_answers.specs.Moment.{Boxes, Moment}
+use Rattle.hls_answers.specs.Moment.{Boxes}
 use Rattle.hls_answers.specs.Answers.{IsAnswer}
 use Rattle.hls_answers.specs.Kit.{boxes_left}
 use Rattle.hls_answers.specs.Along.{IsTick, AnswersAlong}
@@ -24,7 +24,7 @@ use Rattle.hls_legal_report.specs.Legal.{IsRun}
 use Rattle.hls_legal_report.specs.Grown.{with_answer, IsTickMore}
 
 -- ticks never fall
-now_by : (c : Content) (steps : List Step) (h : Hierarchy) (left : List Answered) → TellsFrom c h steps left
+pub now_by : (c : Content) (steps : List Step) (h : Hierarchy) (left : List Answered) → TellsFrom c h steps left
     → h.now ≤ c.horizon
 now_by c [] h [] told = omega (arith, told)
 now_by c [] h (b ∷ left) told = absurd told

@@ -3,3 +3,9 @@ pub mod Removal
 pub mod Bare
 pub mod Twins
 pub mod TwinAnswers
+pub mod TwinEffects
+pub mod TwinTicks
+pub mod Renumbered
+pub mod TwinSteps
+pub mod Covers
+pub mod OneReport

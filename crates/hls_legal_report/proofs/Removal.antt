@@ -1,14 +1,13 @@
 -- A refused command can be left out.
-use Rattle.std.proofs.Common.{◌≡◌, ℕ, zero, suc, ◌+◌, ◌<◌, ◌≤◌, List, [], ◌∷◌, ◌++◌, length, Option, Some, refl, sym, ap, ◌∙◌}
+use Rattle.std.proofs.Common.{◌≡◌, ℕ, zero, suc, ◌<◌, ◌≤◌, List, [], ◌∷◌, length, Some, refl, sym, ap, ◌∙◌}
 use Rattle.std.proofs.Common.{subst, arith, slice_get, map}
 use Rattle.std.specs.List.{AllByRecursion}
-use Rattle.hls_scenario.specs.declared.scenario.Item.{Item}
 use Rattle.hls_scenario.specs.declared.scenario.Scenario.{Scenario}
 use Rattle.hls_scenario.specs.declared.scenario.Command.{Command}
 use Rattle.hls_scenario.specs.declared.scenario.Command.TheVariants as said
 use Rattle.hls_report_text.specs.declared.refusal.Refusal.{Refusal}
 use Rattle.hls_report_text.specs.declared.report.Answer.{Answer}
-use Rattle.hls_report_text.specs.declared.report.Answer.TheVariants.{Done, Refused}
+use Rattle.hls_report_text.specs.declared.report.Answer.TheVariants.{Refused}
 use Rattle.hls_report_text.specs.declared.report.Answered.{Answered}
 use Rattle.hls_report_text.specs.Content.{Content}
 use Rattle.hls_report_text.specs.ReportText.{item_of}
@@ -16,14 +15,13 @@ use Rattle.hls_report_text.specs.WellFormed.{AreAnswered, IsContent}
 use Rattle.hls_legal.specs.Hierarchy.{Hierarchy, start}
 use Rattle.hls_legal.specs.Steps.{Step, Refuse, Elapse, after, state}
 use Rattle.hls_legal.specs.Legal.{IsLegal}
-use Rattle.hls_accounts.specs.Accounts.{accounts_of, idle_of}
 use Rattle.hls_accounts.specs.Agrees.{accounts_in, idle_in}
 use Rattle.hls_accounts.specs.Tells.{Answers, TellsFrom}
 use Rattle.hls_accounts.proofs.Agreements.{accounts_told, idle_told}
 use Rattle.hls_answers.specs.Moment.{Boxes}
 use Rattle.hls_answers.specs.Kit.{boxes_after}
 use Rattle.hls_answers.specs.Along.{AnswersAlong}
-use Rattle.hls_legal_report.specs.Legal.{IsRun, IsLegalContent}
+use Rattle.hls_legal_report.specs.Legal.{IsLegalContent}
 use Rattle.hls_legal_report.specs.Without.{without, scenario_without, content_without}
 
 -- the run without the refusal leads where the run with it does
@@ -100,7 +98,7 @@ module _ (depth : ℕ) (c : Content) (a : Answered) (r : Refusal) (refused : a.a
 
 -- ---- the report
 
-tells_like : (c d : Content) → c.horizon ≡ d.horizon → c.stretches ≡ d.stretches → (steps : List Step)
+pub tells_like : (c d : Content) → c.horizon ≡ d.horizon → c.stretches ≡ d.stretches → (steps : List Step)
     (h : Hierarchy) (left : List Answered) → TellsFrom c h steps left → TellsFrom d h steps left
 tells_like c d horizon stretches [] h [] told = told ∙ horizon
 tells_like c d horizon stretches [] h (b ∷ left) told = absurd told

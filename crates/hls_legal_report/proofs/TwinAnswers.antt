@@ -1,15 +1,12 @@
 -- Twins give a command the same answers.
-use Rattle.std.proofs.Common.{◌≡◌, ◌≢◌, ◌⊎◌, ℕ, zero, suc, ◌+◌, ◌<◌, ◌≤◌, ◌==◌, inl, inr, List, [], ◌∷◌, ◌++◌, length, Option}
-use Rattle.std.proofs.Common.{Some, None, Bool, true, false, refl, sym, ap, ◌∙◌, subst, arith, slice_get, map, cond}
+use Rattle.std.proofs.Common.{◌≡◌, ℕ, zero, suc, ◌+◌, ◌==◌, inl, inr, List, [], ◌∷◌, ◌++◌, length, Option}
+use Rattle.std.proofs.Common.{Some, None, true, false, refl, sym, ap, ◌∙◌, subst, arith, slice_get, map, cond}
 use Rattle.std.proofs.Common.{if◌then◌else◌}
 use Rattle.std.specs.Prelude.{option_map, option_and_then, find, flat_map, is_some, IsSome}
-use Rattle.std.proofs.lemmas.Bool.{cases_eq, eq-eqb, ne_eqb}
 use Rattle.std.proofs.lemmas.List.{map-append, length-map}
 use Rattle.std.proofs.lemmas.Option.{slice_get-map}
 use Rattle.hls_text.specs.Lines.{Text}
 use Rattle.hls_chron.specs.declared.plain.Config.{Config}
-use Rattle.hls_chron.specs.declared.plain.Kind.TheVariants as kinds
-use Rattle.hls_chron.specs.declared.plain.Terms.{Terms}
 use Rattle.hls_chron.specs.Kinds.{kind_of}
 use Rattle.hls_chron.specs.Ledger.{Ledger}
 use Rattle.hls_chron.specs.Ticks.{count}
@@ -28,27 +25,26 @@ use Rattle.hls_report_text.specs.declared.refusal.Refusal.TheVariants.{TooManyNo
 use Rattle.hls_report_text.specs.declared.refusal.Refusal.TheVariants.{TermsUnfit, PriorityTaken, SeatsFull}
 use Rattle.hls_report_text.specs.declared.refusal.Refusal.TheVariants.{Cycle, TooDeep, TooManyShares, KitEmpty}
 use Rattle.hls_report_text.specs.declared.refusal.Refusal.TheVariants.{NoRoom, NoDerivation}
-use Rattle.hls_report_text.specs.declared.report.Seated.{Seated}
 use Rattle.hls_report_text.specs.declared.report.Answer.{Answer}
 use Rattle.hls_report_text.specs.declared.report.Answer.TheVariants.{Done, Refused}
-use Rattle.hls_legal.specs.Hierarchy.{Hierarchy, Node, Loaded, Admitted, Scheduler, Thread, Place, Processor, At, Seat}
-use Rattle.hls_legal.specs.Hierarchy.{SeatHolder, name_of, seats_of, seat_of, haves_of, book_of, config_of}
+use Rattle.hls_legal.specs.Hierarchy.{Hierarchy, Node, Loaded, Admitted, Scheduler, Place, Processor, At, Seat}
+use Rattle.hls_legal.specs.Hierarchy.{SeatHolder, seats_of, seat_of}
 use Rattle.hls_legal.specs.Steps.{reseated}
-use Rattle.hls_legal.specs.Legal.{scheduler_at, SitsUnder, IsChain, fair_queue, fair_queues, SitsOn}
+use Rattle.hls_legal.specs.Legal.{SitsUnder, IsChain, fair_queue, fair_queues, SitsOn}
 use Rattle.hls_legal.specs.Readings.{IsUnderBy}
 use Rattle.hls_accounts.specs.Schedule.{is_name}
 use Rattle.hls_answers.specs.Moment.{Boxes, Moment, has_name, number_of, node_of, NamesScheduler, NamesThread}
-use Rattle.hls_answers.specs.Levels.{HasChain, LeadsTo, HasNewChain, place_there, seat_there, with_mover}
+use Rattle.hls_answers.specs.Levels.{HasChain, LeadsTo, place_there, seat_there, with_mover}
 use Rattle.hls_answers.specs.Levels.{HasChainAfter, place_on}
 use Rattle.hls_answers.specs.Dues.{Due, config_there, haves_there, due_at, dues_from, told_name, dues_in, dues_of}
 use Rattle.hls_answers.specs.Dues.{dues_on, dues}
 use Rattle.hls_answers.specs.Refusals as refusals
-use Rattle.hls_answers.specs.Answers.{number, RefusesCommand, RefusesPlace, RefusesBy, RefusesFirstPlace, Applies}
+use Rattle.hls_answers.specs.Answers.{RefusesCommand, RefusesPlace, RefusesFirstPlace, Applies}
 use Rattle.hls_answers.specs.Answers.{IsAnswer}
 use Rattle.hls_legal_report.proofs.Bare.{terms_like, fault_like}
-use Rattle.hls_legal_report.proofs.Twins.{Renaming, inverse, same_number, same_test, place_to, seat_to, holder_to}
-use Rattle.hls_legal_report.proofs.Twins.{TwinScheduler, TwinThread, TwinNode, TwinNodes, Twin, twin_back}
-use Rattle.hls_legal_report.proofs.Twins.{name-twin, seats-twin, config-twin, book-twin, haves-twin, seat-twin}
+use Rattle.hls_legal_report.proofs.Twins.{Renaming, inverse, same_test, place_to, seat_to, holder_to}
+use Rattle.hls_legal_report.proofs.Twins.{TwinScheduler, TwinNode, TwinNodes, Twin, twin_back}
+use Rattle.hls_legal_report.proofs.Twins.{name-twin, seats-twin, config-twin, haves-twin, seat-twin}
 use Rattle.hls_legal_report.proofs.Twins.{loaded-twin, admitted-twin, none-twin, seat-at, scheduler-to}
 
 -- ---- chains, by the nodes alone
@@ -184,7 +180,7 @@ module _ (r : Renaming) (h g : Hierarchy) (twin : Twin r h g) where
         some = f.some;
       }
 
-  on-twin : (c p : ℕ) → SitsOn h c p → SitsOn g (r.to c) (r.to p)
+  pub on-twin : (c p : ℕ) → SitsOn h c p → SitsOn g (r.to c) (r.to p)
   on-twin c p sits = record {
     port = sits.port;
     seat = seat_to r sits.seat;

@@ -1,18 +1,14 @@
 -- Two hierarchies that differ in the numbers of nodes, and in the room of books.
-use Rattle.std.proofs.Common.{◌≡◌, ◌≢◌, ◌⊎◌, ℕ, zero, suc, ◌+◌, ◌<◌, ◌≤◌, ◌==◌, inl, inr, List, [], ◌∷◌, ◌++◌, length, Option}
-use Rattle.std.proofs.Common.{Some, None, Bool, true, false, refl, sym, ap, ◌∙◌, subst, arith, slice_get, map}
+use Rattle.std.proofs.Common.{◌≡◌, ℕ, zero, suc, ◌<◌, ◌≤◌, ◌==◌, inl, inr, List, [], ◌∷◌, Option}
+use Rattle.std.proofs.Common.{Some, None, refl, sym, ap, ◌∙◌, subst, arith, slice_get, map}
 use Rattle.std.specs.Prelude.{option_map}
 use Rattle.std.proofs.lemmas.Bool.{cases_eq, eq-eqb, ne_eqb}
-use Rattle.hls_chron.specs.declared.plain.Config.{Config}
-use Rattle.hls_chron.specs.Ledger.{Ledger}
-use Rattle.hls_kinds.specs.Asks.{asks}
-use Rattle.hls_kinds.proofs.Rooms.{roomless, asks-room}
-use Rattle.hls_legal.specs.Ledgers.{empty_book}
+use Rattle.hls_kinds.proofs.Rooms.{roomless}
 use Rattle.hls_legal.specs.Hierarchy.{Hierarchy, Node, Loaded, Admitted, Scheduler, Thread, Place, Processor, At, Seat}
 use Rattle.hls_legal.specs.Hierarchy.{Wake, Asleep, Awake, Awake_for, SeatHolder, name_of, seats_of, seat_of}
-use Rattle.hls_legal.specs.Hierarchy.{haves_of, book_of, config_of, was_served, is_ready}
+use Rattle.hls_legal.specs.Hierarchy.{haves_of, book_of, config_of, was_served}
 use Rattle.hls_legal.specs.Steps.{is_thread, is_scheduler}
-use Rattle.hls_legal.specs.Legal.{scheduler_at, asks_now}
+use Rattle.hls_legal.specs.Legal.{scheduler_at}
 
 -- ---- other numbers
 
@@ -200,7 +196,7 @@ module _ (r : Renaming) where
 
 -- ---- back
 
-back-place : (r : Renaming) (place : Place) → place_to (inverse r) (place_to r place) ≡ place
+pub back-place : (r : Renaming) (place : Place) → place_to (inverse r) (place_to r place) ≡ place
 back-place r Processor = refl
 back-place r (At p slot) = ap (λ n. At n slot) (r.there p)
 

@@ -1,3 +1,4 @@
 pub mod Legal
 pub mod Grown
 pub mod Without
+pub mod Alike

@@ -16,7 +16,16 @@ ghost use Rattle.hls_answers.specs.Answers.{IsAnswer};
 ghost use Rattle.hls_answers.specs.Kit.{boxes_left};
 ghost use Rattle.hls_legal_report.specs.Legal.{IsRun, IsLegalContent};
 ghost use Rattle.hls_legal_report.specs.Grown.{with_answer, IsTickMore};
+ghost use Rattle.hls_legal_report.specs.Alike.{IsAlikeContent};
 ghost use Rattle.hls_legal_report.specs.Without.{scenario_without, content_without};
+
+/// Two legal reports of one scenario, depth and kit differ in derivations alone: they have the same answers,
+/// refusals with their kept values included, one schedule, one list of accounts and the same idle ticks. Their
+/// runs may number nodes otherwise, and give new books other room.
+pub fn legal_reports_differ_in_derivations_alone()
+    ensures { (s : Scenario) (given : ℕ) (boxes : Boxes) (one two : Content) → IsLegalContent s given boxes one →
+        IsLegalContent s given boxes two → IsAlikeContent one two }
+{}
 
 /// A run that a report tells goes on, and the report with it: by a command of the present tick with its
 /// defined answer and the step that does it, and by a tick with its path. The horizon of the report is the

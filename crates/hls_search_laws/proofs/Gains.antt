@@ -22,20 +22,20 @@ use Rattle.hls_search_laws.proofs.Reached.{closed, rates-gives}
 use Rattle.hls_search_laws.proofs.Finding.{found-chain}
 use Rattle.hls_search_laws.proofs.Ends.{closed-null}
 
-gives-better : {g h : Guarantee} → IsValid g → IsValid h → Gives (quad g) h → IsBetter (quad g) (quad h)
-gives-better vg vh (share better) = better
-gives-better {g = g} vg vh (windows {x = x} {y = y} under) =
+gives-better : (g : Guarantee) {h : Guarantee} → IsValid g → IsValid h → Gives (quad g) h → IsBetter (quad g) (quad h)
+gives-better g vg vh (share better) = better
+gives-better g vg vh (windows {x = x} {y = y} under) =
     better-windows (quad g) x y (quad-ok g vg) vh.fits under
-gives-better {g = g} vg vh (blocks {x = x} {y = y} under) =
+gives-better g vg vh (blocks {x = x} {y = y} under) =
     better-blocks (quad g) x y (quad-ok g vg) vh.some vh.fits under
 
-closed-better : {n : ℕ} {g h : Guarantee} → IsValid g → IsValid h → Closed n g h → (h ≡ Null → ⊥)
+closed-better : {n : ℕ} (g : Guarantee) {h : Guarantee} → IsValid g → IsValid h → Closed n g h → (h ≡ Null → ⊥)
     → IsBetter (quad g) (quad h)
-closed-better vg vh same some = better-refl _
-closed-better vg vh (null le) some = absurd (some refl)
-closed-better vg vh (shape s) some = shape-better vg vh s
-closed-better vg vh (rates le e) some = gives-better vg vh (rates-gives e)
-closed-better vg vh (bound least le gives) some = gives-better vg vh gives
+closed-better g vg vh same some = better-refl _
+closed-better g vg vh (null le) some = absurd (some refl)
+closed-better g vg vh (shape s) some = shape-better vg vh s
+closed-better g vg vh (rates le e) some = gives-better g vg vh (rates-gives e)
+closed-better g vg vh (bound least le gives) some = gives-better g vg vh gives
 
 -- a pace is the rate and the error over the rate
 record IsPace (k : Quad) (p : Pace) : Type 0 where
@@ -79,7 +79,7 @@ chain-no-better g steps vg follow some =
     let vh : IsValid h = follow-end g steps follow vg in
     let c = closed g steps vg follow in
     let begun = start-some g _ h c some in
-    no-better g h (quad-ok g vg) (quad-ok h vh) (paced g begun) (paced h some) (closed-better vg vh c some)
+    no-better g h (quad-ok g vg) (quad-ok h vh) (paced g begun) (paced h some) (closed-better g vg vh c some)
 
 -- ---- words
 

@@ -9,3 +9,4 @@ pub mod Makes
 pub mod Finding
 pub mod Ends
 pub mod Gains
+pub mod Needed

@@ -30,3 +30,8 @@ pub fn answers_reach_what_chains_reach(g: Guarantee)
     requires { IsValid g }
     ensures { (steps : List Step) → FollowsBy g steps → IsFound (length steps) g (end_of g steps) }
 {}
+
+/// Each word is needed: somewhere no other word of at most so many rules leads from the same guarantee to the same.
+pub fn each_word_is_needed()
+    ensures { (word : List RuleName) → IsWord word → IsNeeded word }
+{}

@@ -1,0 +1,357 @@
+-- Each word is needed: the pairs of guarantees between which no other word leads.
+use Rattle.std.proofs.Common.{◌≡◌, ℕ, suc, ◌+◌, ◌*◌, ◌-◌, ◌≤◌, true, false, List, [], ◌∷◌, length, refl, ap, subst, lit<, lit≤, ◌^◌}
+use Rattle.std.proofs.Common.{arith}
+use Rattle.std.specs.List.{AllByRecursion}
+use Rattle.std.proofs.lemmas.List.Elements.{All-from_recursion, All-contains}
+use Rattle.hls_frac.specs.declared.Frac.{Frac}
+use Rattle.hls_frac.specs.Frac.{IsQuotient}
+use Rattle.hls_frac.proofs.Quotients.{quotient_of}
+use Rattle.hls_guarantee.specs.declared.Guarantee.{Guarantee}
+use Rattle.hls_guarantee.specs.declared.Guarantee.TheVariants.{All, Null, Resb, Resc, Psbe}
+use Rattle.hls_guarantee.specs.declared.rule.RuleName.{RuleName}
+use Rattle.hls_guarantee.specs.declared.rule.RuleName.TheVariants.{R1, R2, R3, R4, R5, R6, R7, R8, R9}
+use Rattle.hls_guarantee.specs.Limits.{IsReservation, IsValid}
+use Rattle.hls_guarantee.specs.Conversions.{Leads, Converts}
+use Rattle.hls_search_laws.specs.Words.{words, IsWord, Reaches, IsNeeded}
+use Rattle.hls_search_laws.proofs.Quads.{IsQuad, IsBetter, IsCovered, quad, quad_of, quad-ok, covered-from}
+use Rattle.hls_search_laws.proofs.Quads.{better-trans, better-quotient, quotient-better}
+use Rattle.hls_search_laws.proofs.Ways.{Way, converts-way, way-converts}
+use Rattle.hls_search_laws.proofs.Ways.Way.{r1c, r1p, r2b, r2c, r3, r4, r5, r6b, r7, r8b, r9}
+use Rattle.hls_search_laws.proofs.Makes.{quotients-share}
+
+-- ---- words by their length
+
+-- a fact of the two rules of a word of two
+abbrev OfTwo : (RuleName → RuleName → Type 0) → List RuleName → Type 0
+OfTwo P (a ∷ (b ∷ [])) = P a b
+OfTwo P _ = Unit {0}
+
+two-rules : (P : RuleName → RuleName → Type 0) → P R1 R7 → P R2 R1 → P R2 R7 → P R3 R7 → P R4 R1 → P R4 R6
+    → P R5 R1 → P R5 R6 → (a b : RuleName) → IsWord (a ∷ (b ∷ [])) → P a b
+two-rules P p17 p21 p27 p37 p41 p46 p51 p56 a b known =
+    let each : AllByRecursion (OfTwo P) words =
+    (tt, (tt, (tt, (tt, (tt, (tt, (tt, (tt, (tt, (tt, (p17, (p21, (p27, (p37, (p41, (p46, (p51, (p56, (tt, tt))))))))))))))))))) in
+    All-contains (OfTwo P) words (a ∷ (b ∷ [])) (All-from_recursion (OfTwo P) words each) known
+
+-- the one word of three
+abbrev OfThree : List RuleName → Type 0
+OfThree (a ∷ (b ∷ (c ∷ rest))) = (a ∷ (b ∷ (c ∷ rest))) ≡ (R2 ∷ (R1 ∷ (R7 ∷ [])))
+OfThree _ = Unit {0}
+
+three-rules : (a b c : RuleName) (rest : List RuleName) → IsWord (a ∷ (b ∷ (c ∷ rest)))
+    → (a ∷ (b ∷ (c ∷ rest))) ≡ (R2 ∷ (R1 ∷ (R7 ∷ [])))
+three-rules a b c rest known =
+    let each : AllByRecursion OfThree words =
+    (tt, (tt, (tt, (tt, (tt, (tt, (tt, (tt, (tt, (tt, (tt, (tt, (tt, (tt, (tt, (tt, (tt, (tt, (refl, tt))))))))))))))))))) in
+    All-contains OfThree words (a ∷ (b ∷ (c ∷ rest))) (All-from_recursion OfThree words each) known
+
+single : (rule : RuleName) (g h : Guarantee) → Reaches (rule ∷ []) g h → Leads rule g h
+single rule g h r = subst (λ v. Leads rule g v) r.2 r.1.leads
+
+-- no other word of at most so many rules leads from g to h
+abbrev IsAlone : List RuleName → Guarantee → Guarantee → Type 0
+IsAlone word g h = (other : List RuleName) → IsWord other → length other ≤ length word → Reaches other g h
+    → other ≡ word
+
+alone-none : (other : List RuleName) → length other ≤ 0 → other ≡ []
+alone-none [] le = refl
+alone-none (a ∷ rest) le = absurd (let few : suc (length rest) ≤ 0 = le in omega arith)
+
+too-long : (rest : List RuleName) (k n : ℕ) → length rest + k ≤ n → suc n ≤ k → ⊥
+too-long rest k n le more = omega arith
+
+alone-one : (rule : RuleName) (g h : Guarantee) → (g ≡ h → ⊥) → ((other : RuleName) → Leads other g h → other ≡ rule)
+    → IsAlone (rule ∷ []) g h
+alone-one rule g h moved only [] known le r = absurd (moved r)
+alone-one rule g h moved only (a ∷ []) known le r = ap (λ (v : RuleName). v ∷ []) (only a (single a g h r))
+alone-one rule g h moved only (a ∷ (b ∷ rest)) known le r =
+    absurd (too-long rest 2 1 (let more : length (a ∷ (b ∷ rest)) ≤ 1 = le in omega arith) (omega arith))
+
+alone-two : (first second : RuleName) (g h : Guarantee) → (g ≡ h → ⊥) → ((other : RuleName) → Leads other g h → ⊥)
+    → ((a b : RuleName) → IsWord (a ∷ (b ∷ [])) → Reaches (a ∷ (b ∷ [])) g h → (a ≡ first) × (b ≡ second))
+    → IsAlone (first ∷ (second ∷ [])) g h
+alone-two first second g h moved none only [] known le r = absurd (moved r)
+alone-two first second g h moved none only (a ∷ []) known le r = absurd (none a (single a g h r))
+alone-two first second g h moved none only (a ∷ (b ∷ [])) known le r =
+    let both = only a b known r in
+    let one : a ≡ first = both.0 in
+    let two : b ≡ second = both.1 in
+    cc
+alone-two first second g h moved none only (a ∷ (b ∷ (c ∷ rest))) known le r =
+    absurd (too-long rest 3 2 (let more : length (a ∷ (b ∷ (c ∷ rest))) ≤ 2 = le in omega arith) (omega arith))
+
+alone-three : (g h : Guarantee) → (g ≡ h → ⊥) → ((other : RuleName) → Leads other g h → ⊥)
+    → ((a b : RuleName) → IsWord (a ∷ (b ∷ [])) → Reaches (a ∷ (b ∷ [])) g h → ⊥)
+    → IsAlone (R2 ∷ (R1 ∷ (R7 ∷ []))) g h
+alone-three g h moved none two [] known le r = absurd (moved r)
+alone-three g h moved none two (a ∷ []) known le r = absurd (none a (single a g h r))
+alone-three g h moved none two (a ∷ (b ∷ [])) known le r = absurd (two a b known r)
+alone-three g h moved none two (a ∷ (b ∷ (c ∷ rest))) known le r = three-rules a b c rest known
+
+-- ---- what two rules reach
+
+second-of : (a b : RuleName) (g h : Guarantee) (r : Reaches (a ∷ (b ∷ [])) g h) → Leads b r.0 h
+second-of a b g h r = single b r.0 h r.2
+
+-- the hard reservation made soft, and then by the next rule
+softened : (b : RuleName) (g k h : Guarantee) → ((m : Guarantee) → Leads R2 g m → m ≡ k)
+    → Reaches (R2 ∷ (b ∷ [])) g h → Leads b k h
+softened b g k h is r = subst (λ v. Leads b v h) (is r.0 r.1.leads) (second-of R2 b g h r)
+
+-- windows of blocks, and then blocks again
+widened-way : {g m : Guarantee} (x y e f : ℕ) → g ≡ Resb true x y → Way R3 g m → Leads R7 m (Resb false e f) → e ≤ x
+widened-way x y e f is (r3 {x = u} {y = v} {e = i} {f = j} less wide) same =
+    let one : Resb false e f ≡ Resb false i j = same in
+    let two : u ≡ x = cc in
+    let three : e ≡ i = cc in
+    omega arith
+
+widened : (x y e f : ℕ) → Reaches (R3 ∷ (R7 ∷ [])) (Resb true x y) (Resb false e f) → e ≤ x
+widened x y e f r =
+    widened-way x y e f refl (converts-way R3 (Resb true x y) r.0 r.1)
+    (second-of R3 R7 (Resb true x y) (Resb false e f) r)
+
+windows-no-share : {g m : Guarantee} (s d : Frac) → Way R3 g m → Leads R7 m (Psbe s d) → ⊥
+windows-no-share s d (r3 less wide) same = (let none : ⊥ = cc in none)
+
+-- a share of a reservation gives no reservation by R1, no share by R6, and by R6 what the reservation covers
+data IsShareWay : Guarantee → Guarantee → Type 0 where
+  by_blocks : {g m : Guarantee} → Way R4 g m → IsShareWay g m
+  by_windows : {g m : Guarantee} → Way R5 g m → IsShareWay g m
+
+share-no-blocks : {g m : Guarantee} (e f : ℕ) → IsShareWay g m → Leads R1 m (Resb false e f) → ⊥
+share-no-blocks e f (by_blocks (r4 rate error)) leads = leads
+share-no-blocks e f (by_windows (r5 rate error)) leads = leads
+
+share-no-windows : {g m : Guarantee} (e f : ℕ) → IsShareWay g m → Leads R1 m (Resc false e f) → ⊥
+share-no-windows e f (by_blocks (r4 rate error)) leads = leads
+share-no-windows e f (by_windows (r5 rate error)) leads = leads
+
+share-no-share : {g m : Guarantee} (s d : Frac) → IsShareWay g m → Leads R6 m (Psbe s d) → ⊥
+share-no-share s d (by_blocks (r4 rate error)) leads = leads
+share-no-share s d (by_windows (r5 rate error)) leads = leads
+
+-- what a share covers that is a reservation's, the reservation's rate and error cover
+same-quad : {g m : Guarantee} (e f : ℕ) → IsValid m → IsShareWay g m → IsCovered (quad m) e f
+    → IsCovered (quad g) e f
+same-quad e f valid (by_blocks (r4 {hard = hard} {x = x} {y = y} {s = s} {d = d} rate error)) under =
+    covered-from e f (quad-ok (Psbe s d) valid)
+    (better-quotient s.num s.den d.num d.den x y (x * (2 * (y - x))) y rate error) under
+same-quad e f valid (by_windows (r5 {hard = hard} {x = x} {y = y} {s = s} {d = d} rate error)) under =
+    covered-from e f (quad-ok (Psbe s d) valid)
+    (better-quotient s.num s.den d.num d.den x y (x * (y - x)) y rate error) under
+
+covered-blocks : {g m : Guarantee} (e f : ℕ) → IsShareWay g m → Leads R6 m (Resb false e f) → IsCovered (quad m) e f
+covered-blocks e f (by_blocks (r4 rate error)) leads = leads
+covered-blocks e f (by_windows (r5 rate error)) leads = leads
+
+covered-windows : {g m : Guarantee} (e f : ℕ) → IsShareWay g m → Leads R6 m (Resc false e f) → IsCovered (quad m) e f
+covered-windows e f (by_blocks (r4 rate error)) leads = leads
+covered-windows e f (by_windows (r5 rate error)) leads = leads
+
+way-4 : (g m : Guarantee) → Converts R4 g m → IsShareWay g m
+way-4 g m c = by_blocks (converts-way R4 g m c)
+
+way-5 : (g m : Guarantee) → Converts R5 g m → IsShareWay g m
+way-5 g m c = by_windows (converts-way R5 g m c)
+
+no-41b : (g : Guarantee) (e f : ℕ) → Reaches (R4 ∷ (R1 ∷ [])) g (Resb false e f) → ⊥
+no-41b g e f r = share-no-blocks e f (way-4 g r.0 r.1) (second-of R4 R1 g (Resb false e f) r)
+
+no-51b : (g : Guarantee) (e f : ℕ) → Reaches (R5 ∷ (R1 ∷ [])) g (Resb false e f) → ⊥
+no-51b g e f r = share-no-blocks e f (way-5 g r.0 r.1) (second-of R5 R1 g (Resb false e f) r)
+
+no-51c : (g : Guarantee) (e f : ℕ) → Reaches (R5 ∷ (R1 ∷ [])) g (Resc false e f) → ⊥
+no-51c g e f r = share-no-windows e f (way-5 g r.0 r.1) (second-of R5 R1 g (Resc false e f) r)
+
+no-46p : (g : Guarantee) (s d : Frac) → Reaches (R4 ∷ (R6 ∷ [])) g (Psbe s d) → ⊥
+no-46p g s d r = share-no-share s d (way-4 g r.0 r.1) (second-of R4 R6 g (Psbe s d) r)
+
+no-56p : (g : Guarantee) (s d : Frac) → Reaches (R5 ∷ (R6 ∷ [])) g (Psbe s d) → ⊥
+no-56p g s d r = share-no-share s d (way-5 g r.0 r.1) (second-of R5 R6 g (Psbe s d) r)
+
+no-37p : (g : Guarantee) (s d : Frac) → Reaches (R3 ∷ (R7 ∷ [])) g (Psbe s d) → ⊥
+no-37p g s d r = windows-no-share s d (converts-way R3 g r.0 r.1) (second-of R3 R7 g (Psbe s d) r)
+
+by-46b : (g : Guarantee) (e f : ℕ) → Reaches (R4 ∷ (R6 ∷ [])) g (Resb false e f) → IsCovered (quad g) e f
+by-46b g e f r =
+    let way = way-4 g r.0 r.1 in
+    same-quad e f r.1.to way (covered-blocks e f way (second-of R4 R6 g (Resb false e f) r))
+
+by-56b : (g : Guarantee) (e f : ℕ) → Reaches (R5 ∷ (R6 ∷ [])) g (Resb false e f) → IsCovered (quad g) e f
+by-56b g e f r =
+    let way = way-5 g r.0 r.1 in
+    same-quad e f r.1.to way (covered-blocks e f way (second-of R5 R6 g (Resb false e f) r))
+
+by-56c : (g : Guarantee) (e f : ℕ) → Reaches (R5 ∷ (R6 ∷ [])) g (Resc false e f) → IsCovered (quad g) e f
+by-56c g e f r =
+    let way = way-5 g r.0 r.1 in
+    same-quad e f r.1.to way (covered-windows e f way (second-of R5 R6 g (Resc false e f) r))
+
+-- ---- shares and reservations to try
+
+sized : (x y : ℕ) → 1 ≤ x → x ≤ y → y ≤ 20000 → IsReservation x y
+sized x y some fits size = record { some = some; fits = fits; size = size }
+
+-- the rate a / b with the error p / q
+record ShareOf (a b p q : ℕ) : Type 0 where
+  s : Frac
+  d : Frac
+  rate : IsQuotient s a b
+  error : IsQuotient d p q
+  valid : IsValid (Psbe s d)
+
+share-of : (a b p q : ℕ) → 1 ≤ a → a ≤ b → b ≤ 10 → 1 ≤ q → p ≤ 10 → q ≤ 10 → ShareOf a b p q
+share-of a b p q some fits small pos num den =
+    let s = quotient_of a b (omega arith) in
+    let d = quotient_of p q pos in
+    record {
+      s = s.0;
+      d = d.0;
+      rate = s.1;
+      error = d.1;
+      valid = quotients-share (10 ^ 13) (10 ^ 8) a b p q s.0 d.0 some fits pos (omega arith) (omega arith)
+          (omega arith) (omega arith) s.1 d.1;
+    }
+
+shares-better : {a b p q c f r u : ℕ} (m : ShareOf a b p q) (h : ShareOf c f r u) → IsQuad (quad_of a b p q)
+    → IsQuad (quad_of c f r u) → IsBetter (quad_of a b p q) (quad_of c f r u)
+    → IsBetter (quad (Psbe m.s m.d)) (quad (Psbe h.s h.d))
+shares-better {a} {b} {p} {q} {c} {f} {r} {u} m h first second better =
+    better-trans first (quotient-better m.s.num m.s.den m.d.num m.d.den a b p q m.rate m.error)
+    (better-trans second better (better-quotient h.s.num h.s.den h.d.num h.d.den c f r u h.rate h.error))
+
+share-covers : {a b p q : ℕ} (m : ShareOf a b p q) (x y : ℕ) → IsQuad (quad_of a b p q)
+    → IsCovered (quad_of a b p q) x y → IsCovered (quad (Psbe m.s m.d)) x y
+share-covers {a} {b} {p} {q} m x y ok under =
+    covered-from x y ok (quotient-better m.s.num m.s.den m.d.num m.d.den a b p q m.rate m.error) under
+
+-- ---- words of one rule
+
+whole : ShareOf 1 1 0 1
+whole = share-of 1 1 0 1 (lit≤ tt) (lit≤ tt) (lit≤ tt) (lit≤ tt) (lit≤ tt) (lit≤ tt)
+
+later : ShareOf 1 1 1 1
+later = share-of 1 1 1 1 (lit≤ tt) (lit≤ tt) (lit≤ tt) (lit≤ tt) (lit≤ tt) (lit≤ tt)
+
+r11 : IsReservation 1 1
+r11 = sized 1 1 (lit≤ tt) (lit≤ tt) (lit≤ tt)
+
+r12 : IsReservation 1 2
+r12 = sized 1 2 (lit≤ tt) (lit≤ tt) (lit≤ tt)
+
+r13 : IsReservation 1 3
+r13 = sized 1 3 (lit≤ tt) (lit≤ tt) (lit≤ tt)
+
+r14 : IsReservation 1 4
+r14 = sized 1 4 (lit≤ tt) (lit≤ tt) (lit≤ tt)
+
+ok1101 : IsQuad (quad_of 1 1 0 1)
+ok1101 = record { some = lit≤ tt; fits = lit≤ tt; under = lit≤ tt }
+
+ok1111 : IsQuad (quad_of 1 1 1 1)
+ok1111 = record { some = lit≤ tt; fits = lit≤ tt; under = lit≤ tt }
+
+no-word : IsNeeded []
+no-word = record {
+  from = All;
+  to = All;
+  reaches = refl;
+  alone = λ other known le r. alone-none other (let few : length other ≤ 0 = le in few);
+}
+
+-- one step by its rule, which no other rule makes
+by-rule : (rule : RuleName) (g h : Guarantee) → IsValid g → IsValid h → Way rule g h → (g ≡ h → ⊥)
+    → ((other : RuleName) → Leads other g h → other ≡ rule) → IsNeeded (rule ∷ [])
+by-rule rule g h vg vh way moved only = record {
+  from = g;
+  to = h;
+  reaches = (h, way-converts vg vh way, refl);
+  alone = alone-one rule g h moved only;
+}
+
+only-1 : (s d t e : Frac) (other : RuleName) → Leads other (Psbe s d) (Psbe t e) → other ≡ R1
+only-1 s d t e R1 leads = refl
+only-1 s d t e R9 leads = cc
+only-1 s d t e _ leads = absurd leads
+
+only-2 : (other : RuleName) → Leads other (Resb true 1 2) (Resb false 1 2) → other ≡ R2
+only-2 R2 leads = refl
+only-2 R9 leads = cc
+only-2 _ leads = absurd leads
+
+only-3 : (other : RuleName) → Leads other (Resb true 1 2) (Resc false 1 3) → other ≡ R3
+only-3 R3 leads = refl
+only-3 R2 leads = cc
+only-3 R9 leads = cc
+only-3 _ leads = absurd leads
+
+only-4 : (s d : Frac) (other : RuleName) → Leads other (Resb true 1 2) (Psbe s d) → other ≡ R4
+only-4 s d R4 leads = refl
+only-4 s d R2 leads = cc
+only-4 s d R9 leads = cc
+only-4 s d _ leads = absurd leads
+
+only-5 : (s d : Frac) (other : RuleName) → Leads other (Resc true 1 2) (Psbe s d) → other ≡ R5
+only-5 s d R5 leads = refl
+only-5 s d R2 leads = cc
+only-5 s d R7 leads = cc
+only-5 s d R9 leads = cc
+only-5 s d _ leads = absurd leads
+
+only-6 : (s d : Frac) (other : RuleName) → Leads other (Psbe s d) (Resb false 1 1) → other ≡ R6
+only-6 s d R6 leads = refl
+only-6 s d R9 leads = cc
+only-6 s d _ leads = absurd leads
+
+only-7 : (other : RuleName) → Leads other (Resc true 1 2) (Resb true 1 2) → other ≡ R7
+only-7 R7 leads = refl
+only-7 R2 leads = cc
+only-7 R9 leads = cc
+only-7 _ leads = absurd leads
+
+only-8 : (other : RuleName) → Leads other All (Resb false 1 1) → other ≡ R8
+only-8 R8 leads = refl
+only-8 R9 leads = cc
+only-8 _ leads = absurd leads
+
+only-9 : (other : RuleName) → Leads other All Null → other ≡ R9
+only-9 R9 leads = refl
+only-9 _ leads = absurd leads
+
+blocks-share : ShareOf 1 2 2 2
+blocks-share = share-of 1 2 2 2 (lit≤ tt) (lit≤ tt) (lit≤ tt) (lit≤ tt) (lit≤ tt) (lit≤ tt)
+
+windows-share : ShareOf 1 2 1 2
+windows-share = share-of 1 2 1 2 (lit≤ tt) (lit≤ tt) (lit≤ tt) (lit≤ tt) (lit≤ tt) (lit≤ tt)
+
+weaker : IsBetter (quad (Psbe whole.s whole.d)) (quad (Psbe later.s later.d))
+weaker = shares-better whole later ok1101 ok1111 (record { rate = lit≤ tt; delay = lit≤ tt })
+
+-- the error tells them apart
+later-moves : Psbe whole.s whole.d ≡ Psbe later.s later.d → ⊥
+later-moves same =
+    let error : whole.d ≡ later.d = cc in
+    let num : whole.d.num ≡ later.d.num = ap (λ (v : Frac). v.num) error in
+    let none = whole.error in
+    let one = later.error in
+    let pos = later.d.positive in
+    omega arith
+
+rule-needed : (rule : RuleName) → IsNeeded (rule ∷ [])
+rule-needed R1 = by-rule R1 (Psbe whole.s whole.d) (Psbe later.s later.d) whole.valid later.valid
+    (r1p weaker.rate weaker.delay) (λ same. later-moves same) (only-1 whole.s whole.d later.s later.d)
+rule-needed R2 = by-rule R2 (Resb true 1 2) (Resb false 1 2) r12 r12 r2b (λ same. cc) only-2
+rule-needed R3 = by-rule R3 (Resb true 1 2) (Resc false 1 3) r12 r13 (r3 (lit≤ tt) (lit≤ tt)) (λ same. cc) only-3
+rule-needed R4 = by-rule R4 (Resb true 1 2) (Psbe blocks-share.s blocks-share.d) r12 blocks-share.valid
+    (r4 blocks-share.rate blocks-share.error) (λ same. cc) (only-4 blocks-share.s blocks-share.d)
+rule-needed R5 = by-rule R5 (Resc true 1 2) (Psbe windows-share.s windows-share.d) r12 windows-share.valid
+    (r5 windows-share.rate windows-share.error) (λ same. cc) (only-5 windows-share.s windows-share.d)
+rule-needed R6 = by-rule R6 (Psbe whole.s whole.d) (Resb false 1 1) whole.valid r11
+    (r6b (share-covers whole 1 1 ok1101 (lit≤ tt))) (λ same. cc) (only-6 whole.s whole.d)
+rule-needed R7 = by-rule R7 (Resc true 1 2) (Resb true 1 2) r12 r12 r7 (λ same. cc) only-7
+rule-needed R8 = by-rule R8 All (Resb false 1 1) tt r11 r8b (λ same. cc) only-8
+rule-needed R9 = by-rule R9 All Null tt tt r9 (λ same. cc) only-9
+
+pub word-needed : (word : List RuleName) → IsWord word → IsNeeded word
+word-needed word known = ?
