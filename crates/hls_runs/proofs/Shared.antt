@@ -33,7 +33,8 @@ use Rattle.hls_runs.proofs.Small.{Few, few_after, each_of_three, beyond, take_on
 use Rattle.hls_runs.proofs.Awake.{off_two}
 use Rattle.hls_runs.proofs.Tagged.{lone, pair, first, again, second, third, tags_pair, tags_again, tags_second}
 use Rattle.hls_runs.proofs.Tagged.{tags_third}
-use Rattle.hls_runs.proofs.Desk.{first_first, second_first, IsDesk, can_load_desk, desk_flat, desk_asking, desk_ticked, desk_runs}
+use Rattle.hls_runs.proofs.Desk.{first_first, second_first, IsDesk, can_load_desk}
+use Rattle.hls_runs.proofs.Desk.{desk_flat, desk_asking, desk_ticked, desk_runs}
 
 -- what a seat of weight 1 or 2 is guaranteed
 unit : (den : ℕ) → 1 ≤ den → Frac
