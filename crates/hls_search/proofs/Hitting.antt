@@ -26,7 +26,8 @@ use Rattle.hls_rules.proofs.Decided.{answer-one}
 use Rattle.hls_search_laws.specs.Words.{IsFound}
 use Rattle.hls_search_laws.proofs.Ways.{Way, converts-way, way-converts}
 use Rattle.hls_search_laws.proofs.Ways.Way.{r4, r5}
-use Rattle.hls_search_laws.proofs.Makes.{make-blocks, make-windows, narrow-valid, share-narrow, blocks-most, windows-most}
+use Rattle.hls_search_laws.proofs.Makes.{make-blocks, make-windows, narrow-valid, share-narrow}
+use Rattle.hls_search_laws.proofs.Makes.{blocks-most, windows-most}
 use Rattle.hls_search_laws.proofs.Finding.{single-answers}
 use Rattle.hls_search.specs.Inside.Places.{IsBestShare, ToShare, HitsByBest, LendsOfAll, LendsShares}
 use Rattle.hls_search.specs.Inside.Places.IsBestShare.{itself, of_blocks, of_windows, of_all}

@@ -49,25 +49,40 @@ cross x y e f lex ley = mul-le-mul lex ley
 
 pub shape-better : {n : ℕ} {g h : Guarantee} → IsValid g → IsValid h → Shape n g h → IsBetter (quad g) (quad h)
 shape-better vg vh (s1 c) = better-refl _
-shape-better vg vh (s2h {x = x} {y = y} {e = e} c d) = better-reservation x y (2 * (y - x)) e y (2 * (y - e)) (cross x y e y d (omega arith)) (omega (arith, vg.fits))
-shape-better vg vh (s2s {x = x} {y = y} {e = e} c d) = better-reservation x y (2 * (y - x)) e y (2 * (y - e)) (cross x y e y d (omega arith)) (omega (arith, vg.fits))
-shape-better vg vh (s3 {x = x} {y = y} {e = e} {f = f} c d k) = better-reservation x y (2 * (y - x)) e f (f - e) (cross x y e f d (omega (arith, vg.fits))) (omega (arith, vg.fits))
-shape-better vg vh (s4 {x = x} {y = y} {e = e} {f = f} c d k) = better-reservation x y (2 * (y - x)) e f (2 * (f - e)) (cross x y e f d (omega (arith, vg.fits))) (omega (arith, vg.fits))
+shape-better vg vh (s2h {x = x} {y = y} {e = e} c d) = better-reservation x y (2 * (y - x)) e y (2 * (y - e))
+    (cross x y e y d (omega arith)) (omega (arith, vg.fits))
+shape-better vg vh (s2s {x = x} {y = y} {e = e} c d) = better-reservation x y (2 * (y - x)) e y (2 * (y - e))
+    (cross x y e y d (omega arith)) (omega (arith, vg.fits))
+shape-better vg vh (s3 {x = x} {y = y} {e = e} {f = f} c d k) =
+    better-reservation x y (2 * (y - x)) e f (f - e) (cross x y e f d (omega (arith, vg.fits)))
+    (omega (arith, vg.fits))
+shape-better vg vh (s4 {x = x} {y = y} {e = e} {f = f} c d k) =
+    better-reservation x y (2 * (y - x)) e f (2 * (f - e)) (cross x y e f d (omega (arith, vg.fits)))
+    (omega (arith, vg.fits))
 shape-better vg vh (c1 {x = x} {y = y} c) = better-reservation x y (y - x) x y (2 * (y - x)) (omega arith) (omega arith)
 shape-better vg vh (c2 c) = better-refl _
-shape-better vg vh (c3h {x = x} {y = y} c) = better-reservation x y (y - x) x y (2 * (y - x)) (omega arith) (omega arith)
-shape-better vg vh (c3s {x = x} {y = y} c) = better-reservation x y (y - x) x y (2 * (y - x)) (omega arith) (omega arith)
-shape-better vg vh (c4h {x = x} {y = y} {e = e} {f = f} c d k) = better-reservation x y (y - x) e f (f - e) (cross x y e f d k) (omega arith)
-shape-better vg vh (c4s {x = x} {y = y} {e = e} {f = f} c d k) = better-reservation x y (y - x) e f (f - e) (cross x y e f d k) (omega arith)
-shape-better vg vh (c5h {x = x} {y = y} {e = e} {f = f} c d k) = better-reservation x y (y - x) e f (2 * (f - e)) (cross x y e f d k) (omega arith)
-shape-better vg vh (c5s {x = x} {y = y} {e = e} {f = f} c d k) = better-reservation x y (y - x) e f (2 * (f - e)) (cross x y e f d k) (omega arith)
+shape-better vg vh (c3h {x = x} {y = y} c) = better-reservation x y (y - x) x y (2 * (y - x)) (omega arith)
+    (omega arith)
+shape-better vg vh (c3s {x = x} {y = y} c) = better-reservation x y (y - x) x y (2 * (y - x)) (omega arith)
+    (omega arith)
+shape-better vg vh (c4h {x = x} {y = y} {e = e} {f = f} c d k) =
+    better-reservation x y (y - x) e f (f - e) (cross x y e f d k) (omega arith)
+shape-better vg vh (c4s {x = x} {y = y} {e = e} {f = f} c d k) =
+    better-reservation x y (y - x) e f (f - e) (cross x y e f d k) (omega arith)
+shape-better vg vh (c5h {x = x} {y = y} {e = e} {f = f} c d k) =
+    better-reservation x y (y - x) e f (2 * (f - e)) (cross x y e f d k) (omega arith)
+shape-better vg vh (c5s {x = x} {y = y} {e = e} {f = f} c d k) =
+    better-reservation x y (y - x) e f (2 * (f - e)) (cross x y e f d k) (omega arith)
 
-pub shape-step : {n : ℕ} {rule : RuleName} {g m h : Guarantee} → IsValid g → IsValid m → IsValid h → Shape n g m → Way rule m h → Closed (suc n) g h
+pub shape-step : {n : ℕ} {rule : RuleName} {g m h : Guarantee} → IsValid g → IsValid m → IsValid h → Shape n g m
+    → Way rule m h → Closed (suc n) g h
 shape-step vg vm vh s r9 = null (omega arith)
 shape-step {m = m} vg vm vh s (r4 {x = x} {y = y} {s = u} {d = d} rate error) =
-    bound (shape-least s) (omega (arith, shape-some s)) (share (better-trans (quad-ok m vm) (shape-better vg vm s) (better-quotient u.num u.den d.num d.den x y (x * (2 * (y - x))) y rate error)))
+    bound (shape-least s) (omega (arith, shape-some s)) (share (better-trans (quad-ok m vm)
+    (shape-better vg vm s) (better-quotient u.num u.den d.num d.den x y (x * (2 * (y - x))) y rate error)))
 shape-step {m = m} vg vm vh s (r5 {x = x} {y = y} {s = u} {d = d} rate error) =
-    bound (shape-least s) (omega (arith, shape-some s)) (share (better-trans (quad-ok m vm) (shape-better vg vm s) (better-quotient u.num u.den d.num d.den x y (x * (y - x)) y rate error)))
+    bound (shape-least s) (omega (arith, shape-some s)) (share (better-trans (quad-ok m vm)
+    (shape-better vg vm s) (better-quotient u.num u.den d.num d.den x y (x * (y - x)) y rate error)))
 shape-step vg vm vh s (r1p i j) = elim s [ ]
 shape-step vg vm vh s r2c = elim s [ ]
 shape-step vg vm vh s (r6c i) = elim s [ ]

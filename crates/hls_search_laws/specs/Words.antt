@@ -20,7 +20,10 @@ Walks (rule ∷ rest) g wanted =
 
 -- the words that are tried, in their order
 abbrev pub words : List (List RuleName)
-words = [] ∷ ((R1 ∷ []) ∷ ((R2 ∷ []) ∷ ((R3 ∷ []) ∷ ((R4 ∷ []) ∷ ((R5 ∷ []) ∷ ((R6 ∷ []) ∷ ((R7 ∷ []) ∷ ((R8 ∷ []) ∷ ((R9 ∷ []) ∷ ((R1 ∷ (R7 ∷ [])) ∷ ((R2 ∷ (R1 ∷ [])) ∷ ((R2 ∷ (R7 ∷ [])) ∷ ((R3 ∷ (R7 ∷ [])) ∷ ((R4 ∷ (R1 ∷ [])) ∷ ((R4 ∷ (R6 ∷ [])) ∷ ((R5 ∷ (R1 ∷ [])) ∷ ((R5 ∷ (R6 ∷ [])) ∷ ((R2 ∷ (R1 ∷ (R7 ∷ []))) ∷ []))))))))))))))))))
+words =
+    [] ∷ (R1 ∷ []) ∷ (R2 ∷ []) ∷ (R3 ∷ []) ∷ (R4 ∷ []) ∷ (R5 ∷ []) ∷ (R6 ∷ []) ∷ (R7 ∷ []) ∷ (R8 ∷ []) ∷ (R9 ∷ []) ∷
+    (R1 ∷ R7 ∷ []) ∷ (R2 ∷ R1 ∷ []) ∷ (R2 ∷ R7 ∷ []) ∷ (R3 ∷ R7 ∷ []) ∷ (R4 ∷ R1 ∷ []) ∷
+    (R4 ∷ R6 ∷ []) ∷ (R5 ∷ R1 ∷ []) ∷ (R5 ∷ R6 ∷ []) ∷ (R2 ∷ R1 ∷ R7 ∷ []) ∷ []
 
 abbrev pub IsWord : List RuleName → Type 0
 IsWord word = Contains words word

@@ -12,7 +12,8 @@ pub returns-then-len-depth-clause-none : goal.returns-then-len-depth-clause-none
 returns-then-len-depth-clause-none g c = λ none other too hit.
     let place = c.args.place.now in
     let best = c.in_ok-best.best in
-    let hits = best-hit place.config place.terms c.args.depth (length best.before) c.have_at-have.result other best.share
+    let hits = best-hit place.config place.terms c.args.depth
+    (length best.before) c.have_at-have.result other best.share
     c.args.want.now c.args.haves.now c.have_at-have.ensures.there too c.in_ok-best.ensures.best hit in
     absurd (omega (arith, hits.0))
 
@@ -20,7 +21,8 @@ pub returns-in_err-to-clause-none : goal.returns-in_err-to-clause-none
 returns-in_err-to-clause-none g c = λ none other too hit.
     let place = c.args.place.now in
     let best = c.in_ok-best.best in
-    let hits = best-hit place.config place.terms c.args.depth (length best.before) c.have_at-have.result other best.share
+    let hits = best-hit place.config place.terms c.args.depth
+    (length best.before) c.have_at-have.result other best.share
     c.args.want.now c.args.haves.now c.have_at-have.ensures.there too c.in_ok-best.ensures.best hit in
     c.in_err-to.ensures.none refl hits.1 hits.2
 
@@ -34,7 +36,8 @@ pub returns-in_err-after-clause-none : goal.returns-in_err-after-clause-none
 returns-in_err-after-clause-none g c = λ none other too hit.
     let place = c.args.place.now in
     let best = c.in_ok-best.best in
-    let hits = best-hit place.config place.terms c.args.depth (length best.before) c.have_at-have.result other best.share
+    let hits = best-hit place.config place.terms c.args.depth
+    (length best.before) c.have_at-have.result other best.share
     c.args.want.now c.args.haves.now c.have_at-have.ensures.there too c.in_ok-best.ensures.best hit in
     let found = lent-found place.config place.terms best.share hits.1 c.in_ok-to.to c.args.want.now
     (c.args.depth - length best.before) c.requires.fits.config hits.2 c.in_ok-to.ensures.some hits.3 in

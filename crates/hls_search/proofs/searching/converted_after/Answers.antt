@@ -9,7 +9,8 @@ returns-in_err-to-clause-none g c = λ none d is few.
     let place = c.args.place.now in
     let haves = c.args.haves.now in
     let want = c.args.want.now in
-    let same = sole-have place haves want c.have_at-have.result d (inl c.requires.kind) c.have_at-have.ensures.there is in
+    let same = sole-have place haves want c.have_at-have.result d
+    (inl c.requires.kind) c.have_at-have.ensures.there is in
     let hit = derived-after place haves want d c.args.depth c.requires.fits c.requires.some is few c.requires.kind in
     c.in_err-to.ensures.none refl hit.0 (subst (λ v. LendsByTerms place.config place.terms v hit.0) same hit.1)
 

@@ -2,7 +2,8 @@ use Rattle.std.proofs.Common.{◌-◌, ◌≤◌, arith}
 use Rattle.hls_search.proofs.Shares.{back-rate, back-error, fair-back, back-valid}
 use Rattle.hls_search.proofs.Completing.{weight-of}
 use Rattle.hls_search.proofs.sharing.share_before.Goals as goal
-use Rattle.hls_search.proofs.sharing.share_before.Goals.{then-num-den-via-then-num-den, then-num-den-via-else-num-den+then-lost-owed}
+use Rattle.hls_search.proofs.sharing.share_before.Goals.{then-num-den-via-then-num-den}
+use Rattle.hls_search.proofs.sharing.share_before.Goals.{then-num-den-via-else-num-den+then-lost-owed}
 
 pub returns-then-num-den-clause-none : goal.returns-then-num-den-clause-none
 returns-then-num-den-clause-none c = λ none s d share fair.
