@@ -13,11 +13,11 @@ use Rattle.hls_sched.proofs.Masks.{asks_without, silent_without}
 use Rattle.hls_legal.specs.Ledgers.{with_marks}
 use Rattle.hls_legal.specs.Hierarchy.{Node, Loaded, Admitted, Seat, Processor, At}
 use Rattle.hls_legal.specs.Steps.{marked, seating_at, leaving_at, seatings, leavings}
-use Rattle.hls_tree.specs.Shown.{Post, IsPosted, What, Scheduler, Thread, Shown, Bare, SchedulerNode, ThreadNode, bare, bare_in}
-use Rattle.hls_tree.specs.Shown.{level_in, seats_in, ready_in, PostedIn, RoomBare, on_post}
-use Rattle.hls_tree.specs.Shown.{post_seated, post_left}
+use Rattle.hls_walks.specs.Shown.{Post, IsPosted, What, Scheduler, Thread, Shown, Bare, SchedulerNode, ThreadNode, bare, bare_in}
+use Rattle.hls_walks.specs.Shown.{level_in, seats_in, ready_in, PostedIn, RoomBare, most_bare, name_bare, on_post}
+use Rattle.hls_walks.specs.Shown.{post_seated, post_left}
 use Rattle.hls_tree.specs.Seating.{marked_bare, IsMarked}
-use Rattle.hls_tree.proofs.Snapshots.{Nodes, one_of}
+use Rattle.hls_walks.proofs.Snapshots.{Nodes, one_of}
 
 pub bare_marked : (events : List Event) (node : Option Node) → bare (marked events node) ≡ marked_bare events (bare node)
 bare_marked events None = refl
@@ -199,3 +199,14 @@ root_more seats seat old mid at m =
     marked_same (seatings seats) (seatings (seats ++ seat ∷ [])) old mid
     (λ k. sym (seatings-append seats seat k ∙ ap (λ place. seatings seats k ++ seating_at k seat.terms place) at
     ∙ append-nil (seatings seats k))) m
+
+-- neither the bound of levels nor a name changes
+pub most_marked : (events : List Event) (b : Option Bare) → most_bare (marked_bare events b) ≡ most_bare b
+most_marked events None = refl
+most_marked events (Some (SchedulerNode s)) = refl
+most_marked events (Some (ThreadNode name seats)) = refl
+
+pub same_name_marked : (events : List Event) (b : Option Bare) → name_bare (marked_bare events b) ≡ name_bare b
+same_name_marked events None = refl
+same_name_marked events (Some (SchedulerNode s)) = refl
+same_name_marked events (Some (ThreadNode name seats)) = refl

@@ -1,5 +1,5 @@
 -- Seats that are wanted, and that are taken.
-use Rattle.std.specs.Prelude.{◌≡◌, ◌≢◌, ℕ, ◌-◌, ◌<◌, ◌≤◌, List, [], ◌∷◌, length, Option, Some, None, slice_get, ◌==◌}
+use Rattle.std.specs.Prelude.{◌≡◌, ◌≢◌, ℕ, ◌-◌, ◌^◌, ◌<◌, ◌≤◌, List, [], ◌∷◌, length, Option, Some, None, slice_get}
 use Rattle.hls_chron.specs.declared.book.Event.{Event}
 use Rattle.hls_chron.specs.Ranges.{ConfigInRange}
 use Rattle.hls_sched.specs.Seen.{Seen, IsConfigured}
@@ -12,12 +12,12 @@ use Rattle.hls_kinds.specs.Room.{IsFree}
 use Rattle.hls_legal.specs.Steps.{seatings, leavings, Load, Admit, Move, after}
 use Rattle.hls_legal.specs.Legal.{IsBelow, scheduler_at}
 use Rattle.hls_legal.specs.Legal.{MaySit as CanSit}
-use Rattle.hls_tree.specs.Shown.{Shown, What, Bare, SchedulerNode, ThreadNode, bare_in, level_in, seats_in, ready_in, PostedIn, MaySitOn}
-use Rattle.hls_tree.specs.Shown.{IsFreeIn, on_post, post_seated, post_left, book_in, place_in}
+use Rattle.hls_walks.specs.Shown.{Shown, What, Bare, SchedulerNode, ThreadNode, bare_in, level_in, seats_in, ready_in, PostedIn, MaySitOn}
+use Rattle.hls_walks.specs.Shown.{IsFreeIn, on_post, post_seated, post_left, book_in, place_in}
 use Rattle.hls_chron.specs.Seats.{terms_at}
 use Rattle.hls_legal.specs.Ledgers.{with_marks}
-use Rattle.hls_tree.specs.TreeOf.{IsReady}
-use Rattle.hls_tree.specs.declared.seat.Wanted.{Wanted}
+use Rattle.hls_walks.specs.TreeOf.{level_over}
+use Rattle.hls_tree.specs.declared.seat.Seat.{Seat as Wanted}
 
 -- a node with these events on its book
 abbrev pub marked_bare : List Event → Option Bare → Option Bare
@@ -33,10 +33,10 @@ pub record IsMarked (marks : ℕ → List Event) (old new : ℕ → Option Shown
   pub nodes : (k : ℕ) → bare_in (new k) ≡ marked_bare (marks k) (bare_in (old k))
   pub posted : ((k : ℕ) → PostedIn (old k)) → (k : ℕ) → PostedIn (new k)
 
--- a wanted seat can be taken, by a node of a level up to 9
+-- a wanted seat can be taken
 abbrev pub MayTakeOn : (ℕ → Option Shown) → Wanted → (parent : Option ℕ) → Type 0
 MayTakeOn s w None = Unit {0}
-MayTakeOn s w (Some p) = MaySitOn (s p) w.terms × (level_in (s p) ≤ 8)
+MayTakeOn s w (Some p) = MaySitOn (s p) w.terms
 
 abbrev pub MayTake : (ℕ → Option Shown) → Wanted → Type 0
 MayTake s w = MayTakeOn s w w.parent
@@ -84,12 +84,10 @@ pub record IsTaken (wanted : List Wanted) (seats : List Seat) (old new : ℕ →
     pub rest : (p : ℕ) → ((i : ℕ) (w : Wanted) → i < n → slice_get wanted i ≡ Some w → w.parent ≢ Some p)
         → new p ≡ old p
 
--- the level is above that of the scheduler that the seat is wanted on
-abbrev pub IsOver : (s : ℕ → Option Shown) → Wanted → (level : ℕ) → Type 0
-IsOver s w level = (p : ℕ) → w.parent ≡ Some p → level_in (s p) < level
-
-pub record IsOverAll (s : ℕ → Option Shown) (wanted : List Wanted) (n level : ℕ) : Type 0 where
-  pub over : (i : ℕ) (w : Wanted) → i < n → slice_get wanted i ≡ Some w → IsOver s w level
+-- the schedulers that seats are wanted on have levels below this one
+abbrev pub AreBelow : (s : ℕ → Option Shown) → (wanted : List Wanted) → (most : ℕ) → Type 0
+AreBelow s wanted most = (i p : ℕ) (w : Wanted) → slice_get wanted i ≡ Some w → w.parent ≡ Some p
+    → level_in (s p) < most
 
 -- a new node with seats that were wanted
 pub record IsAttached (old new : ℕ → Option Shown) (id : ℕ) (name : List ℕ) (wanted : List Wanted) (what : What)
@@ -98,48 +96,8 @@ pub record IsAttached (old new : ℕ → Option Shown) (id : ℕ) (name : List �
   pub taken : IsTaken wanted seats old mid (length wanted)
   pub vacant : mid id ≡ None
   pub others : (k : ℕ) → k ≢ id → new k ≡ mid k
-  pub level : ℕ
-  pub here : new id ≡ Some (record { name = name; level = level; seats = seats; what = what })
-  pub over : IsOverAll old wanted (length wanted) level
-  pub few : level ≤ 9
-
--- each seat is as it was wanted, and may be taken in a hierarchy where what is guaranteed follows
-pub record IsSeatedAs (s : ℕ → Option Shown) (h : Hierarchy) (wanted : List Wanted) (seats : List Seat) : Type 0 where
-  pub count : length seats ≡ length wanted
-  pub each : (i : ℕ) (w : Wanted) (seat : Seat) → slice_get wanted i ≡ Some w → slice_get seats i ≡ Some seat
-      → IsWanted s w seat
-  pub sits : (i p slot : ℕ) (seat : Seat) → slice_get seats i ≡ Some seat → seat.place ≡ At p slot
-      → Follows (config_of (h.nodes p)) seat.terms (haves_of (h.nodes p)) seat.kept → CanSit h [] seat p slot
-
--- a scheduler that was set up at a tick, with room for the ticks to the horizon
-pub record IsFresh (tick horizon : ℕ) (s : Seen) : Type 0 where
-  pub configured : IsConfigured s
-  pub ranges : ConfigInRange (config_of_seen s)
-  pub start : s.book.start ≡ tick
-  pub rows : s.book.rows ≡ []
-  pub marks : s.book.marks ≡ []
-  pub room : horizon - tick ≤ s.book.spare_ticks
-  pub silent : s.mask ≡ 0
-  pub ungranted : s.grant ≡ None
-
--- a thread is admitted on the seat that was wanted
-pub record Admits (old new : ℕ → Option Shown) (IsTree : Hierarchy → Type 0) (h : Hierarchy) (id : ℕ)
-    (name : List ℕ) (wanted : Wanted) : Type 0 where
-  pub seat : Seat
-  pub new_there : h.nodes id ≡ None
-  pub seated : IsSeatedAs old h (wanted ∷ []) (seat ∷ [])
-  pub tree : IsTree (after h (Admit id name seat))
-  pub ready : IsReady old h → IsReady new (after h (Admit id name seat))
-
--- a scheduler is loaded on the seats that were wanted
-pub record Loads (old new : ℕ → Option Shown) (IsTree : Hierarchy → Type 0) (h : Hierarchy) (id : ℕ)
-    (name : List ℕ) (unit : Seen) (wanted : List Wanted) (seats : List Seat) : Type 0 where
-  pub new_there : h.nodes id ≡ None
-  pub seated : IsSeatedAs old h wanted seats
-  pub tree : IsTree (after h
-      (Load id name (config_of_seen unit) unit.book.spare_ticks unit.book.spare_marks seats))
-  pub ready : IsReady old h → IsReady new (after h
-      (Load id name (config_of_seen unit) unit.book.spare_ticks unit.book.spare_marks seats))
+  pub here : new id ≡ Some (record { name = name; level = level_over mid seats; seats = seats; what = what })
+  pub small : id < 2 ^ 32
 
 -- a seat on it can be left
 pub record MayLeave (o : Option Shown) (slot : ℕ) : Type 0 where
@@ -175,20 +133,3 @@ HasRoomToLeave s id = (port p slot : ℕ) → place_in (s id) port ≡ Some (At 
 abbrev pub MayMove : (s : ℕ → Option Shown) → (id : ℕ) → Wanted → Type 0
 MayMove s id w = (place : Place) (mid : ℕ → Option Shown) → place_in (s id) 0 ≡ Some place
     → LeavesAt place s mid → MayTake mid w
-
--- the slot is the least free of a scheduler where these seats are left
-pub record IsFreeWhenLeft (node : Option Node) (left : List Seat) (p slot : ℕ) : Type 0 where
-  pub scheduler : LoadedScheduler
-  pub there : node ≡ Some (Loaded scheduler)
-  pub free : IsFree scheduler.config (with_marks scheduler.book (leavings left p)) slot
-
--- a thread has moved to the seat that was wanted
-pub record Moves (IsTree : Hierarchy → Type 0) (h : Hierarchy) (id : ℕ) (w : Wanted) : Type 0 where
-  pub seat : Seat
-  pub terms : seat.terms ≡ w.terms
-  pub kept : seat.kept ≡ w.kept
-  pub on : scheduler_at seat.place ≡ w.parent
-  pub free : (p slot : ℕ) → seat.place ≡ At p slot
-      → IsFreeWhenLeft (h.nodes p) (seats_of (h.nodes id)) p slot
-  pub under : IsBelow h id (λ c. c == id)
-  pub tree : IsTree (after h (Move id seat (λ c. c == id)))

@@ -6,6 +6,6 @@ mod seat;
 mod seating;
 mod tree;
 
-pub use hls_walks::NodeId;
-pub use seat::{Body, Seat, Sort};
+pub use hls_walks::{Body, NodeId};
+pub use seat::{Seat, Sort};
 pub use tree::Tree;

@@ -52,16 +52,16 @@ is_there o place e = rw e (same_refl place)
 -- place as what it makes of a walk from it
 pub record Going (s new : Nodes) (choices : ℕ → Option ℕ) (place : Place) (route : List ℕ) (step : ℕ) : Type 0
   where
-  pub hops : List Hop
-  pub route_is : route ≡ map (λ (hop : Hop). hop.node) hops
-  pub count : length route ≡ step
-  pub sitter : Sitter s place
-  pub cont : (h : Hierarchy) → Reads s h → (rest : List Hop) (thread : ℕ)
-      → Walk h (masks s) place rest thread → Walk h (masks s) Processor (hops ++ rest) thread
-  pub asks : asks_in (s sitter.node) ≡ true
-  pub low : step < level_in (s sitter.node)
-  pub granted_are : Granted hops s new choices
-  pub above : (k : ℕ) → level_in (s sitter.node) ≤ level_in (s k) → hop_at hops k ≡ None
+    pub hops : List Hop
+    pub route_is : route ≡ map (λ (hop : Hop). hop.node) hops
+    pub count : length route ≡ step
+    pub sitter : Sitter s place
+    pub cont : (h : Hierarchy) → Reads s h → (rest : List Hop) (thread : ℕ)
+        → Walk h (masks s) place rest thread → Walk h (masks s) Processor (hops ++ rest) thread
+    pub asks : asks_in (s sitter.node) ≡ true
+    pub low : step < level_in (s sitter.node)
+    pub granted_are : Granted hops s new choices
+    pub above : (k : ℕ) → level_in (s sitter.node) ≤ level_in (s k) → hop_at hops k ≡ None
 
 pub going_start : (s : Nodes) (choices : ℕ → Option ℕ) (sitter : Sitter s Processor)
     → asks_in (s sitter.node) ≡ true → IsTelling s 0 0 → (route : List ℕ) → route ≡ []

@@ -32,7 +32,7 @@ bare_roused how (Some (Loaded s)) = refl
 bare_roused how (Some (Admitted t)) = refl
 
 module _ (old new : Nodes) (tick horizon : ℕ) (root : Option ℕ) (id : ℕ) (ready : Bool) (others : (k : ℕ) → k ≢ id → new k ≡ old k) (here : new id ≡ with_ready ready (old id)) where
-  node_set : (k : ℕ) → bare_in (new k) ≡ bare_in (old k)
+  pub node_set : (k : ℕ) → bare_in (new k) ≡ bare_in (old k)
   node_set = one_of (λ k. bare_in (new k) ≡ bare_in (old k)) id (ap bare_in here ∙ (set_in ready (old id)).node)
       (λ k ne. ap bare_in (others k ne))
 

@@ -9,7 +9,7 @@ mod station;
 mod walk;
 
 pub use id::NodeId;
-pub use node::{Node, Place, Role, TakenSeat, is_processor, same_place};
+pub use node::{Body, Node, Place, Role, TakenSeat, is_processor, same_place};
 pub use route::Route;
 pub use station::Station;
 pub use walk::{level_at, pass, set_ready, turn_all};

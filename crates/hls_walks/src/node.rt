@@ -1,11 +1,12 @@
 // Nodes: schedulers and threads, and their seats.
 ghost use Rattle.std.specs.Prelude.{◌≡◌};
 ghost use Rattle.hls_legal.specs.Steps.{is_processor};
-ghost use Rattle.hls_walks.specs.Views.{place_view, same_place};
+ghost use Rattle.hls_walks.specs.Views.{place_view, same_place, what_of, IsBody};
 
 use crate::Station;
 use hls_chron::{Name, Terms};
 use hls_guarantee::Guarantee;
+use hls_sched::Scheduler;
 
 /// The processor, or a slot of a scheduler.
 #[derive(Clone, Copy, Debug, PartialEq, Eq)]
@@ -27,6 +28,25 @@ pub struct TakenSeat {
 pub enum Role {
     Sched(Station),
     Thread { ready: bool },
+}
+
+/// What a node was made of.
+#[derive(Drop)]
+pub enum Body {
+    Sched(Box<dyn Scheduler>),
+    Thread,
+}
+
+impl Role {
+    /// What it was made of.
+    pub fn into_body(self) -> Body
+        ensures { IsBody seen result (what_of seen self) }
+    {
+        match self {
+            Role::Sched(station) => Body::Sched(station.unit),
+            Role::Thread { .. } => Body::Thread,
+        }
+    }
 }
 
 /// A scheduler or a thread, with a seat for each of its ports. Its level is one above the greatest of

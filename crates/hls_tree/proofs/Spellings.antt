@@ -24,7 +24,7 @@ filled_same (x ∷ one) (y ∷ other) zeros e same = elim (cases_eq x y) [
   | inr nk ↦ absurd (let off : bytes_eq (x ∷ (one ++ zeros)) (y ∷ (other ++ zeros)) ≡ false = rw (ne_eqb x y nk) refl in cc)
 ]
 
-same_is : (one other : List ℕ) → same_name one other ≡ true → one ≡ other
+pub same_is : (one other : List ℕ) → same_name one other ≡ true → one ≡ other
 same_is one other same = elim (cases_eq (length one) (length other)) [
   | inl e ↦ filled_same one other (replicate (16 - length other) 0) e
       (ap (λ n. bytes_eq (one ++ replicate (16 - n) 0) (other ++ replicate (16 - length other) 0)) (sym e)
