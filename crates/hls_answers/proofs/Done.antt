@@ -12,6 +12,8 @@ use Rattle.hls_chron.specs.Ranges.{ConfigInRange}
 use Rattle.hls_chron.specs.Seats.{terms_at, most_seats}
 use Rattle.hls_chron.specs.Ticks.{count, one_if}
 use Rattle.hls_chron.specs.Name.{IsName}
+use Rattle.hls_kinds.specs.Made.{IsMade}
+use Rattle.hls_made.proofs.Books.{range_made, admission_made}
 use Rattle.hls_scenario.specs.declared.scenario.Spot.{Spot}
 use Rattle.hls_scenario.specs.declared.scenario.Spot.TheVariants.{Cpu, Under}
 use Rattle.hls_scenario.specs.declared.scenario.Perch.{Perch}
@@ -29,7 +31,7 @@ use Rattle.hls_legal.specs.Legal.{CanLoad, IsLegal, fair_queue, fair_queues}
 use Rattle.hls_legal.specs.Lists.{IsListed}
 use Rattle.hls_legal.proofs.Kept.{IsSound}
 use Rattle.hls_legal.proofs.Lists.{run_listed}
-use Rattle.hls_legal.proofs.Orders.{IsDue, IsDueNode}
+use Rattle.hls_legal.proofs.Books.{IsMadeNode}
 use Rattle.hls_legal.proofs.Solutions.{CanGo, run_goes, start_goes}
 use Rattle.hls_accounts.specs.Tells.{HasName, IsSpot}
 use Rattle.hls_answers.specs.Moment.{Moment, number_of, node_of}
@@ -167,7 +169,7 @@ module _ (m : Moment) (is_reached : IsReached m.hierarchy) where
       by (Admitted t) f = absurd (no_command m (said.Unload name) none (refusals.WrongSort (Some name))
           (record { old = refl; wrong = record { thread = t; there = found_is name (Admitted t) f } }))
       by (Loaded s) f =
-          let due : IsDue ConfigInRange s = subst (IsDueNode ConfigInRange) f.there (is_reached.go.due f.number) in
+          let made : IsMade s.config s.book = subst IsMadeNode f.there (is_reached.go.made f.number) in
           record {
             step = Unload f.number;
             does = f.has;
@@ -176,8 +178,8 @@ module _ (m : Moment) (is_reached : IsReached m.hierarchy) where
               there = f.there;
               empty = λ slot. empty_slot s.book slot (terms_at s.book slot) refl
                   (λ terms e.
-                  (let lt = due.admission.seats.within slot terms e in
-                  let few = most_few s.config due.kind in
+                  (let lt = (admission_made s.config s.book made).seats.within slot terms e in
+                  let few = most_few s.config (range_made s.config s.book made) in
                   omega (arith, lt, few)))
                   (λ some. no_command m (said.Unload name) none (refusals.NotEmpty name (seats_taken s.book))
                   (record {
