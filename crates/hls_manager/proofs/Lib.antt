@@ -1,0 +1,4 @@
+mod Plain
+mod Places
+mod Threads
+mod Ranged
