@@ -2,3 +2,7 @@ mod Plain
 mod Places
 mod Threads
 mod Ranged
+mod Lookups
+mod Admits
+mod Loads
+mod LoadSteps

@@ -1,5 +1,2 @@
 pub mod Lookups
 pub mod Faults
-pub mod Seats
-pub mod Outcomes
-pub mod Threads
