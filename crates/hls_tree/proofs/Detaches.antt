@@ -8,11 +8,13 @@ use Rattle.hls_sched.specs.Seen.{Seen, config_of}
 use Rattle.hls_legal.specs.Hierarchy.{Hierarchy, Node, Loaded, Admitted, Thread as AdmittedThread, Seat, Place, Processor, At}
 use Rattle.hls_legal.specs.Hierarchy.{seats_of, seat_of, book_of, is_ready, was_served}
 use Rattle.hls_legal.specs.Hierarchy.{Scheduler as LoadedScheduler}
-use Rattle.hls_legal.specs.Steps.{marked, leavings, effect, nobody, root_without}
+use Rattle.std.proofs.Common.{false, not, filter, map}
+use Rattle.hls_legal.specs.Hierarchy.{SeatHolder}
+use Rattle.hls_legal.specs.Steps.{listed, marked, leavings, effect, nobody, root_without}
 use Rattle.hls_legal.proofs.Kept.{at_same, at_other}
 use Rattle.hls_walks.specs.Shown.{What, Scheduler, Thread, Shown, SchedulerNode, ThreadNode, bare, bare_in, bare_what}
 use Rattle.hls_walks.specs.Shown.{level_in, seats_in, place_in, book_in, ready_in, PostedIn, RoomBare, most_bare, most_in}
-use Rattle.hls_walks.specs.Shown.{name_bare, name_in}
+use Rattle.hls_walks.specs.Shown.{name_bare, name_in, is_thread_what}
 use Rattle.std.specs.declared.dyn_box.DynBox.{DynBox}
 use Rattle.std.specs.declared.alloc.Global.{Global}
 use Rattle.slab.specs.Slab.{Slab, get, Updates}
@@ -31,6 +33,9 @@ use Rattle.hls_walks.specs.declared.node.Body.TheVariants as bodies
 use Rattle.hls_tree.specs.declared.tree.Tree.{Tree}
 use Rattle.hls_tree.proofs.Marks.{bare_marked, room_marked, most_marked, same_name_marked}
 use Rattle.hls_tree.proofs.Loads.{thread_marked, stands_at, tree_to}
+use Rattle.hls_tree.specs.Lists.{holder_view}
+use Rattle.hls_tree.proofs.Listed.{sched_same, sched_not, listed_less, filter_less}
+use Rattle.std.proofs.lemmas.List.{length-map}
 use Rattle.hls_tree.proofs.Named.{named_gone, name_there}
 
 -- a node is taken out
@@ -222,32 +227,46 @@ module _ {V : Type 0} {P : V → Type 0} (seen : (x : V) × P x → Seen) where
         (room_to_leave (shown_at (boxed seen) old.nodes) stands.h stands.tree.of.nodes key go)
 
     module _ (new : Tree V P) (m : IsMarked (leavings x.seats) (shown_at (boxed seen) mid) (shown_at (boxed seen) new.nodes)) where
-      detached_at : id_of new.names x.name ≡ None
-          → ((other : List ℕ) → other ≢ x.name → id_of new.names other ≡ id_of old.names other)
-          → new.root ≡ root_without x.seats old.root → new.tick ≡ old.tick → new.horizon ≡ old.horizon
-          → (h : Hierarchy) → IsTreeOf seen old h → IsTreeOf seen new (effect h key None nobody)
-      detached_at none others root tick horizon h t = record {
-        of = tree_to (shown_at (boxed seen) new.nodes) old.tick old.horizon new.tick new.horizon
-            (root_without x.seats old.root) new.root _ tick horizon root
-            (detach_tree (shown_at (boxed seen) old.nodes) (shown_at (boxed seen) mid) (shown_at (boxed seen) new.nodes)
-            key x.seats (ap seats_in own) r m old.tick old.horizon old.root (root_without x.seats old.root)
-            (stands_at seen old (λ h. MayGo h id) stands)
-            (empty_there (shown_at (boxed seen) old.nodes) stands.h stands.tree.of.nodes key go) refl h t.of);
-        named = named_gone (shown_at (boxed seen) old.nodes) (shown_at (boxed seen) new.nodes) (id_of old.names)
-            (id_of new.names) key x.name t.named
-            (stay_name (shown_at (boxed seen) old.nodes) (shown_at (boxed seen) mid) (shown_at (boxed seen) new.nodes)
-            key x.seats (ap seats_in own) r m) others
-            (ap name_in own ∙ name_what x.name x.seats x.what)
-            (no_name (shown_at (boxed seen) old.nodes) (shown_at (boxed seen) mid) (shown_at (boxed seen) new.nodes)
-            key x.seats (ap seats_in own) r m) none;
-      }
-
       pub detached : id_of new.names x.name ≡ None
           → ((other : List ℕ) → other ≢ x.name → id_of new.names other ≡ id_of old.names other)
+          → new.schedulers.items ≡ listed (not (is_thread_what x.what)) false id old.schedulers.items
+          → new.threads.items ≡ listed (is_thread_what x.what) false id old.threads.items
+          → map holder_view new.seats.items ≡ filter (λ (s : SeatHolder). not (s.node == id)) (map holder_view old.seats.items)
           → new.root ≡ root_without x.seats old.root → new.tick ≡ old.tick → new.horizon ≡ old.horizon
           → (h : Hierarchy) → IsTreeOf seen old h → IsTreeOf seen new (effect h id None nobody)
-      detached none others root tick horizon h t =
-          subst (λ n. IsTreeOf seen new (effect h n None nobody)) key_is (detached_at none others root tick horizon h t)
+      detached none others schedulers threads seats root tick horizon h t =
+          let is : bare (h.nodes id) ≡ bare_in (Some x) =
+          t.of.nodes id ∙ ap bare_in (ap (shown_at (boxed seen) old.nodes) (sym key_is) ∙ own) in
+          record {
+            of = subst (λ n. IsOf (shown_at (boxed seen) new.nodes) new.tick new.horizon new.root (effect h n None nobody)) key_is
+                (tree_to (shown_at (boxed seen) new.nodes) old.tick old.horizon new.tick new.horizon
+                (root_without x.seats old.root) new.root _ tick horizon root
+                (detach_tree (shown_at (boxed seen) old.nodes) (shown_at (boxed seen) mid) (shown_at (boxed seen) new.nodes)
+                key x.seats (ap seats_in own) r m old.tick old.horizon old.root (root_without x.seats old.root)
+                (stands_at seen old (λ h. MayGo h id) stands)
+                (empty_there (shown_at (boxed seen) old.nodes) stands.h stands.tree.of.nodes key go) refl h t.of));
+            named = named_gone (shown_at (boxed seen) old.nodes) (shown_at (boxed seen) new.nodes) (id_of old.names)
+                (id_of new.names) key x.name t.named
+                (stay_name (shown_at (boxed seen) old.nodes) (shown_at (boxed seen) mid) (shown_at (boxed seen) new.nodes)
+                key x.seats (ap seats_in own) r m) others
+                (ap name_in own ∙ name_what x.name x.seats x.what)
+                (no_name (shown_at (boxed seen) old.nodes) (shown_at (boxed seen) mid) (shown_at (boxed seen) new.nodes)
+                key x.seats (ap seats_in own) r m) none;
+            schedulers = rw ((sched_same (h.nodes id) x is).0, sched_not x.what, t.schedulers) (sym schedulers);
+            threads = rw ((sched_same (h.nodes id) x is).1, t.threads) (sym threads);
+            seats = append-nil (filter (λ (s : SeatHolder). not (s.node == id)) h.seats)
+                ∙ ap (filter (λ (s : SeatHolder). not (s.node == id))) t.seats ∙ sym seats;
+            counts = record {
+              schedulers = rw schedulers (let few = listed_less (not (is_thread_what x.what)) id old.schedulers.items in
+                  omega (arith, few, t.counts.schedulers));
+              threads = rw threads (let few = listed_less (is_thread_what x.what) id old.threads.items in
+                  omega (arith, few, t.counts.threads));
+              seats = (let same = ap length seats in
+                  let few = filter_less (λ (s : SeatHolder). not (s.node == id)) (map holder_view old.seats.items) in
+                  omega (arith, same, few, length-map new.seats.items holder_view, length-map old.seats.items holder_view,
+                  t.counts.seats));
+            };
+          }
 
     pub detached_ready : (later : Slab (StoredNode V P))
         → IsMarked (leavings x.seats) (shown_at (boxed seen) mid) (shown_at (boxed seen) later)

@@ -1,7 +1,7 @@
 -- A thread that is admitted, and a scheduler that is loaded.
 use Rattle.std.proofs.Common.{◌≡◌, ◌≢◌, ℕ, ◌+◌, ◌*◌, ◌<◌, ◌≤◌, false, List, [], ◌∷◌, ◌++◌, length}
 use Rattle.std.proofs.Common.{Option, Some, None, if◌then◌else◌, ◌==◌, refl, sym, ap, ◌∙◌, subst, arith, is_some}
-use Rattle.std.proofs.Common.{unwrap_or, slice_get, Result, Ok, Err}
+use Rattle.std.proofs.Common.{unwrap_or, not, map, slice_get, Result, Ok, Err}
 use Rattle.std.specs.Prelude.{OnErr, IfSome}
 use Rattle.hls_chron.specs.declared.book.Event.{Event}
 use Rattle.hls_chron.specs.declared.plain.Config.{Config}
@@ -14,7 +14,9 @@ use Rattle.hls_legal.specs.Ledgers.{empty_book}
 use Rattle.hls_legal.specs.Hierarchy.{Hierarchy, Node, Loaded, Admitted, name_of}
 use Rattle.hls_legal.specs.Hierarchy.{Thread as AdmittedThread, Seat, is_ready, was_served, seats_of}
 use Rattle.hls_legal.specs.Hierarchy.{Scheduler as LoadedScheduler}
-use Rattle.hls_legal.specs.Steps.{marked, seatings, leavings, effect, nobody, root_with, loaded, admitted}
+use Rattle.std.specs.Prelude.{filter}
+use Rattle.hls_legal.specs.Hierarchy.{SeatHolder}
+use Rattle.hls_legal.specs.Steps.{sitters, marked, seatings, leavings, effect, nobody, root_with, loaded, admitted}
 use Rattle.hls_legal.specs.Legal.{port_count}
 use Rattle.hls_legal.proofs.Kept.{at_same, at_other}
 use Rattle.hls_legal.proofs.Small.{zero_off}
@@ -23,15 +25,17 @@ use Rattle.hls_walks.specs.Shown.{ready_in, ready_what, name_in, name_bare, most
 use Rattle.hls_walks.specs.Views.{boxed, shown_at}
 use Rattle.hls_walks.specs.TreeOf.{IsOf, IsReady, StandsAt}
 use Rattle.hls_walks.proofs.Snapshots.{Nodes, one_of, below_ten}
-use Rattle.hls_walks.proofs.Passes.{laid_from}
+use Rattle.hls_walks.proofs.Passes.{laid_from, seats_same}
 use Rattle.hls_tree.specs.Names.{id_of}
 use Rattle.hls_tree.specs.Offers.{TakesAt, MayTakeEach, MayAdmit, MayLoad, AreTakenAs}
 use Rattle.hls_tree.specs.Seating.{AreBelow, MayTakeAll, IsAttached}
-use Rattle.hls_tree.specs.Trees.{IsTreeOf, IsReadyOf, Stands, IsSame, IsAsBefore, IsInserted, IsNamed, Admits, Loads}
+use Rattle.hls_tree.specs.Trees.{IsTreeOf, IsReadyOf, Stands, IsSame, HasCounts, IsAsBefore, IsInserted, IsNamed, Admits, Loads}
 use Rattle.hls_tree.specs.declared.seat.Seat.{Seat as Wanted}
 use Rattle.hls_tree.specs.declared.tree.Tree.{Tree}
 use Rattle.hls_tree.proofs.Attaches.{attach_tree, taken_as, new_there, may_take_all, name_marked}
 use Rattle.hls_tree.proofs.Levels.{level_is}
+use Rattle.hls_tree.proofs.Listed.{sched_what, sched_not, new_seats, sitters_of}
+use Rattle.hls_tree.specs.Lists.{holder_view, ports_of}
 use Rattle.hls_tree.proofs.Named.{name_there, named_alike, named_new}
 
 lone : (seats : List Seat) → length seats ≡ 1 → (seat : Seat) × (seats ≡ seat ∷ [])
@@ -113,6 +117,14 @@ module _ {V : Type 0} {P : V → Type 0} (seen : (x : V) × P x → Seen) where
             (subst (λ f. IsOf f old.tick old.horizon old.root h) path t.of);
         named = named_alike (shown_at (boxed seen) old.nodes) (shown_at (boxed seen) new.nodes) (id_of old.names) (id_of new.names)
             (λ k. ap name_in (same.nodes k)) same.names t.named;
+        schedulers = t.schedulers ∙ sym same.schedulers;
+        threads = t.threads ∙ sym same.threads;
+        seats = t.seats ∙ ap (map holder_view) (sym same.seats);
+        counts = record {
+          schedulers = rw same.schedulers t.counts.schedulers;
+          threads = rw same.threads t.counts.threads;
+          seats = rw same.seats t.counts.seats;
+        };
       }
 
   pub same_ready : (old new : Tree V P) → IsSame seen old new → (h : Hierarchy) → IsReadyOf seen old h
@@ -142,7 +154,7 @@ module _ {V : Type 0} {P : V → Type 0} (seen : (x : V) × P x → Seen) where
       → StandsAt (shown_at (boxed seen) t.nodes) t.tick t.horizon t.root
   stands_at t Is x = record { h = x.h; tree = x.tree.of; seated = x.seated }
 
-  module _ (old new : Tree V P) (id : ℕ) (name : List ℕ) (wanted : List Wanted) (what : What) (x : IsInserted seen old new id name wanted what) where
+  module _ (old new : Tree V P) (id : ℕ) (name : List ℕ) (wanted : List Wanted) (what : What) (x : IsInserted seen old new id name wanted what) (counts : HasCounts new) where
     named_by : (h g : Hierarchy) → IsTreeOf seen old h → IsTreeOf seen old g → ((k : ℕ) → name_of (g.nodes k) ≢ Some name)
         → name_bare (Some (bare_what name x.seats what)) ≡ Some name
         → IsNamed (shown_at (boxed seen) new.nodes) (id_of new.names)
@@ -155,6 +167,14 @@ module _ {V : Type 0} {P : V → Type 0} (seen : (x : V) × P x → Seen) where
         (ap name_in x.attached.here ∙ is)
         (λ k e. free k (name_there (g.nodes k) (shown_at (boxed seen) old.nodes k) (u.of.nodes k) ∙ e))
         x.named
+
+    inserted_new : (h : Hierarchy) → IsTreeOf seen old h → h.nodes id ≡ None
+    inserted_new h t =
+        new_there (shown_at (boxed seen) old.nodes) (shown_at (boxed seen) new.nodes) id name wanted what x.seats x.attached h t.of.nodes
+
+    seats_bare_is : (node : Node) → bare (Some node) ≡ Some (bare_what name x.seats what) → seats_of (Some node) ≡ x.seats
+    seats_bare_is node is =
+        seats_same (Some node) (Some (record { name = name; level = 0; seats = x.seats; what = what })) is
 
     inserted_tree : (Is : Hierarchy → Type 0) (stands : Stands seen old Is) → MayTakeEach stands.h wanted
         → ((k : ℕ) → name_of (stands.h.nodes k) ≢ Some name) → length wanted ≤ 4 → wanted ≢ []
@@ -175,6 +195,18 @@ module _ {V : Type 0} {P : V → Type 0} (seen : (x : V) × P x → Seen) where
           (may_take_all (shown_at (boxed seen) old.nodes) stands.h stands.tree.of.nodes wanted may)
           small some most low posted room node is);
       named = named_by h stands.h t stands.tree free named;
+      schedulers = rw (inserted_new h t, (sched_what (Some node) name x.seats what is).0, sched_not what, t.schedulers)
+          (sym x.schedulers);
+      threads = rw (inserted_new h t, (sched_what (Some node) name x.seats what is).1, t.threads) (sym x.threads);
+      seats =
+          let whole : filter (λ (s : SeatHolder). not (s.node == id)) h.seats ≡ h.seats =
+          subst (λ l. filter (λ (s : SeatHolder). not (s.node == id)) l ≡ l) (stands.tree.seats ∙ sym t.seats)
+          (new_seats stands.h stands.listed id (inserted_new stands.h stands.tree)) in
+          let own : sitters id 0 (seats_of (Some node)) ≡ ports_of id (length wanted) =
+          sitters_of id (length wanted) (seats_of (Some node)) (ap length (seats_bare_is node is) ∙ x.attached.taken.count) in
+          ap (λ l. l ++ sitters id 0 (seats_of (Some node))) (whole ∙ t.seats)
+          ∙ ap (λ l. map holder_view old.seats.items ++ l) own ∙ sym x.holders;
+      counts = counts;
     }
 
     inserted_taken : (Is : Hierarchy → Type 0) (stands : Stands seen old Is) → MayTakeEach stands.h wanted
@@ -184,10 +216,6 @@ module _ {V : Type 0} {P : V → Type 0} (seen : (x : V) × P x → Seen) where
         old.tick old.horizon old.root h t.of
         (laid_from (shown_at (boxed seen) old.nodes) old.tick old.horizon old.root (stands_at old Is stands))
         (may_take_all (shown_at (boxed seen) old.nodes) stands.h stands.tree.of.nodes wanted may)
-
-    inserted_new : (h : Hierarchy) → IsTreeOf seen old h → h.nodes id ≡ None
-    inserted_new h t =
-        new_there (shown_at (boxed seen) old.nodes) (shown_at (boxed seen) new.nodes) id name wanted what x.seats x.attached h t.of.nodes
 
     inserted_ready : (h : Hierarchy) (node : Node) → IsReadyOf seen old h
         → ((t : AdmittedThread) → Some node ≡ Some (Admitted t)
@@ -211,23 +239,23 @@ module _ {V : Type 0} {P : V → Type 0} (seen : (x : V) × P x → Seen) where
 
   pub admits : (first old new : Tree V P) (id : ℕ) (name : List ℕ) (w : Wanted) → IsSame seen first old
       → Stands seen first (λ h. MayAdmit h name w) → IsInserted seen old new id name (w ∷ []) (Thread false)
-      → (h : Hierarchy) → IsTreeOf seen first h → Admits seen first new h id name w
-  admits first old new id name w same begun x h begun_tree =
+      → HasCounts new → (h : Hierarchy) → IsTreeOf seen first h → Admits seen first new h id name w
+  admits first old new id name w same begun x counts h begun_tree =
       let stands = same_stands first old (λ h. MayAdmit h name w) same begun in
       let t = same_tree first old same h begun_tree in
-      let taken = inserted_taken old new id name (w ∷ []) (Thread false) x (λ h. MayAdmit h name w) stands stands.is.seats h t in
+      let taken = inserted_taken old new id name (w ∷ []) (Thread false) x counts (λ h. MayAdmit h name w) stands stands.is.seats h t in
       let one = lone x.seats taken.count in
-      let tree = inserted_tree old new id name (w ∷ []) (Thread false) x (λ h. MayAdmit h name w) stands stands.is.seats
+      let tree = inserted_tree old new id name (w ∷ []) (Thread false) x counts (λ h. MayAdmit h name w) stands stands.is.seats
       stands.is.name_free (omega arith) (not_empty (w ∷ []) (omega arith)) (omega arith)
       (below_nine (shown_at (boxed seen) old.nodes) old.tick old.horizon old.root stands.h stands.tree.of (w ∷ []) stands.is.seats)
       tt (λ n le. tt) refl h t (Admitted (admitted h.now name one.0))
       (ap (λ l. Some (ThreadNode name l)) (sym one.1)) in
       record {
         seat = one.0;
-        unused = inserted_new old new id name (w ∷ []) (Thread false) x h t;
+        unused = inserted_new old new id name (w ∷ []) (Thread false) x counts h t;
         taken = subst (AreTakenAs h (w ∷ [])) one.1 taken;
         tree = tree;
-        ready = λ r. inserted_ready old new id name (w ∷ []) (Thread false) x h (Admitted (admitted h.now name one.0))
+        ready = λ r. inserted_ready old new id name (w ∷ []) (Thread false) x counts h (Admitted (admitted h.now name one.0))
             (same_ready first old same h r)
             (λ t e. let is : admitted h.now name one.0 ≡ t = cc in
             ap (λ (y : AdmittedThread). is_ready (was_served h.past id) h.now y.wake) (sym is));
@@ -244,29 +272,30 @@ module _ {V : Type 0} {P : V → Type 0} (seen : (x : V) × P x → Seen) where
     spare_marks = b.spare_marks;
   }
 
-  abbrev fresh_what : Seen → What
-  fresh_what u = Scheduler (record { unit = u; mask = 0; granted = false })
+  abbrev fresh_what : Config → Seen → What
+  fresh_what config u = Scheduler (record { unit = u; config = config; mask = 0; granted = false })
 
   config_set : (config : Config) (tick horizon commands : ℕ) (u : Seen) → IsSetUp config tick horizon commands u
       → config_of u ≡ config
   config_set config tick horizon commands u f = ap (λ o. unwrap_or o configs.Cpu) f.configured
 
   posted_fresh : (config : Config) (tick horizon commands : ℕ) (u : Seen) → ConfigInRange config
-      → IsSetUp config tick horizon commands u → IsPosted (record { unit = u; mask = 0; granted = false })
+      → IsSetUp config tick horizon commands u → IsPosted (record { unit = u; config = config; mask = 0; granted = false })
   posted_fresh config tick horizon commands u range f = record {
     configured = λ none. (let clash : Some config ≡ None = sym f.configured ∙ none in cc);
     mask = sym f.silent;
     granted = sym (ap is_some f.ungranted);
     ranges = subst ConfigInRange (sym (config_set config tick horizon commands u f)) range;
+    config = config_set config tick horizon commands u f;
     only = λ slot on. absurd (let off = zero_off slot in let same = ap (λ m. slot_asks m slot) f.silent in cc);
   }
 
   pub loads : (first old new : Tree V P) (id : ℕ) (name : List ℕ) (config : Config) (commands : ℕ) (wanted : List Wanted)
       (u : Seen) → IsSame seen first old → Stands seen first (λ h. MayLoad h name config wanted)
       → IsSetUp config old.tick old.horizon commands u
-      → IsInserted seen old new id name wanted (Scheduler (record { unit = u; mask = 0; granted = false }))
-      → (h : Hierarchy) → IsTreeOf seen first h → Loads seen first new h id name config commands wanted
-  loads first old new id name config commands wanted u same begun f x h begun_tree =
+      → IsInserted seen old new id name wanted (Scheduler (record { unit = u; config = config; mask = 0; granted = false }))
+      → HasCounts new → (h : Hierarchy) → IsTreeOf seen first h → Loads seen first new h id name config commands wanted
+  loads first old new id name config commands wanted u same begun f x counts h begun_tree =
       let stands = same_stands first old (λ h. MayLoad h name config wanted) same begun in
       let t = same_tree first old same h begun_tree in
       let count : length wanted ≡ port_count config = stands.is.ports in
@@ -276,7 +305,7 @@ module _ {V : Type 0} {P : V → Type 0} (seen : (x : V) × P x → Seen) where
       let book : u.book ≡ empty_book h.now u.book.spare_ticks u.book.spare_marks =
       book_fresh u.book old.tick f.start f.rows f.marks
       ∙ ap (λ n. empty_book n u.book.spare_ticks u.book.spare_marks) (sym t.of.now) in
-      let bare_is : bare (Some node) ≡ Some (bare_what name x.seats (fresh_what u)) =
+      let bare_is : bare (Some node) ≡ Some (bare_what name x.seats (fresh_what config u)) =
       ap (λ b. Some (SchedulerNode (record { name = name; config = config; book = b; ports = x.seats }))) (sym book)
       ∙ ap (λ c. Some (SchedulerNode (record { name = name; config = c; book = u.book; ports = x.seats })))
       (sym (config_set config old.tick old.horizon commands u f)) in
@@ -288,15 +317,15 @@ module _ {V : Type 0} {P : V → Type 0} (seen : (x : V) × P x → Seen) where
         seats = x.seats;
         spare_ticks = u.book.spare_ticks;
         spare_marks = u.book.spare_marks;
-        unused = inserted_new old new id name wanted (fresh_what u) x h t;
-        taken = inserted_taken old new id name wanted (fresh_what u) x (λ h. MayLoad h name config wanted) stands stands.is.seats_fit h t;
+        unused = inserted_new old new id name wanted (fresh_what config u) x counts h t;
+        taken = inserted_taken old new id name wanted (fresh_what config u) x counts (λ h. MayLoad h name config wanted) stands stands.is.seats_fit h t;
         marks = f.spare_marks;
-        tree = inserted_tree old new id name wanted (fresh_what u) x (λ h. MayLoad h name config wanted) stands
+        tree = inserted_tree old new id name wanted (fresh_what config u) x counts (λ h. MayLoad h name config wanted) stands
             stands.is.seats_fit stands.is.name_free (omega (arith, count, few))
             (not_empty wanted (omega (arith, count, some))) (omega arith) below
             (posted_fresh config old.tick old.horizon commands u stands.is.in_range f)
             (λ n le. (let room = f.spare_ticks in omega (arith, room, le))) refl h t node bare_is;
-        ready = λ r. inserted_ready old new id name wanted (fresh_what u) x h node (same_ready first old same h r)
+        ready = λ r. inserted_ready old new id name wanted (fresh_what config u) x counts h node (same_ready first old same h r)
             (λ t e. cc);
       }
 

@@ -1,6 +1,7 @@
 //! Boxes of schedulers and threads, seated on each other: the hierarchy that runs.
 #![tactic(auto)]
 
+mod lists;
 mod names;
 mod seat;
 mod seating;

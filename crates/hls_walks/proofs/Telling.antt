@@ -6,6 +6,7 @@ use Rattle.std.proofs.Math.Pow.{pow-lt}
 use Rattle.std.proofs.lemmas.Bool.{cases_eq, cases_lt, eq-eqb}
 use Rattle.std.proofs.lemmas.Nat.Bits.{bit_at_or, bit_at_and, bit_at_not, bit_at-pow_same}
 use Rattle.std.proofs.lemmas.Nat.Bits.{bit_at-pow_other, bit_at-lt, bit_at_above}
+use Rattle.hls_chron.specs.declared.plain.Config.{Config}
 use Rattle.hls_chron.specs.Seats.{terms_at}
 use Rattle.hls_kinds.specs.Asks.{slot_asks}
 use Rattle.hls_sched.specs.Seen.{Seen, with_slot, without_slot, requested, released}
@@ -53,15 +54,16 @@ clear_other mask slot k lt fits ne =
     ] in
     ap (λ b. b == 1) same
 
-post_is : {new : Post} {unit : Seen} {mask : ℕ} {granted : Bool} → new.unit ≡ unit → new.mask ≡ mask
-    → new.granted ≡ granted → new ≡ record { unit = unit; mask = mask; granted = granted }
-post_is u m g = λ i. record { unit = u i; mask = m i; granted = g i }
+post_is : {new : Post} {unit : Seen} {config : Config} {mask : ℕ} {granted : Bool} → new.unit ≡ unit
+    → new.config ≡ config → new.mask ≡ mask → new.granted ≡ granted
+    → new ≡ record { unit = unit; config = config; mask = mask; granted = granted }
+post_is u c m g = λ i. record { unit = u i; config = c i; mask = m i; granted = g i }
 
 pub told_set : (slot : ℕ) (asks : Bool) (old new : Post) → asks ≡ true → IsPosted old → terms_at old.unit.book slot ≢ None
     → new.unit ≡ requested slot old.unit → new.mask ≡ with_slot slot old.mask → new.granted ≡ old.granted
-    → IsTold slot asks old new
-told_set slot asks old new is posted taken unit mask granted =
-    let same : IsTold slot true old (record { unit = requested slot old.unit; mask = with_slot slot old.mask; granted = old.granted }) =
+    → new.config ≡ old.config → IsTold slot asks old new
+told_set slot asks old new is posted taken unit mask granted config =
+    let same : IsTold slot true old (record { unit = requested slot old.unit; config = old.config; mask = with_slot slot old.mask; granted = old.granted }) =
     record {
       here = set_same old.unit.mask slot;
       others = λ k ne. set_other old.unit.mask slot k ne;
@@ -73,21 +75,22 @@ told_set slot asks old new is posted taken unit mask granted =
         mask = ap (with_slot slot) posted.mask;
         granted = posted.granted;
         ranges = posted.ranges;
+        config = posted.config;
         only = λ k asks. elim (cases_eq k slot) [
           | inl e ↦ subst (λ n. terms_at old.unit.book n ≢ None) (sym e) taken
           | inr ne ↦ posted.only k (sym (set_other old.unit.mask slot k ne) ∙ asks)
         ];
       };
     } in
-    let whole = post_is unit mask granted in
+    let whole = post_is unit config mask granted in
     rw is (subst (IsTold slot true old) (sym whole) same)
 
 pub told_clear : (slot : ℕ) (asks : Bool) (old new : Post) → asks ≡ false → slot < 32 → old.mask < 2 ^ 32 → IsPosted old
     → new.unit ≡ released slot old.unit → new.mask ≡ without_slot slot old.mask → new.granted ≡ old.granted
-    → IsTold slot asks old new
-told_clear slot asks old new is lt range posted unit mask granted =
+    → new.config ≡ old.config → IsTold slot asks old new
+told_clear slot asks old new is lt range posted unit mask granted config =
     let fits : old.unit.mask < 2 ^ 32 = subst (λ m. m < 2 ^ 32) posted.mask range in
-    let same : IsTold slot false old (record { unit = released slot old.unit; mask = without_slot slot old.mask; granted = old.granted }) =
+    let same : IsTold slot false old (record { unit = released slot old.unit; config = old.config; mask = without_slot slot old.mask; granted = old.granted }) =
     record {
       here = clear_same old.unit.mask slot lt;
       others = λ k ne. clear_other old.unit.mask slot k lt fits ne;
@@ -99,11 +102,12 @@ told_clear slot asks old new is lt range posted unit mask granted =
         mask = ap (without_slot slot) posted.mask;
         granted = posted.granted;
         ranges = posted.ranges;
+        config = posted.config;
         only = λ k asks. elim (cases_eq k slot) [
           | inl e ↦ absurd (let off = clear_same old.unit.mask slot lt in let on : slot_asks (without_slot slot old.unit.mask) slot ≡ true = subst (λ n. slot_asks (without_slot slot old.unit.mask) n ≡ true) e asks in cc)
           | inr ne ↦ posted.only k (sym (clear_other old.unit.mask slot k lt fits ne) ∙ asks)
         ];
       };
     } in
-    let whole = post_is unit mask granted in
+    let whole = post_is unit config mask granted in
     rw is (subst (IsTold slot false old) (sym whole) same)

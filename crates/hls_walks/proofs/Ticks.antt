@@ -23,6 +23,7 @@ posted_turned c post x = record {
   mask = x.mask;
   granted = x.granted;
   ranges = x.ranges;
+  config = x.config;
   only = λ slot on none. x.only slot on
       (sym (terms_row post.unit.book (tick_row post.unit.mask post.unit.grant c) slot) ∙ none);
 }

@@ -7,6 +7,7 @@ use Rattle.hls_kinds.specs.Discipline.{Serves}
 use Rattle.hls_sched.specs.Seen.{Seen, config_of, IsConfigured, seen_asks, granted, revoked, turned, seated, left}
 use Rattle.hls_sched.specs.Seen.{settled, without_slot}
 use Rattle.hls_sched.specs.Fits.{IsAnswer}
+use Rattle.hls_chron.specs.declared.plain.Config.{Config}
 use Rattle.hls_chron.specs.declared.plain.Terms.{Terms}
 use Rattle.hls_chron.specs.Ranges.{ConfigInRange, TermsInRange}
 use Rattle.hls_kinds.specs.Room.{IsFree}
@@ -15,9 +16,10 @@ use Rattle.hls_legal.specs.Ledgers.{empty_book}
 use Rattle.hls_legal.specs.Hierarchy.{Node, Loaded, Admitted, Seat, Place}
 use Rattle.hls_legal.specs.Hierarchy.{Scheduler as LoadedScheduler}
 
--- a box, the slots that it was told to ask, and whether it is granted
+-- a box, its configuration, the slots that it was told to ask, and whether it is granted
 pub record Post : Type 0 where
   pub unit : Seen
+  pub config : Config
   pub mask : ℕ
   pub granted : Bool
 
@@ -37,6 +39,7 @@ pub record IsPosted (post : Post) : Type 0 where
   pub mask : post.mask ≡ post.unit.mask
   pub granted : post.granted ≡ is_some post.unit.grant
   pub ranges : ConfigInRange (config_of post.unit)
+  pub config : config_of post.unit ≡ post.config
   pub only : (slot : ℕ) → slot_asks post.unit.mask slot ≡ true → terms_at post.unit.book slot ≢ None
 
 -- the slot asks or does not, and all else is as it was

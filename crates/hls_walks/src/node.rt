@@ -1,6 +1,7 @@
 // Nodes: schedulers and threads, and their seats.
 ghost use Rattle.std.specs.Prelude.{◌≡◌};
 ghost use Rattle.hls_legal.specs.Steps.{is_processor};
+ghost use Rattle.hls_walks.specs.Shown.{is_thread_what};
 ghost use Rattle.hls_walks.specs.Views.{place_view, same_place, what_of, IsBody};
 
 use crate::Station;
@@ -38,6 +39,16 @@ pub enum Body {
 }
 
 impl Role {
+    /// Whether it is a thread.
+    pub fn is_thread(&self) -> bool
+        ensures { result ≡ is_thread_what (what_of seen self.now) }
+    {
+        match self {
+            Role::Sched(_) => false,
+            Role::Thread { .. } => true,
+        }
+    }
+
     /// What it was made of.
     pub fn into_body(self) -> Body
         ensures { IsBody seen result (what_of seen self) }

@@ -9,13 +9,15 @@ ghost use Rattle.hls_walks.specs.Shown.{post_seated, post_left, post_settled, Ma
 ghost use Rattle.hls_kinds.specs.Room.{IsFree, IsFull};
 ghost use Rattle.hls_walks.specs.Views.{post_of};
 
-use hls_chron::Terms;
+use hls_chron::{Config, Terms};
 use hls_sched::Scheduler;
 
-/// A box that is set up, the slots that it was told to ask, a bit each, and whether it is granted.
+/// A box that is set up, its configuration, the slots that it was told to ask, a bit each, and whether
+/// it is granted.
 #[derive(Drop)]
 pub struct Station {
     pub unit: Box<dyn Scheduler>,
+    pub config: Config,
     pub mask: u32,
     pub granted: bool,
 }
