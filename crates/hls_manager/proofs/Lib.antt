@@ -1,0 +1,8 @@
+mod Plain
+mod Places
+mod Threads
+mod Ranged
+mod Lookups
+mod Admits
+mod Loads
+mod LoadSteps

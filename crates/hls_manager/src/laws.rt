@@ -1,0 +1,3 @@
+//! t
+pub fn nothing()
+{}
