@@ -303,7 +303,7 @@ module _ (m : Moment) (is_reached : IsReached m.hierarchy) where
     leads_low Cpu chain is = (let e = ap length is in omega (arith, e))
     leads_low (Under sched terms) chain is = is_reached.shallow.levels chain is.4
 
-    new_bounded : (level shares : ℕ) → HasNewChain h config perches level shares → (level ≤ 9) × (shares ≤ 9)
+    pub new_bounded : (level shares : ℕ) → HasNewChain h config perches level shares → (level ≤ 9) × (shares ≤ 9)
     new_bounded level shares new =
         let low = leads_low new.perch.spot new.chain new.leads in
         let short = queues_short h new.chain in

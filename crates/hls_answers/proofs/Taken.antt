@@ -60,7 +60,7 @@ no_fault config b t fits room (faults.PriorityTaken p) f = fits.apart p f.0 f.1
 no_fault config b t fits room (faults.Full n) f = room f.0
 no_fault config b t fits room (faults.NoRoom free asked) f = fits.room free asked f
 
-fault_here : (h : Hierarchy) (sched name : Text) (t : Terms) (fault : SeatFault) (s : Scheduler)
+pub fault_here : (h : Hierarchy) (sched name : Text) (t : Terms) (fault : SeatFault) (s : Scheduler)
     → node_of h sched ≡ Some (Loaded s) → HasFault h (Under sched t) name fault
     → seats.Applies s.config s.book t fault
 fault_here h sched name t fault s there f =
