@@ -147,25 +147,33 @@ fn push_ticks(
     Ok(())
 }
 
-/// The steps of an act.
+/// The step of an act that is one.
+fn step_of(act: Act) -> Step {
+    match act {
+        Act::Hard(x, y, slot) => Step::Seat(terms(true, x, y), slot),
+        Act::Soft(x, y, slot) => Step::Seat(terms(false, x, y), slot),
+        Act::Refuse(x, y, free, asked) => {
+            let fault = SeatFault::NoRoom { free, asked };
+            Step::Refuse(terms(true, x, y), fault)
+        }
+        Act::Leave(slot) => Step::Leave(slot),
+        Act::Request(slot) => Step::Request(slot),
+        Act::Release(slot) => Step::Release(slot),
+        Act::Settle | Act::Pass(_) => Step::Settle,
+    }
+}
+
+/// The steps of an act, and whom its ticks serve.
 fn push_act(
     act: Act,
     steps: &mut Vec<Step>,
     served: &mut Vec<Option<u8>>,
 ) -> Result<(), AllocError> {
-    match act {
-        Act::Hard(x, y, slot) => steps.push(Step::Seat(terms(true, x, y), slot)),
-        Act::Soft(x, y, slot) => steps.push(Step::Seat(terms(false, x, y), slot)),
-        Act::Refuse(x, y, free, asked) => {
-            let fault = SeatFault::NoRoom { free, asked };
-            steps.push(Step::Refuse(terms(true, x, y), fault))
-        }
-        Act::Leave(slot) => steps.push(Step::Leave(slot)),
-        Act::Request(slot) => steps.push(Step::Request(slot)),
-        Act::Release(slot) => steps.push(Step::Release(slot)),
-        Act::Settle => steps.push(Step::Settle),
-        Act::Pass(ticks) => push_ticks(ticks, steps, served),
+    if let Act::Pass(ticks) = act {
+        return push_ticks(ticks, steps, served);
     }
+    steps.push(step_of(act))?;
+    Ok(())
 }
 
 #[test]

@@ -22,8 +22,8 @@ use std::alloc::{AllocError, Global};
 use std::process::Abort;
 use std::test::Fail;
 
-/// So many lists are drawn for each kind, and each has so many calls.
-const LISTS: u32 = 600;
+/// So many lists are drawn for each kind, and each has so many calls; of reservations a third, since their definitions are slow.
+const LISTS: u32 = 150;
 
 const CALLS: u32 = 60;
 
@@ -433,7 +433,7 @@ fn keeps_priorities_in_drawn_calls(rt: HostRuntime) -> Result<(), Fail> {
 #[test]
 fn keeps_reservations_in_drawn_calls(rt: HostRuntime) -> Result<(), Fail> {
     let mut series = Series { state: 7 };
-    for _list in 0..LISTS {
+    for _list in 0..LISTS / 3 {
         let mut edf = Edf::blank(rt.alloc());
         play(&mut edf, &Config::Edf, &mut series, &rt, rt.alloc())?;
     }

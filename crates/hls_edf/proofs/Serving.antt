@@ -111,7 +111,6 @@ choose_case b mask None (Some slot) none is = (
 )
 choose_case b mask None None none neither = asks_as b mask ∙ rw (none, neither) refl
 
-
 module _ (b : Ledger) (mask : ℕ) (servers : List Account) (tenants : HasTenants b) (held : HasServers b servers)
     (seated : (slot : ℕ) → SlotAsks mask slot → terms_at b slot ≢ None) where
   -- what the servers say of a slot

@@ -1,10 +1,13 @@
 // A box of reservations.
-ghost use Rattle.std.specs.Prelude.{◌≡◌, ℕ, ◌<◌, IfSome, is_some};
+ghost use Rattle.std.specs.Prelude.{◌≡◌, ℕ, ◌+◌, ◌<◌, Some, IfSome, is_some};
 ghost use Rattle.hls_chron.specs.declared.plain.Kind.{Kind};
 ghost use Rattle.hls_chron.specs.Ledger.{now_of};
-ghost use Rattle.hls_chron.specs.Seats.{terms_at, is_slot};
+ghost use Rattle.hls_chron.specs.Seats.{terms_at, is_slot, served as served_at};
+ghost use Rattle.hls_kinds.specs.declared.reservations.Reservation.{Reservation};
+ghost use Rattle.hls_kinds.specs.Reservations.{deadline_after, budget_after};
+ghost use Rattle.hls_edf_laws.specs.Books.{IsGiven, ReachesDeadline};
 ghost use Rattle.hls_kinds.specs.Asks.{slot_asks};
-ghost use Rattle.hls_sched.specs.Seen.{IsBlank};
+ghost use Rattle.hls_sched.specs.Seen.{IsBlank, IsConfigured};
 ghost use Rattle.hls_box.specs.Keys.{keys_in, least_of};
 ghost use Rattle.hls_box.specs.Sound.{IsSound};
 ghost use Rattle.hls_box.proofs.Props.{sound_prop};
@@ -38,6 +41,17 @@ impl Edf {
             state: BoxState::blank(alloc, Kind::Edf),
             servers: [Account::vacant(); 32],
         }
+    }
+
+    /// Tells a caller that deadlines find no budget, and does nothing: where the scheduler was given every
+    /// tick in which it asked, a seat that asks on to its deadline has no budget left at it.
+    pub fn vouch_deadlines(&self)
+        requires { IsConfigured (⟦<Edf as Scheduler>⟧.seen self.now) }
+        ensures { let book = (⟦<Edf as Scheduler>⟧.seen self.now).book in
+            (slot t last : ℕ) (r : Reservation) → IsGiven book → ReachesDeadline book slot r t last
+            → (deadline_after r (Some last) ≡ t + 1) × (budget_after r (served_at book slot) (Some last) (t + 1) ≡ 0) }
+    {
+        let _ = self.state.book();
     }
 
     /// The deadline of each slot that asks and may be served by this.

@@ -49,7 +49,10 @@ impl Fp {
         let mask = self.state.mask();
         let mut priorities = [None; 32];
         for slot in 0..32 {
-            priorities[slot as usize] = priority_where(has_slot(mask, slot), self.state.seat_at(slot));
+            priorities[slot as usize] = priority_where(
+                has_slot(mask, slot),
+                self.state.seat_at(slot),
+            );
         }
         priorities
     }

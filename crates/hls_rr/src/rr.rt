@@ -9,8 +9,8 @@ ghost use Rattle.hls_box.proofs.Choosing.{lawful};
 ghost use Rattle.hls_rr.specs.Turns.{quantum_of, choice_of, KeepsTurn};
 
 use crate::turns::{NO_TURN, Turn, next_asking, turn_after, turn_left};
-use hls_chron::{Book, Config, Kind, Terms};
 use hls_box::{BoxState, has_slot};
+use hls_chron::{Book, Config, Kind, Terms};
 use hls_sched::{Scheduler, SeatFault};
 use std::alloc::{AllocError, Global};
 

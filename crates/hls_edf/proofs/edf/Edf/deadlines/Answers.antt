@@ -12,6 +12,12 @@ loop-slot-preserved c =
       filled = entry_more (deadline_asking c.args.need self.servers self.state.book self.state.mask)
           c.loop-slot.deadlines c.loop-slot.slot c.deadline_where.result None within
           c.loop-slot.invariant.filled
-          (rw (c.deadline_where.ensures, c.replenished-server.ensures, c.seat_at.ensures, c.has_slot.ensures.value,
-          c.mask-mask.ensures, c.now-now.ensures.now) (search rules));
+          (rw (
+            c.deadline_where.ensures,
+            c.replenished-server.ensures,
+            c.seat_at.ensures,
+            c.has_slot.ensures.value,
+            c.mask-mask.ensures,
+            c.now-now.ensures.now,
+          ) (search rules));
     }

@@ -17,7 +17,7 @@ invariant_of-self c =
     let lt = taken_within _ c.args.slot c.args.self.now.state c.args.self.now.sound c.requires.configured
     c.requires.taken in
     let its : c.held.result
-        ≡ held (account_in c.args.self.now.servers c.args.slot) (now_of c.args.self.now.state.book) =
+    ≡ held (account_in c.args.self.now.servers c.args.slot) (now_of c.args.self.now.state.book) =
     c.held.ensures ∙ rw (c.from.ensures, c.now-now.ensures.now, c.book.ensures) refl in
     record {
       sound = after_leave _ _ _ _ c.leave.ensures c.args.self.now.sound c.requires.configured c.requires.taken;
