@@ -4,8 +4,8 @@
 Usage: bench/boxes.py
 
 It builds a small program in a copy of the crates that boxes stand on, and runs it with nothing proved (rt try),
-which takes some minutes. What it prints are nanoseconds a call, the mean of some rounds. A cost that grew with the
-book would show in the second number of a pair.
+which takes some minutes. What it prints are nanoseconds a call (or a pair of calls), on the smaller and on the
+greater book. A cost that grew with the book would show in the second number.
 """
 import os
 import shutil
@@ -17,8 +17,8 @@ TOP = os.path.dirname(os.path.dirname(os.path.abspath(__file__)))
 
 BOXES = ["hls_fp", "hls_edf", "hls_sfq", "hls_rr", "hls_wheel", "hls_join"]
 
-CALLS = ["seat", "leave", "fits", "free_slot", "parts_used", "asks", "choice", "request", "release",
-         "grant", "revoke", "turn", "settle"]
+CALLS = ["seat+leave", "fits", "free_slot", "parts_used", "asks", "choice", "release+request", "grant+revoke", "turn",
+         "settle"]
 
 MAIN = """//! Times the calls of boxes.
 #![tactic(auto)]
@@ -34,14 +34,20 @@ use hls_wheel::Wheel;
 use std::io;
 use std::time::Instant;
 
-const ROUNDS: u128 = 200;
+/// Calls are timed in batches of so many, and the quickest of so many batches is told.
+const ROUNDS: u128 = 40;
+
+const BATCHES: u32 = 5;
 
 macro_rules! timed {
     ($rt:ident, $name:expr, $marks:expr, $call:expr, $body:block) => {
-        let start = Instant::now(&$rt)?;
-        for _round in 0..ROUNDS $body
-        let nanos = start.elapsed(&$rt)?.as_nanos() / ROUNDS;
-        println!($rt; "{} {} {} {}", $name, $marks, $call, nanos)?;
+        let mut least = u128::MAX;
+        for _batch in 0..BATCHES {
+            let start = Instant::now(&$rt)?;
+            for _round in 0..ROUNDS $body
+            least = least.min(start.elapsed(&$rt)?.as_nanos() / ROUNDS);
+        }
+        println!($rt; "{} {} {} {}", $name, $marks, $call, least)?;
     };
 }
 
@@ -56,18 +62,7 @@ macro_rules! measure {
                 the_box.seat(0, &terms[0]);
                 the_box.leave(0);
             }
-            let mut seating: u128 = 0;
-            let mut leaving: u128 = 0;
-            for _round in 0..ROUNDS {
-                let start = Instant::now(&$rt)?;
-                the_box.seat(0, &terms[0]);
-                seating += start.elapsed(&$rt)?.as_nanos();
-                let start = Instant::now(&$rt)?;
-                the_box.leave(0);
-                leaving += start.elapsed(&$rt)?.as_nanos();
-            }
-            println!($rt; "{} {} seat {}", $name, $marks, seating / ROUNDS)?;
-            println!($rt; "{} {} leave {}", $name, $marks, leaving / ROUNDS)?;
+            timed!($rt, $name, $marks, "seat+leave", { the_box.seat(0, &terms[0]); the_box.leave(0); });
             for slot in 0..$seats {
                 the_box.seat(slot, &terms[slot as usize]);
                 the_box.request(slot);
@@ -77,33 +72,11 @@ macro_rules! measure {
             timed!($rt, $name, $marks, "parts_used", { told += the_box.parts_used() % 7; });
             timed!($rt, $name, $marks, "asks", { told += u128::from(the_box.asks()); });
             timed!($rt, $name, $marks, "choice", { told += u128::from(the_box.choice().is_some()); });
-            let mut asking: u128 = 0;
-            let mut silent: u128 = 0;
-            let mut granting: u128 = 0;
-            let mut taking: u128 = 0;
-            let mut passing: u128 = 0;
-            for _round in 0..ROUNDS {
-                let start = Instant::now(&$rt)?;
-                the_box.release(0);
-                silent += start.elapsed(&$rt)?.as_nanos();
-                let start = Instant::now(&$rt)?;
-                the_box.request(0);
-                asking += start.elapsed(&$rt)?.as_nanos();
-                let start = Instant::now(&$rt)?;
-                the_box.grant(0);
-                granting += start.elapsed(&$rt)?.as_nanos();
-                let start = Instant::now(&$rt)?;
-                the_box.turn();
-                passing += start.elapsed(&$rt)?.as_nanos();
-                let start = Instant::now(&$rt)?;
-                the_box.revoke();
-                taking += start.elapsed(&$rt)?.as_nanos();
-            }
-            println!($rt; "{} {} request {}", $name, $marks, asking / ROUNDS)?;
-            println!($rt; "{} {} release {}", $name, $marks, silent / ROUNDS)?;
-            println!($rt; "{} {} grant {}", $name, $marks, granting / ROUNDS)?;
-            println!($rt; "{} {} revoke {}", $name, $marks, taking / ROUNDS)?;
-            println!($rt; "{} {} turn {}", $name, $marks, passing / ROUNDS)?;
+            timed!($rt, $name, $marks, "release+request", { the_box.release(0); the_box.request(0); });
+            timed!($rt, $name, $marks, "grant+revoke", { the_box.grant(0); the_box.revoke(); });
+            the_box.grant(0);
+            timed!($rt, $name, $marks, "turn", { the_box.turn(); });
+            the_box.revoke();
             timed!($rt, $name, $marks, "settle", { the_box.settle(); });
         }
         println!($rt; "{} {} told {}", $name, $marks, told)?;
@@ -158,10 +131,10 @@ def main():
     if not times:
         sys.exit(run.stdout[-3000:] + run.stderr[-3000:])
     kinds = [name[4:] for name in BOXES]
-    print("call        " + "".join(f"{kind:>14}" for kind in kinds))
+    print(" " * 16 + "".join(f"{kind:>16}" for kind in kinds))
     for call in CALLS:
         pairs = [f"{times.get((kind, call, '1000'), '-')} / {times.get((kind, call, '100000'), '-')}" for kind in kinds]
-        print(f"{call:<12}" + "".join(f"{pair:>14}" for pair in pairs))
+        print(f"{call:<16}" + "".join(f"{pair:>16}" for pair in pairs))
 
 
 main()

@@ -17,5 +17,5 @@ returns g c =
     let run = c.run_scenario.ensures in
     let threads = c.run_scenario.new.progress.threads.items in
     legal_if_ok c.args.scenario c.run_scenario.new.progress _ c.report_of.result run.linked run.done run.ended
-    (discipline_fp threads _ run.linked.seated c.vouch.ensures.1)
+    (discipline_fp threads _ run.linked.seated c.vouch.ensures.1.0)
     (rw c.book.ensures at c.report_of.ensures)
