@@ -1,0 +1,4 @@
+pub mod Answering
+pub mod Formed
+pub mod Joined
+pub mod Wrong

@@ -1,0 +1,28 @@
+//! Worked reports: each function's contract is a fact about one, and its body does nothing.
+
+ghost use Rattle.hls_legal_report.specs.Legal.{IsLegalContent};
+ghost use Rattle.hls_worked_reports.specs.Said.{full_kit};
+ghost use Rattle.hls_worked_reports.specs.Joined.{joined, joined_scenario};
+ghost use Rattle.hls_worked_reports.specs.Wrong.{refuses_without_cause, idles_while_the_root_asks};
+ghost use Rattle.hls_worked_reports.specs.Wrong.{keeps_null_for_what_was_wanted};
+
+/// A join that gets a part of reservations, and turns beside another thread; its move is refused. The report
+/// is legal, with 64 boxes of each kind and the depth 3.
+pub fn the_report_with_a_join_is_legal()
+    ensures { IsLegalContent joined_scenario 3 full_kit joined }
+{}
+
+/// A report that refuses a thread without cause is not legal.
+pub fn no_thread_is_refused_without_cause()
+    ensures { ¬ IsLegalContent joined_scenario 3 full_kit refuses_without_cause }
+{}
+
+/// A report that idles while the root asks is not legal.
+pub fn no_tick_idles_while_the_root_asks()
+    ensures { ¬ IsLegalContent joined_scenario 3 full_kit idles_while_the_root_asks }
+{}
+
+/// A report that keeps nothing for what was wanted is not legal.
+pub fn nothing_is_no_answer_to_what_is_wanted()
+    ensures { ¬ IsLegalContent joined_scenario 3 full_kit keeps_null_for_what_was_wanted }
+{}
