@@ -1,6 +1,6 @@
 -- The first fault that applies, and none where none does.
-use Rattle.std.proofs.Common.{◌≡◌, ◌≢◌, ℕ, ◌≤◌, Some, None, refl, arith, inl, inr}
-use Rattle.std.specs.Prelude.{Option, IfSome, IsNone, ◌⊎◌}
+use Rattle.std.proofs.Common.{◌≡◌, ℕ, ◌≤◌, Some, None, refl, arith, inl, inr}
+use Rattle.std.specs.Prelude.{Option, IfSome, IsNone}
 use Rattle.hls_chron.specs.declared.plain.Config.{Config}
 use Rattle.hls_chron.specs.declared.plain.Terms.{Terms}
 use Rattle.hls_chron.specs.declared.plain.Terms.TheVariants.{Prio}

@@ -1,5 +1,5 @@
 -- The slot of least key is the first by that key, and it goes by the keys of the 32 slots alone.
-use Rattle.std.proofs.Common.{◌≡◌, ℕ, zero, suc, ◌+◌, ◌<◌, ◌≤◌, Bool, true, false, refl, arith, sym, ap, ◌∙◌}
+use Rattle.std.proofs.Common.{◌≡◌, ℕ, zero, suc, ◌+◌, ◌<◌, Bool, true, false, refl, arith, sym, ap, ◌∙◌}
 use Rattle.std.proofs.Common.{add-one, Some, None}
 use Rattle.std.specs.Prelude.{Option, is_some, nat_le, IfSome, if◌then◌else◌}
 use Rattle.std.specs.Option.{option_map}

@@ -1,5 +1,5 @@
 -- What each call leaves of what is kept of a box.
-use Rattle.std.proofs.Common.{◌≡◌, ◌≢◌, ℕ, zero, suc, ◌^◌, ◌<◌, ◌≤◌, [], Some, None, refl, arith, sym, ap}
+use Rattle.std.proofs.Common.{◌≡◌, ◌≢◌, ℕ, zero, suc, ◌^◌, ◌<◌, ◌≤◌, Some, None, refl, arith, sym, ap}
 use Rattle.std.proofs.Common.{◌∙◌, subst, inl, inr}
 use Rattle.std.specs.Prelude.{Option}
 use Rattle.std.specs.Int.{bit_not, w32}
@@ -12,7 +12,7 @@ use Rattle.hls_chron.specs.declared.plain.Kind.{Kind}
 use Rattle.hls_chron.specs.declared.plain.Kind.TheVariants as kinds
 use Rattle.hls_chron.specs.declared.plain.Terms.{Terms}
 use Rattle.hls_chron.specs.Kinds.{kind_of, terms_kind}
-use Rattle.hls_chron.specs.Ledger.{Ledger, with_row, with_mark}
+use Rattle.hls_chron.specs.Ledger.{Ledger, with_mark}
 use Rattle.hls_chron.specs.Ranges.{ConfigInRange, TermsInRange}
 use Rattle.hls_chron.specs.Seats.{SlotAsks, terms_at, most_seats}
 use Rattle.hls_chron.proofs.BookLaws.{terms_at-mark, terms_at-row}
@@ -31,7 +31,6 @@ use Rattle.hls_sched.specs.Seen.{requested, released, seated, left}
 use Rattle.hls_sched.specs.Seen.{settled, granted, revoked, turned, tick_row}
 use Rattle.hls_sched.proofs.Masks.{asks_with, asks_without, silent_without, silent_zero}
 use Rattle.hls_box.specs.Sound.{IsSound}
-use Rattle.hls_chron.specs.declared.book.TickRow.{TickRow}
 
 -- a box that is not set up yet, and one that was just set up
 pub sound_blank : (kind : Kind) (s : Seen) → IsBlank kind s → s.mask ≡ 0 → IsSound kind s

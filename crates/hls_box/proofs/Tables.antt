@@ -2,7 +2,7 @@
 use Rattle.std.proofs.Common.{◌≡◌, ◌≢◌, ℕ, zero, suc, ◌<◌, ◌≤◌, List, [], length, Some, None, refl, arith, sym, ap, ◌∙◌}
 use Rattle.std.proofs.Common.{inl, inr, get_or, get_or-set_same, get_or-set_other}
 use Rattle.std.specs.Prelude.{Option, slice_set, replicate, IfSome, IsNone, ◌↔◌}
-use Rattle.std.proofs.lemmas.Bool.{cases_eq, eq-eqb, ne_eqb}
+use Rattle.std.proofs.lemmas.Bool.{cases_eq}
 use Rattle.hls_chron.specs.declared.book.TickRow.{TickRow}
 use Rattle.hls_chron.specs.declared.book.Event.TheVariants.{Seat, Leave, Settle}
 use Rattle.hls_chron.specs.declared.plain.Config.{Config}
@@ -12,7 +12,7 @@ use Rattle.hls_chron.specs.declared.plain.Terms.{Terms}
 use Rattle.hls_chron.specs.declared.plain.Terms.TheVariants.{Prio}
 use Rattle.hls_chron.specs.Kinds.{kind_of}
 use Rattle.hls_chron.specs.Ledger.{Ledger, with_row, with_mark}
-use Rattle.hls_chron.specs.Seats.{terms_at, priority_in, priority_at, most_seats, HasPriority}
+use Rattle.hls_chron.specs.Seats.{terms_at, priority_in, most_seats, HasPriority}
 use Rattle.hls_chron.proofs.BookLaws.{terms_at-mark, terms_at-row, terms_at-unmarked}
 use Rattle.hls_kinds.specs.Room.{occupant_at, IsFree, IsFull}
 use Rattle.hls_box.specs.Table.{IsTable}

@@ -1,11 +1,11 @@
 -- What each call leaves of the servers of a box, and what they answer.
-use Rattle.std.proofs.Common.{◌≡◌, ◌≢◌, ℕ, zero, suc, ◌+◌, ◌-◌, ◌<◌, ◌≤◌, List, [], length, refl, sym, arith, inl, inr}
-use Rattle.std.proofs.Common.{ap, ◌∙◌, Bool, true, false, Option, Some, None, subst, get_or, get_or-set_same}
+use Rattle.std.proofs.Common.{◌≡◌, ◌≢◌, ℕ, zero, suc, ◌-◌, ◌<◌, ◌≤◌, List, [], length, refl, sym, arith, inl, inr}
+use Rattle.std.proofs.Common.{ap, ◌∙◌, Bool, Option, Some, None, subst, get_or, get_or-set_same}
 use Rattle.std.proofs.Common.{get_or-set_other}
 use Rattle.std.specs.Prelude.{slice_set, replicate, is_some, IfSome, IsNone, ◌↔◌}
 use Rattle.std.proofs.lemmas.Bool.{cases_eq}
 use Rattle.hls_chron.specs.declared.book.TickRow.{TickRow}
-use Rattle.hls_chron.specs.declared.book.Event.TheVariants.{Seat, Leave, Settle}
+use Rattle.hls_chron.specs.declared.book.Event.TheVariants.{Seat, Leave}
 use Rattle.hls_chron.specs.declared.plain.Config.{Config}
 use Rattle.hls_chron.specs.declared.plain.Config.TheVariants as configs
 use Rattle.hls_chron.specs.declared.plain.Config.TheVariants.{Edf}
@@ -13,7 +13,7 @@ use Rattle.hls_chron.specs.declared.plain.Kind.TheVariants as kinds
 use Rattle.hls_chron.specs.declared.plain.Terms.{Terms}
 use Rattle.hls_chron.specs.declared.plain.Terms.TheVariants.{Cpu, Prio, Res, Weight, Slots, Turn, Sole}
 use Rattle.hls_chron.specs.Kinds.{kind_of, terms_kind}
-use Rattle.hls_chron.specs.Ledger.{Ledger, now_of, with_row, with_mark}
+use Rattle.hls_chron.specs.Ledger.{Ledger, now_of, with_mark}
 use Rattle.hls_chron.specs.Seats.{terms_at, is_slot}
 use Rattle.hls_kinds.specs.Slots.{sum_below}
 use Rattle.hls_chron.specs.Parts.{all_parts, parts}
@@ -25,10 +25,9 @@ use Rattle.hls_sched.specs.Fits.{IsAnswer}
 use Rattle.hls_sched.specs.declared.fault.SeatFault.TheVariants.{Unfit, NoRoom}
 use Rattle.hls_sched.specs.Seen.{Seen, IsConfigured, config_of, seated, left, settled, turned, tick_row}
 use Rattle.hls_edf_laws.specs.declared.account.Account.{Account}
-use Rattle.hls_edf_laws.specs.Accounts.{vacant, fresh, offered, parts_in}
+use Rattle.hls_edf_laws.specs.Accounts.{vacant, fresh, offered}
 use Rattle.hls_edf_laws.specs.Books.{held, account_at, KeepsReservations}
 use Rattle.hls_edf_laws.proofs.Sums.{sum-eq}
-use Rattle.hls_edf_laws.proofs.RowSteps.{HasTenants}
 use Rattle.hls_edf_laws.proofs.Admitting.{tenant_there}
 use Rattle.hls_edf_laws.proofs.Choices.{is-asking}
 use Rattle.hls_edf_laws.proofs.MarkSteps.{seat_account, seat_others, leave_account, leave_others}

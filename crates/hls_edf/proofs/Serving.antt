@@ -1,5 +1,5 @@
 -- The choice is the slot to serve, and there is one exactly where the scheduler asks.
-use Rattle.std.proofs.Common.{◌≡◌, ◌≢◌, ℕ, ◌<◌, refl, sym, ap, ◌∙◌, subst}
+use Rattle.std.proofs.Common.{◌≡◌, ◌≢◌, ℕ, ◌<◌, refl, sym, ap, ◌∙◌}
 use Rattle.std.proofs.Common.{Bool, true, false, Option, Some, None, List}
 use Rattle.std.specs.Prelude.{◌&&◌, ◌||◌, nat_lt, is_some, IfSome}
 use Rattle.std.specs.Int.{bit_at}
@@ -8,7 +8,6 @@ use Rattle.hls_chron.specs.declared.plain.Config.{Config}
 use Rattle.hls_chron.specs.declared.plain.Config.TheVariants as configs
 use Rattle.hls_chron.specs.declared.plain.Config.TheVariants.{Edf}
 use Rattle.hls_chron.specs.declared.plain.Kind.TheVariants as kinds
-use Rattle.hls_chron.specs.declared.plain.Terms.{Terms}
 use Rattle.hls_chron.specs.declared.plain.Terms.TheVariants.{Res}
 use Rattle.hls_chron.specs.Kinds.{kind_of}
 use Rattle.hls_chron.specs.Ledger.{Ledger, now_of}

@@ -1,5 +1,5 @@
 // The servers of the slots: what each may claim, and what a tick and a settling make of it.
-ghost use Rattle.std.specs.Prelude.{◌≡◌, ◌≢◌, ℕ, ◌<◌, length, IfSome, IsNone};
+ghost use Rattle.std.specs.Prelude.{◌≡◌, ◌<◌, length, IfSome, IsNone};
 ghost use Rattle.hls_kinds.specs.Slots.{sum_below};
 ghost use Rattle.hls_edf.specs.Choice.{account_in, soft_in, may_use, deadline_if, IsFirstFree, AllPaid};
 ghost use Rattle.hls_edf.specs.Changes.{next_of, settled_of};

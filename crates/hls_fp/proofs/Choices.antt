@@ -1,5 +1,5 @@
 -- The choice of fixed priority is the slot to serve, and there is one exactly where some slot asks.
-use Rattle.std.proofs.Common.{◌≡◌, ◌≢◌, ℕ, ◌<◌, ◌^◌, ◌≤◌, Some, None, Bool, true, false, refl, sym, ◌∙◌, ap, arith}
+use Rattle.std.proofs.Common.{◌≡◌, ◌≢◌, ℕ, ◌<◌, ◌^◌, Some, None, Bool, true, false, refl, sym, ◌∙◌, ap, arith}
 use Rattle.std.specs.Prelude.{Option, is_some, IfSome}
 use Rattle.std.specs.Int.{bit_at}
 use Rattle.std.proofs.lemmas.Bool.{eqb-true, eq-eqb}
@@ -18,7 +18,7 @@ use Rattle.hls_kinds.specs.Made.{IsMade}
 use Rattle.hls_made.proofs.Books.{admission_made}
 use Rattle.hls_sched.specs.Seen.{Seen, IsConfigured, config_of}
 use Rattle.hls_sched.proofs.Masks.{within_width}
-use Rattle.hls_box.specs.Keys.{key_or, has_key, key_at, least_of}
+use Rattle.hls_box.specs.Keys.{key_or, has_key, key_at}
 use Rattle.hls_box.specs.Sound.{IsSound}
 use Rattle.hls_box.proofs.Choosing.{IsRight}
 use Rattle.hls_box.proofs.Keyed.{least_asks, least_serves}

@@ -26,14 +26,16 @@ fn out_of_memory() -> ExitCode {
     ExitCode::from(Status::Memory.code())
 }
 
-/// Puts one more blank box into the kit. The program ends where there is no memory for it.
-macro_rules! put_blank {
-    ($kit:ident, $alloc:ident, $kind:expr, $blank:expr) => {
-        let Ok(blank) = Box::new($alloc, $blank) else {
-            return out_of_memory();
-        };
-        if $kit.put($kind, blank).is_err() {
-            return out_of_memory();
+/// Fills a list of the kit with blank boxes. The program ends where there is no memory for one.
+macro_rules! fill {
+    ($kit:ident, $alloc:ident, $boxes:ident, $kind:expr, $blank:expr) => {
+        while $kit.$boxes.len() < BOXES {
+            let Ok(blank) = Box::new($alloc, $blank) else {
+                return out_of_memory();
+            };
+            if $kit.put($kind, blank).is_err() {
+                return out_of_memory();
+            }
         }
     };
 }
@@ -55,14 +57,12 @@ fn main(rt: HostRuntime) -> ExitCode {
         join: Vec::new(alloc),
         used: [0; 6],
     };
-    while kit.fp.len() < BOXES {
-        put_blank!(kit, alloc, Kind::Fp, Fp::blank(alloc));
-        put_blank!(kit, alloc, Kind::Edf, Edf::blank(alloc));
-        put_blank!(kit, alloc, Kind::Sfq, Sfq::blank(alloc));
-        put_blank!(kit, alloc, Kind::Rr, Rr::blank(alloc));
-        put_blank!(kit, alloc, Kind::Wheel, Wheel::blank(alloc));
-        put_blank!(kit, alloc, Kind::Join, Join::blank(alloc));
-    }
+    fill!(kit, alloc, fp, Kind::Fp, Fp::blank(alloc));
+    fill!(kit, alloc, edf, Kind::Edf, Edf::blank(alloc));
+    fill!(kit, alloc, sfq, Kind::Sfq, Sfq::blank(alloc));
+    fill!(kit, alloc, rr, Kind::Rr, Rr::blank(alloc));
+    fill!(kit, alloc, wheel, Kind::Wheel, Wheel::blank(alloc));
+    fill!(kit, alloc, join, Kind::Join, Join::blank(alloc));
     let mut source = StdSource::new(rt.stdin());
     let mut sink = StdSink::new(rt.stdout());
     let status = hls_run(alloc, &words, &mut source, &mut sink, kit);

@@ -17,7 +17,7 @@ use Rattle.hls_sched.specs.Seen.{Seen, IsConfigured, config_of}
 use Rattle.hls_sched.proofs.Masks.{some_slot, some_if_asks}
 use Rattle.hls_box.specs.Sound.{IsSound}
 use Rattle.hls_box.proofs.Choosing.{IsRight, right_asks}
-use Rattle.hls_rr.specs.Turns.{quantum_of, next_of, choice_of}
+use Rattle.hls_rr.specs.Turns.{next_of, choice_of}
 use Rattle.hls_rr.proofs.Nexts.{next_first, next_none}
 use Rattle.hls_rr.proofs.Bounds.{turn_within, goes_on_asks}
 

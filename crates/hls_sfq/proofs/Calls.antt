@@ -1,6 +1,6 @@
 -- What each call leaves of the tags of a box, and what it answers.
-use Rattle.std.proofs.Common.{◌≡◌, ◌≢◌, ℕ, ◌+◌, ◌^◌, ◌<◌, List, [], length, Some, None, refl, sym, ◌∙◌, ap, subst, inl}
-use Rattle.std.proofs.Common.{get_or, replicate}
+use Rattle.std.proofs.Common.{◌≡◌, ◌≢◌, ℕ, ◌+◌, ◌^◌, ◌<◌, List, length, Some, None, refl, sym, ◌∙◌, subst, inl}
+use Rattle.std.proofs.Common.{get_or}
 use Rattle.std.specs.Prelude.{Option, slice_set}
 use Rattle.hls_chron.specs.declared.plain.Kind.TheVariants as kinds
 use Rattle.hls_chron.specs.declared.plain.Config.{Config}
@@ -8,8 +8,7 @@ use Rattle.hls_chron.specs.declared.plain.Config.TheVariants as configs
 use Rattle.hls_chron.specs.declared.plain.Terms.{Terms}
 use Rattle.hls_chron.specs.declared.plain.Terms.TheVariants.{Cpu, Prio, Res, Weight, Slots, Turn, Sole}
 use Rattle.hls_chron.specs.Kinds.{kind_of, terms_kind}
-use Rattle.hls_chron.specs.Ledger.{Ledger, now_of}
-use Rattle.hls_chron.specs.Seats.{terms_at}
+use Rattle.hls_chron.specs.Ledger.{now_of}
 use Rattle.hls_kinds.specs.Slots.{sum_below}
 use Rattle.hls_kinds.specs.Room.{room_used}
 use Rattle.hls_kinds.specs.Tags.{tag_step}

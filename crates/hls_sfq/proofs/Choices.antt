@@ -1,8 +1,8 @@
 -- The choice of fair queueing is the slot to serve, and there is one exactly where some slot asks.
-use Rattle.std.proofs.Common.{◌≡◌, ◌≢◌, ℕ, ◌<◌, ◌^◌, List, Some, None, Bool, true, false, refl, sym, ◌∙◌, ap, inl, inr}
+use Rattle.std.proofs.Common.{◌≡◌, ◌≢◌, ℕ, ◌<◌, ◌^◌, List, Some, None, Bool, true, false, refl, sym, ◌∙◌, ap}
 use Rattle.std.specs.Prelude.{Option, is_some, IfSome}
 use Rattle.std.specs.Int.{bit_at}
-use Rattle.std.proofs.lemmas.Bool.{eqb-true, eq-eqb, cases_Bool}
+use Rattle.std.proofs.lemmas.Bool.{eqb-true, eq-eqb}
 use Rattle.hls_chron.specs.declared.plain.Kind.TheVariants as kinds
 use Rattle.hls_chron.specs.declared.plain.Config.{Config}
 use Rattle.hls_chron.specs.declared.plain.Config.TheVariants.{Cpu, Fp, Edf, Sfq, Rr, Wheel, Join}
@@ -15,7 +15,7 @@ use Rattle.hls_kinds.specs.Tags.{start_tag}
 use Rattle.hls_kinds.specs.Discipline.{Serves}
 use Rattle.hls_kinds.specs.Made.{IsMade}
 use Rattle.hls_sched.specs.Seen.{Seen, IsConfigured, config_of}
-use Rattle.hls_box.specs.Keys.{key_or, has_key, key_at, least_of}
+use Rattle.hls_box.specs.Keys.{key_or, has_key, key_at}
 use Rattle.hls_box.specs.Sound.{IsSound}
 use Rattle.hls_box.proofs.Choosing.{IsRight}
 use Rattle.hls_box.proofs.Keyed.{least_asks, least_serves, first_agree}

@@ -15,7 +15,7 @@ use Rattle.hls_chron.specs.declared.plain.Terms.TheVariants as terms
 use Rattle.hls_chron.specs.declared.plain.Terms.TheVariants.{Weight}
 use Rattle.hls_chron.specs.Kinds.{kind_of, terms_kind}
 use Rattle.hls_chron.specs.Ledger.{Ledger, now_of, with_row, with_mark}
-use Rattle.hls_chron.specs.Seats.{SlotAsks, is_slot, terms_at}
+use Rattle.hls_chron.specs.Seats.{is_slot, terms_at}
 use Rattle.hls_chron.proofs.BookLaws.{terms_at-mark, terms_at-row, terms_at-unmarked, dated-mark}
 use Rattle.hls_kinds.specs.declared.tenant.Tenant.{Tenant}
 use Rattle.hls_kinds.specs.declared.tenant.Tenant.TheVariants.{Vacant, Sits, Left}

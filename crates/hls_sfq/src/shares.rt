@@ -1,11 +1,11 @@
 // The seats by slot, each with its weight and finish tag.
-ghost use Rattle.std.specs.Prelude.{◌≡◌, ℕ, ◌+◌, ◌*◌, ◌^◌, ◌<◌, ◌≤◌, length, slice_index_or};
-ghost use Rattle.std.specs.Prelude.{Some, None, IfSome, IsNone};
+ghost use Rattle.std.specs.Prelude.{◌≡◌, ℕ, ◌+◌, ◌^◌, ◌<◌, length, slice_index_or};
+ghost use Rattle.std.specs.Prelude.{Some, None, IfSome};
 ghost use Rattle.hls_kinds.specs.Slots.{sum_below};
 ghost use Rattle.hls_kinds.specs.Tags.{tag_step};
 ghost use Rattle.hls_box.specs.Keys.{keys_in};
 ghost use Rattle.hls_sfq.specs.Choice.{tag_of, tag_asking};
-ghost use Rattle.hls_sfq.specs.Changes.{served_seat, fresh_seat, time_after, seats_after};
+ghost use Rattle.hls_sfq.specs.Changes.{fresh_seat, time_after, seats_after};
 ghost use Rattle.hls_sfq.specs.Weights.{weight_of, IsSmall};
 
 use hls_box::has_slot;

@@ -1,5 +1,5 @@
 -- The choice of a wheel is the slot to serve, and there is one exactly where the wheel asks.
-use Rattle.std.proofs.Common.{◌≡◌, ◌≢◌, ℕ, Some, None, Bool, true, false, refl, sym, ◌∙◌}
+use Rattle.std.proofs.Common.{◌≡◌, ℕ, Some, None, Bool, true, false, refl}
 use Rattle.std.specs.Prelude.{Option, is_some, IfSome, if◌then◌else◌}
 use Rattle.std.specs.Int.{bit_at}
 use Rattle.std.proofs.lemmas.Bool.{eqb-true}

@@ -1,4 +1,4 @@
-use Rattle.std.proofs.Common.{rules, ◌<◌, ◌≡◌, length, is_some}
+use Rattle.std.proofs.Common.{rules, ◌<◌, length, is_some}
 use Rattle.hls_chron.specs.Ledger.{now_of}
 use Rattle.hls_chron.specs.Seats.{terms_at, is_slot}
 use Rattle.hls_kinds.specs.Asks.{slot_asks}

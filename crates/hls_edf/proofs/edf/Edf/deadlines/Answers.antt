@@ -1,4 +1,4 @@
-use Rattle.std.proofs.Common.{rules, ◌<◌, ◌≡◌, length, None}
+use Rattle.std.proofs.Common.{rules, ◌<◌, length, None}
 use Rattle.hls_edf.specs.Choice.{deadline_asking}
 use Rattle.hls_box.proofs.Keyed.{entry_more}
 use Rattle.hls_edf.proofs.edf.Edf.deadlines.Goals as goal

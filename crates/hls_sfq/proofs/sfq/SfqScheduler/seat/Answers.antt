@@ -1,4 +1,4 @@
-use Rattle.std.proofs.Common.{rules, ◌≡◌, length, arith}
+use Rattle.std.proofs.Common.{rules, ◌≡◌, length}
 use Rattle.hls_box.proofs.Calls.{after_seat}
 use Rattle.hls_box.proofs.Sounds.{free_within}
 use Rattle.hls_sfq.proofs.Calls.{fits_are_weights}
