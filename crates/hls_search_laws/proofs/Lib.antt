@@ -9,4 +9,5 @@ pub mod Makes
 pub mod Finding
 pub mod Ends
 pub mod Gains
+pub mod Alone
 pub mod Needed
