@@ -1,12 +1,14 @@
 -- Answers along a run, one by one.
-use Rattle.std.proofs.Common.{◌≡◌, ℕ, zero, suc, List, [], ◌∷◌, Some, subst, slice_get, arith}
+use Rattle.std.proofs.Common.{◌≡◌, ◌≢◌, ℕ, zero, suc, List, [], ◌∷◌, Some, subst, slice_get, arith}
 use Rattle.hls_text.specs.Lines.{Text}
 use Rattle.hls_chron.specs.declared.plain.Kind.{Kind}
 use Rattle.hls_chron.specs.Kinds.{kind_of}
+use Rattle.hls_chron.specs.declared.plain.Config.{Config}
+use Rattle.hls_chron.specs.declared.plain.Terms.{Terms}
 use Rattle.hls_guarantee.specs.declared.Guarantee.{Guarantee}
 use Rattle.hls_guarantee.specs.declared.rule.RuleName.{RuleName}
 use Rattle.hls_guarantee.specs.Conversions.{Converts}
-use Rattle.hls_guarantee.specs.Steps.{Lends}
+use Rattle.hls_guarantee.specs.Steps.{LendsThrough, Lends}
 use Rattle.hls_derive.specs.declared.derivation.Derivation.{Derivation}
 use Rattle.hls_scenario.specs.declared.scenario.Command.{Command}
 use Rattle.hls_report_text.specs.declared.report.Seated.{Seated}
@@ -77,3 +79,12 @@ settled_after due name port from rule via kind to named at has converts of_kind 
     short = omega arith;
   };
 }
+
+-- there is a box
+pub a_box : ◌≢◌ {A = ℕ} 64 0
+a_box e = omega (arith, e)
+
+-- what a scheduler lends of what its one port has
+pub through_one : (config : Config) (terms : Terms) (g h : Guarantee) → LendsThrough config terms 0 g h
+    → Lends config terms (g ∷ []) 0 g h
+through_one config terms g h through = record { has = omega arith; through = through }

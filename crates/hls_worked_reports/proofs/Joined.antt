@@ -1,17 +1,13 @@
 -- The report with a join is legal.
-use Rattle.std.proofs.Common.{◌≡◌, ◌≢◌, ℕ, zero, suc, ◌≤◌, inl, inr, List, [], ◌∷◌, Some, None}
+use Rattle.std.proofs.Common.{◌≡◌, ℕ, zero, suc, ◌≤◌, inl, inr, List, [], ◌∷◌, Some, None}
 use Rattle.std.proofs.Common.{true, false, refl, sym, ap, ◌∙◌, arith, slice_get}
 use Rattle.std.specs.Prelude.{codes}
 use Rattle.hls_chron.specs.Ticks.{count}
-use Rattle.hls_chron.specs.declared.plain.Config.{Config}
 use Rattle.hls_chron.specs.declared.plain.Config.TheVariants as configs
 use Rattle.hls_chron.specs.declared.plain.Kind.TheVariants as kinds
-use Rattle.hls_chron.specs.declared.plain.Terms.{Terms}
 use Rattle.hls_chron.specs.declared.plain.Terms.TheVariants as terms
 use Rattle.hls_guarantee.specs.Limits.{IsReservation}
 use Rattle.hls_guarantee.specs.declared.rule.RuleName.TheVariants.{R2}
-use Rattle.hls_guarantee.specs.Steps.{LendsThrough, Lends}
-use Rattle.hls_guarantee.specs.declared.Guarantee.{Guarantee}
 use Rattle.hls_guarantee.specs.declared.Guarantee.TheVariants.{All, Null, Resb}
 use Rattle.hls_scenario.specs.declared.scenario.Spot.{Spot}
 use Rattle.hls_scenario.specs.declared.scenario.Spot.TheVariants.{Under}
@@ -46,7 +42,7 @@ use Rattle.hls_worked_reports.specs.Joined.{admit_a, admit_b, move_j}
 use Rattle.hls_worked_reports.specs.Said.{on_cpu, on, lent, lent_after, seated}
 use Rattle.hls_worked_reports.proofs.Formed.{lent_formed, after_formed, on_formed, cpu_formed, account_formed}
 use Rattle.hls_worked_reports.proofs.Formed.{names_apart, paths_apart}
-use Rattle.hls_worked_reports.proofs.Answering.{done_at, settled_lent, settled_after}
+use Rattle.hls_worked_reports.proofs.Answering.{done_at, settled_lent, settled_after, through_one, a_box}
 
 -- ---- the hierarchies
 
@@ -159,14 +155,6 @@ legal = (
 )
 
 -- ---- the answers
-
-a_box : ◌≢◌ {A = ℕ} 64 0
-a_box e = omega (arith, e)
-
--- what a scheduler lends of what its one port has
-through_one : (config : Config) (terms : Terms) (g h : Guarantee) → LendsThrough config terms 0 g h
-    → Lends config terms (g ∷ []) 0 g h
-through_one config terms g h through = record { has = omega arith; through = through }
 
 abbrev kit1 : Boxes
 kit1 = boxes_after full_kit load_root (Done [])

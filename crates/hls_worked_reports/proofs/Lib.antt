@@ -2,3 +2,5 @@ pub mod Answering
 pub mod Formed
 pub mod Joined
 pub mod Wrong
+pub mod Withheld
+pub mod Smallest

@@ -1,3 +1,5 @@
 pub mod Said
 pub mod Joined
 pub mod Wrong
+pub mod Withheld
+pub mod Smallest

@@ -3,13 +3,26 @@
 ghost use Rattle.hls_legal_report.specs.Legal.{IsLegalContent};
 ghost use Rattle.hls_worked_reports.specs.Said.{full_kit};
 ghost use Rattle.hls_worked_reports.specs.Joined.{joined, joined_scenario};
+ghost use Rattle.hls_worked_reports.specs.Smallest.{smallest, smallest_scenario};
+ghost use Rattle.hls_worked_reports.specs.Withheld.{withheld, withheld_scenario};
 ghost use Rattle.hls_worked_reports.specs.Wrong.{refuses_without_cause, idles_while_the_root_asks};
 ghost use Rattle.hls_worked_reports.specs.Wrong.{keeps_null_for_what_was_wanted};
+
+/// One tick, in which the one thread on a scheduler of fixed priority runs: the report is legal.
+pub fn the_smallest_report_is_legal()
+    ensures { IsLegalContent smallest_scenario 3 full_kit smallest }
+{}
 
 /// A join that gets a part of reservations, and turns beside another thread; its move is refused. The report
 /// is legal, with 64 boxes of each kind and the depth 3.
 pub fn the_report_with_a_join_is_legal()
     ensures { IsLegalContent joined_scenario 3 full_kit joined }
+{}
+
+/// A reservation that is withdrawn after its first tick holds its parts to its deadline: another, for which there
+/// would be room, is refused. The report is legal.
+pub fn the_report_of_a_withdrawn_reservation_is_legal()
+    ensures { IsLegalContent withheld_scenario 3 full_kit withheld }
 {}
 
 /// A report that refuses a thread without cause is not legal.
