@@ -6,3 +6,4 @@ pub mod Leads
 pub mod Passes
 pub mod Rouses
 pub mod Ticks
+pub mod Answers

@@ -69,6 +69,10 @@ post_left slot post = record post { unit = left slot post.unit; mask = without_s
 abbrev pub post_settled : Post → Post
 post_settled post = record post { unit = settled post.unit }
 
+-- no fault applies to a seat on these terms
+pub record HasNoFault (config : Config) (b : Ledger) (terms : Terms) : Type 0 where
+  pub none : IsAnswer config b terms None
+
 -- a seat on these terms can be taken
 pub record MaySit (post : Post) (terms : Terms) : Type 0 where
   pub fits : IsAnswer (config_of post.unit) post.unit.book terms None

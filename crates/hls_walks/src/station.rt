@@ -1,16 +1,18 @@
 // A box, beside what it was told.
 ghost use Rattle.std.specs.Prelude.{◌≡◌, ◌≢◌, ◌<◌, ◌^◌, true, None, IfSome, IsNone, ◌↔◌, bit_and, false};
+ghost use Rattle.hls_chron.specs.Ranges.{TermsInRange};
 ghost use Rattle.hls_chron.specs.Seats.{terms_at};
 ghost use Rattle.hls_kinds.specs.Asks.{slot_asks};
 ghost use Rattle.hls_kinds.specs.Discipline.{Serves};
 ghost use Rattle.hls_sched.specs.Seen.{config_of, IsConfigured, seen_asks, requested, released};
-ghost use Rattle.hls_walks.specs.Shown.{IsPosted, IsTold, post_granted, post_revoked, post_turned};
+ghost use Rattle.hls_sched.specs.Fits.{IsFirst};
+ghost use Rattle.hls_walks.specs.Shown.{HasNoFault, IsPosted, IsTold, post_granted, post_revoked, post_turned};
 ghost use Rattle.hls_walks.specs.Shown.{post_seated, post_left, post_settled, MaySit};
 ghost use Rattle.hls_kinds.specs.Room.{IsFree, IsFull};
 ghost use Rattle.hls_walks.specs.Views.{post_of};
 
 use hls_chron::{Config, Terms};
-use hls_sched::Scheduler;
+use hls_sched::{Scheduler, SeatFault};
 
 /// A box that is set up, its configuration, the slots that it was told to ask, a bit each, and whether
 /// it is granted.
@@ -64,6 +66,16 @@ fn free_slot(unit: &Box<dyn Scheduler>) -> Option<u32>
     unit.free_slot()
 }
 
+/// Why a seat on these terms cannot be taken, if it cannot.
+fn fits(unit: &dyn Scheduler, terms: &Terms) -> Option<SeatFault>
+    requires configured { IsConfigured (seen unit.now) }
+    requires ranges { TermsInRange terms.now }
+    ensures some { IfSome result (IsFirst (config_of (seen unit.now)) (seen unit.now).book terms.now) }
+    ensures none { IsNone result → HasNoFault (config_of (seen unit.now)) (seen unit.now).book terms.now }
+{
+    unit.fits(terms)
+}
+
 impl Station {
     /// Whether it asks.
     pub fn asks(&self) -> bool
@@ -71,6 +83,17 @@ impl Station {
         ensures { result ≡ seen_asks (seen self.now.unit) }
     {
         self.unit.asks()
+    }
+
+    /// Why a seat on these terms cannot be taken at present, if it cannot.
+    pub fn fits(&self, terms: &Terms) -> Option<SeatFault>
+        requires posted { IsPosted (post_of seen self.now) }
+        requires ranges { TermsInRange terms.now }
+        ensures some { IfSome result (IsFirst (config_of (seen self.now.unit)) (seen self.now.unit).book terms.now) }
+        ensures none { IsNone result →
+            HasNoFault (config_of (seen self.now.unit)) (seen self.now.unit).book terms.now }
+    {
+        fits(&*self.unit, terms)
     }
 
     /// Tells whether a seat asks, where that has changed.

@@ -1,0 +1,49 @@
+-- What the read calls answer, each by the hierarchy.
+use Rattle.std.specs.Prelude.{◌≡◌, ◌≢◌, ℕ, ◌==◌, List, Option, Some, None, Bool, false, filter, option_map}
+use Rattle.hls_chron.specs.declared.plain.Kind.TheVariants as kinds
+use Rattle.hls_chron.specs.declared.plain.Terms.{Terms}
+use Rattle.hls_chron.specs.Kinds.{kind_of, terms_kind}
+use Rattle.hls_sched.specs.Fits.{IsAnswer}
+use Rattle.hls_sched.specs.declared.fault.SeatFault.{SeatFault}
+use Rattle.hls_sched.specs.declared.fault.SeatFault.TheVariants as faults
+use Rattle.hls_legal.specs.Hierarchy.{Hierarchy, Node, Loaded, Admitted, Scheduler, Seat, SeatHolder, Place, Processor}
+use Rattle.hls_legal.specs.Hierarchy.{At, seat_of, book_of, config_of}
+use Rattle.hls_tree.specs.declared.seat.Sort.{Sort}
+use Rattle.hls_tree.specs.declared.seat.Sort.TheVariants as sorts
+
+-- a loaded scheduler
+pub record IsLoaded (node : Option Node) : Type 0 where
+  pub scheduler : Scheduler
+  pub there : node ≡ Some (Loaded scheduler)
+
+abbrev pub IsSort : Option Node → Sort → Type 0
+IsSort (Some (Loaded s)) (sorts.Sched kind) = kind ≡ kind_of s.config
+IsSort (Some (Admitted t)) sorts.Thread = Unit {0}
+IsSort _ _ = ⊥
+
+-- the first reason for which a seat at the processor cannot be taken on these terms, if there is one
+abbrev pub IsRootAnswer : (root : Option ℕ) → Terms → Option SeatFault → Type 0
+IsRootAnswer root terms None = (terms_kind terms ≡ kinds.Cpu) × (root ≡ None)
+IsRootAnswer root terms (Some faults.Unfit) = terms_kind terms ≢ kinds.Cpu
+IsRootAnswer root terms (Some (faults.Full seats)) = (terms_kind terms ≡ kinds.Cpu) × (root ≢ None) × (seats ≡ 1)
+IsRootAnswer root terms (Some _) = ⊥
+
+-- and on a scheduler
+abbrev pub IsSeatAnswer : Hierarchy → (parent : Option ℕ) → Terms → Option SeatFault → Type 0
+IsSeatAnswer h None terms answer = IsRootAnswer h.root terms answer
+IsSeatAnswer h (Some p) terms answer = IsAnswer (config_of (h.nodes p)) (book_of (h.nodes p)) terms answer
+
+-- a seat is asked about at the processor, or on a loaded scheduler
+abbrev pub IsParent : Hierarchy → (parent : Option ℕ) → Type 0
+IsParent h None = Unit {0}
+IsParent h (Some p) = IsLoaded (h.nodes p)
+
+abbrev pub is_on : Option Place → (p : ℕ) → Bool
+is_on None p = false
+is_on (Some Processor) p = false
+is_on (Some (At q slot)) p = q == p
+
+-- the seats that are taken on a scheduler, in the order of their taking
+abbrev pub taken_on : Hierarchy → (p : ℕ) → List SeatHolder
+taken_on h p = filter (λ (s : SeatHolder).
+  is_on (option_map (λ (seat : Seat). seat.place) (seat_of (h.nodes s.node) s.port)) p) h.seats
