@@ -1,5 +1,5 @@
 -- Parts of reports that are well formed.
-use Rattle.std.proofs.Common.{◌≢◌, ℕ, ◌<◌, ◌≤◌, List, [], ◌∷◌, Option, Some, get_or, refl, ap, arith}
+use Rattle.std.proofs.Common.{◌≡◌, ◌≢◌, ℕ, ◌<◌, ◌≤◌, List, [], ◌∷◌, Option, Some, get_or, refl, ap, arith}
 use Rattle.std.proofs.lemmas.List.Elements.{All-from_recursion}
 use Rattle.hls_text.specs.Lines.{Text}
 use Rattle.hls_chron.specs.Name.{IsName}
@@ -78,3 +78,6 @@ byte_at i _ = 0
 
 pub paths_apart : (i : ℕ) (one two : Option (Option (List Text))) → byte_at i one ≢ byte_at i two → one ≢ two
 paths_apart i one two ne e = ne (ap (byte_at i) e)
+
+pub some_apart : (a b : Text) → get_or a 0 0 ≢ get_or b 0 0 → Some a ≢ Some b
+some_apart a b ne e = names_apart a b ne (let same : a ≡ b = cc in same)

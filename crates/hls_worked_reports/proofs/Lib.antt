@@ -4,3 +4,5 @@ pub mod Joined
 pub mod Wrong
 pub mod Withheld
 pub mod Smallest
+pub mod SettledRun
+pub mod Settled

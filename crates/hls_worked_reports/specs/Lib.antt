@@ -3,3 +3,4 @@ pub mod Joined
 pub mod Wrong
 pub mod Withheld
 pub mod Smallest
+pub mod Settled

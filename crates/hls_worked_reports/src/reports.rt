@@ -3,6 +3,7 @@
 ghost use Rattle.hls_legal_report.specs.Legal.{IsLegalContent};
 ghost use Rattle.hls_worked_reports.specs.Said.{full_kit};
 ghost use Rattle.hls_worked_reports.specs.Joined.{joined, joined_scenario};
+ghost use Rattle.hls_worked_reports.specs.Settled.{settled, settled_scenario, unsettled};
 ghost use Rattle.hls_worked_reports.specs.Smallest.{smallest, smallest_scenario};
 ghost use Rattle.hls_worked_reports.specs.Withheld.{withheld, withheld_scenario};
 ghost use Rattle.hls_worked_reports.specs.Wrong.{refuses_without_cause, idles_while_the_root_asks};
@@ -23,6 +24,17 @@ pub fn the_report_with_a_join_is_legal()
 /// would be room, is refused. The report is legal.
 pub fn the_report_of_a_withdrawn_reservation_is_legal()
     ensures { IsLegalContent withheld_scenario 3 full_kit withheld }
+{}
+
+/// A scheduler of reservations moves, and the one on it has its budget again, since it is settled. The report is
+/// legal.
+pub fn the_report_of_a_moved_scheduler_is_legal()
+    ensures { IsLegalContent settled_scenario 3 full_kit settled }
+{}
+
+/// A report whose moved scheduler is not settled is not legal.
+pub fn no_moved_scheduler_is_left_unsettled()
+    ensures { ¬ IsLegalContent settled_scenario 3 full_kit unsettled }
 {}
 
 /// A report that refuses a thread without cause is not legal.
