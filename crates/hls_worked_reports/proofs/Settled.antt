@@ -83,7 +83,8 @@ answer_e = done_at h1 kit1 3 r1 load_e load_below
     (seated (codes "e") 0 (lent All kinds.Fp Null) ∷ []) (
       settled_lent (due_at h1 (codes "e") 0 (on (codes "root") (terms.Prio 0) Null)) (codes "e") 0 All kinds.Fp Null
           refl refl refl refl
-          (through_one configs.Fp (terms.Prio 0) All Null (record { from = tt; to = tt; port_of = refl; lends = inr refl }))
+          (through_one configs.Fp (terms.Prio 0) All Null
+          (record { from = tt; to = tt; port_of = refl; lends = inr refl }))
           refl,
       tt,
     )
