@@ -198,8 +198,7 @@ answer_r = done_at h2 kit2 3 r2 load_r run.load_turns
     (refl, refl, (record { place = refl; terms = refl; kept = refl }, tt)) joining_legal.1.1.0 a_box
     (seated (codes "r") 0 (lent All kinds.Fp Null) ∷ []) (
       settled_lent (due_at h2 (codes "r") 0 (on (codes "root") (terms.Prio 1) Null)) (codes "r") 0 All kinds.Fp Null
-          refl
-          refl refl refl
+          refl refl refl refl
           (through_one configs.Fp (terms.Prio 1) All Null
           (record { from = tt; to = tt; port_of = refl; lends = inr refl }))
           refl,
