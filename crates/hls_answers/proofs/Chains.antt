@@ -257,8 +257,8 @@ module _ (h : Hierarchy) (listed : IsListed h) (k : ℕ) (unused : h.nodes k ≡
       }
   chain_behind config Cpu (At p slot) port seat chain level shares set at_spot at_place at_port leads is are =
       absurd at_spot
-  chain_behind config (Under sched terms) Processor port seat chain level shares set at_spot at_place at_port leads is are =
-      absurd at_spot
+  chain_behind config (Under sched terms) Processor port seat chain level shares set at_spot at_place at_port leads
+      is are = absurd at_spot
 
   pub load_chain : (config : Config) (level shares : ℕ) → s.config ≡ config
       → HasNewChain h config perches level shares → HasChain made level shares

@@ -13,3 +13,4 @@ pub mod Done
 pub mod MovesDone
 pub mod Converse
 pub mod Exists
+pub mod Tests

@@ -22,7 +22,8 @@ use Rattle.hls_scenario.specs.Grammar as grammar
 use Rattle.hls_report_text.specs.declared.refusal.Refusal.{Refusal}
 use Rattle.hls_report_text.specs.declared.refusal.Refusal.TheVariants as refusals
 use Rattle.hls_legal.specs.Derived.{Follows}
-use Rattle.hls_legal.specs.Hierarchy.{Hierarchy, Node, Loaded, Admitted, Scheduler, Thread, Place, Processor, At, Seat}
+use Rattle.hls_legal.specs.Hierarchy.{Hierarchy, Node, Loaded, Admitted, Scheduler, Thread, Place, Processor}
+use Rattle.hls_legal.specs.Hierarchy.{At, Seat}
 use Rattle.hls_legal.specs.Hierarchy.{SeatHolder, seats_of, seat_of, haves_of, config_of, book_of, name_of}
 use Rattle.hls_legal.specs.Steps.{Step, Move, after, reseated, effect}
 use Rattle.hls_legal.specs.Legal.{IsChain, IsShallow, SitsOn, NotBelow, MayMoveTo, CanMove}

@@ -62,7 +62,8 @@ not_empty_one h command a b m n f g =
     let name : a ≡ b = (let e = sym f.unloads ∙ g.unloads in cc) in
     let there : node_of h a ≡ Some (Loaded g.place.scheduler) = ap (node_of h) name ∙ g.place.there in
     let same : f.place.scheduler ≡ g.place.scheduler = (let e = sym f.place.there ∙ there in cc) in
-    let counted : m ≡ seats_taken g.place.scheduler.book = subst (λ (s : Scheduler). m ≡ seats_taken s.book) same f.seats_are in
+    let counted : m ≡ seats_taken g.place.scheduler.book =
+    subst (λ (s : Scheduler). m ≡ seats_taken s.book) same f.seats_are in
     let seats : m ≡ n = counted ∙ sym g.seats_are in
     λ i. NotEmpty (name i) (seats i)
 

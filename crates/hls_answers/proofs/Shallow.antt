@@ -1,10 +1,12 @@
 -- Legal runs stay shallow, and chains are bounded.
-use Rattle.std.proofs.Common.{◌≡◌, ◌≢◌, ℕ, zero, suc, inl, inr, ◌+◌, ◌-◌, ◌<◌, ◌≤◌, List, [], ◌∷◌, length, Option, Some, None}
+use Rattle.std.proofs.Common.{◌≡◌, ◌≢◌, ℕ, zero, suc, inl, inr, ◌+◌, ◌-◌, ◌<◌, ◌≤◌, List, [], ◌∷◌, length}
+use Rattle.std.proofs.Common.{Option, Some, None}
 use Rattle.std.proofs.Common.{Bool, refl, sym, ap, ◌∙◌, subst, arith}
 use Rattle.std.proofs.lemmas.Bool.{cases_eq, cases_lt}
 use Rattle.hls_legal.specs.Hierarchy.{Hierarchy, Node, Loaded, Admitted, Scheduler, Place, Processor, At, Seat, Wake}
 use Rattle.hls_legal.specs.Hierarchy.{start, config_of, seat_of}
-use Rattle.hls_legal.specs.Steps.{Step, Refuse, Load, Admit, End, Unload, Move, Rouse, Block, Elapse, Hop, after, state}
+use Rattle.hls_legal.specs.Steps.{Step, Refuse, Load, Admit, End, Unload, Move, Rouse, Block, Elapse, Hop}
+use Rattle.hls_legal.specs.Steps.{after, state}
 use Rattle.hls_legal.specs.Steps.{admitted, effect, nobody, roused, ticked, with_wake, elapsed, hop_at, hops_of}
 use Rattle.hls_legal.specs.Steps.{wake_by}
 use Rattle.hls_legal.specs.Hierarchy.{Asleep}

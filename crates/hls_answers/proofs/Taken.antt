@@ -161,7 +161,13 @@ perch_at h [] [] port spot are e = absurd (cc)
 perch_at h [] (perch ∷ perches) port spot are e = absurd are
 perch_at h (seat ∷ seats) [] port spot are e = absurd are
 perch_at h (seat ∷ seats) (perch ∷ perches) zero spot are e =
-    record { seat = seat; perch = perch; at_port = refl; is = are.0; spot_is = (let same : perch.spot ≡ spot = cc in same) }
+    record {
+      seat = seat;
+      perch = perch;
+      at_port = refl;
+      is = are.0;
+      spot_is = (let same : perch.spot ≡ spot = cc in same);
+    }
 perch_at h (seat ∷ seats) (perch ∷ perches) (suc port) spot are e =
     let rest = perch_at h seats perches port spot are.1 e in
     record { seat = rest.seat; perch = rest.perch; at_port = rest.at_port; is = rest.is; spot_is = rest.spot_is }

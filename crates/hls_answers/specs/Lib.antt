@@ -7,3 +7,4 @@ pub mod Kit
 pub mod Along
 pub mod Alike
 pub mod Doable
+pub mod Tested

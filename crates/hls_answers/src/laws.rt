@@ -1,9 +1,11 @@
 //! What holds of the defined answers: each function's contract is a law, and its body does nothing.
 
-ghost use Rattle.std.specs.Prelude.{◌≡◌, ◌∷◌, ◌++◌, ◌⊎◌, [], ℕ, List};
+ghost use Rattle.std.specs.Prelude.{◌≡◌, ◌<◌, ◌∷◌, ◌++◌, ◌⊎◌, [], ℕ, List, Some, slice_get};
 ghost use Rattle.hls_scenario.specs.declared.scenario.Command.{Command};
+ghost use Rattle.hls_scenario.specs.declared.scenario.Spot.{Spot};
+ghost use Rattle.hls_derive.specs.declared.derivation.Derivation.{Derivation};
 ghost use Rattle.hls_report_text.specs.declared.report.Answer.{Answer};
-ghost use Rattle.hls_report_text.specs.declared.report.Answer.TheVariants.{Done};
+ghost use Rattle.hls_report_text.specs.declared.report.Answer.TheVariants.{Done, Refused};
 ghost use Rattle.hls_report_text.specs.declared.report.Answered.{Answered};
 ghost use Rattle.hls_report_text.specs.declared.report.Seated.{Seated};
 ghost use Rattle.hls_report_text.specs.declared.refusal.Refusal.{Refusal};
@@ -12,12 +14,15 @@ ghost use Rattle.hls_legal.specs.Hierarchy.{Hierarchy, start};
 ghost use Rattle.hls_legal.specs.Legal.{IsLegal};
 ghost use Rattle.hls_legal.specs.Lists.{IsListed};
 ghost use Rattle.hls_legal.specs.Steps.{Step, state};
-ghost use Rattle.hls_answers.specs.Moment.{Boxes, Moment};
-ghost use Rattle.hls_answers.specs.Answers.{number, Applies, IsAnswer};
+ghost use Rattle.hls_answers.specs.Moment.{Boxes, Moment, spots_of};
+ghost use Rattle.hls_answers.specs.Answers.{number, RefusesCommand, RefusesPlace, Applies, IsAnswer};
+ghost use Rattle.hls_answers.specs.Dues.{Due, dues, Derives, IsUnderivable, AreSettled};
+ghost use Rattle.hls_answers.specs.Refusals.{IsUnderived};
 ghost use Rattle.hls_answers.specs.Alike.{IsAlikeAnswer};
 ghost use Rattle.hls_answers.specs.Along.{IsTick, AnswersAlong};
 ghost use Rattle.hls_answers.specs.Doable.{MayDo, HasBox, AreDerivable};
-ghost use Rattle.hls_answers.specs.Kit.{boxes_left};
+ghost use Rattle.hls_answers.specs.Kit.{boxes_after, boxes_left};
+ghost use Rattle.hls_answers.specs.Tested.{PassesPlaces, PassesPlacesBefore};
 
 /// In a moment a command has one answer: the same refusal, with the same values, or the same seats, whose
 /// derivations may differ but end in the same guarantee.
@@ -58,6 +63,36 @@ pub fn unrefused_commands_may_be_done()
         AreDerivable m command → MayDo m.hierarchy command }
 {}
 
+/// How tests find the answer: of the least number that anything has, a refusal of the whole command; else the one
+/// at the first place that has the number; and done, where nothing refuses.
+pub fn tests_find_the_answer()
+    ensures whole { (m : Moment) (command : Command) (r : Refusal) →
+        ((other : Refusal) → number other < number r → ¬ RefusesCommand m command other) →
+        ((other : Refusal) → number other < number r → PassesPlaces m.hierarchy command other) →
+        RefusesCommand m command r → IsAnswer m command (Refused r) }
+    ensures place { (m : Moment) (command : Command) (r : Refusal) →
+        ((other : Refusal) → number other < number r → ¬ RefusesCommand m command other) →
+        ((other : Refusal) → number other < number r → PassesPlaces m.hierarchy command other) →
+        ((other : Refusal) → number other ≡ number r → ¬ RefusesCommand m command other) →
+        (port : ℕ) (spot : Spot) → slice_get (spots_of command) port ≡ Some spot →
+        RefusesPlace m.hierarchy command spot r →
+        ((other : Refusal) → number other ≡ number r → PassesPlacesBefore m.hierarchy command port other) →
+        IsAnswer m command (Refused r) }
+    ensures done { (m : Moment) (command : Command) (seats : List Seated) →
+        ((r : Refusal) → ¬ RefusesCommand m command r) →
+        ((r : Refusal) → PassesPlaces m.hierarchy command r) →
+        AreSettled m.depth (dues m.hierarchy command) seats → IsAnswer m command (Done seats) }
+{}
+
+/// The first seat without a derivation is one that has none, where each seat before it has one.
+pub fn searches_find_who_lacks_a_derivation()
+    ensures { (m : Moment) (command : Command) (at : ℕ) (due : Due) →
+        slice_get (dues m.hierarchy command) at ≡ Some due → IsUnderivable m.depth due →
+        ((before : ℕ) (other : Due) → before < at → slice_get (dues m.hierarchy command) before ≡ Some other →
+        (d : Derivation) × Derives m.depth other d) →
+        IsUnderived m.hierarchy m.depth command due.name }
+{}
+
 /// The answers along a run go on by a command that is answered where the run leads, and by a tick.
 pub fn answers_go_on()
     ensures command { (depth : ℕ) (h : Hierarchy) (boxes : Boxes) (steps : List Step) (answered : List Answered)
@@ -68,4 +103,6 @@ pub fn answers_go_on()
     ensures tick { (depth : ℕ) (h : Hierarchy) (boxes : Boxes) (steps : List Step) (answered : List Answered)
         (tick : Step) → AnswersAlong depth h boxes steps answered → IsTick tick →
         AnswersAlong depth h boxes (steps ++ tick ∷ []) answered }
+    ensures boxes { (boxes : Boxes) (answered : List Answered) (a : Answered) →
+        boxes_left boxes (answered ++ a ∷ []) ≡ boxes_after (boxes_left boxes answered) a.command a.answer }
 {}

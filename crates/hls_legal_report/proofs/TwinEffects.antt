@@ -9,10 +9,12 @@ use Rattle.hls_chron.specs.declared.book.Event.TheVariants as events
 use Rattle.hls_chron.specs.Ledger.{Ledger, with_mark}
 use Rattle.hls_kinds.proofs.Rooms.{roomless}
 use Rattle.hls_legal.specs.Ledgers.{with_marks}
-use Rattle.hls_legal.specs.Hierarchy.{Hierarchy, Node, Loaded, Admitted, Scheduler, Thread, Place, Processor, At, Seat}
+use Rattle.hls_legal.specs.Hierarchy.{Hierarchy, Node, Loaded, Admitted, Scheduler, Thread, Place, Processor}
+use Rattle.hls_legal.specs.Hierarchy.{At, Seat}
 use Rattle.hls_legal.specs.Hierarchy.{SeatHolder, Wake, Asleep, Awake, Awake_for, seats_of}
 use Rattle.hls_legal.specs.Steps.{seating_at, leaving_at, seatings, leavings, marked, renewed, roused, is_processor}
-use Rattle.hls_legal.specs.Steps.{root_without, root_with, listed, is_thread, is_scheduler, sitters, nodes_after, effect}
+use Rattle.hls_legal.specs.Steps.{root_without, root_with, listed, is_thread, is_scheduler, sitters}
+use Rattle.hls_legal.specs.Steps.{nodes_after, effect}
 use Rattle.hls_legal.specs.Steps.{with_wake, wake_by}
 use Rattle.hls_legal_report.proofs.Twins.{Renaming, same_test, place_to, seat_to, holder_to}
 use Rattle.hls_legal_report.proofs.Twins.{TwinNode, ServedAlike, NodeServedAlike, Twin, seats-twin, thread-twin}

@@ -22,7 +22,8 @@ use Rattle.hls_legal.proofs.Unique.{below_one}
 use Rattle.hls_accounts.specs.Tells.{HasName, IsSpot, IsPerch, ArePerches, Does}
 use Rattle.hls_legal_report.proofs.Bare.{free_like}
 use Rattle.hls_legal_report.proofs.Twins.{Renaming, inverse, same_number, place_to, seat_to}
-use Rattle.hls_legal_report.proofs.Twins.{TwinNode, NodeServedAlike, Twin, twin_back, name-twin, seats-twin, loaded-twin}
+use Rattle.hls_legal_report.proofs.Twins.{TwinNode, NodeServedAlike, Twin, twin_back, name-twin, seats-twin}
+use Rattle.hls_legal_report.proofs.Twins.{loaded-twin}
 use Rattle.hls_legal_report.proofs.TwinAnswers.{on-twin, reseated-twin}
 use Rattle.hls_legal_report.proofs.TwinEffects.{effect-twin, rouse-twin, wake-twin, marks-like, leavings-twin}
 use Rattle.hls_legal_report.proofs.Renumbered.{renumbered, renumbered_to, twin_renumbered}

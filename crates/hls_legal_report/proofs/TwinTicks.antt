@@ -21,7 +21,8 @@ use Rattle.hls_legal.specs.Legal.{asks_now, IsAsking, Enters, Ends, Walk, root_a
 use Rattle.hls_accounts.specs.Tells.{Names}
 use Rattle.hls_legal_report.proofs.Bare.{terms_like, serves_like}
 use Rattle.hls_legal_report.proofs.Twins.{Renaming, inverse, same_test, place_to, seat_to}
-use Rattle.hls_legal_report.proofs.Twins.{TwinNode, ServedAlike, NodeServedAlike, Twin, twin_back, name-twin, seat-twin}
+use Rattle.hls_legal_report.proofs.Twins.{TwinNode, ServedAlike, NodeServedAlike, Twin, twin_back, name-twin}
+use Rattle.hls_legal_report.proofs.Twins.{seat-twin}
 use Rattle.hls_legal_report.proofs.Twins.{book-twin, loaded-twin, admitted-twin, seat-at, back-place}
 
 -- ---- a hop and a path, by the other numbers

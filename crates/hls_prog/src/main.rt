@@ -12,8 +12,8 @@ use hls_sched::Kit;
 use hls_sfq::Sfq;
 use hls_top::hls_run;
 use hls_wheel::Wheel;
-use std::env;
 use std::process::ExitCode;
+use std::{env, io};
 
 /// How many schedulers of each kind can be loaded in a run.
 const BOXES: usize = 64;
@@ -24,6 +24,15 @@ const NO_WORDS: u8 = 8;
 /// The exit status where there is no memory to begin with.
 fn out_of_memory() -> ExitCode {
     ExitCode::from(Status::Memory.code())
+}
+
+/// The exit status where the words did not come: for want of memory, or for another cause.
+fn without_words(error: &io::Error) -> ExitCode {
+    if error.kind() == io::ErrorKind::OutOfMemory {
+        out_of_memory()
+    } else {
+        ExitCode::from(NO_WORDS)
+    }
 }
 
 /// Fills a list of the kit with blank boxes. The program ends where there is no memory for one.
@@ -42,8 +51,9 @@ macro_rules! fill {
 
 fn main(rt: HostRuntime) -> ExitCode {
     let alloc = rt.alloc();
-    let Ok(args) = env::args(&rt) else {
-        return ExitCode::from(NO_WORDS);
+    let args = match env::args(&rt) {
+        Ok(args) => args,
+        Err(error) => return without_words(&error),
     };
     let Ok(words) = args.skip(1).collect::<Vec<String>>(alloc) else {
         return out_of_memory();

@@ -29,8 +29,10 @@ derived_at : (depth : ℕ) (due : List Due) (seats : List Seated) → AreSettled
     → slice_get due at ≡ Some one → (d : Derivation) × Derives depth one d
 derived_at depth [] seats settled at one e = absurd (cc)
 derived_at depth (x ∷ due) [] settled at one e = absurd settled
-derived_at depth (x ∷ due) (s ∷ seats) settled zero one e =
-    (s.derivation, (let same : x ≡ one = cc in subst (λ (y : Due). Derives depth y s.derivation) same settled.0.derives))
+derived_at depth (x ∷ due) (s ∷ seats) settled zero one e = (
+  s.derivation,
+  (let same : x ≡ one = cc in subst (λ (y : Due). Derives depth y s.derivation) same settled.0.derives),
+)
 derived_at depth (x ∷ due) (s ∷ seats) settled (suc at) one e = derived_at depth due seats settled.1 at one e
 
 -- a command that a step may do, with its seats

@@ -187,7 +187,8 @@ answer_e = done_at h1 kit1 3 r1 load_e run.load_reservations
     (seated (codes "e") 0 (lent All kinds.Fp All) ∷ []) (
       settled_lent (due_at h1 (codes "e") 0 (on (codes "root") (terms.Prio 0) All)) (codes "e") 0 All kinds.Fp All refl
           refl refl refl
-          (through_one configs.Fp (terms.Prio 0) All All (record { from = tt; to = tt; port_of = refl; lends = inl (refl, refl) }))
+          (through_one configs.Fp (terms.Prio 0) All All
+          (record { from = tt; to = tt; port_of = refl; lends = inl (refl, refl) }))
           refl,
       tt,
     )
@@ -196,9 +197,10 @@ answer_r : Answered h2 kit2 load_r (seated (codes "r") 0 (lent All kinds.Fp Null
 answer_r = done_at h2 kit2 3 r2 load_r run.load_turns
     (refl, refl, (record { place = refl; terms = refl; kept = refl }, tt)) joining_legal.1.1.0 a_box
     (seated (codes "r") 0 (lent All kinds.Fp Null) ∷ []) (
-      settled_lent (due_at h2 (codes "r") 0 (on (codes "root") (terms.Prio 1) Null)) (codes "r") 0 All kinds.Fp Null refl
-          refl refl refl
-          (through_one configs.Fp (terms.Prio 1) All Null (record { from = tt; to = tt; port_of = refl; lends = inr refl }))
+      settled_lent (due_at h2 (codes "r") 0 (on (codes "root") (terms.Prio 1) Null)) (codes "r") 0 All kinds.Fp Null
+          refl refl refl refl
+          (through_one configs.Fp (terms.Prio 1) All Null
+          (record { from = tt; to = tt; port_of = refl; lends = inr refl }))
           refl,
       tt,
     )
@@ -253,7 +255,8 @@ answer_b = done_at h5 kit4 3 r5 admit_b run.admit_other (refl, record { place = 
     joining_legal.1.1.1.1.1.0 tt (seated (codes "b") 0 (lent Null kinds.Rr Null) ∷ []) (
       settled_lent (due_at h5 (codes "b") 0 (on (codes "r") terms.Turn Null)) (codes "b") 0 Null kinds.Rr Null refl refl
           refl refl
-          (through_one (configs.Rr 1) terms.Turn Null Null (record { from = tt; to = tt; port_of = refl; lends = inr refl }))
+          (through_one (configs.Rr 1) terms.Turn Null Null
+          (record { from = tt; to = tt; port_of = refl; lends = inr refl }))
           refl,
       tt,
     )
@@ -329,7 +332,10 @@ tells = (
         (
           refl,
           refl,
-          (record { place = refl; terms = refl; kept = refl }, (record { place = refl; terms = refl; kept = refl }, tt)),
+          (
+            record { place = refl; terms = refl; kept = refl },
+            (record { place = refl; terms = refl; kept = refl }, tt),
+          ),
         ),
         (
           refl,
@@ -378,13 +384,38 @@ formed = record {
         omega arith,
         omega arith,
         (
-          (refl, (refl, (omega arith, omega arith), (on_formed (codes "e") (terms.Res true 2 10) (Resb true 2 10) refl (omega arith, omega arith, omega arith) two_of_ten, (names_apart (codes "e") (codes "r") (λ e. omega (arith, e)), tt), (on_formed (codes "r") terms.Turn Null refl tt tt, tt, tt)))),
-          (tt, (lent_formed (codes "j") 0 All kinds.Edf (Resb true 2 10) refl (omega arith) tt two_of_ten, (lent_formed (codes "j") 1 Null kinds.Rr Null refl (omega arith) tt tt, tt))),
+          (
+            refl,
+            (
+              refl,
+              (omega arith, omega arith),
+              (
+                on_formed (codes "e") (terms.Res true 2 10) (Resb true 2 10) refl
+                    (omega arith, omega arith, omega arith) two_of_ten,
+                (names_apart (codes "e") (codes "r") (λ e. omega (arith, e)), tt),
+                (on_formed (codes "r") terms.Turn Null refl tt tt, tt, tt),
+              ),
+            ),
+          ),
+          (
+            tt,
+            (
+              lent_formed (codes "j") 0 All kinds.Edf (Resb true 2 10) refl (omega arith) tt two_of_ten,
+              (lent_formed (codes "j") 1 Null kinds.Rr Null refl (omega arith) tt tt, tt),
+            ),
+          ),
           omega arith,
           omega arith,
           (
             (refl, on_formed (codes "j") terms.Sole (Resb false 2 10) refl tt two_of_ten),
-            (tt, (after_formed (codes "a") 0 (Resb true 2 10) R2 (Resb false 2 10) kinds.Join (Resb false 2 10) refl (omega arith) two_of_ten two_of_ten two_of_ten, tt)),
+            (
+              tt,
+              (
+                after_formed (codes "a") 0 (Resb true 2 10) R2 (Resb false 2 10) kinds.Join (Resb false 2 10) refl
+                    (omega arith) two_of_ten two_of_ten two_of_ten,
+                tt,
+              ),
+            ),
             omega arith,
             omega arith,
             (

@@ -28,7 +28,8 @@ use Rattle.hls_answers.specs.Along.{AnswersAlong}
 use Rattle.hls_legal_report.specs.Legal.{IsLegalContent}
 use Rattle.hls_legal_report.proofs.OneReport.{one_report}
 use Rattle.hls_worked_reports.specs.Said.{full_kit, on_cpu, on, lent, seated}
-use Rattle.hls_worked_reports.specs.Settled.{settled, settled_scenario, unsettled, answered, load_root, load_e, admit_a}
+use Rattle.hls_worked_reports.specs.Settled.{settled, settled_scenario, unsettled, answered, load_root, load_e}
+use Rattle.hls_worked_reports.specs.Settled.{admit_a}
 use Rattle.hls_worked_reports.specs.Settled.{move_e}
 use Rattle.hls_worked_reports.proofs.Formed.{lent_formed, on_formed, cpu_formed, account_formed}
 use Rattle.hls_worked_reports.proofs.Answering.{done_at, settled_lent, through_one, a_box}
@@ -82,7 +83,8 @@ answer_e = done_at h1 kit1 3 r1 load_e load_below
     (seated (codes "e") 0 (lent All kinds.Fp Null) ∷ []) (
       settled_lent (due_at h1 (codes "e") 0 (on (codes "root") (terms.Prio 0) Null)) (codes "e") 0 All kinds.Fp Null
           refl refl refl refl
-          (through_one configs.Fp (terms.Prio 0) All Null (record { from = tt; to = tt; port_of = refl; lends = inr refl }))
+          (through_one configs.Fp (terms.Prio 0) All Null
+          (record { from = tt; to = tt; port_of = refl; lends = inr refl }))
           refl,
       tt,
     )

@@ -209,7 +209,8 @@ place_late (refusals.NoSuchName name) f =
     let e = sym root_there ∙ ap (node_of h5) same ∙ f.unknown in cc)
 place_late (refusals.WrongSort None) f = absurd f
 place_late (refusals.WrongSort (Some name)) f = absurd (let e = sym root_there ∙ f.1.there in cc)
-place_late (refusals.TermsUnfit name) f = absurd (let le = no_fault faults.Unfit (fault_there name faults.Unfit f) in omega (arith, le))
+place_late (refusals.TermsUnfit name) f =
+    absurd (let le = no_fault faults.Unfit (fault_there name faults.Unfit f) in omega (arith, le))
 place_late (refusals.PriorityTaken priority) f =
     absurd (let le = no_fault (faults.PriorityTaken priority) (fault_there f.0 (faults.PriorityTaken priority) f.1) in
     omega (arith, le))

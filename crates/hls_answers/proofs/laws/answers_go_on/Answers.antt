@@ -1,3 +1,4 @@
+use Rattle.hls_answers.proofs.Tests.{boxes_go}
 use Rattle.hls_answers.proofs.Grows.{along_command, along_tick}
 use Rattle.hls_answers.proofs.laws.answers_go_on.Goals as goal
 
@@ -8,3 +9,6 @@ returns-clause-command c = λ depth h boxes steps answered step a along not answ
 pub returns-clause-tick : goal.returns-clause-tick
 returns-clause-tick c = λ depth h boxes steps answered tick along is.
     along_tick depth steps h boxes answered tick along is
+
+pub returns-clause-boxes : goal.returns-clause-boxes
+returns-clause-boxes c = λ boxes answered a. boxes_go boxes answered a
