@@ -167,8 +167,8 @@ alone-none (a ∷ rest) le = absurd (let few : suc (length rest) ≤ 0 = le in o
 too-long : (rest : List RuleName) (k n : ℕ) → length rest + k ≤ n → suc n ≤ k → ⊥
 too-long rest k n le more = omega arith
 
-pub alone-one : (rule : RuleName) (g h : Guarantee) → (g ≡ h → ⊥) → ((other : RuleName) → Leads other g h → other ≡ rule)
-    → IsAlone (rule ∷ []) g h
+pub alone-one : (rule : RuleName) (g h : Guarantee) → (g ≡ h → ⊥)
+    → ((other : RuleName) → Leads other g h → other ≡ rule) → IsAlone (rule ∷ []) g h
 alone-one rule g h moved only [] known le r = absurd (moved r)
 alone-one rule g h moved only (a ∷ []) known le r = ap (λ (v : RuleName). v ∷ []) (only a (single a g h r))
 alone-one rule g h moved only (a ∷ (b ∷ rest)) known le r =

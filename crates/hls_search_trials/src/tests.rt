@@ -66,10 +66,12 @@ fn joined(
 fn is_text(alloc: Global, found: &Option<Derivation>, text: &str) -> Result<bool, AllocError> {
     let told = read_derivation(alloc, text.as_bytes())?;
     match (found, &told) {
-        (Some(d), Some(e)) => Ok(d.from == e.from
-            && d.before.items() == e.before.items()
-            && d.sched == e.sched
-            && d.after.items() == e.after.items()),
+        (Some(d), Some(e)) => Ok(
+            d.from == e.from
+                && d.before.items() == e.before.items()
+                && d.sched == e.sched
+                && d.after.items() == e.after.items(),
+        ),
         (None, None) => Ok(text.is_empty()),
         _ => Ok(false),
     }
@@ -120,12 +122,7 @@ const AT_FIXED_PRIORITY: [(&str, &str, u8, bool); 32] = [
 type Case = (&'static str, &'static str, u8, &'static str);
 
 const AT_LIGHT_WEIGHT: [Case; 4] = [
-    (
-        "ALL",
-        "PSBE 1/8 1",
-        1,
-        "ALL R8 PSBE 1/2 0 SFQ PSBE 1/8 1",
-    ),
+    ("ALL", "PSBE 1/8 1", 1, "ALL R8 PSBE 1/2 0 SFQ PSBE 1/8 1"),
     ("ALL", "PSBE 1/8 1", 0, ""),
     ("ALL", "PSBE 1/4 1", 1, "ALL R8 PSBE 1 0 SFQ PSBE 1/4 1"),
     ("RESBS 3 10", "PSBE 9/40 4", 6, ""),
@@ -146,7 +143,12 @@ const AT_HEAVY_WEIGHT: [Case; 5] = [
         2,
         "ALL R8 PSBE 1 0 SFQ PSBE 3/4 1 R1 PSBE 3/8 3/4",
     ),
-    ("PSBE 1/2 20", "PSBE 3/8 16", 0, "PSBE 1/2 20 SFQ PSBE 3/8 16"),
+    (
+        "PSBE 1/2 20",
+        "PSBE 3/8 16",
+        0,
+        "PSBE 1/2 20 SFQ PSBE 3/8 16",
+    ),
 ];
 
 const AT_RESERVATION: [Case; 4] = [
@@ -271,12 +273,20 @@ fn worked_derivations(rt: &impl Abort, alloc: Global, book: &RuleBook) -> Result
             y: 40,
         },
     };
-    assert_eq!(rt; otherwise(alloc, book, &reserved, &AT_RESERVATION)?, None, "a reservation");
+    assert_eq!(rt;
+        otherwise(alloc, book, &reserved, &AT_RESERVATION)?,
+        None,
+        "a reservation"
+    );
     let framed = Place {
         config: Config::Wheel { frame: 5 },
         terms: Terms::Slots(2),
     };
-    assert_eq!(rt; otherwise(alloc, book, &framed, &AT_FRAME)?, None, "a frame");
+    assert_eq!(rt;
+        otherwise(alloc, book, &framed, &AT_FRAME)?,
+        None,
+        "a frame"
+    );
     let turning = Place {
         config: Config::Rr { quantum: 1 },
         terms: Terms::Turn,
@@ -286,7 +296,11 @@ fn worked_derivations(rt: &impl Abort, alloc: Global, book: &RuleBook) -> Result
         config: Config::Cpu,
         terms: Terms::Cpu,
     };
-    assert_eq!(rt; otherwise(alloc, book, &processor, &AT_PROCESSOR)?, None, "the processor");
+    assert_eq!(rt;
+        otherwise(alloc, book, &processor, &AT_PROCESSOR)?,
+        None,
+        "the processor"
+    );
     Ok(())
 }
 
@@ -303,8 +317,18 @@ fn fair_queueing(weight: u32) -> Place
 
 fn joins(rt: &impl Abort, alloc: Global, book: &RuleBook) -> Result<(), Fail> {
     let cases = [
-        ("RESBH 2 10", "NULL", "RESBS 2 10", "RESBH 2 10 R2 RESBS 2 10 JOIN 0 RESBS 2 10"),
-        ("NULL", "RESBH 2 10", "RESBS 2 10", "RESBH 2 10 R2 RESBS 2 10 JOIN 1 RESBS 2 10"),
+        (
+            "RESBH 2 10",
+            "NULL",
+            "RESBS 2 10",
+            "RESBH 2 10 R2 RESBS 2 10 JOIN 0 RESBS 2 10",
+        ),
+        (
+            "NULL",
+            "RESBH 2 10",
+            "RESBS 2 10",
+            "RESBH 2 10 R2 RESBS 2 10 JOIN 1 RESBS 2 10",
+        ),
         ("RESBH 2 10", "NULL", "NULL", "RESBH 2 10 JOIN 0 NULL"),
         ("RESBH 2 10", "NULL", "RESBH 2 10", ""),
     ];
