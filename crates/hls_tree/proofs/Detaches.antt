@@ -263,8 +263,14 @@ module _ {V : Type 0} {P : V → Type 0} (seen : (x : V) × P x → Seen) where
                   omega (arith, few, t.counts.threads));
               seats = (let same = ap length seats in
                   let few = filter_less (λ (s : SeatHolder). not (s.node == id)) (map holder_view old.seats.items) in
-                  omega (arith, same, few, length-map new.seats.items holder_view, length-map old.seats.items holder_view,
-                  t.counts.seats));
+                  omega (
+                    arith,
+                    same,
+                    few,
+                    length-map new.seats.items holder_view,
+                    length-map old.seats.items holder_view,
+                    t.counts.seats,
+                  ));
             };
           }
 

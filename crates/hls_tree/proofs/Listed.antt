@@ -1,7 +1,7 @@
 -- Lists, where a node comes or goes.
-use Rattle.std.proofs.Common.{◌≡◌, ◌≢◌, inl, inr, ℕ, zero, suc, ◌+◌, ◌<◌, ◌≤◌, List, [], ◌∷◌, ◌++◌, length, Option, Some, None}
+use Rattle.std.proofs.Common.{◌≡◌, ◌≢◌, inl, inr, ℕ, zero, suc, ◌+◌, ◌-◌, ◌<◌, ◌≤◌, List, [], ◌∷◌, ◌++◌, length, Option, Some, None}
 use Rattle.std.proofs.Common.{Bool, true, false, not, ◌==◌, cond, filter, map, append_assoc, append-nil, add-one, refl, sym}
-use Rattle.std.proofs.Common.{ap, ◌∙◌, arith, length-append, if◌then◌else◌, ◌^◌}
+use Rattle.std.proofs.Common.{ap, ◌∙◌, arith, length-append, slice_get, drop, if◌then◌else◌, ◌^◌}
 use Rattle.std.specs.Prelude.{Contains, ◌↔◌}
 use Rattle.std.proofs.lemmas.List.{map-append, length-map}
 use Rattle.std.proofs.lemmas.Bool.{cases_eq, ne_eqb}
@@ -144,3 +144,54 @@ fits_seats was now node n e lt =
     let d : length (map holder_view now) ≡ length now = length-map now holder_view in
     let f : length (map holder_view was) ≡ length was = length-map was holder_view in
     omega (arith, a, b, c, d, f, lt)
+
+-- on the way through a list, by a test
+filter_next : {A : Type 0} (p : A → Bool) (xs : List A) (i : ℕ) (x : A) → slice_get xs i ≡ Some x
+    → filter p (drop i xs) ≡ cond (p x) (x ∷ filter p (drop (suc i) xs)) (filter p (drop (suc i) xs))
+filter_next p [] i x e = cc
+filter_next p (y ∷ ys) zero x e =
+    let same : y ≡ x = cc in ap (λ z. cond (p z) (z ∷ filter p ys) (filter p ys)) same
+filter_next p (y ∷ ys) (suc i) x e = filter_next p ys i x e
+
+pub filter_step : {A : Type 0} (p : A → Bool) (xs : List A) (i : ℕ) (x : A) → slice_get xs i ≡ Some x
+    → filter p (drop i xs) ≡ cond (p x) (x ∷ filter p (drop (i + 1) xs)) (filter p (drop (i + 1) xs))
+filter_step p xs i x e = rw (add-one i) (filter_next p xs i x e)
+
+pub skip_step : {A : Type 0} (p : A → Bool) (xs : List A) (i : ℕ) (x : A) → slice_get xs i ≡ Some x → p x ≡ false
+    → filter p (drop (i + 1) xs) ≡ filter p (drop i xs)
+skip_step p xs i x e off = sym (rw off at (filter_step p xs i x e))
+
+pub take_step : {A : Type 0} (p : A → Bool) (xs : List A) (i : ℕ) (x : A) → slice_get xs i ≡ Some x → p x ≡ true
+    → filter p (drop i xs) ≡ x ∷ filter p (drop (i + 1) xs)
+take_step p xs i x e on = rw on at (filter_step p xs i x e)
+
+pub count_skip : {A : Type 0} (p : A → Bool) (xs : List A) (i count whole : ℕ) (x : A) → slice_get xs i ≡ Some x
+    → p x ≡ false → count + length (filter p (drop i xs)) ≡ whole → count + length (filter p (drop (i + 1) xs)) ≡ whole
+count_skip p xs i count whole x e off so = let g = ap length (skip_step p xs i x e off) in omega (arith, so, g)
+
+pub count_here : {A : Type 0} (p : A → Bool) (xs : List A) (i count whole : ℕ) (x : A) → slice_get xs i ≡ Some x
+    → p x ≡ true → count + length (filter p (drop i xs)) ≡ whole
+    → count + 1 + length (filter p (drop (i + 1) xs)) ≡ whole
+count_here p xs i count whole x e on so = let g = ap length (take_step p xs i x e on) in omega (arith, so, g)
+
+-- the one of a number among those that pass
+pub seat_skip : {A : Type 0} (p : A → Bool) (xs : List A) (i left : ℕ) (x : A) (whole : Option A) → slice_get xs i ≡ Some x
+    → p x ≡ false → slice_get (filter p (drop i xs)) left ≡ whole
+    → slice_get (filter p (drop (i + 1) xs)) left ≡ whole
+seat_skip p xs i left x whole e off so = ap (λ l. slice_get l left) (skip_step p xs i x e off) ∙ so
+
+pub seat_here : {A : Type 0} (p : A → Bool) (xs : List A) (i left : ℕ) (x : A) (whole : Option A) → slice_get xs i ≡ Some x
+    → p x ≡ true → left ≡ 0 → slice_get (filter p (drop i xs)) left ≡ whole → Some x ≡ whole
+seat_here p xs i left x whole e on none so =
+    sym (ap (λ l. slice_get l left) (take_step p xs i x e on)
+    ∙ ap (slice_get (x ∷ filter p (drop (i + 1) xs))) none) ∙ so
+
+get_next : {A : Type 0} (x : A) (xs : List A) (n : ℕ) → n ≢ 0 → slice_get (x ∷ xs) n ≡ slice_get xs (n - 1)
+get_next x xs zero ne = absurd (ne refl)
+get_next x xs (suc n) ne = ap (slice_get xs) (omega arith)
+
+pub seat_later : {A : Type 0} (p : A → Bool) (xs : List A) (i left : ℕ) (x : A) (whole : Option A) → slice_get xs i ≡ Some x
+    → p x ≡ true → left ≢ 0 → slice_get (filter p (drop i xs)) left ≡ whole
+    → slice_get (filter p (drop (i + 1) xs)) (left - 1) ≡ whole
+seat_later p xs i left x whole e on some so =
+    sym (get_next x (filter p (drop (i + 1) xs)) left some) ∙ sym (ap (λ l. slice_get l left) (take_step p xs i x e on)) ∙ so

@@ -195,8 +195,14 @@ granted_what port name level seats (Scheduler post) = record {
   seats = refl;
   node = refl;
   ready = refl;
-  posted = λ x. record { configured = x.configured; mask = x.mask; granted = refl; ranges = x.ranges;
-  config = x.config; only = x.only };
+  posted = λ x. record {
+    configured = x.configured;
+    mask = x.mask;
+    granted = refl;
+    ranges = x.ranges;
+    config = x.config;
+    only = x.only;
+  };
 }
 granted_what port name level seats (Thread r) =
     record { level = refl; seats = refl; node = refl; ready = refl; posted = λ x. x }

@@ -199,8 +199,14 @@ pub record IsRevoked (o : Option Shown) : Type 0 where
   pub posted : PostedIn o → PostedIn (on_post post_revoked o)
 
 posted_revoked : (post : Post) → IsPosted post → IsPosted (post_revoked post)
-posted_revoked post x = record { configured = x.configured; mask = x.mask; granted = refl; ranges = x.ranges;
-  config = x.config; only = x.only }
+posted_revoked post x = record {
+  configured = x.configured;
+  mask = x.mask;
+  granted = refl;
+  ranges = x.ranges;
+  config = x.config;
+  only = x.only;
+}
 
 revoked_what : (name : List ℕ) (level : ℕ) (seats : List Seat) (w : What)
     → IsRevoked (Some (record { name = name; level = level; seats = seats; what = w }))
