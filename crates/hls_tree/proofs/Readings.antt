@@ -15,7 +15,8 @@ use Rattle.hls_sched.specs.declared.fault.SeatFault.{SeatFault}
 use Rattle.hls_legal.specs.Hierarchy.{Hierarchy, Node, Loaded, Admitted, SeatHolder, seat_of, book_of}
 use Rattle.hls_legal.specs.Hierarchy.{config_of as config_of_node, Scheduler as LoadedScheduler, Seat}
 use Rattle.hls_legal.specs.Seated.{IsSeated}
-use Rattle.hls_walks.specs.Shown.{Post, IsPosted, PostedIn, PostedWhat, What, Scheduler, HasNoFault, bare, bare_in, bare_what}
+use Rattle.hls_walks.specs.Shown.{Post, IsPosted, PostedIn, PostedWhat, What, Scheduler, HasNoFault, bare, bare_in}
+use Rattle.hls_walks.specs.Shown.{bare_what}
 use Rattle.hls_walks.specs.Shown.{level_in}
 use Rattle.hls_walks.specs.Views.{boxed, shown_at, shown_opt, post_of, what_of, seat_view}
 use Rattle.hls_walks.specs.declared.node.Node.{Node as StoredNode}
@@ -66,7 +67,8 @@ module _ {V : Type 0} {P : V → Type 0} (seen : (x : V) × P x → Seen) where
         (subst PostedIn (ap (shown_opt (boxed seen)) e) (tree.of.posted id));
   }
 
-  sort_node : (node : Option Node) (s : LoadedScheduler) (kind : Kind) → node ≡ Some (Loaded s) → kind ≡ kind_of s.config
+  sort_node : (node : Option Node) (s : LoadedScheduler) (kind : Kind) → node ≡ Some (Loaded s)
+      → kind ≡ kind_of s.config
       → IsSort node (sorts.Sched kind)
   sort_node node s kind e is = subst (λ o. IsSort o (sorts.Sched kind)) (sym e) is
 
@@ -105,7 +107,8 @@ module _ {V : Type 0} {P : V → Type 0} (seen : (x : V) × P x → Seen) where
       (λ i s. is_on (option_map (λ (seat : Seat). seat.place) (slice_get
       (sym (seats_same (h.nodes s.node) (shown_at (boxed seen) t.nodes s.node) (tree.of.nodes s.node)) i) s.port)) p) in
       ap (λ (test : SeatHolder → Bool). filter test (map holder_view t.seats.items)) tests
-      ∙ ap (filter (λ (s : SeatHolder). is_on (option_map (λ (seat : Seat). seat.place) (seat_of (h.nodes s.node) s.port)) p))
+      ∙ ap (filter (λ (s : SeatHolder). is_on
+      (option_map (λ (seat : Seat). seat.place) (seat_of (h.nodes s.node) s.port)) p))
       (sym tree.seats)
 
   pub taken_read : (t : Tree V P) (key id count : ℕ) → key ≡ id
@@ -114,7 +117,8 @@ module _ {V : Type 0} {P : V → Type 0} (seen : (x : V) × P x → Seen) where
   taken_read t key id count e is h tree =
       is ∙ ap length (taken_same t h key tree) ∙ ap (λ n. length (taken_on h n)) e
 
-  pub child_read : (t : Tree V P) (key id at : ℕ) (seat : Holder) (answer : Option Holder) → key ≡ id → answer ≡ Some seat
+  pub child_read : (t : Tree V P) (key id at : ℕ) (seat : Holder) (answer : Option Holder) → key ≡ id
+      → answer ≡ Some seat
       → option_map holder_view answer
       ≡ slice_get (filter (is_on_key (shown_at (boxed seen) t.nodes) key) (map holder_view t.seats.items)) at
       → (h : Hierarchy) → IsTreeOf seen t h → slice_get (taken_on h id) at ≡ Some (holder_view seat)
@@ -128,7 +132,8 @@ module _ {V : Type 0} {P : V → Type 0} (seen : (x : V) × P x → Seen) where
       → Stands seen t (λ h. at < length (taken_on h id)) → ⊥
   child_there t key id at answer e none is x =
       let past : slice_get (taken_on x.h id) at ≡ None =
-      ap (λ n. slice_get (taken_on x.h n) at) (sym e) ∙ ap (λ l. slice_get l at) (sym (taken_same t x.h key x.tree)) ∙ sym is
+      ap (λ n. slice_get (taken_on x.h n) at) (sym e) ∙ ap (λ l. slice_get l at) (sym (taken_same t x.h key x.tree))
+      ∙ sym is
       ∙ ap (option_map holder_view) none in
       let some = get_in (taken_on x.h id) at x.is in
       (let clash : Some some.0 ≡ None = sym some.1 ∙ past in cc)

@@ -1,5 +1,6 @@
 // Lists of nodes and of seats, the oldest first.
-ghost use Rattle.std.specs.Prelude.{◌≡◌, ◌+◌, ◌<◌, ◌≤◌, ◌++◌, ◌==◌, not, false, length, map, filter, Some, ◌^◌, option_map, slice_get};
+ghost use Rattle.std.specs.Prelude.{◌≡◌, ◌+◌, ◌<◌, ◌≤◌, ◌++◌, ◌==◌, not, false, length, map, filter, Some, ◌^◌};
+ghost use Rattle.std.specs.Prelude.{option_map, slice_get};
 ghost use Rattle.std.specs.Vec.{vec_capacity};
 ghost use Rattle.hls_legal.specs.Hierarchy.{SeatHolder};
 ghost use Rattle.hls_legal.specs.Steps.{listed};

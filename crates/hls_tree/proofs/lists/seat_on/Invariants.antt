@@ -5,7 +5,9 @@ use Rattle.hls_tree.proofs.lists.seat_on.Given as goal
 
 abbrev pub invariant-loop-seat : goal.invariant-loop-seat
 invariant-loop-seat g l =
-    slice_get (filter (is_on_key (shown_at (λ b. (goal.Scheduler-dyn g (b.vtable, b.value)).seen b.value) l.nodes) l.key)
+    slice_get (filter (is_on_key (shown_at
+    (λ b. (goal.Scheduler-dyn g (b.vtable, b.value)).seen b.value) l.nodes) l.key)
     (drop l.seat-index (map holder_view l.seats))) l.left
-    ≡ slice_get (filter (is_on_key (shown_at (λ b. (goal.Scheduler-dyn g (b.vtable, b.value)).seen b.value) l.nodes) l.key)
+    ≡ slice_get (filter (is_on_key (shown_at
+    (λ b. (goal.Scheduler-dyn g (b.vtable, b.value)).seen b.value) l.nodes) l.key)
     (map holder_view l.seats)) l.fn.at
