@@ -5,7 +5,8 @@ use Rattle.std.specs.Prelude.{option_map}
 use Rattle.std.proofs.lemmas.Bool.{cases_eq, eq-eqb, ne_eqb}
 use Rattle.hls_chron.specs.Seats.{terms_at}
 use Rattle.hls_sched.specs.Seen.{Seen, config_of}
-use Rattle.hls_legal.specs.Hierarchy.{Hierarchy, Node, Loaded, Admitted, Thread as AdmittedThread, Seat, Place, Processor, At}
+use Rattle.hls_legal.specs.Hierarchy.{Hierarchy, Node, Loaded, Admitted, Thread as AdmittedThread, Seat, Place}
+use Rattle.hls_legal.specs.Hierarchy.{Processor, At}
 use Rattle.hls_legal.specs.Hierarchy.{seats_of, seat_of, book_of, is_ready, was_served}
 use Rattle.hls_legal.specs.Hierarchy.{Scheduler as LoadedScheduler}
 use Rattle.std.proofs.Common.{false, not, filter, map}
@@ -13,7 +14,8 @@ use Rattle.hls_legal.specs.Hierarchy.{SeatHolder}
 use Rattle.hls_legal.specs.Steps.{listed, marked, leavings, effect, nobody, root_without}
 use Rattle.hls_legal.proofs.Kept.{at_same, at_other}
 use Rattle.hls_walks.specs.Shown.{What, Scheduler, Thread, Shown, SchedulerNode, ThreadNode, bare, bare_in, bare_what}
-use Rattle.hls_walks.specs.Shown.{level_in, seats_in, place_in, book_in, ready_in, PostedIn, RoomBare, most_bare, most_in}
+use Rattle.hls_walks.specs.Shown.{level_in, seats_in, place_in, book_in, ready_in, PostedIn, RoomBare, most_bare}
+use Rattle.hls_walks.specs.Shown.{most_in}
 use Rattle.hls_walks.specs.Shown.{name_bare, name_in, is_thread_what}
 use Rattle.std.specs.declared.dyn_box.DynBox.{DynBox}
 use Rattle.std.specs.declared.alloc.Global.{Global}
@@ -48,7 +50,8 @@ leave_at : (old mid : Nodes) (id port : ℕ) (place : Place) → IsRemoved old m
 leave_at old mid id port Processor r laid room e = tt
 leave_at old mid id port (At p slot) r laid room e =
     let up : level_in (old p) < level_in (old id) = rise old laid.ranked id port p slot e in
-    let other : p ≢ id = (λ k. let f : level_in (old p) ≡ level_in (old id) = ap (λ n. level_in (old n)) k in omega (arith, up, f)) in
+    let other : p ≢ id = (λ k. let f : level_in (old p) ≡ level_in (old id) = ap (λ n. level_in (old n)) k in omega
+    (arith, up, f)) in
     let may : MayLeave (old p) slot = record {
       taken = laid.taken id port p slot e;
       within = laid.ranked.within id port p slot e;
@@ -56,7 +59,8 @@ leave_at old mid id port (At p slot) r laid room e =
     } in
     subst (λ o. MayLeave o slot) (sym (r.others p other)) may
 
-place_by : (seats : List Seat) (i : ℕ) (seat : Seat) (place : Place) → slice_get seats i ≡ Some seat → seat.place ≡ place
+place_by : (seats : List Seat) (i : ℕ) (seat : Seat) (place : Place) → slice_get seats i ≡ Some seat
+    → seat.place ≡ place
     → option_map (λ (s : Seat). s.place) (slice_get seats i) ≡ Some place
 place_by seats i seat place e at = ap (option_map (λ (s : Seat). s.place)) e ∙ ap (λ (p : Place). Some p) at
 
@@ -75,7 +79,8 @@ pub posted_removed : (old mid : Nodes) (id : ℕ) → IsRemoved old mid id → (
 posted_removed old mid id r p = one_of (λ k. PostedIn (mid k)) id (subst PostedIn (sym r.gone) tt)
     (λ k ne. subst PostedIn (sym (r.others k ne)) (p k))
 
-module _ (old mid new : Nodes) (id : ℕ) (seats : List Seat) (own : seats_in (old id) ≡ seats) (r : IsRemoved old mid id) (m : IsMarked (leavings seats) mid new) where
+module _ (old mid new : Nodes) (id : ℕ) (seats : List Seat) (own : seats_in (old id) ≡ seats)
+    (r : IsRemoved old mid id) (m : IsMarked (leavings seats) mid new) where
   gone_bare : bare_in (new id) ≡ None
   gone_bare = m.nodes id ∙ ap (λ o. marked_bare (leavings seats id) (bare_in o)) r.gone
 
@@ -118,7 +123,8 @@ module _ (old mid new : Nodes) (id : ℕ) (seats : List Seat) (own : seats_in (o
       let laid = laid_from old tick horizon root stands in
       let were : seats_of (h.nodes id) ≡ seats = seats_same (h.nodes id) (old id) (tree.nodes id) ∙ own in
       let not_under : (c port p slot : ℕ) → place_in (old c) port ≡ Some (At p slot) → p ≢ id =
-      (λ c port p slot e same. laid.taken c port p slot e (ap (λ n. terms_at (book_in (old n)) slot) same ∙ empty slot)) in
+      (λ c port p slot e same. laid.taken c port p slot e (ap (λ n. terms_at (book_in (old n)) slot) same
+      ∙ empty slot)) in
       let exact_other : (k : ℕ) → k ≢ id → level_in (new k) ≡ level_over new (seats_in (new k)) = (λ k ne.
       let over = level_over_same old new (seats_in (old k)) (λ port p slot e.
       stay_level p (not_under k port p slot e)) in
@@ -126,9 +132,11 @@ module _ (old mid new : Nodes) (id : ℕ) (seats : List Seat) (own : seats_in (o
       record {
         now = tree.now;
         root_is = rw were (ap (root_without seats) tree.root_is ∙ sym top_is);
-        nodes = one_of (λ k. bare (if k == id then None else marked (leavings (seats_of (h.nodes id)) k ++ []) (h.nodes k)) ≡ bare_in (new k)) id
+        nodes = one_of (λ k. bare (if k == id then None else marked (leavings (seats_of (h.nodes id)) k ++ [])
+            (h.nodes k)) ≡ bare_in (new k)) id
             (rw (eq-eqb id id refl) (sym gone_bare))
-            (λ k ne. rw (ne_eqb k id ne, were, append-nil (leavings seats k)) (bare_marked (leavings seats k) (h.nodes k)
+            (λ k ne. rw (ne_eqb k id ne, were, append-nil (leavings seats k))
+            (bare_marked (leavings seats k) (h.nodes k)
             ∙ ap (marked_bare (leavings seats k)) (tree.nodes k ∙ ap bare_in (sym (r.others k ne))) ∙ sym (m.nodes k)));
         ranked = record {
           exact = one_of (λ k. level_in (new k) ≡ level_over new (seats_in (new k))) id
@@ -138,7 +146,8 @@ module _ (old mid new : Nodes) (id : ℕ) (seats : List Seat) (own : seats_in (o
               (λ k ne. rw (stay_level k ne, stay_most k ne) (laid.ranked.few k));
           some = one_of (λ k. 0 < most_in (new k) → seats_in (new k) ≢ []) id
               (λ there. absurd (let none : most_in (new id) ≡ 0 = ap most_bare gone_bare in omega (arith, there, none)))
-              (λ k ne there none. laid.ranked.some k (subst (λ n. 0 < n) (stay_most k ne) there) (sym (stay_seats k ne) ∙ none));
+              (λ k ne there none. laid.ranked.some k (subst (λ n. 0 < n) (stay_most k ne) there)
+              (sym (stay_seats k ne) ∙ none));
           ports = one_of (λ k. length (seats_in (new k)) ≤ 4) id (rw no_seats (omega arith))
               (λ k ne. rw (stay_seats k ne) (laid.ranked.ports k));
           apart = λ c port other p slot next e k. laid.ranked.apart c port other p slot next
@@ -148,7 +157,8 @@ module _ (old mid new : Nodes) (id : ℕ) (seats : List Seat) (own : seats_in (o
         posted = m.posted (posted_removed old mid id r tree.posted);
         room = λ k n le. one_of (λ k. RoomBare n (bare_in (new k))) id (subst (RoomBare n) (sym gone_bare) tt)
             (λ k ne. subst (RoomBare n) (sym (m.nodes k))
-            (room_marked (leavings seats k) n (bare_in (mid k)) (subst (λ o. RoomBare n (bare_in o)) (sym (r.others k ne)) (tree.room k n le)))) k;
+            (room_marked (leavings seats k) n (bare_in (mid k))
+            (subst (λ o. RoomBare n (bare_in o)) (sym (r.others k ne)) (tree.room k n le)))) k;
         within = tree.within;
       }
 
@@ -157,7 +167,8 @@ module _ (old mid new : Nodes) (id : ℕ) (seats : List Seat) (own : seats_in (o
       → (if k == id then None else marked (leavings (seats_of (h.nodes id)) k ++ []) (h.nodes k)) ≡ Some (Admitted t)
       → is_ready (was_served h.past k) h.now t.wake ≡ ready_in (new k)) id
       (λ t e. absurd (let none : None ≡ Some (Admitted t) = sym (at_same id id None _ refl) ∙ e in cc))
-      (λ k ne t e. ready k t (thread_marked (leavings (seats_of (h.nodes id)) k ++ []) (h.nodes k) t (sym (at_other k id None _ ne) ∙ e))
+      (λ k ne t e. ready k t (thread_marked (leavings (seats_of (h.nodes id)) k ++ []) (h.nodes k) t
+      (sym (at_other k id None _ ne) ∙ e))
       ∙ sym (m.ready k ∙ ap ready_in (r.others k ne)))
 
 -- where the hierarchy lets a node go, so does the tree
@@ -181,7 +192,8 @@ there_in (Some (Admitted t)) None e ne none = cc
 there_in node (Some x) e ne none = cc
 
 -- a node is taken out of a slab
-pub removed_by : {V : Type 0} {P : V → Type 0} (show : DynBox V Global P → Seen) (old new : Slab (StoredNode V P)) (key : ℕ)
+pub removed_by : {V : Type 0} {P : V → Type 0} (show : DynBox V Global P
+    → Seen) (old new : Slab (StoredNode V P)) (key : ℕ)
     → Updates old new key None → IsRemoved (shown_at show old) (shown_at show new) key
 removed_by show old new key u =
     record { gone = ap (shown_opt show) u.changed; others = λ k ne. ap (shown_opt show) (u.others k ne) }
@@ -203,7 +215,12 @@ module _ {V : Type 0} {P : V → Type 0} (seen : (x : V) × P x → Seen) where
       → bare node ≡ Some (bare_what name seats w) → IsBody (boxed seen) body w → IsBodyOf seen node body
   body_what None name seats w body e is = absurd (none_what name seats w e)
   body_what (Some (Loaded s)) name seats (Scheduler post) (bodies.Sched unit) e is =
-      let same : s ≡ record { name = name; config = config_of post.unit; book = post.unit.book; ports = seats } = cc in (
+      let same : s ≡ record {
+        name = name;
+        config = config_of post.unit;
+        book = post.unit.book;
+        ports = seats;
+      } = cc in (
         ap config_of is ∙ sym (ap (λ (x : LoadedScheduler). x.config) same),
         ap (λ (x : Seen). x.book) is ∙ sym (ap (λ (x : LoadedScheduler). x.book) same),
       )
@@ -217,37 +234,46 @@ module _ {V : Type 0} {P : V → Type 0} (seen : (x : V) × P x → Seen) where
       → IsBody (boxed seen) body x.what → IsBodyOf seen node body
   body_is node x body e is = body_what node x.name x.seats x.what body e is
 
-  module _ (old : Tree V P) (mid : Slab (StoredNode V P)) (key id : ℕ) (x : Shown) (key_is : key ≡ id) (own : shown_at (boxed seen) old.nodes key ≡ Some x) (stands : Stands seen old (λ h. MayGo h id)) (r : IsRemoved (shown_at (boxed seen) old.nodes) (shown_at (boxed seen) mid) key) where
+  module _ (old : Tree V P) (mid : Slab (StoredNode V P)) (key id : ℕ) (x : Shown) (key_is : key ≡ id)
+      (own : shown_at (boxed seen) old.nodes key ≡ Some x) (stands : Stands seen old (λ h. MayGo h id))
+      (r : IsRemoved (shown_at (boxed seen) old.nodes) (shown_at (boxed seen) mid) key) where
     go : MayGo stands.h key
     go = subst (MayGo stands.h) (sym key_is) stands.is
 
     pub leave_each : MayLeaveAll (shown_at (boxed seen) mid) x.seats
-    leave_each = may_leave_all (shown_at (boxed seen) old.nodes) (shown_at (boxed seen) mid) key x.seats (ap seats_in own) r
-        (laid_from (shown_at (boxed seen) old.nodes) old.tick old.horizon old.root (stands_at seen old (λ h. MayGo h id) stands))
+    leave_each = may_leave_all (shown_at (boxed seen) old.nodes) (shown_at (boxed seen) mid) key x.seats
+        (ap seats_in own) r
+        (laid_from (shown_at (boxed seen) old.nodes) old.tick old.horizon old.root
+        (stands_at seen old (λ h. MayGo h id) stands))
         (room_to_leave (shown_at (boxed seen) old.nodes) stands.h stands.tree.of.nodes key go)
 
-    module _ (new : Tree V P) (m : IsMarked (leavings x.seats) (shown_at (boxed seen) mid) (shown_at (boxed seen) new.nodes)) where
+    module _ (new : Tree V P) (m : IsMarked (leavings x.seats) (shown_at (boxed seen) mid)
+        (shown_at (boxed seen) new.nodes)) where
       pub detached : id_of new.names x.name ≡ None
           → ((other : List ℕ) → other ≢ x.name → id_of new.names other ≡ id_of old.names other)
           → new.schedulers.items ≡ listed (not (is_thread_what x.what)) false id old.schedulers.items
           → new.threads.items ≡ listed (is_thread_what x.what) false id old.threads.items
-          → map holder_view new.seats.items ≡ filter (λ (s : SeatHolder). not (s.node == id)) (map holder_view old.seats.items)
+          → map holder_view new.seats.items ≡ filter (λ (s : SeatHolder). not (s.node == id))
+          (map holder_view old.seats.items)
           → new.root ≡ root_without x.seats old.root → new.tick ≡ old.tick → new.horizon ≡ old.horizon
           → (h : Hierarchy) → IsTreeOf seen old h → IsTreeOf seen new (effect h id None nobody)
       detached none others schedulers threads seats root tick horizon h t =
           let is : bare (h.nodes id) ≡ bare_in (Some x) =
           t.of.nodes id ∙ ap bare_in (ap (shown_at (boxed seen) old.nodes) (sym key_is) ∙ own) in
           record {
-            of = subst (λ n. IsOf (shown_at (boxed seen) new.nodes) new.tick new.horizon new.root (effect h n None nobody)) key_is
+            of = subst (λ n. IsOf (shown_at (boxed seen) new.nodes) new.tick new.horizon new.root
+                (effect h n None nobody)) key_is
                 (tree_to (shown_at (boxed seen) new.nodes) old.tick old.horizon new.tick new.horizon
                 (root_without x.seats old.root) new.root _ tick horizon root
-                (detach_tree (shown_at (boxed seen) old.nodes) (shown_at (boxed seen) mid) (shown_at (boxed seen) new.nodes)
+                (detach_tree (shown_at (boxed seen) old.nodes) (shown_at (boxed seen) mid)
+                (shown_at (boxed seen) new.nodes)
                 key x.seats (ap seats_in own) r m old.tick old.horizon old.root (root_without x.seats old.root)
                 (stands_at seen old (λ h. MayGo h id) stands)
                 (empty_there (shown_at (boxed seen) old.nodes) stands.h stands.tree.of.nodes key go) refl h t.of));
             named = named_gone (shown_at (boxed seen) old.nodes) (shown_at (boxed seen) new.nodes) (id_of old.names)
                 (id_of new.names) key x.name t.named
-                (stay_name (shown_at (boxed seen) old.nodes) (shown_at (boxed seen) mid) (shown_at (boxed seen) new.nodes)
+                (stay_name (shown_at (boxed seen) old.nodes) (shown_at (boxed seen) mid)
+                (shown_at (boxed seen) new.nodes)
                 key x.seats (ap seats_in own) r m) others
                 (ap name_in own ∙ name_what x.name x.seats x.what)
                 (no_name (shown_at (boxed seen) old.nodes) (shown_at (boxed seen) mid) (shown_at (boxed seen) new.nodes)
@@ -263,8 +289,14 @@ module _ {V : Type 0} {P : V → Type 0} (seen : (x : V) × P x → Seen) where
                   omega (arith, few, t.counts.threads));
               seats = (let same = ap length seats in
                   let few = filter_less (λ (s : SeatHolder). not (s.node == id)) (map holder_view old.seats.items) in
-                  omega (arith, same, few, length-map new.seats.items holder_view, length-map old.seats.items holder_view,
-                  t.counts.seats));
+                  omega (
+                    arith,
+                    same,
+                    few,
+                    length-map new.seats.items holder_view,
+                    length-map old.seats.items holder_view,
+                    t.counts.seats,
+                  ));
             };
           }
 

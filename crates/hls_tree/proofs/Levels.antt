@@ -1,6 +1,7 @@
 -- Stored levels are the lengths of longest chains of schedulers.
 use Rattle.std.proofs.Common.{◌≡◌, ◌≢◌, inl, inr, ℕ, zero, suc, ◌+◌, ◌<◌, ◌≤◌, max, List, [], ◌∷◌, ◌++◌, length}
-use Rattle.std.proofs.Common.{Option, Some, None, refl, sym, ap, ◌∙◌, subst, arith, slice_get, drop, add-one, length-append}
+use Rattle.std.proofs.Common.{Option, Some, None, refl, sym, ap, ◌∙◌, subst, arith, slice_get, drop, add-one}
+use Rattle.std.proofs.Common.{length-append}
 use Rattle.std.proofs.lemmas.Bool.{cases_lt}
 use Rattle.hls_chron.specs.declared.plain.Terms.{Terms}
 use Rattle.hls_chron.specs.Seats.{terms_at}
@@ -107,7 +108,14 @@ module _ (s : Nodes) (tick horizon : ℕ) (root : Option ℕ) (h : Hierarchy) (t
     up_from n below k scheduler there port seat sits Processor at level le = record {
       above = [];
       chain = (
-        record { scheduler = scheduler; there = there; port = port; seat = seat; sits = sits; under = ap scheduler_at at },
+        record {
+          scheduler = scheduler;
+          there = there;
+          port = port;
+          seat = seat;
+          sits = sits;
+          under = ap scheduler_at at;
+        },
         tt,
       );
       count = level;
@@ -135,7 +143,8 @@ module _ (s : Nodes) (tick horizon : ℕ) (root : Option ℕ) (h : Hierarchy) (t
 
     top_there : (k : ℕ) (scheduler : Scheduler) → h.nodes k ≡ Some (Loaded scheduler) → IsTop s (seats_in (s k))
     top_there k scheduler there = top_of s (seats_in (s k))
-        (t.ranked.some k (let most : most_in (s k) ≡ 8 = ap most_bare (sym (t.nodes k)) ∙ most_loaded (h.nodes k) scheduler there in
+        (t.ranked.some k (let most : most_in (s k) ≡ 8 = ap most_bare (sym (t.nodes k))
+        ∙ most_loaded (h.nodes k) scheduler there in
         omega (arith, most)))
 
     own_seats : (k : ℕ) (scheduler : Scheduler) → h.nodes k ≡ Some (Loaded scheduler) → seats_in (s k) ≡ scheduler.ports
@@ -148,7 +157,8 @@ module _ (s : Nodes) (tick horizon : ℕ) (root : Option ℕ) (h : Hierarchy) (t
         (ap (λ (node : Option Node). slice_get (seats_of node) top.port) there
         ∙ (ap (λ (l : List Seat). slice_get l top.port) (sym (own_seats k scheduler there)) ∙ top.sits)) in
         let f : level_at s top.seat.place ≤ level_in (s k) = floor s t.ranked k top.port top.seat.place at in
-        let e : level_at s top.seat.place ≡ level_under s (scheduler_at top.seat.place) + 1 = above_place s top.seat.place in
+        let e : level_at s top.seat.place ≡ level_under s
+        (scheduler_at top.seat.place) + 1 = above_place s top.seat.place in
         absurd (omega (arith, f, e, le))
     up (suc n) k scheduler there le =
         let top = top_there k scheduler there in

@@ -1,7 +1,9 @@
 -- Lists, where a node comes or goes.
-use Rattle.std.proofs.Common.{◌≡◌, ◌≢◌, inl, inr, ℕ, zero, suc, ◌+◌, ◌<◌, ◌≤◌, List, [], ◌∷◌, ◌++◌, length, Option, Some, None}
-use Rattle.std.proofs.Common.{Bool, true, false, not, ◌==◌, cond, filter, map, append_assoc, append-nil, add-one, refl, sym}
-use Rattle.std.proofs.Common.{ap, ◌∙◌, arith, length-append, if◌then◌else◌, ◌^◌}
+use Rattle.std.proofs.Common.{◌≡◌, ◌≢◌, inl, inr, ℕ, zero, suc, ◌+◌, ◌-◌, ◌<◌, ◌≤◌, List, [], ◌∷◌, ◌++◌, length}
+use Rattle.std.proofs.Common.{Option, Some, None}
+use Rattle.std.proofs.Common.{Bool, true, false, not, ◌==◌, cond, filter, map, append_assoc, append-nil, add-one}
+use Rattle.std.proofs.Common.{refl, sym}
+use Rattle.std.proofs.Common.{ap, ◌∙◌, arith, length-append, slice_get, drop, if◌then◌else◌, ◌^◌}
 use Rattle.std.specs.Prelude.{Contains, ◌↔◌}
 use Rattle.std.proofs.lemmas.List.{map-append, length-map}
 use Rattle.std.proofs.lemmas.Bool.{cases_eq, ne_eqb}
@@ -9,7 +11,8 @@ use Rattle.hls_legal.specs.Hierarchy.{Hierarchy, Node, Loaded, Admitted, Seat, S
 use Rattle.hls_legal.specs.Steps.{listed, sitters, is_scheduler, is_thread}
 use Rattle.hls_legal.specs.Lists.{IsListed}
 use Rattle.hls_legal.proofs.Listings.{contains_first, contains_later}
-use Rattle.hls_walks.specs.Shown.{What, Scheduler, Thread, Shown, SchedulerNode, ThreadNode, bare, bare_in, bare_what, is_sched_what, is_thread_what}
+use Rattle.hls_walks.specs.Shown.{What, Scheduler, Thread, Shown, SchedulerNode, ThreadNode, bare, bare_in, bare_what}
+use Rattle.hls_walks.specs.Shown.{is_sched_what, is_thread_what}
 use Rattle.hls_tree.specs.Lists.{holder_view, ports_of}
 use Rattle.hls_tree.specs.declared.lists.Holder.{Holder}
 
@@ -21,7 +24,8 @@ listed_more was now next node port h e so n p =
     rw (add-one port) (ap (map holder_view) e ∙ map-append holder_view now (h ∷ [])
     ∙ ap (λ l. l ++ holder_view h ∷ []) so
     ∙ append_assoc (map holder_view was) (ports_of node port) (holder_view h ∷ [])
-    ∙ ap (λ (s : SeatHolder). map holder_view was ++ (ports_of node port ++ s ∷ [])) (λ i. record { node = n i; port = p i }))
+    ∙ ap (λ (s : SeatHolder). map holder_view was ++ (ports_of node port ++ s ∷ []))
+    (λ i. record { node = n i; port = p i }))
 
 pub listed_end : (was now : List Holder) (node port ports : ℕ) → port ≡ ports
     → map holder_view now ≡ map holder_view was ++ ports_of node port
@@ -31,7 +35,8 @@ listed_end was now node port ports e so = so ∙ ap (λ n. map holder_view was +
 viewed_by : (node : ℕ) (x : Holder) (xs : List Holder) (b : Bool)
     → map holder_view (filter (λ (s : Holder). not (s.node == node)) xs)
     ≡ filter (λ (s : SeatHolder). not (s.node == node)) (map holder_view xs)
-    → map holder_view (cond b (x ∷ filter (λ (s : Holder). not (s.node == node)) xs) (filter (λ (s : Holder). not (s.node == node)) xs))
+    → map holder_view (cond b (x ∷ filter (λ (s : Holder). not (s.node == node)) xs)
+    (filter (λ (s : Holder). not (s.node == node)) xs))
     ≡ cond b (holder_view x ∷ filter (λ (s : SeatHolder). not (s.node == node)) (map holder_view xs))
     (filter (λ (s : SeatHolder). not (s.node == node)) (map holder_view xs))
 viewed_by node x xs true rest = ap (λ l. holder_view x ∷ l) rest
@@ -57,18 +62,22 @@ ports_from node from (suc n) = (record { node = node; port = from }) ∷ ports_f
 sitters_are : (node from : ℕ) (seats : List Seat) → sitters node from seats ≡ ports_from node from (length seats)
 unfolding ports_from
 sitters_are node from [] = refl
-sitters_are node from (seat ∷ seats) = ap (λ l. (record { node = node; port = from }) ∷ l) (sitters_are node (from + 1) seats)
+sitters_are node from (seat ∷ seats) = ap (λ l. (record { node = node; port = from }) ∷ l)
+    (sitters_are node (from + 1) seats)
 
-from_snoc : (node from n : ℕ) → ports_from node from (suc n) ≡ ports_from node from n ++ (record { node = node; port = from + n }) ∷ []
+from_snoc : (node from n : ℕ) → ports_from node from (suc n) ≡ ports_from node from n ++
+    (record { node = node; port = from + n }) ∷ []
 unfolding ports_from
 from_snoc node from zero = ap (λ (p : ℕ). (record { node = node; port = p }) ∷ []) (omega arith)
 from_snoc node from (suc n) = ap (λ l. (record { node = node; port = from }) ∷ l)
-    (from_snoc node (from + 1) n ∙ ap (λ (p : ℕ). ports_from node (from + 1) n ++ (record { node = node; port = p }) ∷ []) (omega arith))
+    (from_snoc node (from + 1) n ∙ ap
+    (λ (p : ℕ). ports_from node (from + 1) n ++ (record { node = node; port = p }) ∷ []) (omega arith))
 
 ports_are : (node n : ℕ) → ports_from node 0 n ≡ ports_of node n
 unfolding ports_from
 ports_are node zero = refl
-ports_are node (suc n) = from_snoc node 0 n ∙ ap (λ l. l ++ (record { node = node; port = 0 + n }) ∷ []) (ports_are node n)
+ports_are node (suc n) = from_snoc node 0 n
+    ∙ ap (λ l. l ++ (record { node = node; port = 0 + n }) ∷ []) (ports_are node n)
     ∙ ap (λ (p : ℕ). ports_of node n ++ (record { node = node; port = p }) ∷ []) (omega arith)
 
 pub sitters_of : (node n : ℕ) (seats : List Seat) → length seats ≡ n → sitters node 0 seats ≡ ports_of node n
@@ -87,7 +96,8 @@ new_seats h l id none = filter_whole (λ (s : SeatHolder). not (s.node == id)) h
     ])
 
 -- what a node is, by what is shown of it
-pub sched_what : (node : Option Node) (name : List ℕ) (seats : List Seat) (w : What) → bare node ≡ Some (bare_what name seats w)
+pub sched_what : (node : Option Node) (name : List ℕ) (seats : List Seat) (w : What)
+    → bare node ≡ Some (bare_what name seats w)
     → (is_scheduler node ≡ is_sched_what w) × (is_thread node ≡ is_thread_what w)
 sched_what None name seats (Scheduler post) e = cc
 sched_what None name seats (Thread r) e = cc
@@ -144,3 +154,58 @@ fits_seats was now node n e lt =
     let d : length (map holder_view now) ≡ length now = length-map now holder_view in
     let f : length (map holder_view was) ≡ length was = length-map was holder_view in
     omega (arith, a, b, c, d, f, lt)
+
+-- on the way through a list, by a test
+filter_next : {A : Type 0} (p : A → Bool) (xs : List A) (i : ℕ) (x : A) → slice_get xs i ≡ Some x
+    → filter p (drop i xs) ≡ cond (p x) (x ∷ filter p (drop (suc i) xs)) (filter p (drop (suc i) xs))
+filter_next p [] i x e = cc
+filter_next p (y ∷ ys) zero x e =
+    let same : y ≡ x = cc in ap (λ z. cond (p z) (z ∷ filter p ys) (filter p ys)) same
+filter_next p (y ∷ ys) (suc i) x e = filter_next p ys i x e
+
+pub filter_step : {A : Type 0} (p : A → Bool) (xs : List A) (i : ℕ) (x : A) → slice_get xs i ≡ Some x
+    → filter p (drop i xs) ≡ cond (p x) (x ∷ filter p (drop (i + 1) xs)) (filter p (drop (i + 1) xs))
+filter_step p xs i x e = rw (add-one i) (filter_next p xs i x e)
+
+pub skip_step : {A : Type 0} (p : A → Bool) (xs : List A) (i : ℕ) (x : A) → slice_get xs i ≡ Some x → p x ≡ false
+    → filter p (drop (i + 1) xs) ≡ filter p (drop i xs)
+skip_step p xs i x e off = sym (rw off at (filter_step p xs i x e))
+
+pub take_step : {A : Type 0} (p : A → Bool) (xs : List A) (i : ℕ) (x : A) → slice_get xs i ≡ Some x → p x ≡ true
+    → filter p (drop i xs) ≡ x ∷ filter p (drop (i + 1) xs)
+take_step p xs i x e on = rw on at (filter_step p xs i x e)
+
+pub count_skip : {A : Type 0} (p : A → Bool) (xs : List A) (i count whole : ℕ) (x : A) → slice_get xs i ≡ Some x
+    → p x ≡ false → count + length (filter p (drop i xs)) ≡ whole → count + length (filter p (drop (i + 1) xs)) ≡ whole
+count_skip p xs i count whole x e off so = let g = ap length (skip_step p xs i x e off) in omega (arith, so, g)
+
+pub count_here : {A : Type 0} (p : A → Bool) (xs : List A) (i count whole : ℕ) (x : A) → slice_get xs i ≡ Some x
+    → p x ≡ true → count + length (filter p (drop i xs)) ≡ whole
+    → count + 1 + length (filter p (drop (i + 1) xs)) ≡ whole
+count_here p xs i count whole x e on so = let g = ap length (take_step p xs i x e on) in omega (arith, so, g)
+
+-- the one of a number among those that pass
+pub seat_skip : {A : Type 0} (p : A → Bool) (xs : List A) (i left : ℕ) (x : A) (whole : Option A)
+    → slice_get xs i ≡ Some x
+    → p x ≡ false → slice_get (filter p (drop i xs)) left ≡ whole
+    → slice_get (filter p (drop (i + 1) xs)) left ≡ whole
+seat_skip p xs i left x whole e off so = ap (λ l. slice_get l left) (skip_step p xs i x e off) ∙ so
+
+pub seat_here : {A : Type 0} (p : A → Bool) (xs : List A) (i left : ℕ) (x : A) (whole : Option A)
+    → slice_get xs i ≡ Some x
+    → p x ≡ true → left ≡ 0 → slice_get (filter p (drop i xs)) left ≡ whole → Some x ≡ whole
+seat_here p xs i left x whole e on none so =
+    sym (ap (λ l. slice_get l left) (take_step p xs i x e on)
+    ∙ ap (slice_get (x ∷ filter p (drop (i + 1) xs))) none) ∙ so
+
+get_next : {A : Type 0} (x : A) (xs : List A) (n : ℕ) → n ≢ 0 → slice_get (x ∷ xs) n ≡ slice_get xs (n - 1)
+get_next x xs zero ne = absurd (ne refl)
+get_next x xs (suc n) ne = ap (slice_get xs) (omega arith)
+
+pub seat_later : {A : Type 0} (p : A → Bool) (xs : List A) (i left : ℕ) (x : A) (whole : Option A)
+    → slice_get xs i ≡ Some x
+    → p x ≡ true → left ≢ 0 → slice_get (filter p (drop i xs)) left ≡ whole
+    → slice_get (filter p (drop (i + 1) xs)) (left - 1) ≡ whole
+seat_later p xs i left x whole e on some so =
+    sym (get_next x (filter p (drop (i + 1) xs)) left some)
+    ∙ sym (ap (λ l. slice_get l left) (take_step p xs i x e on)) ∙ so

@@ -20,7 +20,8 @@ use Rattle.hls_legal.specs.Steps.{sitters, marked, seatings, leavings, effect, n
 use Rattle.hls_chron.specs.Kinds.{port_count}
 use Rattle.hls_legal.proofs.Kept.{at_same, at_other}
 use Rattle.hls_legal.proofs.Small.{zero_off}
-use Rattle.hls_walks.specs.Shown.{IsPosted, What, Scheduler, Thread, SchedulerNode, ThreadNode, PostedIn, RoomBare, bare, bare_what, level_in}
+use Rattle.hls_walks.specs.Shown.{IsPosted, What, Scheduler, Thread, SchedulerNode, ThreadNode, PostedIn, RoomBare}
+use Rattle.hls_walks.specs.Shown.{bare, bare_what, level_in}
 use Rattle.hls_walks.specs.Shown.{ready_in, ready_what, name_in, name_bare, most_in, most_bare}
 use Rattle.hls_walks.specs.Views.{boxed, shown_at}
 use Rattle.hls_walks.specs.TreeOf.{IsOf, IsReady, StandsAt}
@@ -29,7 +30,8 @@ use Rattle.hls_walks.proofs.Passes.{laid_from, seats_same}
 use Rattle.hls_tree.specs.Names.{id_of}
 use Rattle.hls_tree.specs.Offers.{TakesAt, MayTakeEach, MayAdmit, MayLoad, AreTakenAs}
 use Rattle.hls_tree.specs.Seating.{AreBelow, MayTakeAll, IsAttached}
-use Rattle.hls_tree.specs.Trees.{IsTreeOf, IsReadyOf, Stands, IsSame, HasCounts, IsAsBefore, IsInserted, IsNamed, Admits, Loads}
+use Rattle.hls_tree.specs.Trees.{IsTreeOf, IsReadyOf, Stands, IsSame, HasCounts, IsAsBefore, IsInserted, IsNamed}
+use Rattle.hls_tree.specs.Trees.{Admits, Loads}
 use Rattle.hls_tree.specs.declared.seat.Seat.{Seat as Wanted}
 use Rattle.hls_tree.specs.declared.tree.Tree.{Tree}
 use Rattle.hls_tree.proofs.Attaches.{attach_tree, taken_as, new_there, may_take_all, name_marked}
@@ -44,24 +46,30 @@ lone (seat ∷ []) e = (seat, refl)
 lone (seat ∷ (other ∷ seats)) e = absurd (omega (arith, e))
 
 -- what is marked is a thread only if it was
-pub thread_marked : (events : List Event) (node : Option Node) (t : AdmittedThread) → marked events node ≡ Some (Admitted t)
+pub thread_marked : (events : List Event) (node : Option Node) (t : AdmittedThread)
+    → marked events node ≡ Some (Admitted t)
     → node ≡ Some (Admitted t)
 thread_marked events None t e = e
 thread_marked events (Some (Loaded s)) t e = cc
 thread_marked events (Some (Admitted x)) t e = e
 
-module _ (old new : Nodes) (id : ℕ) (name : List ℕ) (wanted : List Wanted) (what : What) (seats : List Seat) (x : IsAttached old new id name wanted what seats) (h : Hierarchy) (node : Node) where
+module _ (old new : Nodes) (id : ℕ) (name : List ℕ) (wanted : List Wanted) (what : What) (seats : List Seat)
+    (x : IsAttached old new id name wanted what seats) (h : Hierarchy) (node : Node) where
   ready_by : IsReady old h
-      → ((t : AdmittedThread) → Some node ≡ Some (Admitted t) → is_ready (was_served h.past id) h.now t.wake ≡ ready_what what)
+      → ((t : AdmittedThread) → Some node ≡ Some (Admitted t)
+      → is_ready (was_served h.past id) h.now t.wake ≡ ready_what what)
       → IsReady new (effect h id (Some node) nobody)
   ready_by r own = one_of (λ k. (t : AdmittedThread)
-      → (if k == id then Some node else marked (leavings (seats_of (h.nodes id)) k ++ seatings (seats_of (Some node)) k) (h.nodes k)) ≡ Some (Admitted t)
+      → (if k == id then Some node else marked
+      (leavings (seats_of (h.nodes id)) k ++ seatings (seats_of (Some node)) k) (h.nodes k)) ≡ Some (Admitted t)
       → is_ready (was_served h.past k) h.now t.wake ≡ ready_in (new k)) id
       (λ t e. own t (sym (at_same id id (Some node) _ refl) ∙ e) ∙ sym (ap ready_in x.here))
-      (λ k ne t e. r k t (thread_marked (leavings (seats_of (h.nodes id)) k ++ seatings (seats_of (Some node)) k) (h.nodes k) t (sym (at_other k id (Some node) _ ne) ∙ e))
+      (λ k ne t e. r k t (thread_marked (leavings (seats_of (h.nodes id)) k ++ seatings (seats_of (Some node)) k)
+      (h.nodes k) t (sym (at_other k id (Some node) _ ne) ∙ e))
       ∙ sym (ap ready_in (x.others k ne) ∙ x.taken.marked.ready k))
 
-pub tree_to : (s : Nodes) (tick horizon later end : ℕ) (root top : Option ℕ) (h : Hierarchy) → later ≡ tick → end ≡ horizon
+pub tree_to : (s : Nodes) (tick horizon later end : ℕ) (root top : Option ℕ) (h : Hierarchy) → later ≡ tick
+    → end ≡ horizon
     → top ≡ root → IsOf s tick horizon root h → IsOf s later end top h
 tree_to s tick horizon later end root top h a b c t = subst (λ n. IsOf s n end top h) (sym a)
     (subst (λ n. IsOf s tick n top h) (sym b) (subst (λ r. IsOf s tick horizon r h) (sym c) t))
@@ -115,7 +123,8 @@ module _ {V : Type 0} {P : V → Type 0} (seen : (x : V) × P x → Seen) where
         of = tree_to (shown_at (boxed seen) new.nodes) old.tick old.horizon new.tick new.horizon old.root new.root h
             same.tick same.horizon same.root
             (subst (λ f. IsOf f old.tick old.horizon old.root h) path t.of);
-        named = named_alike (shown_at (boxed seen) old.nodes) (shown_at (boxed seen) new.nodes) (id_of old.names) (id_of new.names)
+        named = named_alike (shown_at (boxed seen) old.nodes) (shown_at (boxed seen) new.nodes) (id_of old.names)
+            (id_of new.names)
             (λ k. ap name_in (same.nodes k)) same.names t.named;
         schedulers = t.schedulers ∙ sym same.schedulers;
         threads = t.threads ∙ sym same.threads;
@@ -154,25 +163,32 @@ module _ {V : Type 0} {P : V → Type 0} (seen : (x : V) × P x → Seen) where
       → StandsAt (shown_at (boxed seen) t.nodes) t.tick t.horizon t.root
   stands_at t Is x = record { h = x.h; tree = x.tree.of; seated = x.seated }
 
-  module _ (old new : Tree V P) (id : ℕ) (name : List ℕ) (wanted : List Wanted) (what : What) (x : IsInserted seen old new id name wanted what) (counts : HasCounts new) where
-    named_by : (h g : Hierarchy) → IsTreeOf seen old h → IsTreeOf seen old g → ((k : ℕ) → name_of (g.nodes k) ≢ Some name)
+  module _ (old new : Tree V P) (id : ℕ) (name : List ℕ) (wanted : List Wanted) (what : What)
+      (x : IsInserted seen old new id name wanted what) (counts : HasCounts new) where
+    named_by : (h g : Hierarchy) → IsTreeOf seen old h → IsTreeOf seen old g
+        → ((k : ℕ) → name_of (g.nodes k) ≢ Some name)
         → name_bare (Some (bare_what name x.seats what)) ≡ Some name
         → IsNamed (shown_at (boxed seen) new.nodes) (id_of new.names)
-    named_by h g t u free is = named_new (shown_at (boxed seen) old.nodes) (shown_at (boxed seen) new.nodes) (id_of old.names) (id_of new.names)
+    named_by h g t u free is = named_new (shown_at (boxed seen) old.nodes) (shown_at (boxed seen) new.nodes)
+        (id_of old.names) (id_of new.names)
         id name t.named
-        (λ k ne. name_marked (shown_at (boxed seen) old.nodes) (shown_at (boxed seen) new.nodes) id name wanted what x.seats x.attached k ne)
+        (λ k ne. name_marked (shown_at (boxed seen) old.nodes)
+        (shown_at (boxed seen) new.nodes) id name wanted what x.seats x.attached k ne)
         x.others
         (sym (name_there (h.nodes id) (shown_at (boxed seen) old.nodes id) (t.of.nodes id))
-        ∙ ap name_of (new_there (shown_at (boxed seen) old.nodes) (shown_at (boxed seen) new.nodes) id name wanted what x.seats x.attached h t.of.nodes))
+        ∙ ap name_of (new_there (shown_at (boxed seen) old.nodes)
+        (shown_at (boxed seen) new.nodes) id name wanted what x.seats x.attached h t.of.nodes))
         (ap name_in x.attached.here ∙ is)
         (λ k e. free k (name_there (g.nodes k) (shown_at (boxed seen) old.nodes k) (u.of.nodes k) ∙ e))
         x.named
 
     inserted_new : (h : Hierarchy) → IsTreeOf seen old h → h.nodes id ≡ None
     inserted_new h t =
-        new_there (shown_at (boxed seen) old.nodes) (shown_at (boxed seen) new.nodes) id name wanted what x.seats x.attached h t.of.nodes
+        new_there (shown_at (boxed seen) old.nodes)
+        (shown_at (boxed seen) new.nodes) id name wanted what x.seats x.attached h t.of.nodes
 
-    seats_bare_is : (node : Node) → bare (Some node) ≡ Some (bare_what name x.seats what) → seats_of (Some node) ≡ x.seats
+    seats_bare_is : (node : Node) → bare (Some node) ≡ Some (bare_what name x.seats what)
+        → seats_of (Some node) ≡ x.seats
     seats_bare_is node is =
         seats_same (Some node) (Some (record { name = name; level = 0; seats = x.seats; what = what })) is
 
@@ -189,7 +205,8 @@ module _ {V : Type 0} {P : V → Type 0} (seen : (x : V) × P x → Seen) where
     inserted_tree Is stands may free small some most low posted room named h t node is = record {
       of = tree_to (shown_at (boxed seen) new.nodes) old.tick old.horizon new.tick new.horizon
           (root_with id x.seats old.root) new.root _ x.tick x.horizon x.root
-          (attach_tree (shown_at (boxed seen) old.nodes) (shown_at (boxed seen) new.nodes) id name wanted what x.seats x.attached
+          (attach_tree (shown_at (boxed seen) old.nodes)
+          (shown_at (boxed seen) new.nodes) id name wanted what x.seats x.attached
           old.tick old.horizon old.root h t.of
           (laid_from (shown_at (boxed seen) old.nodes) old.tick old.horizon old.root (stands_at old Is stands))
           (may_take_all (shown_at (boxed seen) old.nodes) stands.h stands.tree.of.nodes wanted may)
@@ -203,7 +220,8 @@ module _ {V : Type 0} {P : V → Type 0} (seen : (x : V) × P x → Seen) where
           subst (λ l. filter (λ (s : SeatHolder). not (s.node == id)) l ≡ l) (stands.tree.seats ∙ sym t.seats)
           (new_seats stands.h stands.listed id (inserted_new stands.h stands.tree)) in
           let own : sitters id 0 (seats_of (Some node)) ≡ ports_of id (length wanted) =
-          sitters_of id (length wanted) (seats_of (Some node)) (ap length (seats_bare_is node is) ∙ x.attached.taken.count) in
+          sitters_of id (length wanted) (seats_of (Some node)) (ap length (seats_bare_is node is)
+          ∙ x.attached.taken.count) in
           ap (λ l. l ++ sitters id 0 (seats_of (Some node))) (whole ∙ t.seats)
           ∙ ap (λ l. map holder_view old.seats.items ++ l) own ∙ sym x.holders;
       counts = counts;
@@ -212,7 +230,8 @@ module _ {V : Type 0} {P : V → Type 0} (seen : (x : V) × P x → Seen) where
     inserted_taken : (Is : Hierarchy → Type 0) (stands : Stands seen old Is) → MayTakeEach stands.h wanted
         → (h : Hierarchy) → IsTreeOf seen old h → AreTakenAs h wanted x.seats
     inserted_taken Is stands may h t =
-        taken_as (shown_at (boxed seen) old.nodes) (shown_at (boxed seen) new.nodes) id name wanted what x.seats x.attached
+        taken_as (shown_at (boxed seen) old.nodes)
+        (shown_at (boxed seen) new.nodes) id name wanted what x.seats x.attached
         old.tick old.horizon old.root h t.of
         (laid_from (shown_at (boxed seen) old.nodes) old.tick old.horizon old.root (stands_at old Is stands))
         (may_take_all (shown_at (boxed seen) old.nodes) stands.h stands.tree.of.nodes wanted may)
@@ -222,7 +241,8 @@ module _ {V : Type 0} {P : V → Type 0} (seen : (x : V) × P x → Seen) where
         → is_ready (was_served h.past id) h.now t.wake ≡ ready_what what)
         → IsReadyOf seen new (effect h id (Some node) nobody)
     inserted_ready h node =
-        ready_by (shown_at (boxed seen) old.nodes) (shown_at (boxed seen) new.nodes) id name wanted what x.seats x.attached h node
+        ready_by (shown_at (boxed seen) old.nodes)
+        (shown_at (boxed seen) new.nodes) id name wanted what x.seats x.attached h node
 
   -- what may be taken before room is made may be taken then
   pub insert_may : (first old : Tree V P) (Is : Hierarchy → Type 0) (wanted : List Wanted) → IsSame seen first old
@@ -243,11 +263,14 @@ module _ {V : Type 0} {P : V → Type 0} (seen : (x : V) × P x → Seen) where
   admits first old new id name w same begun x counts h begun_tree =
       let stands = same_stands first old (λ h. MayAdmit h name w) same begun in
       let t = same_tree first old same h begun_tree in
-      let taken = inserted_taken old new id name (w ∷ []) (Thread false) x counts (λ h. MayAdmit h name w) stands stands.is.seats h t in
+      let taken = inserted_taken old new id name (w ∷ []) (Thread false) x counts
+      (λ h. MayAdmit h name w) stands stands.is.seats h t in
       let one = lone x.seats taken.count in
-      let tree = inserted_tree old new id name (w ∷ []) (Thread false) x counts (λ h. MayAdmit h name w) stands stands.is.seats
+      let tree = inserted_tree old new id name (w ∷ []) (Thread false) x counts
+      (λ h. MayAdmit h name w) stands stands.is.seats
       stands.is.name_free (omega arith) (not_empty (w ∷ []) (omega arith)) (omega arith)
-      (below_nine (shown_at (boxed seen) old.nodes) old.tick old.horizon old.root stands.h stands.tree.of (w ∷ []) stands.is.seats)
+      (below_nine (shown_at (boxed seen) old.nodes) old.tick old.horizon old.root stands.h stands.tree.of
+      (w ∷ []) stands.is.seats)
       tt (λ n le. tt) refl h t (Admitted (admitted h.now name one.0))
       (ap (λ l. Some (ThreadNode name l)) (sym one.1)) in
       record {
@@ -255,7 +278,8 @@ module _ {V : Type 0} {P : V → Type 0} (seen : (x : V) × P x → Seen) where
         unused = inserted_new old new id name (w ∷ []) (Thread false) x counts h t;
         taken = subst (AreTakenAs h (w ∷ [])) one.1 taken;
         tree = tree;
-        ready = λ r. inserted_ready old new id name (w ∷ []) (Thread false) x counts h (Admitted (admitted h.now name one.0))
+        ready = λ r. inserted_ready old new id name (w ∷ []) (Thread false) x counts h
+            (Admitted (admitted h.now name one.0))
             (same_ready first old same h r)
             (λ t e. let is : admitted h.now name one.0 ≡ t = cc in
             ap (λ (y : AdmittedThread). is_ready (was_served h.past id) h.now y.wake) (sym is));
@@ -280,7 +304,8 @@ module _ {V : Type 0} {P : V → Type 0} (seen : (x : V) × P x → Seen) where
   config_set config tick horizon commands u f = ap (λ o. unwrap_or o configs.Cpu) f.configured
 
   posted_fresh : (config : Config) (tick horizon commands : ℕ) (u : Seen) → ConfigInRange config
-      → IsSetUp config tick horizon commands u → IsPosted (record { unit = u; config = config; mask = 0; granted = false })
+      → IsSetUp config tick horizon commands u
+      → IsPosted (record { unit = u; config = config; mask = 0; granted = false })
   posted_fresh config tick horizon commands u range f = record {
     configured = λ none. (let clash : Some config ≡ None = sym f.configured ∙ none in cc);
     mask = sym f.silent;
@@ -290,10 +315,12 @@ module _ {V : Type 0} {P : V → Type 0} (seen : (x : V) × P x → Seen) where
     only = λ slot on. absurd (let off = zero_off slot in let same = ap (λ m. slot_asks m slot) f.silent in cc);
   }
 
-  pub loads : (first old new : Tree V P) (id : ℕ) (name : List ℕ) (config : Config) (commands : ℕ) (wanted : List Wanted)
+  pub loads : (first old new : Tree V P) (id : ℕ) (name : List ℕ) (config : Config) (commands : ℕ)
+      (wanted : List Wanted)
       (u : Seen) → IsSame seen first old → Stands seen first (λ h. MayLoad h name config wanted)
       → IsSetUp config old.tick old.horizon commands u
-      → IsInserted seen old new id name wanted (Scheduler (record { unit = u; config = config; mask = 0; granted = false }))
+      → IsInserted seen old new id name wanted
+      (Scheduler (record { unit = u; config = config; mask = 0; granted = false }))
       → HasCounts new → (h : Hierarchy) → IsTreeOf seen first h → Loads seen first new h id name config commands wanted
   loads first old new id name config commands wanted u same begun f x counts h begun_tree =
       let stands = same_stands first old (λ h. MayLoad h name config wanted) same begun in
@@ -312,20 +339,24 @@ module _ {V : Type 0} {P : V → Type 0} (seen : (x : V) × P x → Seen) where
       let below : AreBelow (shown_at (boxed seen) old.nodes) wanted 8 = (λ i p w e on.
       let there = loaded_on stands.h w w.parent p (stands.is.seats_fit.each i w e).fits on in
       stands.is.shallow i p (level_in (shown_at (boxed seen) old.nodes p)) w e on
-      (level_is (shown_at (boxed seen) old.nodes) old.tick old.horizon old.root stands.h stands.tree.of stands.seated p there.0 there.1)) in
+      (level_is (shown_at (boxed seen) old.nodes) old.tick old.horizon old.root stands.h stands.tree.of stands.seated
+      p there.0 there.1)) in
       record {
         seats = x.seats;
         spare_ticks = u.book.spare_ticks;
         spare_marks = u.book.spare_marks;
         unused = inserted_new old new id name wanted (fresh_what config u) x counts h t;
-        taken = inserted_taken old new id name wanted (fresh_what config u) x counts (λ h. MayLoad h name config wanted) stands stands.is.seats_fit h t;
+        taken = inserted_taken old new id name wanted (fresh_what config u) x counts
+            (λ h. MayLoad h name config wanted) stands stands.is.seats_fit h t;
         marks = f.spare_marks;
-        tree = inserted_tree old new id name wanted (fresh_what config u) x counts (λ h. MayLoad h name config wanted) stands
+        tree = inserted_tree old new id name wanted (fresh_what config u) x counts
+            (λ h. MayLoad h name config wanted) stands
             stands.is.seats_fit stands.is.name_free (omega (arith, count, few))
             (not_empty wanted (omega (arith, count, some))) (omega arith) below
             (posted_fresh config old.tick old.horizon commands u stands.is.in_range f)
             (λ n le. (let room = f.spare_ticks in omega (arith, room, le))) refl h t node bare_is;
-        ready = λ r. inserted_ready old new id name wanted (fresh_what config u) x counts h node (same_ready first old same h r)
+        ready = λ r. inserted_ready old new id name wanted (fresh_what config u) x counts h node
+            (same_ready first old same h r)
             (λ t e. cc);
       }
 

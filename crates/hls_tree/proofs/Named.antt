@@ -1,5 +1,6 @@
 -- Names of nodes, where one comes or goes.
-use Rattle.std.proofs.Common.{◌≡◌, ◌≢◌, inl, inr, ℕ, List, Option, Some, None, Bool, true, false, refl, sym, ap, ◌∙◌, subst}
+use Rattle.std.proofs.Common.{◌≡◌, ◌≢◌, inl, inr, ℕ, List, Option, Some, None, Bool, true, false, refl, sym, ap, ◌∙◌}
+use Rattle.std.proofs.Common.{subst}
 use Rattle.std.proofs.lemmas.Bool.{cases_eq, cases_Bool}
 use Rattle.hls_legal.specs.Hierarchy.{Hierarchy, Node, Loaded, Admitted, Wake, name_of}
 use Rattle.hls_legal.specs.Steps.{with_wake}
@@ -36,7 +37,9 @@ named_alike old new ids later names same n = record {
   kept = λ k name e. same name ∙ n.kept k name (sym (names k) ∙ e);
 }
 
-module _ (old new : Nodes) (ids later : List ℕ → Option ℕ) (id : ℕ) (name : List ℕ) (n : IsNamed old ids) (stay : (k : ℕ) → k ≢ id → name_in (new k) ≡ name_in (old k)) (others : (other : List ℕ) → other ≢ name → later other ≡ ids other) where
+module _ (old new : Nodes) (ids later : List ℕ
+    → Option ℕ) (id : ℕ) (name : List ℕ) (n : IsNamed old ids) (stay : (k : ℕ) → k ≢ id
+    → name_in (new k) ≡ name_in (old k)) (others : (other : List ℕ) → other ≢ name → later other ≡ ids other) where
   -- a node with a name that nobody had
   pub named_new : name_in (old id) ≡ None → name_in (new id) ≡ Some name → ((k : ℕ) → name_in (old k) ≢ Some name)
       → later name ≡ Some id → IsNamed new later
@@ -48,7 +51,8 @@ module _ (old new : Nodes) (ids later : List ℕ → Option ℕ) (id : ℕ) (nam
           ap (λ c. name_in (new c)) k_is ∙ here ∙ ap (λ l. Some l) same)
       | inr off ↦ (let was : name_in (old k) ≡ Some other =
           n.found other k (sym (others other (apart_by name other off)) ∙ e) in
-          stay k (λ k_is. (let clash : name_in (old id) ≡ Some other = ap (λ c. name_in (old c)) (sym k_is) ∙ was in cc))
+          stay k (λ k_is. (let clash : name_in (old id) ≡ Some other = ap (λ c. name_in (old c)) (sym k_is)
+          ∙ was in cc))
           ∙ was)
     ];
     kept = λ k other e. elim (cases_eq k id) [
@@ -68,13 +72,15 @@ module _ (old new : Nodes) (ids later : List ℕ → Option ℕ) (id : ℕ) (nam
           let clash : Some k ≡ None = sym e ∙ ap later (sym same) ∙ none in cc)
       | inr off ↦ (let there : name_in (old k) ≡ Some other =
           n.found other k (sym (others other (apart_by name other off)) ∙ e) in
-          stay k (λ k_is. apart_by name other off (let f : Some other ≡ Some name = sym there ∙ ap (λ c. name_in (old c)) k_is ∙ was in cc))
+          stay k (λ k_is. apart_by name other off (let f : Some other ≡ Some name = sym there
+          ∙ ap (λ c. name_in (old c)) k_is ∙ was in cc))
           ∙ there)
     ];
     kept = λ k other e. elim (cases_eq k id) [
       | inl k_is ↦ absurd (let clash : Some other ≡ None = sym e ∙ ap (λ c. name_in (new c)) k_is ∙ gone in cc)
       | inr ne ↦ (let there : name_in (old k) ≡ Some other = sym (stay k ne) ∙ e in
-          others other (λ same. ne (let f : Some k ≡ Some id = sym (n.kept k name (there ∙ ap (λ l. Some l) same)) ∙ n.kept id name was in cc))
+          others other (λ same. ne (let f : Some k ≡ Some id = sym (n.kept k name (there ∙ ap (λ l. Some l) same))
+          ∙ n.kept id name was in cc))
           ∙ n.kept k other there)
     ];
   }
@@ -83,13 +89,15 @@ module _ (old new : Nodes) (ids later : List ℕ → Option ℕ) (id : ℕ) (nam
 pub passed_named : (old new : Nodes) (choices : ℕ → Option ℕ) (root : Option ℕ) (route : Option (List ℕ))
     → Passed old new choices root route → (ids : List ℕ → Option ℕ) → IsNamed old ids → IsNamed new ids
 passed_named old new choices root route passed ids n =
-    named_alike old new ids ids (λ k. ap name_bare ((passed_alike old new choices root route passed).nodes k)) (λ name. refl) n
+    named_alike old new ids ids (λ k. ap name_bare ((passed_alike old new choices root route passed).nodes k))
+    (λ name. refl) n
 
 pub set_named : (old new : Nodes) (tick horizon : ℕ) (root : Option ℕ) (id : ℕ) (ready : Bool)
     → ((k : ℕ) → k ≢ id → new k ≡ old k) → new id ≡ with_ready ready (old id) → (ids : List ℕ → Option ℕ)
     → IsNamed old ids → IsNamed new ids
 set_named old new tick horizon root id ready others here ids n =
-    named_alike old new ids ids (λ k. ap name_bare (node_set old new tick horizon root id ready others here k)) (λ name. refl) n
+    named_alike old new ids ids (λ k. ap name_bare (node_set old new tick horizon root id ready others here k))
+    (λ name. refl) n
 
 none_some : (o : Option ℕ) (id : ℕ) → IsNone o → o ≡ Some id → ⊥
 none_some None id none e = cc

@@ -1,5 +1,7 @@
 -- What the read calls answer.
-use Rattle.std.proofs.Common.{◌≡◌, ◌≢◌, ℕ, Option, Some, None, map, refl, sym, ap, ◌∙◌, subst}
+use Rattle.std.proofs.Common.{◌≡◌, ◌≢◌, ℕ, ◌<◌, Bool, Option, Some, None, map, filter, length, slice_get, refl, sym, ap}
+use Rattle.std.proofs.Common.{◌∙◌, subst}
+use Rattle.std.specs.Prelude.{option_map}
 use Rattle.std.specs.Prelude.{IfSome, IsNone}
 use Rattle.slab.specs.Slab.{get}
 use Rattle.hls_chron.specs.declared.plain.Config.{Config}
@@ -10,10 +12,11 @@ use Rattle.hls_chron.specs.Ledger.{Ledger}
 use Rattle.hls_sched.specs.Seen.{Seen, config_of}
 use Rattle.hls_sched.specs.Fits.{IsAnswer, IsFirst}
 use Rattle.hls_sched.specs.declared.fault.SeatFault.{SeatFault}
-use Rattle.hls_legal.specs.Hierarchy.{Hierarchy, Node, Loaded, Admitted, book_of}
+use Rattle.hls_legal.specs.Hierarchy.{Hierarchy, Node, Loaded, Admitted, SeatHolder, seat_of, book_of}
 use Rattle.hls_legal.specs.Hierarchy.{config_of as config_of_node, Scheduler as LoadedScheduler, Seat}
 use Rattle.hls_legal.specs.Seated.{IsSeated}
-use Rattle.hls_walks.specs.Shown.{Post, IsPosted, PostedIn, PostedWhat, What, Scheduler, HasNoFault, bare, bare_in, bare_what}
+use Rattle.hls_walks.specs.Shown.{Post, IsPosted, PostedIn, PostedWhat, What, Scheduler, HasNoFault, bare, bare_in}
+use Rattle.hls_walks.specs.Shown.{bare_what}
 use Rattle.hls_walks.specs.Shown.{level_in}
 use Rattle.hls_walks.specs.Views.{boxed, shown_at, shown_opt, post_of, what_of, seat_view}
 use Rattle.hls_walks.specs.declared.node.Node.{Node as StoredNode}
@@ -21,8 +24,12 @@ use Rattle.hls_walks.specs.declared.node.Role.TheVariants as roles
 use Rattle.hls_walks.specs.declared.station.Station.{Station}
 use Rattle.hls_walks.proofs.Answers.{answer_of}
 use Rattle.hls_walks.proofs.Leads.{loaded_from}
+use Rattle.hls_walks.proofs.Passes.{seats_same}
+use Rattle.hls_tree.proofs.Attaches.{get_in}
 use Rattle.hls_tree.specs.Offers.{IsLevel}
-use Rattle.hls_tree.specs.Reads.{IsLoaded, IsSort, IsSeatAnswer}
+use Rattle.hls_tree.specs.Lists.{holder_view, is_on, is_on_key}
+use Rattle.hls_tree.specs.declared.lists.Holder.{Holder}
+use Rattle.hls_tree.specs.Reads.{IsLoaded, IsSort, IsSeatAnswer, taken_on}
 use Rattle.hls_tree.specs.Trees.{IsTreeOf, Stands}
 use Rattle.hls_tree.specs.declared.seat.Sort.TheVariants as sorts
 use Rattle.hls_tree.specs.declared.tree.Tree.{Tree}
@@ -43,8 +50,12 @@ module _ {V : Type 0} {P : V → Type 0} (seen : (x : V) × P x → Seen) where
 
   -- a scheduler's node in the hierarchy, and what is kept of its box
   record IsStation (t : Tree V P) (h : Hierarchy) (id : ℕ) (n : StoredNode V P) (station : Station V P) : Type 0 where
-    node : h.nodes id ≡ Some (Loaded (record { name = n.name; config = config_of (boxed seen station.unit);
-      book = (boxed seen station.unit).book; ports = map seat_view n.seats.items }))
+    node : h.nodes id ≡ Some (Loaded (record {
+      name = n.name;
+      config = config_of (boxed seen station.unit);
+      book = (boxed seen station.unit).book;
+      ports = map seat_view n.seats.items;
+    }))
     posted : IsPosted (post_of (boxed seen) station)
 
   station_of : (t : Tree V P) (h : Hierarchy) (id : ℕ) (n : StoredNode V P) (station : Station V P)
@@ -56,7 +67,8 @@ module _ {V : Type 0} {P : V → Type 0} (seen : (x : V) × P x → Seen) where
         (subst PostedIn (ap (shown_opt (boxed seen)) e) (tree.of.posted id));
   }
 
-  sort_node : (node : Option Node) (s : LoadedScheduler) (kind : Kind) → node ≡ Some (Loaded s) → kind ≡ kind_of s.config
+  sort_node : (node : Option Node) (s : LoadedScheduler) (kind : Kind) → node ≡ Some (Loaded s)
+      → kind ≡ kind_of s.config
       → IsSort node (sorts.Sched kind)
   sort_node node s kind e is = subst (λ o. IsSort o (sorts.Sched kind)) (sym e) is
 
@@ -85,3 +97,43 @@ module _ {V : Type 0} {P : V → Type 0} (seen : (x : V) × P x → Seen) where
       (tree.of.nodes id ∙ sym (x.tree.of.nodes id) ∙ ap bare x.is.there) in
       subst (IsLevel h id) (sym (is ∙ ap (λ n. level_in (shown_at (boxed seen) t.nodes n)) e))
       (level_is (shown_at (boxed seen) t.nodes) t.tick t.horizon t.root h tree.of seated id x.is.scheduler there)
+
+  -- the seats on a scheduler, by the list of the tree and by the hierarchy
+  pub taken_same : (t : Tree V P) (h : Hierarchy) (p : ℕ) → IsTreeOf seen t h
+      → filter (is_on_key (shown_at (boxed seen) t.nodes) p) (map holder_view t.seats.items) ≡ taken_on h p
+  taken_same t h p tree =
+      let tests : is_on_key (shown_at (boxed seen) t.nodes) p
+      ≡ (λ (s : SeatHolder). is_on (option_map (λ (seat : Seat). seat.place) (seat_of (h.nodes s.node) s.port)) p) =
+      (λ i s. is_on (option_map (λ (seat : Seat). seat.place) (slice_get
+      (sym (seats_same (h.nodes s.node) (shown_at (boxed seen) t.nodes s.node) (tree.of.nodes s.node)) i) s.port)) p) in
+      ap (λ (test : SeatHolder → Bool). filter test (map holder_view t.seats.items)) tests
+      ∙ ap (filter (λ (s : SeatHolder). is_on
+      (option_map (λ (seat : Seat). seat.place) (seat_of (h.nodes s.node) s.port)) p))
+      (sym tree.seats)
+
+  pub taken_read : (t : Tree V P) (key id count : ℕ) → key ≡ id
+      → count ≡ length (filter (is_on_key (shown_at (boxed seen) t.nodes) key) (map holder_view t.seats.items))
+      → (h : Hierarchy) → IsTreeOf seen t h → count ≡ length (taken_on h id)
+  taken_read t key id count e is h tree =
+      is ∙ ap length (taken_same t h key tree) ∙ ap (λ n. length (taken_on h n)) e
+
+  pub child_read : (t : Tree V P) (key id at : ℕ) (seat : Holder) (answer : Option Holder) → key ≡ id
+      → answer ≡ Some seat
+      → option_map holder_view answer
+      ≡ slice_get (filter (is_on_key (shown_at (boxed seen) t.nodes) key) (map holder_view t.seats.items)) at
+      → (h : Hierarchy) → IsTreeOf seen t h → slice_get (taken_on h id) at ≡ Some (holder_view seat)
+  child_read t key id at seat answer e some is h tree =
+      ap (λ n. slice_get (taken_on h n) at) (sym e) ∙ ap (λ l. slice_get l at) (sym (taken_same t h key tree)) ∙ sym is
+      ∙ ap (option_map holder_view) some
+
+  pub child_there : (t : Tree V P) (key id at : ℕ) (answer : Option Holder) → key ≡ id → answer ≡ None
+      → option_map holder_view answer
+      ≡ slice_get (filter (is_on_key (shown_at (boxed seen) t.nodes) key) (map holder_view t.seats.items)) at
+      → Stands seen t (λ h. at < length (taken_on h id)) → ⊥
+  child_there t key id at answer e none is x =
+      let past : slice_get (taken_on x.h id) at ≡ None =
+      ap (λ n. slice_get (taken_on x.h n) at) (sym e) ∙ ap (λ l. slice_get l at) (sym (taken_same t x.h key x.tree))
+      ∙ sym is
+      ∙ ap (option_map holder_view) none in
+      let some = get_in (taken_on x.h id) at x.is in
+      (let clash : Some some.0 ≡ None = sym some.1 ∙ past in cc)

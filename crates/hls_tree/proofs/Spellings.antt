@@ -21,7 +21,8 @@ filled_same (x ∷ one) [] zeros e same = absurd (omega (arith, e))
 filled_same (x ∷ one) (y ∷ other) zeros e same = elim (cases_eq x y) [
   | inl k ↦ (let rest = filled_same one other zeros (omega (arith, e)) (sym (rw (eq-eqb x y k) refl) ∙ same) in
       ap (λ n. n ∷ one) k ∙ ap (λ l. y ∷ l) rest)
-  | inr nk ↦ absurd (let off : bytes_eq (x ∷ (one ++ zeros)) (y ∷ (other ++ zeros)) ≡ false = rw (ne_eqb x y nk) refl in cc)
+  | inr nk ↦ absurd (let off : bytes_eq (x ∷ (one ++ zeros)) (y ∷ (other ++ zeros)) ≡ false = rw
+      (ne_eqb x y nk) refl in cc)
 ]
 
 pub same_is : (one other : List ℕ) → same_name one other ≡ true → one ≡ other

@@ -8,6 +8,7 @@ use Rattle.hls_sched.specs.declared.fault.SeatFault.{SeatFault}
 use Rattle.hls_sched.specs.declared.fault.SeatFault.TheVariants as faults
 use Rattle.hls_legal.specs.Hierarchy.{Hierarchy, Node, Loaded, Admitted, Scheduler, Seat, SeatHolder, Place, Processor}
 use Rattle.hls_legal.specs.Hierarchy.{At, seat_of, book_of, config_of}
+use Rattle.hls_tree.specs.Lists.{is_on}
 use Rattle.hls_tree.specs.declared.seat.Sort.{Sort}
 use Rattle.hls_tree.specs.declared.seat.Sort.TheVariants as sorts
 
@@ -38,12 +39,7 @@ abbrev pub IsParent : Hierarchy → (parent : Option ℕ) → Type 0
 IsParent h None = Unit {0}
 IsParent h (Some p) = IsLoaded (h.nodes p)
 
-abbrev pub is_on : Option Place → (p : ℕ) → Bool
-is_on None p = false
-is_on (Some Processor) p = false
-is_on (Some (At q slot)) p = q == p
-
 -- the seats that are taken on a scheduler, in the order of their taking
 abbrev pub taken_on : Hierarchy → (p : ℕ) → List SeatHolder
 taken_on h p = filter (λ (s : SeatHolder).
-  is_on (option_map (λ (seat : Seat). seat.place) (seat_of (h.nodes s.node) s.port)) p) h.seats
+    is_on (option_map (λ (seat : Seat). seat.place) (seat_of (h.nodes s.node) s.port)) p) h.seats

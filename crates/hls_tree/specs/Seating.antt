@@ -12,7 +12,8 @@ use Rattle.hls_kinds.specs.Room.{IsFree}
 use Rattle.hls_legal.specs.Steps.{seatings, leavings, Load, Admit, Move, after}
 use Rattle.hls_legal.specs.Legal.{IsBelow, scheduler_at}
 use Rattle.hls_legal.specs.Legal.{MaySit as CanSit}
-use Rattle.hls_walks.specs.Shown.{Shown, What, Bare, SchedulerNode, ThreadNode, bare_in, level_in, seats_in, ready_in, PostedIn, MaySitOn}
+use Rattle.hls_walks.specs.Shown.{Shown, What, Bare, SchedulerNode, ThreadNode, bare_in, level_in, seats_in, ready_in}
+use Rattle.hls_walks.specs.Shown.{PostedIn, MaySitOn}
 use Rattle.hls_walks.specs.Shown.{IsFreeIn, on_post, post_seated, post_left, book_in, place_in}
 use Rattle.hls_chron.specs.Seats.{terms_at}
 use Rattle.hls_legal.specs.Ledgers.{with_marks}

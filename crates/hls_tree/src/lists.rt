@@ -1,11 +1,14 @@
 // Lists of nodes and of seats, the oldest first.
-ghost use Rattle.std.specs.Prelude.{◌≡◌, ◌+◌, ◌<◌, ◌≤◌, ◌++◌, ◌==◌, not, false, length, map, filter};
+ghost use Rattle.std.specs.Prelude.{◌≡◌, ◌+◌, ◌<◌, ◌≤◌, ◌++◌, ◌==◌, not, false, length, map, filter, Some, ◌^◌};
+ghost use Rattle.std.specs.Prelude.{option_map, slice_get};
 ghost use Rattle.std.specs.Vec.{vec_capacity};
 ghost use Rattle.hls_legal.specs.Hierarchy.{SeatHolder};
 ghost use Rattle.hls_legal.specs.Steps.{listed};
-ghost use Rattle.hls_tree.specs.Lists.{holder_view, ports_of};
+ghost use Rattle.hls_walks.specs.Views.{boxed, shown_at, place_view};
+ghost use Rattle.hls_tree.specs.Lists.{holder_view, ports_of, is_on, is_on_key};
 
-use hls_walks::NodeId;
+use hls_walks::{Node, NodeId, Place};
+use slab::Slab;
 
 /// A seat that is taken, by a port of a node.
 #[derive(Clone, Copy, Debug, PartialEq, Eq)]
@@ -73,4 +76,59 @@ fn strike(nodes: &mut Vec<NodeId>, node: NodeId)
     ensures { nodes.new.items ≡ filter (λ other. not (other == node)) nodes.old.items }
 {
     nodes.retain(|other| *other != node);
+}
+
+/// Whether a seat on the list is on a scheduler.
+fn is_on(nodes: &Slab<Node>, seat: Holder, key: usize) -> bool
+    ensures { result ≡ is_on_key (shown_at (boxed seen) nodes.now) key (holder_view seat) }
+{
+    match nodes.get(seat.node.key()) {
+        Some(node) => match node.seats.get(seat.port as usize) {
+            Some(taken) => is_at(taken.place, key),
+            None => false,
+        },
+        None => false,
+    }
+}
+
+fn is_at(place: Place, key: usize) -> bool
+    ensures { result ≡ is_on (Some (place_view place)) key }
+{
+    match place {
+        Place::Processor => false,
+        Place::At { scheduler, .. } => scheduler == key,
+    }
+}
+
+/// How many seats are taken on a scheduler.
+pub(crate) fn count_on(nodes: &Slab<Node>, seats: &[Holder], key: usize) -> u32
+    requires { length seats.now < 2 ^ 32 }
+    ensures { result ≡ length (filter (is_on_key (shown_at (boxed seen) nodes.now) key) (map holder_view seats.now)) }
+{
+    let mut count = 0u32;
+    for seat in seats {
+        if !is_on(nodes, *seat, key) {
+            continue;
+        }
+        count += 1;
+    }
+    count
+}
+
+/// The seat of a number among those that are taken on a scheduler.
+pub(crate) fn seat_on(nodes: &Slab<Node>, seats: &[Holder], key: usize, at: u32) -> Option<Holder>
+    ensures { option_map holder_view result
+        ≡ slice_get (filter (is_on_key (shown_at (boxed seen) nodes.now) key) (map holder_view seats.now)) at }
+{
+    let mut left = at;
+    for seat in seats {
+        if !is_on(nodes, *seat, key) {
+            continue;
+        }
+        if left == 0 {
+            return Some(*seat);
+        }
+        left -= 1;
+    }
+    None
 }

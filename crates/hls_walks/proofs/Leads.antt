@@ -9,7 +9,8 @@ use Rattle.hls_chron.specs.Seats.{terms_at}
 use Rattle.hls_kinds.specs.Asks.{slot_asks}
 use Rattle.hls_kinds.specs.Discipline.{Serves}
 use Rattle.hls_sched.specs.Seen.{config_of}
-use Rattle.hls_legal.specs.Hierarchy.{Hierarchy, Node, Loaded, Admitted, Scheduler as LoadedScheduler, Thread as AdmittedThread, Seat, Place, Processor, At}
+use Rattle.hls_legal.specs.Hierarchy.{Hierarchy, Node, Loaded, Admitted, Scheduler as LoadedScheduler}
+use Rattle.hls_legal.specs.Hierarchy.{Thread as AdmittedThread, Seat, Place, Processor, At}
 use Rattle.hls_legal.specs.Steps.{Hop, hop_at}
 use Rattle.hls_legal.specs.Legal.{Walk, Enters, Ends}
 use Rattle.hls_legal.proofs.Readings.{serves-asking}
@@ -18,7 +19,8 @@ use Rattle.hls_legal.proofs.Small.{zero_off}
 use Rattle.hls_legal.proofs.Seatings.{lone_port}
 use Rattle.hls_walks.specs.Shown.{What, Scheduler, Thread, Shown, SchedulerNode, ThreadNode, bare, bare_in}
 use Rattle.hls_walks.specs.Shown.{level_in, place_in, mask_in, asks_in, asks_what, grant_in, is_sched, is_sched_what}
-use Rattle.hls_walks.specs.Shown.{ServesIn, ServesWhat, on_post, on_what, post_granted, PostedIn, PostedWhat, book_in, ready_in}
+use Rattle.hls_walks.specs.Shown.{ServesIn, ServesWhat, on_post, on_what, post_granted, PostedIn, PostedWhat, book_in}
+use Rattle.hls_walks.specs.Shown.{ready_in}
 use Rattle.hls_walks.specs.Views.{same_place, is_place}
 use Rattle.hls_walks.specs.TreeOf.{IsTelling, Sitter, Reads, masks, granted_by, Granted, Led}
 use Rattle.hls_walks.proofs.Snapshots.{Nodes, one_of, rise, positive, below_ten}
@@ -82,7 +84,8 @@ hop_snoc_other : (hops : List Hop) (hop : Hop) (k : ℕ) → hop.node ≢ k → 
 hop_snoc_other [] hop k ne = at_other hop.node k (Some hop) None ne
 hop_snoc_other (h ∷ hops) hop k ne = ap (λ o. if h.node == k then Some h else o) (hop_snoc_other hops hop k ne)
 
-hop_snoc_here : (hops : List Hop) (hop : Hop) → hop_at hops hop.node ≡ None → hop_at (hops ++ hop ∷ []) hop.node ≡ Some hop
+hop_snoc_here : (hops : List Hop) (hop : Hop) → hop_at hops hop.node ≡ None
+    → hop_at (hops ++ hop ∷ []) hop.node ≡ Some hop
 hop_snoc_here [] hop none = at_same hop.node hop.node (Some hop) None refl
 hop_snoc_here (h ∷ hops) hop none = elim (cases_eq h.node hop.node) [
   | inl e ↦ absurd (let found = at_same h.node hop.node (Some h) (hop_at hops hop.node) e in cc)
@@ -94,7 +97,8 @@ abbrev pub hop_by : (node port slot : ℕ) → Hop
 hop_by node port slot = record { node = node; port = port; slot = slot }
 
 -- a scheduler of the hierarchy, from what is shown of it
-pub loaded_from : (node : Option Node) (x : LoadedScheduler) → bare node ≡ Some (SchedulerNode x) → node ≡ Some (Loaded x)
+pub loaded_from : (node : Option Node) (x : LoadedScheduler) → bare node ≡ Some (SchedulerNode x)
+    → node ≡ Some (Loaded x)
 loaded_from None x e = cc
 loaded_from (Some (Loaded s)) x e = (let same : s ≡ x = cc in ap (λ (y : LoadedScheduler). Some (Loaded y)) same)
 loaded_from (Some (Admitted t)) x e = cc
@@ -131,7 +135,8 @@ pub record Served (s : Nodes) (place : Place) (node port slot : ℕ) : Type 0 wh
   pub enters : (h : Hierarchy) → Reads s h → Enters h (masks s) place (hop_by node port slot)
   pub wants : slot_asks (mask_in (s node)) slot ≡ true
 
-serves_what : (s : Nodes) (node port slot : ℕ) (place : Place) (name : List ℕ) (level : ℕ) (seats : List Seat) (w : What)
+serves_what : (s : Nodes) (node port slot : ℕ) (place : Place) (name : List ℕ) (level : ℕ) (seats : List Seat)
+    (w : What)
     → s node ≡ Some (record { name = name; level = level; seats = seats; what = w })
     → option_map (λ (seat : Seat). seat.place) (slice_get seats port) ≡ Some place → ServesWhat w slot
     → Served s place node port slot
@@ -147,7 +152,8 @@ serves_what s node port slot place name level seats (Scheduler post) e p v =
         at_place = x.at_place;
         serves = subst (λ m. Serves (config_of post.unit) post.unit.book m slot) (sym mask_is) v;
       };
-      wants = ap (λ m. slot_asks m slot) mask_is ∙ serves-asking (config_of post.unit) post.unit.book post.unit.mask slot v;
+      wants = ap (λ m. slot_asks m slot) mask_is
+          ∙ serves-asking (config_of post.unit) post.unit.book post.unit.mask slot v;
     }
 serves_what s node port slot place name level seats (Thread r) e p v = absurd v
 
@@ -190,7 +196,8 @@ pub record GoingAt (s new : Nodes) (choices : ℕ → Option ℕ) (place : Place
   pub same : new key ≡ s key
 
 pub nobody_there : (s new : Nodes) (choices : ℕ → Option ℕ) (place : Place) (route : List ℕ) (step : ℕ)
-    → Going s new choices place route step → IsTelling s 0 0 → ((key port : ℕ) → port < 4 → is_place (place_in (new key) port) place ≢ true) → ⊥
+    → Going s new choices place route step → IsTelling s 0 0
+    → ((key port : ℕ) → port < 4 → is_place (place_in (new key) port) place ≢ true) → ⊥
 nobody_there s new choices place route step g t none =
     let at : place_in (new g.sitter.node) g.sitter.port ≡ Some place =
     ap (λ o. place_in o g.sitter.port) (g.granted_are.nodes g.sitter.node)
@@ -248,15 +255,21 @@ may_grant s old before place route step key port g t = record {
   free = ap grant_in g.same ∙ t.free key;
 }
 
-module _ (s old new : Nodes) (before choices : ℕ → Option ℕ) (place : Place) (route : List ℕ) (step key port slot : ℕ) (g : GoingAt s old before place route step key port) (others : (k : ℕ) → k ≢ key → new k ≡ old k) (here : new key ≡ on_post (post_granted port) (old key)) (choice_others : (k : ℕ) → k ≢ key → choices k ≡ before k) (choice_here : choices key ≡ Some slot) where
+module _ (s old new : Nodes) (before choices : ℕ
+    → Option ℕ) (place : Place) (route : List ℕ) (step key port slot : ℕ)
+    (g : GoingAt s old before place route step key port) (others : (k : ℕ) → k ≢ key
+    → new k ≡ old k) (here : new key ≡ on_post (post_granted port) (old key)) (choice_others : (k : ℕ) → k ≢ key
+    → choices k ≡ before k) (choice_here : choices key ≡ Some slot) where
   snoc_granted : Granted (g.hops ++ hop_by key port slot ∷ []) s new choices
   snoc_granted = record {
     nodes = one_of (λ k. new k ≡ granted_by (hop_at (g.hops ++ hop_by key port slot ∷ []) k) (s k)) key
         (here ∙ ap (on_post (post_granted port)) g.same
-        ∙ sym (ap (λ o. granted_by o (s key)) (hop_snoc_here g.hops (hop_by key port slot) (g.above key (omega arith)))))
+        ∙ sym (ap (λ o. granted_by o (s key))
+        (hop_snoc_here g.hops (hop_by key port slot) (g.above key (omega arith)))))
         (λ k ne. others k ne ∙ g.granted_are.nodes k
         ∙ sym (ap (λ o. granted_by o (s k)) (hop_snoc_other g.hops (hop_by key port slot) k (λ e. ne (sym e)))));
-    choices_are = one_of (λ k. (hop : Hop) → hop_at (g.hops ++ hop_by key port slot ∷ []) k ≡ Some hop → choices k ≡ Some hop.slot) key
+    choices_are = one_of (λ k. (hop : Hop) → hop_at (g.hops ++ hop_by key port slot ∷ []) k ≡ Some hop
+        → choices k ≡ Some hop.slot) key
         (λ hop e. choice_here ∙ ap (λ o. Some (unwrap_or o hop).slot)
         (sym (hop_snoc_here g.hops (hop_by key port slot) (g.above key (omega arith))) ∙ e))
         (λ k ne hop e. choice_others k ne
@@ -273,7 +286,8 @@ module _ (s old new : Nodes) (before choices : ℕ → Option ℕ) (place : Plac
       rise s t.laid.ranked next.node next.port key slot next.sits in
       record {
         hops = g.hops ++ hop_by key port slot ∷ [];
-        route_is = on_is ∙ ap (λ l. l ++ key ∷ []) g.route_is ∙ sym (map-append (λ (hop : Hop). hop.node) g.hops (hop_by key port slot ∷ []));
+        route_is = on_is ∙ ap (λ l. l ++ key ∷ []) g.route_is
+            ∙ sym (map-append (λ (hop : Hop). hop.node) g.hops (hop_by key port slot ∷ []));
         count = (let c : length route ≡ step = g.count in
             ap length on_is ∙ omega (arith, length-append route (key ∷ []), c));
         sitter = next;
@@ -338,7 +352,8 @@ going_end s old new before choices place route step key port g others here same 
       walk = λ h reads. subst (λ hops. Walk h (masks s) Processor hops key) (append-nil g.hops)
           (g.cont h reads [] key (ends_opt s key port place (s key) refl g.sits g.asks not h reads));
       granted_are = record {
-        nodes = λ k. one_of (λ n. new n ≡ old n) key (here ∙ thread_same port (old key) (ap is_sched g.same ∙ not)) others k
+        nodes = λ k. one_of (λ n. new n ≡ old n) key (here
+            ∙ thread_same port (old key) (ap is_sched g.same ∙ not)) others k
             ∙ g.granted_are.nodes k;
         choices_are = λ k hop e. same k ∙ g.granted_are.choices_are k hop e;
       };

@@ -13,10 +13,13 @@ use Rattle.hls_legal.specs.Hierarchy.{is_ready, was_served, seat_of}
 use Rattle.hls_legal.specs.Steps.{Hop, Path, hop_at, hops_of, row_by}
 use Rattle.hls_legal.specs.Legal.{asks_now, IsAsking, MayRun}
 use Rattle.hls_legal.specs.Seated.{SitsThere}
-use Rattle.hls_walks.specs.Shown.{What, Scheduler, Thread, Shown, Bare, SchedulerNode, ThreadNode, bare, bare_in, bare_what}
-use Rattle.hls_walks.specs.Shown.{level_in, seats_in, place_in, mask_in, asks_in, grant_in, ready_in, is_sched, book_in, book_bare}
+use Rattle.hls_walks.specs.Shown.{What, Scheduler, Thread, Shown, Bare, SchedulerNode, ThreadNode, bare, bare_in}
+use Rattle.hls_walks.specs.Shown.{bare_what}
+use Rattle.hls_walks.specs.Shown.{level_in, seats_in, place_in, mask_in, asks_in, grant_in, ready_in, is_sched}
+use Rattle.hls_walks.specs.Shown.{book_in, book_bare}
 use Rattle.hls_walks.specs.Shown.{on_post, post_granted, PostedIn, RoomBare}
-use Rattle.hls_walks.specs.TreeOf.{IsAlike, IsLaid, IsOf, IsReady, IsTelling, Sitter, RootAt, Reads, masks, granted_by, Ran}
+use Rattle.hls_walks.specs.TreeOf.{IsAlike, IsLaid, IsOf, IsReady, IsTelling, Sitter, RootAt, Reads, masks}
+use Rattle.hls_walks.specs.TreeOf.{granted_by, Ran}
 use Rattle.hls_walks.specs.TreeOf.{Passed, HasPassed, StandsAt, route_of}
 use Rattle.hls_walks.proofs.Snapshots.{Nodes, alike_places, ranked_alike}
 use Rattle.hls_walks.proofs.Leads.{sat, only_in}
@@ -93,7 +96,8 @@ laid_from s tick horizon root x =
     let there = sits_there s x.h x.tree.nodes in
     record {
       ranked = x.tree.ranked;
-      alone = λ c d port other place e k. x.seated.alone c d port other place (there c port place e) (there d other place k);
+      alone = λ c d port other place e k. x.seated.alone c d port other place (there c port place e)
+          (there d other place k);
       taken = λ c port p slot e none.
           let w = there c port (At p slot) e in
           let some : terms_at (book_in (s p)) slot ≡ Some w.seat.terms =
@@ -123,7 +127,8 @@ root_from s tick horizon root x = root_by s tick horizon root root x refl
 asks_by : (h : Hierarchy) (k : ℕ) (node : Option Node) (name : List ℕ) (level : ℕ) (seats : List Seat) (w : What)
     → bare node ≡ Some (bare_what name seats w)
     → ((t : AdmittedThread) → node ≡ Some (Admitted t)
-    → is_ready (was_served h.past k) h.now t.wake ≡ ready_in (Some (record { name = name; level = level; seats = seats; what = w })))
+    → is_ready (was_served h.past k) h.now t.wake ≡ ready_in
+    (Some (record { name = name; level = level; seats = seats; what = w })))
     → asks_in (Some (record { name = name; level = level; seats = seats; what = w }))
     ≡ asks_now h k (mask_in (Some (record { name = name; level = level; seats = seats; what = w }))) node
 asks_by h k None name level seats w e ready = cc
@@ -195,8 +200,14 @@ granted_what port name level seats (Scheduler post) = record {
   seats = refl;
   node = refl;
   ready = refl;
-  posted = λ x. record { configured = x.configured; mask = x.mask; granted = refl; ranges = x.ranges;
-  config = x.config; only = x.only };
+  posted = λ x. record {
+    configured = x.configured;
+    mask = x.mask;
+    granted = refl;
+    ranges = x.ranges;
+    config = x.config;
+    only = x.only;
+  };
 }
 granted_what port name level seats (Thread r) =
     record { level = refl; seats = refl; node = refl; ready = refl; posted = λ x. x }
@@ -226,7 +237,8 @@ row_is None c None free choice is = cc
 row_is (Some hop) c None free choice is = cc
 row_is hop c (Some s) free choice is = row_what hop c s.name s.level s.seats s.what free choice is
 
-module _ (old new : Nodes) (choices : ℕ → Option ℕ) (root : Option ℕ) (route : Option (List ℕ)) (passed : Passed old new choices root route) where
+module _ (old new : Nodes) (choices : ℕ
+    → Option ℕ) (root : Option ℕ) (route : Option (List ℕ)) (passed : Passed old new choices root route) where
   pub passed_alike : IsAlike old new
   passed_alike =
       let c = chosen passed.mid new choices root route passed.ran in
@@ -241,7 +253,8 @@ module _ (old new : Nodes) (choices : ℕ → Option ℕ) (root : Option ℕ) (r
   pub passed_posted : (k : ℕ) → PostedIn (new k)
   passed_posted k =
       let c = chosen passed.mid new choices root route passed.ran in
-      subst PostedIn (sym (c.nodes k)) ((granted_from (hop_at (hops_of c.path) k) (passed.mid k)).posted (passed.telling.posted k))
+      subst PostedIn (sym (c.nodes k))
+      ((granted_from (hop_at (hops_of c.path) k) (passed.mid k)).posted (passed.telling.posted k))
 
   pub passed_tree : (tick horizon : ℕ) (h : Hierarchy) → IsOf old tick horizon root h → IsOf new tick horizon root h
   passed_tree tick horizon h t = record {
@@ -271,7 +284,8 @@ module _ (old new : Nodes) (choices : ℕ → Option ℕ) (root : Option ℕ) (r
         record {
           can = (asking_is h passed.mid reads passed.telling, c.may h t.root_is reads);
           rows = λ k is.
-              let row = row_is (hop_at (hops_of c.path) k) (choices k) (passed.mid k) (passed.telling.free k) (c.choices_are k)
+              let row = row_is (hop_at (hops_of c.path) k) (choices k) (passed.mid k) (passed.telling.free k)
+              (c.choices_are k)
               (ap is_sched (sym (c.nodes k)) ∙ is) in
               ap (λ o. tick_row (mask_in o) (grant_in o) (choices k)) (c.nodes k) ∙ row;
           route_is = c.route_is;

@@ -31,7 +31,8 @@ bare_roused how None = refl
 bare_roused how (Some (Loaded s)) = refl
 bare_roused how (Some (Admitted t)) = refl
 
-module _ (old new : Nodes) (tick horizon : ℕ) (root : Option ℕ) (id : ℕ) (ready : Bool) (others : (k : ℕ) → k ≢ id → new k ≡ old k) (here : new id ≡ with_ready ready (old id)) where
+module _ (old new : Nodes) (tick horizon : ℕ) (root : Option ℕ) (id : ℕ) (ready : Bool) (others : (k : ℕ) → k ≢ id
+    → new k ≡ old k) (here : new id ≡ with_ready ready (old id)) where
   pub node_set : (k : ℕ) → bare_in (new k) ≡ bare_in (old k)
   node_set = one_of (λ k. bare_in (new k) ≡ bare_in (old k)) id (ap bare_in here ∙ (set_in ready (old id)).node)
       (λ k ne. ap bare_in (others k ne))
@@ -49,7 +50,8 @@ module _ (old new : Nodes) (tick horizon : ℕ) (root : Option ℕ) (id : ℕ) (
       (λ k ne. subst PostedIn (sym (others k ne)) (p k))
 
   -- the tree is of hierarchies with the same nodes, but for wakes and stays
-  pub set_tree_by : (h g : Hierarchy) → g.now ≡ h.now → g.root ≡ h.root → ((k : ℕ) → bare (g.nodes k) ≡ bare (h.nodes k))
+  pub set_tree_by : (h g : Hierarchy) → g.now ≡ h.now → g.root ≡ h.root
+      → ((k : ℕ) → bare (g.nodes k) ≡ bare (h.nodes k))
       → IsOf old tick horizon root h → IsOf new tick horizon root g
   set_tree_by h g now roots same t = record {
     now = now ∙ t.now;

@@ -63,7 +63,8 @@ changed slot asks None None t taken = absurd (taken (empty_terms slot))
 changed slot asks None (Some new) t taken = absurd t
 changed slot asks (Some old) None t taken = absurd t
 changed slot asks (Some old) (Some new) t taken =
-    changed_what slot asks old.what new.what old.name old.level old.seats new.name new.level new.seats t.what t.name t.level
+    changed_what slot asks old.what new.what old.name old.level old.seats new.name new.level new.seats t.what t.name
+    t.level
     t.seats taken
 
 pub alike_refl : (s : Nodes) → IsAlike s s
@@ -100,13 +101,15 @@ pub level_over_same : (old new : Nodes) (seats : List Seat)
     → level_in (new p) ≡ level_in (old p)) → level_over new seats ≡ level_over old seats
 level_over_same old new [] same = refl
 level_over_same old new (seat ∷ seats) same =
-    let first = level_at_same old new seat.place seat.place refl (λ p slot e. same 0 p slot (ap (λ (x : Place). Some x) e)) in
+    let first = level_at_same old new seat.place seat.place refl
+    (λ p slot e. same 0 p slot (ap (λ (x : Place). Some x) e)) in
     let rest = level_over_same old new seats (λ port p slot e. same (suc port) p slot e) in
     ap (λ n. max n (level_over new seats)) first ∙ ap (max (level_at old seat.place)) rest
 
 -- a node is above the schedulers that it sits on
 over_each : (s : Nodes) (seats : List Seat) (port : ℕ) (place : Place)
-    → option_map (λ (seat : Seat). seat.place) (slice_get seats port) ≡ Some place → level_at s place ≤ level_over s seats
+    → option_map (λ (seat : Seat). seat.place) (slice_get seats port) ≡ Some place
+    → level_at s place ≤ level_over s seats
 over_each s [] port place e = cc
 over_each s (seat ∷ seats) zero place e =
     let same : seat.place ≡ place = cc in
@@ -125,7 +128,8 @@ floor s r c port place e =
 
 pub rise : (s : Nodes) → IsRanked s → (c port p slot : ℕ) → place_in (s c) port ≡ Some (At p slot)
     → level_in (s p) < level_in (s c)
-rise s r c port p slot e = let f : level_in (s p) + 1 ≤ level_in (s c) = floor s r c port (At p slot) e in omega (arith, f)
+rise s r c port p slot e = let f : level_in (s p) + 1 ≤ level_in (s c) = floor s r c port (At p slot) e in omega
+    (arith, f)
 
 at_positive : (s : Nodes) (place : Place) → 0 < level_at s place
 at_positive s Processor = omega arith
@@ -199,8 +203,14 @@ pub record IsRevoked (o : Option Shown) : Type 0 where
   pub posted : PostedIn o → PostedIn (on_post post_revoked o)
 
 posted_revoked : (post : Post) → IsPosted post → IsPosted (post_revoked post)
-posted_revoked post x = record { configured = x.configured; mask = x.mask; granted = refl; ranges = x.ranges;
-  config = x.config; only = x.only }
+posted_revoked post x = record {
+  configured = x.configured;
+  mask = x.mask;
+  granted = refl;
+  ranges = x.ranges;
+  config = x.config;
+  only = x.only;
+}
 
 revoked_what : (name : List ℕ) (level : ℕ) (seats : List Seat) (w : What)
     → IsRevoked (Some (record { name = name; level = level; seats = seats; what = w }))

@@ -59,11 +59,18 @@ post_is : {new : Post} {unit : Seen} {config : Config} {mask : ℕ} {granted : B
     → new ≡ record { unit = unit; config = config; mask = mask; granted = granted }
 post_is u c m g = λ i. record { unit = u i; config = c i; mask = m i; granted = g i }
 
-pub told_set : (slot : ℕ) (asks : Bool) (old new : Post) → asks ≡ true → IsPosted old → terms_at old.unit.book slot ≢ None
+pub told_set : (slot : ℕ) (asks : Bool) (old new : Post) → asks ≡ true → IsPosted old
+    → terms_at old.unit.book slot ≢ None
     → new.unit ≡ requested slot old.unit → new.mask ≡ with_slot slot old.mask → new.granted ≡ old.granted
     → new.config ≡ old.config → IsTold slot asks old new
 told_set slot asks old new is posted taken unit mask granted config =
-    let same : IsTold slot true old (record { unit = requested slot old.unit; config = old.config; mask = with_slot slot old.mask; granted = old.granted }) =
+    let same : IsTold slot true old
+    (record {
+      unit = requested slot old.unit;
+      config = old.config;
+      mask = with_slot slot old.mask;
+      granted = old.granted;
+    }) =
     record {
       here = set_same old.unit.mask slot;
       others = λ k ne. set_other old.unit.mask slot k ne;
@@ -90,7 +97,13 @@ pub told_clear : (slot : ℕ) (asks : Bool) (old new : Post) → asks ≡ false 
     → new.config ≡ old.config → IsTold slot asks old new
 told_clear slot asks old new is lt range posted unit mask granted config =
     let fits : old.unit.mask < 2 ^ 32 = subst (λ m. m < 2 ^ 32) posted.mask range in
-    let same : IsTold slot false old (record { unit = released slot old.unit; config = old.config; mask = without_slot slot old.mask; granted = old.granted }) =
+    let same : IsTold slot false old
+    (record {
+      unit = released slot old.unit;
+      config = old.config;
+      mask = without_slot slot old.mask;
+      granted = old.granted;
+    }) =
     record {
       here = clear_same old.unit.mask slot lt;
       others = λ k ne. clear_other old.unit.mask slot k lt fits ne;
@@ -104,7 +117,9 @@ told_clear slot asks old new is lt range posted unit mask granted config =
         ranges = posted.ranges;
         config = posted.config;
         only = λ k asks. elim (cases_eq k slot) [
-          | inl e ↦ absurd (let off = clear_same old.unit.mask slot lt in let on : slot_asks (without_slot slot old.unit.mask) slot ≡ true = subst (λ n. slot_asks (without_slot slot old.unit.mask) n ≡ true) e asks in cc)
+          | inl e ↦ absurd (let off = clear_same old.unit.mask slot lt in let on : slot_asks
+              (without_slot slot old.unit.mask) slot ≡ true = subst
+              (λ n. slot_asks (without_slot slot old.unit.mask) n ≡ true) e asks in cc)
           | inr ne ↦ posted.only k (sym (clear_other old.unit.mask slot k lt fits ne) ∙ asks)
         ];
       };

@@ -10,7 +10,8 @@ use Rattle.hls_walks.specs.Shown.{level_in, seats_in, place_in, mask_in, asks_in
 use Rattle.hls_walks.specs.Shown.{post_revoked}
 use Rattle.hls_walks.specs.Views.{told_place}
 use Rattle.hls_walks.specs.TreeOf.{IsAlike, IsLaid, ToldBy, ToldAt, Told, IsTelling}
-use Rattle.hls_walks.proofs.Snapshots.{Nodes, one_of, rise, below_ten, IsChanged, changed, changed_alike, laid_alike, alike_refl}
+use Rattle.hls_walks.proofs.Snapshots.{Nodes, one_of, rise, below_ten, IsChanged, changed, changed_alike, laid_alike}
+use Rattle.hls_walks.proofs.Snapshots.{alike_refl}
 use Rattle.hls_walks.proofs.Snapshots.{alike_places, revoked, revoked_alike}
 
 -- on the way through the ports of a node, which asks so
@@ -38,7 +39,8 @@ module _ (s : Nodes) (level key port : ℕ) (asks : Bool) (g : IsAtPort s level 
     ];
   }
 
-  module _ (new : Nodes) (p0 s0 : ℕ) (at : place_in (s key) port ≡ Some (At p0 s0)) (c0 : IsChanged s0 asks (s p0) (new p0)) (others : (k : ℕ) → k ≢ p0 → new k ≡ s k) where
+  module _ (new : Nodes) (p0 s0 : ℕ) (at : place_in (s key) port ≡ Some (At p0 s0))
+      (c0 : IsChanged s0 asks (s p0) (new p0)) (others : (k : ℕ) → k ≢ p0 → new k ≡ s k) where
     alike : IsAlike s new
     alike = changed_alike p0 s0 asks s new c0 others
 
@@ -56,20 +58,23 @@ module _ (s : Nodes) (level key port : ℕ) (asks : Bool) (g : IsAtPort s level 
         elim (cases_eq p p0) [
           | inr np ↦ elim or [
             | inl same ↦ absurd (
-                let f : place_in (s c) q ≡ place_in (s key) port = ap (λ n. place_in (s n) q) same.0 ∙ ap (place_in (s key)) same.1 in
+                let f : place_in (s c) q ≡ place_in (s key) port = ap (λ n. place_in (s n) q) same.0
+                ∙ ap (place_in (s key)) same.1 in
                 let k : Some (At p slot) ≡ Some (At p0 s0) = sym e' ∙ f ∙ at in
                 np (cc))
             | inr t ↦ ap (λ o. slot_asks (mask_in o) slot) (others p np) ∙ t p slot e' ∙ sym (asks_same c high)
           ]
           | inl ep ↦ elim (cases_eq slot s0) [
             | inl es ↦
-                let e2 : place_in (s c) q ≡ Some (At p0 s0) = e' ∙ ap (λ n. Some (At n slot)) ep ∙ ap (λ n. Some (At p0 n)) es in
+                let e2 : place_in (s c) q ≡ Some (At p0 s0) = e' ∙ ap (λ n. Some (At n slot)) ep
+                ∙ ap (λ n. Some (At p0 n)) es in
                 let same = g.telling.laid.alone c key q port (At p0 s0) e2 at in
                 ap (λ n. slot_asks (mask_in (new n)) slot) ep ∙ ap (slot_asks (mask_in (new p0))) es ∙ c0.here
                 ∙ sym g.asks_so ∙ ap (λ n. asks_in (s n)) (sym same.0) ∙ sym (asks_same c high)
             | inr ns ↦ elim or [
               | inl same ↦ absurd (
-                  let f : place_in (s c) q ≡ place_in (s key) port = ap (λ n. place_in (s n) q) same.0 ∙ ap (place_in (s key)) same.1 in
+                  let f : place_in (s c) q ≡ place_in (s key) port = ap (λ n. place_in (s n) q) same.0
+                  ∙ ap (place_in (s key)) same.1 in
                   let k : Some (At p slot) ≡ Some (At p0 s0) = sym e' ∙ f ∙ at in
                   ns (cc))
               | inr t ↦ ap (λ n. slot_asks (mask_in (new n)) slot) ep ∙ c0.others slot ns
@@ -84,12 +89,15 @@ module _ (s : Nodes) (level key port : ℕ) (asks : Bool) (g : IsAtPort s level 
       at_port = record {
         telling = record {
           laid = laid_alike s new alike g.telling.laid;
-          posted = one_of (λ k. PostedIn (new k)) p0 c0.posted (λ k ne. subst PostedIn (sym (others k ne)) (g.telling.posted k));
-          free = one_of (λ k. grant_in (new k) ≡ None) p0 (c0.grant ∙ g.telling.free p0) (λ k ne. ap grant_in (others k ne) ∙ g.telling.free k);
+          posted = one_of (λ k. PostedIn (new k)) p0 c0.posted
+              (λ k ne. subst PostedIn (sym (others k ne)) (g.telling.posted k));
+          free = one_of (λ k. grant_in (new k) ≡ None) p0 (c0.grant
+              ∙ g.telling.free p0) (λ k ne. ap grant_in (others k ne) ∙ g.telling.free k);
           told = record {
             told = λ c q done before.
                 let d : level + 1 ≤ level_in (s c) + 1 = rw (← alike.levels c) done in
-                told_still c q (omega (arith, d)) (inr (g.telling.told.told c q d (λ b. before (ap (λ n. n + 1) (alike.levels c) ∙ b))));
+                told_still c q (omega (arith, d))
+                (inr (g.telling.told.told c q d (λ b. before (ap (λ n. n + 1) (alike.levels c) ∙ b))));
           };
         };
         level_is = alike.levels key ∙ g.level_is;
@@ -157,7 +165,8 @@ pub other_level : (s : Nodes) (level key : ℕ) → IsTelling s (level + 1) key 
     → IsTelling s (level + 1) (key + 1)
 other_level s level key t off = with_told s (level + 1) key (level + 1) (key + 1) t (record {
   told = λ c q done before. t.told.told c q done (λ b. elim (cases_eq c key) [
-    | inl same ↦ absurd (off (let f : level_in (s c) ≡ level_in (s key) = ap (λ n. level_in (s n)) same in omega (arith, b, f)))
+    | inl same ↦ absurd (off (let f : level_in (s c) ≡ level_in (s key) = ap (λ n. level_in (s n)) same in omega
+        (arith, b, f)))
     | inr ne ↦ (let lt : c < key + 1 = before b in omega (arith, lt, ne))
   ]);
 })
@@ -172,7 +181,8 @@ level_end s level key none t = with_told s (level + 1) key level 0 t (record {
     | inr ge ↦ omega (arith, ge)
   ]) (λ b. elim (cases_lt c key) [
     | inl lt ↦ lt
-    | inr ge ↦ absurd (let gone : place_in (s c) q ≡ None = ap (λ (seats : List Seat). option_map (λ (seat : Seat). seat.place) (slice_get seats q)) (none c ge) in cc)
+    | inr ge ↦ absurd (let gone : place_in (s c) q ≡ None = ap
+        (λ (seats : List Seat). option_map (λ (seat : Seat). seat.place) (slice_get seats q)) (none c ge) in cc)
   ]) p slot e;
 })
 

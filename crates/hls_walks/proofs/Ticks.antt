@@ -8,7 +8,8 @@ use Rattle.hls_sched.specs.Seen.{config_of, tick_row}
 use Rattle.hls_legal.specs.Hierarchy.{Hierarchy, Node, Loaded, Admitted, Scheduler as LoadedScheduler, Seat}
 use Rattle.hls_legal.specs.Steps.{Hop, Path, hop_at, hops_of, row_by, ticked, Elapse, after}
 use Rattle.hls_walks.specs.Shown.{Post, IsPosted, What, Scheduler, Thread, Shown, SchedulerNode, bare, bare_in}
-use Rattle.hls_walks.specs.Shown.{bare_what, level_in, seats_in, mask_in, grant_in, is_sched, on_post, post_turned, PostedIn}
+use Rattle.hls_walks.specs.Shown.{bare_what, level_in, seats_in, mask_in, grant_in, is_sched, on_post, post_turned}
+use Rattle.hls_walks.specs.Shown.{PostedIn}
 use Rattle.hls_walks.specs.Shown.{RoomIn, most_in, name_in}
 use Rattle.hls_walks.specs.TreeOf.{IsOf, IsPassing, StandsAt}
 use Rattle.hls_walks.proofs.Snapshots.{Nodes, ranked_by}
@@ -55,7 +56,8 @@ turned_in c None = record { level = refl; seats = refl; most = refl; name = refl
 turned_in c (Some s) = turned_what c s.name s.level s.seats s.what
 
 -- node by node
-node_what : (mask : ℕ) (hop : Option Hop) (c : Option ℕ) (node : Option Node) (name : List ℕ) (level : ℕ) (seats : List Seat)
+node_what : (mask : ℕ) (hop : Option Hop) (c : Option ℕ) (node : Option Node) (name : List ℕ) (level : ℕ)
+    (seats : List Seat)
     (w : What) → bare node ≡ Some (bare_what name seats w)
     → (is_sched (Some (record { name = name; level = level; seats = seats; what = w })) ≡ true
     → tick_row (mask_in (Some (record { name = name; level = level; seats = seats; what = w })))
@@ -66,7 +68,12 @@ node_what mask hop c None name level seats w e row = cc
 node_what mask hop c (Some (Loaded x)) name level seats (Scheduler post) e row =
     let same : x ≡ record { name = name; config = config_of post.unit; book = post.unit.book; ports = seats } = cc in
     ap (λ (y : LoadedScheduler). Some (SchedulerNode (record y { book = with_row y.book (row_by mask hop) }))) same
-    ∙ ap (λ r. Some (SchedulerNode (record { name = name; config = config_of post.unit; book = with_row post.unit.book r; ports = seats })))
+    ∙ ap (λ r. Some (SchedulerNode (record {
+      name = name;
+      config = config_of post.unit;
+      book = with_row post.unit.book r;
+      ports = seats;
+    })))
     (sym (row refl))
 node_what mask hop c (Some (Loaded x)) name level seats (Thread r) e row = cc
 node_what mask hop c (Some (Admitted t)) name level seats (Scheduler post) e row = cc
@@ -84,7 +91,8 @@ pub turn_name : (old new : Nodes) (choices : ℕ → Option ℕ)
     → ((k : ℕ) → new k ≡ on_post (post_turned (choices k)) (old k)) → (k : ℕ) → name_in (new k) ≡ name_in (old k)
 turn_name old new choices turns k = ap name_in (turns k) ∙ (turned_in (choices k) (old k)).name
 
-pub turn_tree : (old new : Nodes) (choices : ℕ → Option ℕ) (tick horizon : ℕ) (root : Option ℕ) (route : Option (List ℕ)) (h : Hierarchy)
+pub turn_tree : (old new : Nodes) (choices : ℕ
+    → Option ℕ) (tick horizon : ℕ) (root : Option ℕ) (route : Option (List ℕ)) (h : Hierarchy)
     (asking : ℕ → Bool) (slots : ℕ → ℕ) (path : Option Path)
     → ((k : ℕ) → new k ≡ on_post (post_turned (choices k)) (old k)) → IsOf old tick horizon root h
     → IsPassing old choices route h asking slots path → tick < horizon

@@ -32,8 +32,11 @@ pub returns-in-None : goal.returns-in-None
 returns-in-None g c =
     let here = going_at _ _ _ _ _ _ c.in-Some.key c.in-Some.port c.loop-step.invariant c.requires.telling
     c.in-Some.ensures.some in
-    going_end _ _ _ _ _ _ _ _ _ _ here (shown_others _ c.loop-step.nodes c.grant_at.new.nodes c.in-Some.key c.grant_at.ensures.others) c.grant_at.ensures.granted
-    (one_of _ c.in-Some.key c.grant_at.ensures.choice (choice_others _ c.loop-step.nodes c.grant_at.new.nodes c.in-Some.key c.grant_at.ensures.others))
+    going_end _ _ _ _ _ _ _ _ _ _ here
+    (shown_others _ c.loop-step.nodes c.grant_at.new.nodes c.in-Some.key c.grant_at.ensures.others)
+    c.grant_at.ensures.granted
+    (one_of _ c.in-Some.key c.grant_at.ensures.choice
+    (choice_others _ c.loop-step.nodes c.grant_at.new.nodes c.in-Some.key c.grant_at.ensures.others))
     (λ is. c.in-None.ensures.some is refl) _
     (c.push.ensures ∙ ap (λ n. c.loop-step.route ++ n ∷ []) c.of.ensures)
 
@@ -41,8 +44,10 @@ pub loop-step-preserved : goal.loop-step-preserved
 loop-step-preserved g c =
     let here = going_at _ _ _ _ _ _ c.in-Some.key c.in-Some.port c.loop-step.invariant c.requires.telling
     c.in-Some.ensures.some in
-    going_on _ _ _ _ _ _ _ _ _ _ _ here (shown_others _ c.loop-step.nodes c.grant_at.new.nodes c.in-Some.key c.grant_at.ensures.others)
-    c.grant_at.ensures.granted (choice_others _ c.loop-step.nodes c.grant_at.new.nodes c.in-Some.key c.grant_at.ensures.others)
+    going_on _ _ _ _ _ _ _ _ _ _ _ here
+    (shown_others _ c.loop-step.nodes c.grant_at.new.nodes c.in-Some.key c.grant_at.ensures.others)
+    c.grant_at.ensures.granted (choice_others _ c.loop-step.nodes c.grant_at.new.nodes c.in-Some.key
+    c.grant_at.ensures.others)
     (c.grant_at.ensures.choice ∙ sym c.in-Some-grant_at.ensures.value)
     c.requires.telling c.in-Some-grant_at.ensures.serves _
     (c.push.ensures ∙ ap (λ n. c.loop-step.route ++ n ∷ []) c.of.ensures)

@@ -4,4 +4,6 @@ use Rattle.hls_walks.proofs.Walks.{IsShown}
 use Rattle.hls_walks.proofs.walk.revoke_all.Given as goal
 
 abbrev pub invariant-loop-key : goal.invariant-loop-key
-invariant-loop-key g l = IsShown (λ o. o) (λ k. on_post post_revoked) (shown_at (λ b. (goal.Scheduler-dyn g (b.vtable, b.value)).seen b.value) l.fn.nodes) (shown_at (λ b. (goal.Scheduler-dyn g (b.vtable, b.value)).seen b.value) l.nodes) l.key
+invariant-loop-key g l = IsShown (λ o. o) (λ k. on_post post_revoked)
+    (shown_at (λ b. (goal.Scheduler-dyn g (b.vtable, b.value)).seen b.value) l.fn.nodes)
+    (shown_at (λ b. (goal.Scheduler-dyn g (b.vtable, b.value)).seen b.value) l.nodes) l.key

@@ -5,4 +5,5 @@ use Rattle.hls_walks.proofs.walk.sitter_at.Given as goal
 
 abbrev pub invariant-loop-key : goal.invariant-loop-key
 invariant-loop-key g l = (key port : ℕ) → key < l.key → port < 4
-    → is_place (place_in (shown_at (λ b. (goal.Scheduler-dyn g (b.vtable, b.value)).seen b.value) l.nodes key) port) (place_view l.place) ≢ true
+    → is_place (place_in (shown_at (λ b. (goal.Scheduler-dyn g (b.vtable, b.value)).seen b.value) l.nodes key) port)
+    (place_view l.place) ≢ true

@@ -17,5 +17,6 @@ loop-key-preserved g c = record {
 pub returns-clause-telling : goal.returns-clause-telling
 returns-clause-telling g c = level_end _ _ _
     (λ k le. c.loop-key.invariant.alike.seats k
-    ∙ ap seats_in (none_at (λ b. (goal.Scheduler-dyn g (b.vtable, b.value)).seen b.value) c.args.nodes.now k (omega (arith, c.capacity-end.ensures.slots))))
+    ∙ ap seats_in (none_at (λ b. (goal.Scheduler-dyn g (b.vtable, b.value)).seen b.value) c.args.nodes.now k
+    (omega (arith, c.capacity-end.ensures.slots))))
     c.loop-key.invariant.telling

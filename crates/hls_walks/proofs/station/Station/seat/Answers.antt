@@ -5,4 +5,7 @@ use Rattle.hls_sched.specs.declared.fault.SeatFault.TheVariants.{Full}
 use Rattle.hls_walks.proofs.station.Station.seat.Goals as goal
 
 pub unreachable-requires : goal.unreachable-requires
-unreachable-requires g c = c.requires.may.fits (Full (most_seats (config_of ((goal.Scheduler-dyn g (c.args.self.now.unit.vtable, c.args.self.now.unit.value)).seen c.args.self.now.unit.value)))) (c.in-None.ensures.full refl, refl)
+unreachable-requires g c = c.requires.may.fits
+    (Full (most_seats (config_of ((goal.Scheduler-dyn g
+    (c.args.self.now.unit.vtable, c.args.self.now.unit.value)).seen c.args.self.now.unit.value))))
+    (c.in-None.ensures.full refl, refl)
