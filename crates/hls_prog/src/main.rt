@@ -3,17 +3,12 @@
 #![tactic(auto)]
 
 use hls_chron::Kind;
-use hls_edf::Edf;
 use hls_fp::Fp;
 use hls_io::{Status, StdSink, StdSource};
-use hls_join::Join;
-use hls_rr::Rr;
 use hls_sched::Kit;
-use hls_sfq::Sfq;
 use hls_top::hls_run;
-use hls_wheel::Wheel;
+use std::env;
 use std::process::ExitCode;
-use std::{env, io};
 
 /// How many schedulers of each kind can be loaded in a run.
 const BOXES: usize = 64;
@@ -26,34 +21,10 @@ fn out_of_memory() -> ExitCode {
     ExitCode::from(Status::Memory.code())
 }
 
-/// The exit status where the words did not come: for want of memory, or for another cause.
-fn without_words(error: &io::Error) -> ExitCode {
-    if error.kind() == io::ErrorKind::OutOfMemory {
-        out_of_memory()
-    } else {
-        ExitCode::from(NO_WORDS)
-    }
-}
-
-/// Fills a list of the kit with blank boxes. The program ends where there is no memory for one.
-macro_rules! fill {
-    ($kit:ident, $alloc:ident, $boxes:ident, $kind:expr, $blank:expr) => {
-        while $kit.$boxes.len() < BOXES {
-            let Ok(blank) = Box::new($alloc, $blank) else {
-                return out_of_memory();
-            };
-            if $kit.put($kind, blank).is_err() {
-                return out_of_memory();
-            }
-        }
-    };
-}
-
 fn main(rt: HostRuntime) -> ExitCode {
     let alloc = rt.alloc();
-    let args = match env::args(&rt) {
-        Ok(args) => args,
-        Err(error) => return without_words(&error),
+    let Ok(args) = env::args(&rt) else {
+        return ExitCode::from(NO_WORDS);
     };
     let Ok(words) = args.skip(1).collect::<Vec<String>>(alloc) else {
         return out_of_memory();
@@ -67,12 +38,14 @@ fn main(rt: HostRuntime) -> ExitCode {
         join: Vec::new(alloc),
         used: [0; 6],
     };
-    fill!(kit, alloc, fp, Kind::Fp, Fp::blank(alloc));
-    fill!(kit, alloc, edf, Kind::Edf, Edf::blank(alloc));
-    fill!(kit, alloc, sfq, Kind::Sfq, Sfq::blank(alloc));
-    fill!(kit, alloc, rr, Kind::Rr, Rr::blank(alloc));
-    fill!(kit, alloc, wheel, Kind::Wheel, Wheel::blank(alloc));
-    fill!(kit, alloc, join, Kind::Join, Join::blank(alloc));
+    while kit.fp.len() < BOXES {
+        let Ok(blank) = Box::new(alloc, Fp::blank(alloc)) else {
+            return out_of_memory();
+        };
+        if kit.put(Kind::Fp, blank).is_err() {
+            return out_of_memory();
+        }
+    }
     let mut source = StdSource::new(rt.stdin());
     let mut sink = StdSink::new(rt.stdout());
     let status = hls_run(alloc, &words, &mut source, &mut sink, kit);
