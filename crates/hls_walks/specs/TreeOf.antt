@@ -5,7 +5,7 @@ use Rattle.hls_kinds.specs.Asks.{slot_asks}
 use Rattle.hls_chron.specs.Seats.{terms_at}
 use Rattle.hls_sched.specs.Seen.{tick_row}
 use Rattle.hls_legal.specs.Hierarchy.{Hierarchy, Thread, Admitted, Seat, Place, Processor, At, is_ready, was_served}
-use Rattle.hls_legal.specs.Steps.{Hop, Path, hop_at, hops_of, thread_of, row_by, Elapse, after}
+use Rattle.hls_legal.specs.Steps.{Hop, Path, hop_at, hops_of, row_by, Elapse}
 use Rattle.hls_legal.specs.Legal.{Walk, Can, root_asks}
 use Rattle.hls_legal.specs.Seated.{IsSeated}
 use Rattle.hls_walks.specs.Shown.{Shown, bare, bare_in, book_in, RoomIn, level_in, seats_in, place_in, mask_in, asks_in}

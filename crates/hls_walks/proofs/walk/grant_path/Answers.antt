@@ -1,4 +1,4 @@
-use Rattle.std.proofs.Common.{◌≡◌, ◌∙◌, [], ◌∷◌, ◌++◌, ap, sym, refl, arith}
+use Rattle.std.proofs.Common.{◌∙◌, [], ◌∷◌, ◌++◌, ap, sym, refl, arith}
 use Rattle.hls_walks.proofs.Walks.{shown_others, choice_others}
 use Rattle.hls_walks.proofs.Snapshots.{one_of}
 use Rattle.hls_walks.proofs.Leads.{going_start, going_at, going_on, going_end, here_small, nobody_there}
