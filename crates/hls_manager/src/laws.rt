@@ -1,3 +1,0 @@
-//! t
-pub fn nothing()
-{}
