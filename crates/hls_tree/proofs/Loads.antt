@@ -19,7 +19,7 @@ use Rattle.hls_legal.specs.Hierarchy.{SeatHolder}
 use Rattle.hls_legal.specs.Steps.{sitters, marked, seatings, leavings, effect, nobody, root_with, loaded, admitted}
 use Rattle.hls_chron.specs.Kinds.{port_count}
 use Rattle.hls_legal.proofs.Kept.{at_same, at_other}
-use Rattle.hls_legal.proofs.Small.{zero_off}
+use Rattle.hls_walks.proofs.Silent.{zero_off}
 use Rattle.hls_walks.specs.Shown.{IsPosted, What, Scheduler, Thread, SchedulerNode, ThreadNode, PostedIn, RoomBare}
 use Rattle.hls_walks.specs.Shown.{bare, bare_what, level_in}
 use Rattle.hls_walks.specs.Shown.{ready_in, ready_what, name_in, name_bare, most_in, most_bare}

@@ -15,7 +15,7 @@ use Rattle.hls_legal.specs.Steps.{Hop, hop_at}
 use Rattle.hls_legal.specs.Legal.{Walk, Enters, Ends}
 use Rattle.hls_legal.proofs.Readings.{serves-asking}
 use Rattle.hls_legal.proofs.Kept.{at_same, at_other}
-use Rattle.hls_legal.proofs.Small.{zero_off}
+use Rattle.hls_walks.proofs.Silent.{zero_off}
 use Rattle.hls_legal.proofs.Seatings.{lone_port}
 use Rattle.hls_walks.specs.Shown.{What, Scheduler, Thread, Shown, SchedulerNode, ThreadNode, bare, bare_in}
 use Rattle.hls_walks.specs.Shown.{level_in, place_in, mask_in, asks_in, asks_what, grant_in, is_sched, is_sched_what}

@@ -1,3 +1,4 @@
+pub mod Silent
 pub mod Telling
 pub mod Walks
 pub mod Snapshots
