@@ -1,0 +1,191 @@
+-- A core lets ticks pass, and ends.
+use Rattle.std.proofs.Common.{◌≡◌, ℕ, ◌+◌, ◌-◌, ◌<◌, ◌≤◌, Bool, List, [], ◌∷◌, ◌++◌, length, map, refl, sym, ap, ◌∙◌, subst, arith}
+use Rattle.std.specs.Prelude.{Option, Some, None, Result, Ok, Err, IfOk}
+use Rattle.std.proofs.lemmas.List.{append-nil}
+use Rattle.hls_scenario.specs.declared.scenario.Item.{Item}
+use Rattle.hls_scenario.specs.declared.scenario.Scenario.{Scenario}
+use Rattle.hls_report_text.specs.declared.report.Answered.{Answered}
+use Rattle.hls_report_text.specs.declared.report.Path.{Path}
+use Rattle.hls_report_text.specs.declared.report.Report.{Report}
+use Rattle.hls_report_text.specs.Content.{Content, content_of}
+use Rattle.hls_report_text.specs.ReportText.{item_of}
+use Rattle.hls_report_text.specs.WellFormed.{HasShort}
+use Rattle.hls_sched.specs.Seen.{Seen}
+use Rattle.hls_legal.specs.Hierarchy.{Hierarchy, Node, Loaded, Admitted, start, name_of}
+use Rattle.hls_legal.specs.Steps.{Step, Elapse, Hop, after, state, ticked, hop_at, hops_of}
+use Rattle.hls_legal.specs.Steps as steps
+use Rattle.hls_legal.proofs.Goes.{state_goes}
+use Rattle.hls_legal.proofs.Lists.{run_listed}
+use Rattle.hls_legal.proofs.Seated.{run_seated}
+use Rattle.hls_accounts.specs.Tells.{TellsFrom, Tells}
+use Rattle.hls_accounts.specs.Accounts.{accounts_of, idle_of}
+use Rattle.hls_accounts.specs.Ready.{is_ready}
+use Rattle.hls_answers.specs.Moment.{Boxes}
+use Rattle.hls_legal_report.specs.Legal.{IsRun, IsLegalReport}
+use Rattle.hls_legal_report.proofs.Growth.{run_tick}
+use Rattle.hls_tree.specs.Trees.{Stands}
+use Rattle.hls_journal.specs.declared.journal.Journal.{Journal}
+use Rattle.hls_journal.specs.Told.{answered_by, told, with_totals, IsReportOf}
+use Rattle.hls_journal.specs.Kept.{IsTicked, MayTick, IsWayOrIdle}
+use Rattle.hls_journal.proofs.Keeps.{kept_tick, told_tick, may_tick, way_short}
+use Rattle.hls_core.specs.Outcomes.{IsAt}
+use Rattle.hls_core.specs.Elapses.{MayElapse, Elapses}
+use Rattle.hls_core.specs.Cores.{AreNoted, NoneDue, IsCoreOf, Runs}
+use Rattle.hls_core.specs.declared.cores.Core.{Core}
+use Rattle.hls_core.proofs.Items.{ahead_next, none_left, all_told}
+use Rattle.hls_core.proofs.Going.{at_next}
+
+-- where a run leads it is the present tick
+state_now : (c : Content) (steps : List Step) (h : Hierarchy) (left : List Answered) → TellsFrom c h steps left
+    → (state h steps).now ≡ c.horizon
+state_now c [] h [] told = told
+state_now c [] h (b ∷ left) told = absurd told
+state_now c (Elapse asking masks path ∷ steps) h left told =
+    state_now c steps (after h (Elapse asking masks path)) left told.2
+state_now c (step ∷ steps) h [] told = absurd told
+state_now c (step ∷ steps) h (b ∷ left) told = state_now c steps (after h step) left told.2
+
+-- accounts and idle ticks do not tell of a run
+retold : (c d : Content) → c.horizon ≡ d.horizon → c.stretches ≡ d.stretches → (steps : List Step) (h : Hierarchy)
+    (left : List Answered) → TellsFrom c h steps left → TellsFrom d h steps left
+retold c d horizon stretches [] h [] told = told ∙ horizon
+retold c d horizon stretches [] h (b ∷ left) told = absurd told
+retold c d horizon stretches (Elapse asking masks path ∷ steps) h left told = (
+  told.0,
+  subst (λ ss. Rattle.hls_accounts.specs.Tells.Names h path (Rattle.hls_accounts.specs.Schedule.path_at ss h.now)) stretches told.1,
+  retold c d horizon stretches steps (after h (Elapse asking masks path)) left told.2,
+)
+retold c d horizon stretches (step ∷ steps) h [] told = absurd told
+retold c d horizon stretches (step ∷ steps) h (b ∷ left) told =
+    (told.0, told.1, retold c d horizon stretches steps (after h step) left told.2)
+
+ticked_name : (mask : ℕ) (hop : Option Hop) (node : Option Node) → name_of (ticked mask hop node) ≡ name_of node
+ticked_name mask hop None = refl
+ticked_name mask hop (Some (Loaded s)) = refl
+ticked_name mask hop (Some (Admitted t)) = refl
+
+totals_same : (c : Content) → with_totals (with_totals c) ≡ with_totals c
+unfolding is_ready
+totals_same c = refl
+
+-- V and P are what the checker knows a box by
+module _ {V : Type 0} {P : V → Type 0} (seen : (x : V) × P x → Seen) where
+  pub core_may_elapse : (c : Core V P) (s : Scenario) (given : ℕ) (boxes : Boxes) → IsCoreOf seen c s given boxes
+      → c.journal.ticks < c.scenario.horizon → Stands seen c.tree (MayElapse seen c.tree c.bursts c.journal)
+  core_may_elapse c s given boxes is lt =
+      let now = state_now (told s.items c.depth c.journal) is.steps start
+      (answered_by s.items c.journal.answers.items) is.run.tells in
+      let own = ap (λ (x : Scenario). x.horizon) is.scenario in
+      let horizon = is.horizon in
+      record {
+        h = state start is.steps;
+        tree = is.at_state.tree;
+        seated = run_seated is.steps is.run.legal;
+        listed = run_listed is.steps is.run.legal;
+        is = record { at_state = is.at_state; noted = is.noted; early = omega (arith, now, own, horizon, lt) };
+      }
+
+  pub core_few : (c : Core V P) (s : Scenario) (given : ℕ) (boxes : Boxes) → IsCoreOf seen c s given boxes
+      → length c.journal.names.keys ≤ 65536
+  core_few c s given boxes is =
+      let one = is.kept.fewer in
+      let two = is.kept.few in
+      let three = is.within.few in omega (arith, one, two, three)
+
+  pub core_may_tick : (c : Core V P) (s : Scenario) (given : ℕ) (boxes : Boxes) → IsCoreOf seen c s given boxes
+      → c.journal.ticks < c.scenario.horizon → MayTick c.journal
+  core_may_tick c s given boxes is lt =
+      let own = ap (λ (x : Scenario). x.horizon) is.scenario in
+      may_tick s c.journal is.kept is.within.horizon.1 (omega (arith, own, lt))
+
+  pub path_short : (c : Core V P) (s : Scenario) (given : ℕ) (boxes : Boxes) (new : Rattle.hls_tree.specs.declared.tree.Tree.Tree V P)
+      (later : Rattle.hls_core.specs.declared.bursts.Bursts.Bursts) (path : Option Path)
+      (is : IsCoreOf seen c s given boxes) → c.journal.ticks < c.scenario.horizon
+      → ((h : Hierarchy) → MayElapse seen c.tree c.bursts c.journal h → Elapses seen new later c.journal h path)
+      → HasShort path
+  unfolding core_may_elapse
+  path_short c s given boxes new later path is lt elapses =
+      way_short c.journal path (elapses (state start is.steps) (core_may_elapse c s given boxes is lt).is).way
+
+  pub ticks_on : (old new : Core V P) (s : Scenario) (given : ℕ) (boxes : Boxes) (path : Option Path)
+      (is : IsCoreOf seen old s given boxes)
+      → NoneDue old.scenario.items old.agenda old.journal.ticks → old.journal.ticks < old.scenario.horizon
+      → ((h : Hierarchy) → MayElapse seen old.tree old.bursts old.journal h
+      → Elapses seen new.tree new.bursts old.journal h path)
+      → IsTicked path old.journal new.journal → new.agenda ≡ old.agenda → new.scenario ≡ old.scenario
+      → new.depth ≡ old.depth → new.kit ≡ old.kit → new.tree.horizon ≡ old.tree.horizon
+      → IsCoreOf seen new s given boxes
+  unfolding core_may_elapse
+  ticks_on old new s given boxes path is none lt elapses noted agenda scenario depth kit horizon =
+      let own = ap (λ (x : Scenario). x.horizon) is.scenario in
+      let early : old.journal.ticks < s.horizon = omega (arith, own, lt) in
+      let e = elapses (state start is.steps) (core_may_elapse old s given boxes is lt).is in
+      let step : Step = Elapse e.asking e.masks e.path in
+      let more = told_tick s old.depth old.journal new.journal path is.kept e.way noted in
+      let run : IsRun old.depth boxes (told s.items old.depth new.journal) (is.steps ++ step ∷ []) =
+      run_tick old.depth boxes (told s.items old.depth old.journal) (told s.items old.depth new.journal) is.steps
+      e.asking e.masks e.path _ is.run e.can e.names more in
+      let ahead = ahead_next s.horizon s.items old.agenda old.journal.ticks is.within.items
+      (subst (λ (x : Scenario). NoneDue x.items old.agenda old.journal.ticks) is.scenario none) in
+      record {
+        scenario = scenario ∙ is.scenario;
+        within = is.within;
+        early = is.early;
+        depth = depth ∙ is.depth;
+        deep = subst (λ n. n ≤ 6) (sym depth) is.deep;
+        place = agenda ∙ is.place ∙ sym (ap (λ xs. length xs.items) noted.answers);
+        kept = kept_tick s old.journal new.journal path is.kept early e.way noted;
+        ahead = λ at item le there.
+            (let later = ahead at item (omega (arith, le, agenda)) there in
+            let ticks = noted.ticks in omega (arith, later, ticks));
+        good = subst (Rattle.hls_sched.specs.GoodKit.IsGood (Rattle.hls_walks.specs.Views.boxed seen)) (sym kit) is.good;
+        left =
+            ap Rattle.hls_core.specs.Outcomes.boxes_in kit ∙ is.left
+            ∙ ap (λ xs. Rattle.hls_answers.specs.Kit.boxes_left boxes (answered_by s.items xs.items)) (sym noted.answers);
+        steps = is.steps ++ step ∷ [];
+        run = subst (λ n. IsRun n boxes (told s.items n new.journal) (is.steps ++ step ∷ [])) (sym depth) run;
+        at_state = at_next seen new.tree new.bursts is.steps step is.run.legal e.can e.tree e.ready e.left;
+        noted =
+            subst (λ g. AreNoted g new.journal) (sym (state_goes is.steps start step))
+            (λ k name has. subst (λ ns. Rattle.std.specs.List.list_any (Rattle.std.specs.Str.bytes_eq name) ns.keys ≡ Rattle.std.proofs.Common.true)
+            (sym noted.names)
+            (is.noted k name (sym (ticked_name (e.masks k) (hop_at (hops_of e.path) k) ((state start is.steps).nodes k)) ∙ has)));
+        horizon = horizon ∙ is.horizon;
+      }
+
+  pub ends_legal : (c : Core V P) (s : Scenario) (given : ℕ) (boxes : Boxes) (r : Report)
+      → IsReportOf (told c.scenario.items c.depth c.journal) r → c.journal.ticks ≡ c.scenario.horizon
+      → IsCoreOf seen c s given boxes → IsLegalReport s given boxes r
+  ends_legal c s given boxes r of ended is =
+      let own = ap (λ (x : Scenario). x.horizon) is.scenario in
+      let whole : c.journal.ticks ≡ s.horizon = ended ∙ own in
+      let bare = told s.items c.depth c.journal in
+      let content : content_of r ≡ with_totals bare =
+      of.content ∙ ap (λ (x : Scenario). with_totals (told x.items c.depth c.journal)) is.scenario in
+      let all : c.agenda ≡ length s.items =
+      none_left s.horizon s.items c.agenda is.within.items (let place = is.place in let few = is.kept.few in omega (arith, place, few))
+      (subst (Rattle.hls_core.specs.Cores.AreAhead s.items c.agenda) whole is.ahead) in
+      record {
+        formed = of.formed;
+        legal = subst (Rattle.hls_legal_report.specs.Legal.IsLegalContent s given boxes) (sym content) (record {
+          formed = subst Rattle.hls_report_text.specs.WellFormed.IsContent content of.formed.content;
+          horizon = whole;
+          depth = is.depth;
+          commands = all_told s.items c.journal.answers.items (sym is.place ∙ all);
+          steps = is.steps;
+          run = record {
+            legal = is.run.legal;
+            tells = retold bare (with_totals bare) refl refl is.steps start bare.answered is.run.tells;
+            answers = is.run.answers;
+          };
+          accounts = ap (λ (x : Content). x.accounts) (sym (totals_same bare));
+          idle = ap (λ (x : Content). x.idle) (sym (totals_same bare));
+        });
+      }
+
+  pub all_legal : {E : Type 0} (c : Core V P) (result : Result Report E)
+      → IfOk result (IsReportOf (told c.scenario.items c.depth c.journal)) → c.journal.ticks ≡ c.scenario.horizon
+      → IfOk result (λ r. (s : Scenario) (given : ℕ) (boxes : Boxes) → IsCoreOf seen c s given boxes
+      → IsLegalReport s given boxes r)
+  all_legal c (Ok r) of ended = λ s given boxes is. ends_legal c s given boxes r of ended is
+  all_legal c (Err e) of ended = tt

@@ -1,0 +1,10 @@
+pub mod Readiness
+pub mod Plain
+pub mod Finds
+pub mod Carried
+pub mod Paths
+pub mod Opened
+pub mod Items
+pub mod Going
+pub mod Elapsing
+pub mod Ended

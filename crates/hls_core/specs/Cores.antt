@@ -1,0 +1,61 @@
+-- What a core is of.
+use Rattle.std.specs.Prelude.{◌≡◌, ℕ, ◌≤◌, ◌<◌, List, Some, None, length, slice_get, true}
+use Rattle.hls_text.specs.Lines.{Text}
+use Rattle.hls_scenario.specs.declared.scenario.Item.{Item}
+use Rattle.hls_scenario.specs.declared.scenario.Scenario.{Scenario}
+use Rattle.hls_scenario.specs.Grammar.{IsScenario}
+use Rattle.hls_sched.specs.Seen.{Seen}
+use Rattle.hls_sched.specs.GoodKit.{IsGood}
+use Rattle.hls_walks.specs.Views.{boxed}
+use Rattle.hls_legal.specs.Hierarchy.{Hierarchy, start, name_of}
+use Rattle.hls_legal.specs.Steps.{Step, state}
+use Rattle.hls_legal_report.specs.Legal.{depth_in_force, IsRun}
+use Rattle.hls_answers.specs.Moment.{Boxes}
+use Rattle.hls_answers.specs.Kit.{boxes_left}
+use Rattle.hls_journal.specs.declared.journal.Journal.{Journal}
+use Rattle.hls_journal.specs.Told.{answered_by, told}
+use Rattle.hls_journal.specs.Kept.{IsKept, has_name}
+use Rattle.hls_core.specs.Early.{IsEarly}
+use Rattle.hls_core.specs.Outcomes.{boxes_in, IsAt}
+use Rattle.hls_core.specs.declared.cores.Core.{Core}
+
+-- the name of each node was noted
+abbrev pub AreNoted : Hierarchy → Journal → Type 0
+AreNoted h j = (k : ℕ) (name : Text) → name_of (h.nodes k) ≡ Some name → has_name j name ≡ true
+
+-- the items from a place on have ticks from now on
+abbrev pub AreAhead : List Item → (place now : ℕ) → Type 0
+AreAhead items place now = (at : ℕ) (item : Item) → place ≤ at → slice_get items at ≡ Some item → now ≤ item.tick
+
+-- no command of the present tick is left
+abbrev pub NoneDue : List Item → (place now : ℕ) → Type 0
+NoneDue items place now = (item : Item) → slice_get items place ≡ Some item → now < item.tick
+
+-- V and P are what the checker knows a box by, and W and Q a rule
+module _ {V : Type 0} {P : V → Type 0} where
+  -- What was carried out so far is a legal run that the journal tells, with the defined answers, and the tree is of
+  -- the hierarchy where it leads. The scenario, the depth that was given and the boxes that the kit had are these.
+  pub record IsCoreOf (seen : (x : V) × P x → Seen) (c : Core V P) (s : Scenario) (given : ℕ) (boxes : Boxes)
+      : Type 0 where
+    pub scenario : c.scenario ≡ s
+    pub within : IsScenario s
+    pub early : IsEarly s
+    pub depth : c.depth ≡ depth_in_force given s.depth
+    pub deep : c.depth ≤ 6
+    pub place : c.agenda ≡ length c.journal.answers.items
+    pub kept : IsKept s c.journal
+    pub ahead : AreAhead s.items c.agenda c.journal.ticks
+    pub good : IsGood (boxed seen) c.kit
+    pub left : boxes_in c.kit ≡ boxes_left boxes (answered_by s.items c.journal.answers.items)
+    pub steps : List Step
+    pub run : IsRun c.depth boxes (told s.items c.depth c.journal) steps
+    pub at_state : IsAt seen c.tree c.bursts (state start steps)
+    pub noted : AreNoted (state start steps) c.journal
+    pub horizon : c.tree.horizon ≡ s.horizon
+
+  -- of some scenario, and so on
+  pub record Runs (seen : (x : V) × P x → Seen) (c : Core V P) : Type 0 where
+    pub s : Scenario
+    pub given : ℕ
+    pub boxes : Boxes
+    pub is : IsCoreOf seen c s given boxes

@@ -1,0 +1,45 @@
+-- What a tick comes to.
+use Rattle.std.specs.Prelude.{◌≡◌, ℕ, ◌<◌, Option, Some, None, Bool}
+use Rattle.hls_report_text.specs.declared.report.Path.{Path}
+use Rattle.hls_sched.specs.Seen.{Seen}
+use Rattle.hls_legal.specs.Hierarchy.{Hierarchy}
+use Rattle.hls_legal.specs.Steps.{Elapse, after}
+use Rattle.hls_legal.specs.Steps as steps
+use Rattle.hls_legal.specs.Legal.{Can, IsThread}
+use Rattle.hls_accounts.specs.Tells.{Names}
+use Rattle.hls_tree.specs.Trees.{IsTreeOf, IsReadyOf}
+use Rattle.hls_tree.specs.declared.tree.Tree.{Tree}
+use Rattle.hls_journal.specs.declared.journal.Journal.{Journal}
+use Rattle.hls_journal.specs.Kept.{IsWayOrIdle}
+use Rattle.hls_journal.specs.Ways.{names_by}
+use Rattle.hls_core.specs.Bursts.{left_in}
+use Rattle.hls_core.specs.Left.{IsLeft}
+use Rattle.hls_core.specs.Outcomes.{IsAt}
+use Rattle.hls_core.specs.Cores.{AreNoted}
+use Rattle.hls_core.specs.declared.bursts.Bursts.{Bursts}
+
+abbrev pub IsThreadOrNone : Hierarchy → Option ℕ → Type 0
+IsThreadOrNone h None = Unit {0}
+IsThreadOrNone h (Some k) = IsThread (h.nodes k)
+
+-- V and P are what the checker knows a box by
+module _ {V : Type 0} {P : V → Type 0} where
+  -- it is of the hierarchy, whose names were noted, and there is a tick left
+  pub record MayElapse (seen : (x : V) × P x → Seen) (t : Tree V P) (bursts : Bursts) (j : Journal) (h : Hierarchy)
+      : Type 0 where
+    pub at_state : IsAt seen t bursts h
+    pub noted : AreNoted h j
+    pub early : h.now < t.horizon
+
+  -- a tick elapses by a path that this one tells
+  pub record Elapses (seen : (x : V) × P x → Seen) (new : Tree V P) (bursts : Bursts) (j : Journal) (h : Hierarchy)
+      (told : Option Path) : Type 0 where
+    pub asking : ℕ → Bool
+    pub masks : ℕ → ℕ
+    pub path : Option steps.Path
+    pub can : Can h (Elapse asking masks path)
+    pub names : Names h path (names_by j.names.keys told)
+    pub way : IsWayOrIdle j told
+    pub tree : IsTreeOf seen new (after h (Elapse asking masks path))
+    pub ready : IsReadyOf seen new (after h (Elapse asking masks path))
+    pub left : IsLeft (left_in bursts) (after h (Elapse asking masks path))

@@ -1,0 +1,157 @@
+// A core.
+ghost use Rattle.std.specs.Prelude.{◌≡◌, ◌≤◌, ◌<◌, ◌+◌, ◌-◌, ℕ, true, false, IfOk, OnErr, length, slice_get, option_copied};
+ghost use Rattle.hls_scenario.specs.declared.scenario.Scenario.{Scenario};
+ghost use Rattle.hls_scenario.specs.Grammar.{IsScenario};
+ghost use Rattle.hls_sched.specs.GoodKit.{IsGood};
+ghost use Rattle.hls_walks.specs.Views.{boxed};
+ghost use Rattle.hls_answers.specs.Moment.{Boxes};
+ghost use Rattle.hls_legal_report.specs.Legal.{depth_in_force, IsLegalReport};
+
+use crate::bursts::Bursts;
+use crate::commands::carry_out;
+use crate::ticks::elapse;
+use crate::ways::way_of;
+use hls_clock::Agenda;
+use hls_journal::Journal;
+use hls_report_text::{Answer, Report};
+use hls_scenario::Scenario;
+use hls_sched::{Kit, Scheduler};
+use hls_tree::Tree;
+use std::alloc::{AllocError, Global};
+
+/// A scenario that is carried out, command by command and tick by tick.
+#[derive(Drop)]
+pub struct Core {
+    pub(crate) alloc: Global,
+    pub(crate) scenario: Scenario,
+    pub(crate) depth: u8,
+    pub(crate) kit: Kit,
+    pub(crate) tree: Tree,
+    pub(crate) agenda: Agenda,
+    pub(crate) journal: Journal,
+    pub(crate) bursts: Bursts,
+}
+
+/// The depth in force: the scenario's own, or else the one that is given.
+fn depth_in_force(given: u8, own: Option<u8>) -> u8
+    ensures { result ≡ depth_in_force given own }
+{
+    match own {
+        Some(depth) => depth,
+        None => given,
+    }
+}
+
+impl Core {
+    ghost use Rattle.hls_core.specs.Early.{IsEarly};
+    ghost use Rattle.hls_core.specs.Outcomes.{boxes_in};
+    ghost use Rattle.hls_core.specs.Cores.{IsCoreOf, Runs, NoneDue};
+
+    /// Begins with a scenario, of which nothing was carried out. The scenario's own depth wins over the one
+    /// that is given.
+    ///
+    /// # Errors
+    /// Returns `AllocError` for want of memory. What was handed in is dropped.
+    pub fn open(alloc: Global, scenario: Scenario, depth: u8, kit: Kit) -> Result<Core, AllocError>
+        requires scenario { IsScenario scenario }
+        requires early { IsEarly scenario }
+        requires depth { depth ≤ 6 }
+        requires kit { IsGood (boxed seen) kit }
+        ensures { IfOk result (λ core. IsCoreOf seen core scenario depth (boxes_in kit)) }
+    {
+        let journal = Journal::open(alloc, scenario.items.items().len(), scenario.horizon)?;
+        let depth = depth_in_force(depth, scenario.depth);
+        let tree = Tree::new(alloc, scenario.horizon);
+        Ok(Core {
+            alloc,
+            scenario,
+            depth,
+            kit,
+            tree,
+            agenda: Agenda::new(),
+            journal,
+            bursts: Bursts::new(alloc),
+        })
+    }
+
+    /// How many ticks have passed: the present tick.
+    pub fn now(&self) -> u32
+        ensures { result ≡ self.now.journal.ticks }
+    {
+        self.journal.ticks()
+    }
+
+    /// The answer of the command that was carried out last.
+    pub fn last(&self) -> Option<&Answer>
+        ensures { option_copied result
+            ≡ slice_get self.now.journal.answers.items (length self.now.journal.answers.items - 1) }
+    {
+        self.journal.last()
+    }
+
+    /// Carries the next command out that is due, and tells whether one was. Where memory is wanting the
+    /// command is still due.
+    ///
+    /// # Errors
+    /// Returns `AllocError` for want of memory.
+    pub fn command(&mut self) -> Result<bool, AllocError>
+        requires { Runs seen self.old }
+        ensures is { (s : Scenario) (given : ℕ) (boxes : Boxes) → IsCoreOf seen self.old s given boxes →
+            IsCoreOf seen self.new s given boxes }
+        ensures carried { IfOk result (λ carried. carried ≡ true → self.new.agenda ≡ self.old.agenda + 1) }
+        ensures none { IfOk result (λ carried. carried ≡ false →
+            NoneDue self.new.scenario.items self.new.agenda self.new.journal.ticks) }
+        ensures same { IfOk result (λ carried. carried ≡ false → self.new ≡ self.old) }
+        ensures still_due { OnErr result (self.new.agenda ≡ self.old.agenda) }
+        ensures unanswered { OnErr result (self.new.journal ≡ self.old.journal) }
+        ensures scenario { self.new.scenario ≡ self.old.scenario }
+        ensures ticks { self.new.journal.ticks ≡ self.old.journal.ticks }
+    {
+        let now = self.journal.ticks();
+        let Some(command) = self.agenda.due(&self.scenario, now) else {
+            return Ok(false);
+        };
+        let answer = carry_out(self.alloc, &mut self.tree, &mut self.bursts, command)?;
+        self.journal.note(command, answer);
+        self.agenda.advance();
+        Ok(true)
+    }
+
+    /// Lets one tick pass, once the commands of the present tick have their answers.
+    pub fn tick(&mut self)
+        requires runs { Runs seen self.old }
+        requires none_due { NoneDue self.old.scenario.items self.old.agenda self.old.journal.ticks }
+        requires early { self.old.journal.ticks < self.old.scenario.horizon }
+        ensures is { (s : Scenario) (given : ℕ) (boxes : Boxes) → IsCoreOf seen self.old s given boxes →
+            IsCoreOf seen self.new s given boxes }
+        ensures ticks { self.new.journal.ticks ≡ self.old.journal.ticks + 1 }
+        ensures scenario { self.new.scenario ≡ self.old.scenario }
+        ensures agenda { self.new.agenda ≡ self.old.agenda }
+    {
+        let path = elapse(&mut self.tree, &mut self.bursts, &self.journal);
+        self.journal.tick(path);
+    }
+
+    /// The report of the scenario, once all its ticks have passed.
+    ///
+    /// # Errors
+    /// Returns `AllocError` for want of memory.
+    pub fn finish(self) -> Result<Report, AllocError>
+        requires runs { Runs seen self }
+        requires ended { self.journal.ticks ≡ self.scenario.horizon }
+        ensures { IfOk result (λ report. (s : Scenario) (given : ℕ) (boxes : Boxes) →
+            IsCoreOf seen self s given boxes → IsLegalReport s given boxes report) }
+    {
+        let Core {
+            alloc,
+            scenario,
+            depth,
+            kit: _,
+            tree: _,
+            agenda: _,
+            journal,
+            bursts: _,
+        } = self;
+        journal.finish(alloc, scenario, depth)
+    }
+}

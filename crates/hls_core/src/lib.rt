@@ -1,0 +1,10 @@
+//! A scenario is carried out: commands at their ticks, and ticks, on a tree of boxes.
+#![tactic(auto)]
+
+mod bursts;
+mod commands;
+mod cores;
+mod ticks;
+mod ways;
+
+pub use cores::Core;

@@ -1,0 +1,3 @@
+pub mod Told
+pub mod Ways
+pub mod Kept

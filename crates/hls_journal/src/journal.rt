@@ -1,0 +1,122 @@
+// A journal.
+ghost use Rattle.std.specs.Prelude.{◌≡◌, ◌↔◌, ◌+◌, ◌-◌, ◌^◌, ◌<◌, ◌≤◌, [], ◌∷◌, ◌++◌, List, Some, true, All};
+ghost use Rattle.std.specs.Prelude.{IfOk, IsTrue, length, slice_get, option_copied, vec_capacity};
+ghost use Rattle.indexmap.specs.IndexSet.{spare};
+ghost use Rattle.hls_report_text.specs.declared.report.Run.{Run};
+ghost use Rattle.hls_report_text.specs.Content.{path_names};
+ghost use Rattle.hls_report_text.specs.WellFormed.{HasShort};
+ghost use Rattle.hls_accounts.specs.Commands.{is_done};
+ghost use Rattle.hls_answers.specs.Moment.{new_name};
+
+use crate::runs::put_tick;
+use crate::ways::{insert, place_of, push};
+use hls_chron::Name;
+use hls_report_text::{Answer, Path, Run};
+use hls_scenario::Command;
+use indexmap::IndexSet;
+use std::alloc::{AllocError, Global};
+
+/// What became of the first commands of a scenario and of the ticks that have passed. It has all the
+/// room that the scenario needs: no call but the first and the last takes memory.
+#[derive(Debug, Drop)]
+pub struct Journal {
+    pub(crate) ticks: u32,
+    pub(crate) answers: Vec<Answer>,
+    pub(crate) names: IndexSet<Name>,
+    pub(crate) runs: Vec<Run>,
+}
+
+/// The name that a command gives to a new node.
+fn new_name(command: &Command) -> Option<Name>
+    ensures { result ≡ new_name command.now }
+{
+    match command {
+        Command::Load { name, .. } => Some(*name),
+        Command::Thread { name, .. } => Some(*name),
+        _ => None,
+    }
+}
+
+/// Whether a command was carried out.
+fn is_done(answer: &Answer) -> bool
+    ensures { result ≡ is_done answer.now }
+{
+    match answer {
+        Answer::Done(_) => true,
+        Answer::Refused(_) => false,
+    }
+}
+
+impl Journal {
+    ghost use Rattle.hls_journal.specs.Kept.{IsNew, MayNote, MayTick, AreWithin, has_name, IsNoted, IsTicked};
+    ghost use Rattle.hls_journal.specs.Ways.{names_by, last_names};
+
+    /// A journal of nothing yet, with room for so many commands and ticks.
+    ///
+    /// # Errors
+    /// Returns `AllocError` for want of memory.
+    pub fn open(alloc: Global, commands: usize, horizon: u32) -> Result<Journal, AllocError>
+        ensures { IfOk result (IsNew commands horizon) }
+    {
+        Ok(Journal {
+            ticks: 0,
+            answers: Vec::with_capacity(alloc, commands)?,
+            names: IndexSet::with_capacity(alloc, commands)?,
+            runs: Vec::with_capacity(alloc, horizon as usize)?,
+        })
+    }
+
+    /// How many ticks have passed.
+    pub fn ticks(&self) -> u32
+        ensures { result ≡ self.now.ticks }
+    {
+        self.ticks
+    }
+
+    /// The answer that was noted last.
+    pub fn last(&self) -> Option<&Answer>
+        ensures { option_copied result ≡ slice_get self.now.answers.items (length self.now.answers.items - 1) }
+    {
+        self.answers.last()
+    }
+
+    /// Notes the answer to the next command.
+    pub fn note(&mut self, command: &Command, answer: Answer)
+        requires { MayNote self.old }
+        ensures { IsNoted command.now answer self.old self.new }
+    {
+        if is_done(&answer) {
+            if let Some(name) = new_name(command) {
+                insert(&mut self.names, name);
+            }
+        }
+        self.answers.push_reserved(answer);
+    }
+
+    /// Goes on along a path to a node with a name that was noted.
+    pub fn extend(&self, path: &mut Path, name: &Name)
+        requires known { has_name self.now name.now ≡ true }
+        requires few { length self.now.names.keys ≤ 2 ^ 16 }
+        requires short { path.old.len < 9 }
+        ensures len { path.new.len ≡ path.old.len + 1 }
+        ensures names { path_names self.now.names.keys path.new
+            ≡ path_names self.now.names.keys path.old ++ name.now ∷ [] }
+        ensures within { AreWithin (length self.now.names.keys) (Some path.old) →
+            AreWithin (length self.now.names.keys) (Some path.new) }
+    {
+        match place_of(&self.names, name) {
+            Some(place) => push(path, place as u16),
+            None => unreachable!(),
+        }
+    }
+
+    /// Notes that a tick passes with a path, or idle.
+    pub fn tick(&mut self, path: Option<Path>)
+        requires may { MayTick self.old }
+        requires short { HasShort path }
+        ensures { IsTicked path self.old self.new }
+    {
+        put_tick(&self.names, &mut self.runs, self.ticks, path);
+        self.ticks += 1;
+    }
+}

@@ -1,0 +1,9 @@
+//! What a run of a scenario tells while it goes on, and the report that comes of it.
+#![tactic(auto)]
+
+mod journal;
+mod report;
+mod runs;
+mod ways;
+
+pub use journal::Journal;
