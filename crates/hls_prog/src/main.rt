@@ -7,8 +7,8 @@ use hls_fp::Fp;
 use hls_io::{Status, StdSink, StdSource};
 use hls_sched::Kit;
 use hls_top::hls_run;
-use std::env;
 use std::process::ExitCode;
+use std::{env, io};
 
 /// How many schedulers of each kind can be loaded in a run.
 const BOXES: usize = 64;
@@ -21,10 +21,20 @@ fn out_of_memory() -> ExitCode {
     ExitCode::from(Status::Memory.code())
 }
 
+/// The exit status where the words did not come: for want of memory, or for another cause.
+fn without_words(error: &io::Error) -> ExitCode {
+    if error.kind() == io::ErrorKind::OutOfMemory {
+        out_of_memory()
+    } else {
+        ExitCode::from(NO_WORDS)
+    }
+}
+
 fn main(rt: HostRuntime) -> ExitCode {
     let alloc = rt.alloc();
-    let Ok(args) = env::args(&rt) else {
-        return ExitCode::from(NO_WORDS);
+    let args = match env::args(&rt) {
+        Ok(args) => args,
+        Err(error) => return without_words(&error),
     };
     let Ok(words) = args.skip(1).collect::<Vec<String>>(alloc) else {
         return out_of_memory();
