@@ -1,6 +1,7 @@
 -- What commands leave of a tree and of bursts.
 use Rattle.std.proofs.lemmas.Bool.{cases_eq}
-use Rattle.std.proofs.Common.{◌≡◌, ◌≢◌, ℕ, inl, inr, ◌⊎◌, List, [], ◌∷◌, ◌++◌, Option, Some, None, Bool, true, false, refl, sym, ap, ◌∙◌, subst}
+use Rattle.std.proofs.Common.{◌≡◌, ◌≢◌, ℕ, inl, inr, ◌⊎◌, List, [], ◌∷◌, ◌++◌, Option, Some, None, Bool, true}
+use Rattle.std.proofs.Common.{false, refl, sym, ap, ◌∙◌, subst}
 use Rattle.std.specs.Prelude.{Result, Ok, Err, OnErr}
 use Rattle.hls_text.specs.Lines.{Text}
 use Rattle.hls_scenario.specs.declared.scenario.Command.{Command}
@@ -74,7 +75,8 @@ module _ {V : Type 0} {P : V → Type 0} (seen : (x : V) × P x → Seen) where
 
   pub refused : (t : Tree V P) (bursts : Bursts) (h : Hierarchy) (command : Command) (r : Refusal)
       → IsAt seen t bursts h
-      → ((boxes : Boxes) (depth : ℕ) → IsAnswer (record { hierarchy = h; boxes = boxes; depth = depth }) command (Refused r))
+      → ((boxes : Boxes) (depth : ℕ) → IsAnswer (record { hierarchy = h; boxes = boxes; depth = depth }) command
+      (Refused r))
       → formed.IsAnswer command (Refused r) → CarriesOut seen t bursts h command (Refused r)
   refused t bursts h command r is answers fits = record {
     answers = answers;
@@ -89,7 +91,8 @@ module _ {V : Type 0} {P : V → Type 0} (seen : (x : V) × P x → Seen) where
 
   pub woken : (old new : Tree V P) (bursts later : Bursts) (h : Hierarchy) (id : ℕ) (name : Text) (burst : Option ℕ)
       → IsAt seen old bursts h → HasName h id name → IsThread (h.nodes id) → IsBurst burst
-      → ((boxes : Boxes) (depth : ℕ) → IsAnswer (record { hierarchy = h; boxes = boxes; depth = depth }) (Wake name burst) (Done []))
+      → ((boxes : Boxes) (depth : ℕ) → IsAnswer (record { hierarchy = h; boxes = boxes; depth = depth })
+      (Wake name burst) (Done []))
       → IsTreeOf seen new (with_wake h id (wake_by burst h.now)) → ready_of seen new id ≡ true
       → ((k : ℕ) → k ≢ id → ready_of seen new k ≡ ready_of seen old k)
       → left_in later id ≡ burst → ((k : ℕ) → k ≢ id → left_in later k ≡ left_in bursts k)
@@ -108,7 +111,8 @@ module _ {V : Type 0} {P : V → Type 0} (seen : (x : V) × P x → Seen) where
 
   pub blocked : (old new : Tree V P) (bursts : Bursts) (h : Hierarchy) (id : ℕ) (name : Text)
       → IsAt seen old bursts h → HasName h id name → IsThread (h.nodes id)
-      → ((boxes : Boxes) (depth : ℕ) → IsAnswer (record { hierarchy = h; boxes = boxes; depth = depth }) (Block name) (Done []))
+      → ((boxes : Boxes) (depth : ℕ) → IsAnswer (record { hierarchy = h; boxes = boxes; depth = depth })
+      (Block name) (Done []))
       → IsTreeOf seen new (with_wake h id Asleep) → ready_of seen new id ≡ false
       → ((k : ℕ) → k ≢ id → ready_of seen new k ≡ ready_of seen old k)
       → (answer : Answer) → answer ≡ Done [] → CarriesOut seen new bursts h (Block name) answer

@@ -1,5 +1,6 @@
 -- A tick elapses on a tree.
-use Rattle.std.proofs.Common.{◌≡◌, ◌≢◌, ℕ, inl, inr, ◌+◌, ◌-◌, ◌<◌, ◌≤◌, Bool, true, false, cond, List, [], ◌∷◌, ◌++◌, length, map}
+use Rattle.std.proofs.Common.{◌≡◌, ◌≢◌, ℕ, inl, inr, ◌+◌, ◌-◌, ◌<◌, ◌≤◌, Bool, true, false, cond, List, [], ◌∷◌}
+use Rattle.std.proofs.Common.{◌++◌, length, map}
 use Rattle.std.proofs.Common.{refl, sym, ap, ◌∙◌, subst, arith}
 use Rattle.std.specs.Prelude.{Option, Some, None, All, option_map}
 use Rattle.std.proofs.lemmas.Bool.{eqb-true}
@@ -8,7 +9,8 @@ use Rattle.std.proofs.lemmas.List.Elements.{All-nil, All-cons}
 use Rattle.hls_text.specs.Lines.{Text}
 use Rattle.hls_report_text.specs.declared.report.Path.{Path}
 use Rattle.hls_sched.specs.Seen.{Seen}
-use Rattle.hls_legal.specs.Hierarchy.{Hierarchy, Place, Processor, At, Node, Loaded, Admitted, Thread, Scheduler, start, name_of}
+use Rattle.hls_legal.specs.Hierarchy.{Hierarchy, Place, Processor, At, Node, Loaded, Admitted, Thread}
+use Rattle.hls_legal.specs.Hierarchy.{Scheduler, start, name_of}
 use Rattle.hls_legal.specs.Hierarchy.{is_ready, was_served, is_just}
 use Rattle.hls_legal.specs.Steps.{Hop, Step, Elapse, after, state, thread_of, hops_of, hop_at, ticked}
 use Rattle.hls_legal.specs.Steps as steps
@@ -192,7 +194,8 @@ module _ {V : Type 0} {P : V → Type 0} (seen : (x : V) × P x → Seen) (choic
       → ((k : ℕ) → left_in later k ≡ cond (is_just thread k) (option_map (λ left. left - 1) (left_in bursts k))
       (left_in bursts k))
       → Elapses seen new later j h told
-  elapses old passed turned new bursts later j thread told h may tree passes flags tells elapsed turns none some served ready left =
+  elapses old passed turned new bursts later j thread told h may tree passes flags tells elapsed turns none some
+      served ready left =
       let p = passes h may.at_state.tree may.at_state.ready in
       let there = tree h may.at_state.tree in
       let route : TellsRoute h j (walks.route_of p.2) told =
@@ -211,11 +214,13 @@ module _ {V : Type 0} {P : V → Type 0} (seen : (x : V) × P x → Seen) (choic
             ready_ticked h p.0 p.1 p.2 (left_in bursts) (ready_of seen old) (ready_of seen new) may.at_state.left
             may.at_state.ready
             (λ k on. ready k
-            ∙ ap (λ b. cond b (cond (is_last (left_in bursts k)) false (ready_of seen turned k)) (ready_of seen turned k))
+            ∙ ap (λ b. cond b (cond (is_last (left_in bursts k)) false (ready_of seen turned k))
+            (ready_of seen turned k))
             (ap (λ o. is_just o k) is_thread ∙ on)
             ∙ ap (λ b. cond (is_last (left_in bursts k)) false b) (turns k ∙ flags k))
             (λ k off. ready k
-            ∙ ap (λ b. cond b (cond (is_last (left_in bursts k)) false (ready_of seen turned k)) (ready_of seen turned k))
+            ∙ ap (λ b. cond b (cond (is_last (left_in bursts k)) false (ready_of seen turned k))
+            (ready_of seen turned k))
             (ap (λ o. is_just o k) is_thread ∙ off)
             ∙ turns k ∙ flags k)
             runs;

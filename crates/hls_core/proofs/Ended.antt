@@ -1,5 +1,6 @@
 -- A core lets ticks pass, and ends.
-use Rattle.std.proofs.Common.{◌≡◌, ℕ, ◌+◌, ◌-◌, ◌<◌, ◌≤◌, Bool, List, [], ◌∷◌, ◌++◌, length, map, refl, sym, ap, ◌∙◌, subst, arith}
+use Rattle.std.proofs.Common.{◌≡◌, ℕ, ◌+◌, ◌-◌, ◌<◌, ◌≤◌, Bool, List, [], ◌∷◌, ◌++◌, length, map, refl, sym, ap}
+use Rattle.std.proofs.Common.{◌∙◌, subst, arith}
 use Rattle.std.specs.Prelude.{Option, Some, None, Result, Ok, Err, IfOk}
 use Rattle.std.proofs.lemmas.List.{append-nil}
 use Rattle.hls_scenario.specs.declared.scenario.Item.{Item}
@@ -52,7 +53,8 @@ retold c d horizon stretches [] h [] told = told ∙ horizon
 retold c d horizon stretches [] h (b ∷ left) told = absurd told
 retold c d horizon stretches (Elapse asking masks path ∷ steps) h left told = (
   told.0,
-  subst (λ ss. Rattle.hls_accounts.specs.Tells.Names h path (Rattle.hls_accounts.specs.Schedule.path_at ss h.now)) stretches told.1,
+  subst (λ ss. Rattle.hls_accounts.specs.Tells.Names h path
+      (Rattle.hls_accounts.specs.Schedule.path_at ss h.now)) stretches told.1,
   retold c d horizon stretches steps (after h (Elapse asking masks path)) left told.2,
 )
 retold c d horizon stretches (step ∷ steps) h [] told = absurd told
@@ -98,7 +100,8 @@ module _ {V : Type 0} {P : V → Type 0} (seen : (x : V) × P x → Seen) where
       let own = ap (λ (x : Scenario). x.horizon) is.scenario in
       may_tick s c.journal is.kept is.within.horizon.1 (omega (arith, own, lt))
 
-  pub path_short : (c : Core V P) (s : Scenario) (given : ℕ) (boxes : Boxes) (new : Rattle.hls_tree.specs.declared.tree.Tree.Tree V P)
+  pub path_short : (c : Core V P) (s : Scenario) (given : ℕ) (boxes : Boxes)
+      (new : Rattle.hls_tree.specs.declared.tree.Tree.Tree V P)
       (later : Rattle.hls_core.specs.declared.bursts.Bursts.Bursts) (path : Option Path)
       (is : IsCoreOf seen c s given boxes) → c.journal.ticks < c.scenario.horizon
       → ((h : Hierarchy) → MayElapse seen c.tree c.bursts c.journal h → Elapses seen new later c.journal h path)
@@ -138,18 +141,22 @@ module _ {V : Type 0} {P : V → Type 0} (seen : (x : V) × P x → Seen) where
         ahead = λ at item le there.
             (let later = ahead at item (omega (arith, le, agenda)) there in
             let ticks = noted.ticks in omega (arith, later, ticks));
-        good = subst (Rattle.hls_sched.specs.GoodKit.IsGood (Rattle.hls_walks.specs.Views.boxed seen)) (sym kit) is.good;
+        good = subst (Rattle.hls_sched.specs.GoodKit.IsGood (Rattle.hls_walks.specs.Views.boxed seen)) (sym kit)
+            is.good;
         left =
             ap Rattle.hls_core.specs.Outcomes.boxes_in kit ∙ is.left
-            ∙ ap (λ xs. Rattle.hls_answers.specs.Kit.boxes_left boxes (answered_by s.items xs.items)) (sym noted.answers);
+            ∙ ap (λ xs. Rattle.hls_answers.specs.Kit.boxes_left boxes (answered_by s.items xs.items))
+            (sym noted.answers);
         steps = is.steps ++ step ∷ [];
         run = subst (λ n. IsRun n boxes (told s.items n new.journal) (is.steps ++ step ∷ [])) (sym depth) run;
         at_state = at_next seen new.tree new.bursts is.steps step is.run.legal e.can e.tree e.ready e.left;
         noted =
             subst (λ g. AreNoted g new.journal) (sym (state_goes is.steps start step))
-            (λ k name has. subst (λ ns. Rattle.std.specs.List.list_any (Rattle.std.specs.Str.bytes_eq name) ns.keys ≡ Rattle.std.proofs.Common.true)
+            (λ k name has. subst (λ ns. Rattle.std.specs.List.list_any (Rattle.std.specs.Str.bytes_eq name)
+            ns.keys ≡ Rattle.std.proofs.Common.true)
             (sym noted.names)
-            (is.noted k name (sym (ticked_name (e.masks k) (hop_at (hops_of e.path) k) ((state start is.steps).nodes k)) ∙ has)));
+            (is.noted k name (sym (ticked_name (e.masks k) (hop_at (hops_of e.path) k)
+            ((state start is.steps).nodes k)) ∙ has)));
         horizon = horizon ∙ is.horizon;
       }
 
@@ -163,7 +170,8 @@ module _ {V : Type 0} {P : V → Type 0} (seen : (x : V) × P x → Seen) where
       let content : content_of r ≡ with_totals bare =
       of.content ∙ ap (λ (x : Scenario). with_totals (told x.items c.depth c.journal)) is.scenario in
       let all : c.agenda ≡ length s.items =
-      none_left s.horizon s.items c.agenda is.within.items (let place = is.place in let few = is.kept.few in omega (arith, place, few))
+      none_left s.horizon s.items c.agenda is.within.items
+      (let place = is.place in let few = is.kept.few in omega (arith, place, few))
       (subst (Rattle.hls_core.specs.Cores.AreAhead s.items c.agenda) whole is.ahead) in
       record {
         formed = of.formed;

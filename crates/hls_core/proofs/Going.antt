@@ -1,5 +1,6 @@
 -- A core goes on by commands and by ticks.
-use Rattle.std.proofs.Common.{◌≡◌, ◌≢◌, ℕ, inl, inr, ◌⊎◌, ◌+◌, ◌-◌, ◌<◌, ◌≤◌, Bool, true, false, cond, ◌==◌, List, [], ◌∷◌, ◌++◌}
+use Rattle.std.proofs.Common.{◌≡◌, ◌≢◌, ℕ, inl, inr, ◌⊎◌, ◌+◌, ◌-◌, ◌<◌, ◌≤◌, Bool, true, false, cond, ◌==◌}
+use Rattle.std.proofs.Common.{List, [], ◌∷◌, ◌++◌}
 use Rattle.std.proofs.Common.{length, map, refl, sym, ap, ◌∙◌, subst, arith, slice_get}
 use Rattle.std.specs.Prelude.{Option, Some, None, zip, fold}
 use Rattle.std.proofs.lemmas.List.{length-append}
@@ -81,7 +82,8 @@ boxes_push boxes (x ∷ xs) a = boxes_push (boxes_after boxes x.command x.answer
 
 noted_step : (h g : Hierarchy) (j k : Journal) → ((c : ℕ) → name_of (g.nodes c) ≡ name_of (h.nodes c))
     → Grows j.names.keys k.names.keys → AreNoted h j → AreNoted g k
-noted_step h g j k same grows noted c name e = grown_any j.names.keys k.names.keys name grows (noted c name (sym (same c) ∙ e))
+noted_step h g j k same grows noted c name e = grown_any j.names.keys k.names.keys name grows
+    (noted c name (sym (same c) ∙ e))
 
 -- V and P are what the checker knows a box by
 module _ {V : Type 0} {P : V → Type 0} (seen : (x : V) × P x → Seen) where
@@ -154,14 +156,16 @@ module _ {V : Type 0} {P : V → Type 0} (seen : (x : V) × P x → Seen) where
         ahead = λ at other le e.
             (let ahead = is.ahead at other (omega (arith, le, place)) e in
             let ticks = noted.ticks in omega (arith, ahead, ticks));
-        good = subst (Rattle.hls_sched.specs.GoodKit.IsGood (Rattle.hls_walks.specs.Views.boxed seen)) (sym kit) is.good;
+        good = subst (Rattle.hls_sched.specs.GoodKit.IsGood (Rattle.hls_walks.specs.Views.boxed seen)) (sym kit)
+            is.good;
         left =
             ap Rattle.hls_core.specs.Outcomes.boxes_in kit ∙ is.left
             ∙ sym (early_boxes boxed_now command answer early)
             ∙ ap (λ k. boxes_after boxed_now k answer) (sym due.is)
             ∙ sym (boxes_push boxes (answered_by s.items old.journal.answers.items) a)
             ∙ ap (boxes_left boxes)
-            (sym (ap (answered_by s.items) noted.answers ∙ answered_push s.items old.journal.answers.items item answer at_place));
+            (sym (ap (answered_by s.items) noted.answers ∙ answered_push s.items old.journal.answers.items item
+            answer at_place));
         steps = is.steps ++ out.step ∷ [];
         run =
             subst (λ n. IsRun n boxes (told s.items n new.journal) (is.steps ++ out.step ∷ [])) (sym depth)
@@ -169,7 +173,8 @@ module _ {V : Type 0} {P : V → Type 0} (seen : (x : V) × P x → Seen) where
         at_state = at_next new.tree new.bursts is.steps out.step is.run.legal out.can out.tree out.ready out.left;
         noted =
             subst (λ g. AreNoted g new.journal) (sym (state_goes is.steps start out.step))
-            (noted_step h (after h out.step) old.journal new.journal (early_name h command answer out.step early out.does)
+            (noted_step h (after h out.step) old.journal new.journal
+            (early_name h command answer out.step early out.does)
             (noted_grows command answer old.journal new.journal noted) is.noted);
         horizon = horizon ∙ is.horizon;
       }

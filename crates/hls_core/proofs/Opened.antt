@@ -1,5 +1,6 @@
 -- A core that has carried nothing out.
-use Rattle.std.proofs.Common.{◌≡◌, ℕ, ◌≤◌, List, [], ◌∷◌, length, Option, Some, None, map, refl, sym, ap, ◌∙◌, subst, arith}
+use Rattle.std.proofs.Common.{◌≡◌, ℕ, ◌≤◌, List, [], ◌∷◌, length, Option, Some, None, map, refl, sym, ap, ◌∙◌}
+use Rattle.std.proofs.Common.{subst, arith}
 use Rattle.std.specs.Prelude.{zip, fold}
 use Rattle.hls_scenario.specs.declared.scenario.Item.{Item}
 use Rattle.hls_scenario.specs.declared.scenario.Scenario.{Scenario}

@@ -1,5 +1,6 @@
 // A core.
-ghost use Rattle.std.specs.Prelude.{◌≡◌, ◌≤◌, ◌<◌, ◌+◌, ◌-◌, ℕ, true, false, IfOk, OnErr, length, slice_get, option_copied};
+ghost use Rattle.std.specs.Prelude.{◌≡◌, ◌≤◌, ◌<◌, ◌+◌, ◌-◌, ℕ, true, false, IfOk, OnErr, length, slice_get};
+ghost use Rattle.std.specs.Prelude.{option_copied};
 ghost use Rattle.hls_scenario.specs.declared.scenario.Scenario.{Scenario};
 ghost use Rattle.hls_scenario.specs.Grammar.{IsScenario};
 ghost use Rattle.hls_sched.specs.GoodKit.{IsGood};

@@ -252,7 +252,8 @@ one_more s old new path kept way same (inl g) =
     ∙ map-append f g.front ((record g.run { to = old.ticks }) ∷ []) in
     subst (IsOneMore (stretches_of old) (stretches_of new) old.ticks) g.same
     (subst (λ (ss : List Stretch). IsOneMore (stretches_of old) ss old.ticks names) (sym after)
-    (subst (λ (ss : List Stretch). IsOneMore ss (map f g.front ++ stretch g.run.from old.ticks names ∷ []) old.ticks names)
+    (subst (λ (ss : List Stretch). IsOneMore ss (map f g.front ++ stretch g.run.from old.ticks names ∷ [])
+    old.ticks names)
     (sym before)
     (one_longer (map f g.front) (f g.run) old.ticks
     (subst (λ (ss : List Stretch). Cover 0 None ss old.ticks) before kept.cover))))

@@ -23,7 +23,8 @@ use Rattle.hls_report_text.specs.WellFormed.{AreAnswered, IsAccount}
 use Rattle.hls_accounts.specs.declared.stay.Stay.{Stay}
 use Rattle.hls_accounts.specs.Commands.{is_done, has_done, last_seating, is_ended, seats}
 use Rattle.hls_accounts.specs.Under.{is_under}
-use Rattle.hls_accounts.specs.Stays.{admits, threads, opens, opened, closes, closed, want_in, want_of, stay_of, stays_with}
+use Rattle.hls_accounts.specs.Stays.{admits, threads, opens, opened, closes, closed, want_in, want_of, stay_of}
+use Rattle.hls_accounts.specs.Stays.{stays_with}
 use Rattle.hls_accounts.specs.Stays.{stays_from, stays}
 use Rattle.hls_accounts.specs.Accounts.{end_by, end_of, account_of, accounts_of}
 
