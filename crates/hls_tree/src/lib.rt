@@ -3,6 +3,7 @@
 
 mod lists;
 mod names;
+mod reads;
 mod seat;
 mod seating;
 mod tree;

@@ -1,0 +1,11 @@
+mod Plain
+mod Places
+mod Faults
+mod Admissions
+mod Ranged
+mod Finds
+mod Admits
+mod Loads
+mod LoadSteps
+mod Outcomes
+mod Offers

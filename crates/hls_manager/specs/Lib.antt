@@ -1,0 +1,5 @@
+pub mod Finds
+pub mod Faults
+pub mod Seats
+pub mod Offers
+pub mod Outcomes

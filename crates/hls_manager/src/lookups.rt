@@ -1,0 +1,58 @@
+// Names that commands use.
+ghost use Rattle.std.specs.Prelude.{◌≡◌, ◌≢◌, None, Some, [], IfOk, IfErr};
+ghost use Rattle.hls_scenario.specs.declared.scenario.Command.{Command};
+ghost use Rattle.hls_report_text.specs.declared.report.Answer.TheVariants.{Done, Refused};
+ghost use Rattle.hls_legal.specs.Hierarchy.{Hierarchy};
+ghost use Rattle.hls_legal.specs.Legal.{IsThread};
+ghost use Rattle.hls_legal.specs.Lists.{IsListed};
+ghost use Rattle.hls_accounts.specs.Tells.{HasName};
+ghost use Rattle.hls_answers.specs.Moment.{Moment};
+ghost use Rattle.hls_answers.specs.Answers.{IsAnswer};
+ghost use Rattle.hls_tree.specs.Trees.{IsTreeOf, Stands, Any};
+ghost use Rattle.hls_tree.specs.Reads.{IsLoaded};
+ghost use Rattle.hls_manager.specs.Finds.{IsNoScheduler, IsOfThread};
+
+use hls_chron::Name;
+use hls_report_text::Refusal;
+use hls_tree::{NodeId, Sort, Tree};
+
+/// The thread of a name that a command is about, or why the command is refused. An end, a wake and a block
+/// are refused for nothing else, so this answers wakes and blocks.
+///
+/// # Errors
+/// Nobody has the name, or a scheduler has it.
+pub fn find_thread(tree: &Tree, name: &Name) -> Result<NodeId, Refusal>
+    requires { Stands seen tree.now Any }
+    ensures found { IfOk result (λ id. (h : Hierarchy) → IsTreeOf seen tree.now h →
+        HasName h id name.now × IsThread (h.nodes id)) }
+    ensures done { IfOk result (λ _. (m : Moment) (command : Command) → IsTreeOf seen tree.now m.hierarchy →
+        IsListed m.hierarchy → IsOfThread command name.now → IsAnswer m command (Done [])) }
+    ensures refused { IfErr result (λ refusal. (m : Moment) (command : Command) →
+        IsTreeOf seen tree.now m.hierarchy → IsListed m.hierarchy → IsOfThread command name.now →
+        IsAnswer m command (Refused refusal)) }
+{
+    let Some(id) = tree.find(name) else {
+        return Err(Refusal::NoSuchName { name: *name });
+    };
+    match tree.sort(id) {
+        Sort::Thread => Ok(id),
+        Sort::Sched(_) => Err(Refusal::WrongSort { name: Some(*name) }),
+    }
+}
+
+/// The scheduler of a name, or why a command is refused that needs one of this name.
+pub(crate) fn find_scheduler(tree: &Tree, name: &Name) -> Result<NodeId, Refusal>
+    requires { Stands seen tree.now Any }
+    ensures found { IfOk result (λ id. (h : Hierarchy) → IsTreeOf seen tree.now h →
+        HasName h id name.now × IsLoaded (h.nodes id)) }
+    ensures refused { IfErr result (λ refusal. (h : Hierarchy) → IsTreeOf seen tree.now h → IsListed h →
+        IsNoScheduler h name.now refusal) }
+{
+    let Some(id) = tree.find(name) else {
+        return Err(Refusal::NoSuchName { name: *name });
+    };
+    match tree.sort(id) {
+        Sort::Sched(_) => Ok(id),
+        Sort::Thread => Err(Refusal::WrongSort { name: Some(*name) }),
+    }
+}
