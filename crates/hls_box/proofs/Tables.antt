@@ -15,7 +15,7 @@ use Rattle.hls_chron.specs.Ledger.{Ledger, with_row, with_mark}
 use Rattle.hls_chron.specs.Seats.{terms_at, priority_in, most_seats, HasPriority}
 use Rattle.hls_chron.proofs.BookLaws.{terms_at-mark, terms_at-row, terms_at-unmarked}
 use Rattle.hls_kinds.specs.Room.{occupant_at, IsFree, IsFull}
-use Rattle.hls_box.specs.Table.{IsTable}
+use Rattle.hls_box.specs.Inside.Table.{IsTable}
 use Rattle.hls_box.proofs.Sounds.{seat_same, seat_other, leave_same, leave_other}
 
 none_at : {X : Type 0} (n k : ℕ) (x : X) → get_or (replicate n x) k x ≡ x

@@ -11,7 +11,7 @@ ghost use Rattle.hls_kinds.specs.Room.{room_used as room_of, LacksRoom, IsFree, 
 ghost use Rattle.hls_sched.specs.Seen.{config_of, IsConfigured, IsSetUp, IsBlank};
 ghost use Rattle.hls_sched.specs.Seen.{requested, released, seated, left, settled, granted, revoked, turned};
 ghost use Rattle.hls_sched.specs.Seen.{tick_row};
-ghost use Rattle.hls_sched.specs.Fits.{Applies, fault_number, IsAnswer};
+ghost use Rattle.hls_kinds.specs.Faults.{Applies, fault_number, IsAnswer};
 
 use crate::slots::{bit, row};
 use hls_chron::{Book, Config, Event, Kind, Terms};
@@ -35,7 +35,7 @@ pub struct BoxState {
 
 impl Model for BoxState {
     ghost use Rattle.hls_sched.specs.Seen.{Seen};
-    ghost use Rattle.hls_box.specs.Table.{IsTable};
+    ghost use Rattle.hls_box.specs.Inside.Table.{IsTable};
 
     ghost Value = { Seen };
 

@@ -24,8 +24,8 @@ use Rattle.hls_derive.specs.declared.derivation.Step.{Step}
 use Rattle.hls_derive.specs.declared.derivation.SchedStep.{SchedStep}
 use Rattle.hls_derive.specs.Derivation.{PortFits}
 use Rattle.hls_derive.specs.DerivationText.{rule_text, scheduler_text}
-use Rattle.hls_derive.specs.Reading.{IsEnd, place_of_space, spaces_of, Stands, StepStands, SchedStands}
-use Rattle.hls_derive.specs.Reading.{rule_at, port_of, scheduler_at}
+use Rattle.hls_derive.specs.Inside.Reading.{IsEnd, place_of_space, spaces_of, Stands, StepStands, SchedStands}
+use Rattle.hls_derive.specs.Inside.Reading.{rule_at, port_of, scheduler_at}
 use Rattle.hls_derive.proofs.Spaces.{spaces, spaces-append, no_spaces, cut_same, place_behind}
 use Rattle.hls_derive.proofs.Spaces.{place_ends}
 

@@ -13,7 +13,7 @@ use Rattle.hls_derive.specs.declared.derivation.Derivation.{Derivation}
 use Rattle.hls_derive.specs.Derivation.{conversions, AreValid, IsWithinGrammar}
 use Rattle.hls_derive.specs.DerivationText.{scheduler_text, step_text, sched_text, steps_text}
 use Rattle.hls_derive.specs.DerivationText.{derivation_text}
-use Rattle.hls_derive.specs.Reading.{IsEnd, Stands, StepStands, SchedStands, StepsStand, rule_at}
+use Rattle.hls_derive.specs.Inside.Reading.{IsEnd, Stands, StepStands, SchedStands, StepsStand, rule_at}
 use Rattle.hls_derive.proofs.Fronts.{one_guarantee, one_step, one_sched, no_step, scheduler_no_rule}
 
 -- ---- conversions one after the other

@@ -9,7 +9,7 @@ use Rattle.std.proofs.Math.Seq.{drop-cons, take-append_seam, drop-append_seam}
 use Rattle.std.proofs.lemmas.Bool.{eq-eqb, eqb-true}
 use Rattle.std.proofs.lemmas.Bool.Decides.{eqb_tells}
 use Rattle.std.proofs.lemmas.List.{drop_all}
-use Rattle.hls_derive.specs.Reading.{IsEnd, place_of_space}
+use Rattle.hls_derive.specs.Inside.Reading.{IsEnd, place_of_space}
 
 -- ---- going over a text from the left
 

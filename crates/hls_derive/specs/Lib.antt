@@ -2,4 +2,4 @@ pub mod Derivation
 pub mod Answers
 pub mod Derives
 pub mod DerivationText
-pub mod Reading
+pub mod Inside

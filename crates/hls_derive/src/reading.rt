@@ -2,7 +2,7 @@
 ghost use Rattle.std.specs.Prelude.{◌≡◌, ◌≢◌, ℕ, ◌++◌, List, Some, IfOk, IfSome, MatchOption};
 ghost use Rattle.hls_derive.specs.Derivation.{IsWithinGrammar};
 ghost use Rattle.hls_derive.specs.DerivationText.{derivation_text};
-ghost use Rattle.hls_derive.specs.Reading.{IsEnd, spaces_of, Stands, StepStands, SchedStands, StepsStand};
+ghost use Rattle.hls_derive.specs.Inside.Reading.{IsEnd, spaces_of, Stands, StepStands, SchedStands, StepsStand};
 
 use crate::words::{rule, scheduler, space};
 use crate::{Derivation, SchedStep, Step};

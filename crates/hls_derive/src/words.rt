@@ -2,9 +2,9 @@
 ghost use Rattle.std.specs.Prelude.{◌≡◌, ◌≤◌, ◌++◌, [], ◌∷◌, codes, decimal, IfSome};
 ghost use Rattle.hls_derive.specs.Derivation.{PortFits};
 ghost use Rattle.hls_derive.specs.DerivationText.{rule_text, scheduler_text};
-ghost use Rattle.hls_derive.specs.Reading.{place_of_space, first_byte, rule_of, rule_at};
+ghost use Rattle.hls_derive.specs.Inside.Reading.{place_of_space, first_byte, rule_of, rule_at};
 ghost use Rattle.hls_text.specs.Options.{Gives};
-ghost use Rattle.hls_derive.specs.Reading.{port_of, port_at, scheduler_at};
+ghost use Rattle.hls_derive.specs.Inside.Reading.{port_of, port_at, scheduler_at};
 
 use hls_chron::Kind;
 use hls_guarantee::RuleName;
@@ -53,7 +53,7 @@ fn rule_of_digit(digit: u8) -> Option<RuleName>
 }
 
 /// The rule between two spaces at the front of the text, and what stands behind it.
-#[tactic(auto, unfolding(crate::specs::Reading::rule_at))]
+#[tactic(auto, unfolding(crate::specs::Inside::Reading::rule_at))]
 pub fn rule(text: &[u8]) -> Option<(RuleName, &[u8])>
     ensures read { Gives (λ p. (p.0, p.1.now)) result (rule_at text.now) }
     ensures found { IfSome result (λ p. text.now ≡ codes " " ++ rule_text p.0 ++ codes " " ++ p.1.now) }
@@ -88,7 +88,7 @@ fn port(text: &[u8]) -> Option<(Kind, u8, &[u8])>
 }
 
 /// The kind and the port between two spaces at the front of the text, and what stands behind them.
-#[tactic(auto, unfolding(crate::specs::Reading::scheduler_at))]
+#[tactic(auto, unfolding(crate::specs::Inside::Reading::scheduler_at))]
 pub fn scheduler(text: &[u8]) -> Option<(Kind, u8, &[u8])>
     ensures read { Gives (λ p. (p.0, p.1, p.2.now)) result (scheduler_at text.now) }
     ensures found { IfSome result (λ p. PortFits p.0 p.1 ×

@@ -21,24 +21,24 @@ use Rattle.hls_kinds.specs.Asks.{slot_asks}
 use Rattle.hls_kinds.specs.Made.{IsMade, IsRow}
 use Rattle.hls_kinds.specs.Room.{room_used, occupant_at, IsFree, IsFull}
 use Rattle.hls_made.proofs.Books.{reservations_made}
-use Rattle.hls_sched.specs.Fits.{IsAnswer}
-use Rattle.hls_sched.specs.declared.fault.SeatFault.TheVariants.{Unfit, NoRoom}
+use Rattle.hls_kinds.specs.Faults.{IsAnswer}
+use Rattle.hls_kinds.specs.declared.fault.SeatFault.TheVariants.{Unfit, NoRoom}
 use Rattle.hls_sched.specs.Seen.{Seen, IsConfigured, config_of, seated, left, settled, turned, tick_row}
-use Rattle.hls_edf_laws.specs.declared.account.Account.{Account}
-use Rattle.hls_edf_laws.specs.Accounts.{vacant, fresh, offered}
-use Rattle.hls_edf_laws.specs.Books.{held, account_at, KeepsReservations}
+use Rattle.hls_edf_laws.specs.declared.server.Server.{Server}
+use Rattle.hls_edf_laws.specs.Servers.{vacant, fresh, offered}
+use Rattle.hls_edf_laws.specs.Books.{held, server_at, KeepsReservations}
 use Rattle.hls_edf_laws.proofs.Sums.{sum-eq}
 use Rattle.hls_edf_laws.proofs.Admitting.{tenant_there}
 use Rattle.hls_edf_laws.proofs.Choices.{is-asking}
-use Rattle.hls_edf_laws.proofs.MarkSteps.{seat_account, seat_others, leave_account, leave_others}
+use Rattle.hls_edf_laws.proofs.MarkSteps.{seat_server, seat_others, leave_server, leave_others}
 use Rattle.hls_edf_laws.proofs.Occupants.{slot-free, slot-taken, room-used}
-use Rattle.hls_edf_laws.proofs.Promises.{account_at-unmarked}
-use Rattle.hls_box.specs.Sound.{IsSound}
+use Rattle.hls_edf_laws.proofs.Promises.{server_at-unmarked}
+use Rattle.hls_box.specs.Inside.Sound.{IsSound}
 use Rattle.hls_box.proofs.Sounds.{row_allowed, row_mask}
 use Rattle.hls_box.proofs.Choosing.{IsRight, tick_right}
-use Rattle.hls_edf.specs.Choice.{account_in, HasServers, IsFirstFree, AllPaid}
+use Rattle.hls_edf.specs.Choice.{server_in, HasServers, IsFirstFree, AllPaid}
 use Rattle.hls_edf.specs.Changes.{next_of, settled_of}
-use Rattle.hls_edf.proofs.Changing.{account-next, account-settled}
+use Rattle.hls_edf.proofs.Changing.{server-next, server-settled}
 
 none_at : {X : Type 0} (n k : ℕ) (x : X) → get_or (replicate n x) k x ≡ x
 none_at zero k x = refl
@@ -47,7 +47,7 @@ none_at (suc n) (suc k) x = none_at n k x
 
 pub servers_new : (b : Ledger) → b.marks ≡ [] → HasServers b (replicate 32 vacant)
 servers_new b marks = record {
-  matches = λ slot lt. none_at 32 slot vacant ∙ sym (account_at-unmarked b slot marks);
+  matches = λ slot lt. none_at 32 slot vacant ∙ sym (server_at-unmarked b slot marks);
 }
 
 -- one element of a list is set
@@ -64,14 +64,14 @@ set_table xs n k x none now before within here there was = elim (cases_eq n k) [
 same_at : {X : Type 0} (f : ℕ → X) (n k : ℕ) (x : X) → f n ≡ x → n ≡ k → f k ≡ x
 same_at f n k x is same = subst (λ j. f j ≡ x) same is
 
-servers_seat : (b : Ledger) (servers : List Account) (slot : ℕ) (hard : Bool) (x y : ℕ) → slot < 32
+servers_seat : (b : Ledger) (servers : List Server) (slot : ℕ) (hard : Bool) (x y : ℕ) → slot < 32
     → length servers ≡ 32 → HasServers b servers
     → HasServers (with_mark b (Seat slot (Res hard x y))) (slice_set servers slot (fresh (offered x y) (now_of b)))
 servers_seat b servers slot hard x y lt len held = record {
   matches = λ k within. set_table servers slot k (fresh (offered x y) (now_of b)) vacant _ _
       (omega (arith, len, lt))
-      (same_at (account_at (with_mark b (Seat slot (Res hard x y)))) slot k (fresh (offered x y) (now_of b))
-      (seat_account b slot hard x y))
+      (same_at (server_at (with_mark b (Seat slot (Res hard x y)))) slot k (fresh (offered x y) (now_of b))
+      (seat_server b slot hard x y))
       (λ ne. seat_others b slot (Res hard x y) k (λ e. ne (sym e))) (held.matches k within);
 }
 
@@ -114,7 +114,7 @@ few_parts b hard x y fits =
     (record { left = refl; asks = refl; lacks = lacks }) in
     omega (arith, none)
 
-module _ (s : Seen) (servers : List Account) (sound : IsSound kinds.Edf s) (has : HasServers s.book servers)
+module _ (s : Seen) (servers : List Server) (sound : IsSound kinds.Edf s) (has : HasServers s.book servers)
     (configured : IsConfigured s) where
   pub fits_parts : (terms : Terms) (hard : Bool) (x y : ℕ) → terms ≡ Res hard x y
       → IsAnswer (config_of s) s.book terms None → parts x y ≤ all_parts
@@ -123,40 +123,40 @@ module _ (s : Seen) (servers : List Account) (sound : IsSound kinds.Edf s) (has 
       subst (λ config. IsAnswer config s.book terms None) (config_is s sound configured) fits in
       few_parts s.book hard x y (subst (λ terms. IsAnswer Edf s.book terms None) same here)
 
-  pub after_seat : (t : Seen) (slot : ℕ) (terms : Terms) (hard : Bool) (x y : ℕ) (server : Account) → slot < 32
+  pub after_seat : (t : Seen) (slot : ℕ) (terms : Terms) (hard : Bool) (x y : ℕ) (server : Server) → slot < 32
       → length servers ≡ 32 → t ≡ seated slot terms s → terms ≡ Res hard x y
       → server ≡ fresh (offered x y) (now_of s.book) → HasServers t.book (slice_set servers slot server)
   after_seat t slot terms hard x y server lt len is same its =
       rw (is, same, its) (servers_seat s.book servers slot hard x y lt len has)
 
-  pub after_leave : (t : Seen) (slot : ℕ) (server : Account) → slot < 32 → length servers ≡ 32 → t ≡ left slot s
-      → terms_at s.book slot ≢ None → server ≡ held (account_in servers slot) (now_of s.book)
+  pub after_leave : (t : Seen) (slot : ℕ) (server : Server) → slot < 32 → length servers ≡ 32 → t ≡ left slot s
+      → terms_at s.book slot ≢ None → server ≡ held (server_in servers slot) (now_of s.book)
       → HasServers t.book (slice_set servers slot server)
   after_leave t slot server lt len is taken its =
       let b = s.book in
       let there = tenant_there b slot taken in
-      let now_left : account_at (with_mark b (Leave slot)) slot ≡ server =
-      leave_account b slot there.0 there.1 (keeps_of s sound configured).tenants there.2
-      ∙ ap (λ (c : Account). held c (now_of b)) (sym (has.matches slot lt)) ∙ sym its in
+      let now_left : server_at (with_mark b (Leave slot)) slot ≡ server =
+      leave_server b slot there.0 there.1 (keeps_of s sound configured).tenants there.2
+      ∙ ap (λ (c : Server). held c (now_of b)) (sym (has.matches slot lt)) ∙ sym its in
       rw is (record {
         matches = λ k within. set_table servers slot k server vacant _ _ (omega (arith, len, lt))
-            (same_at (account_at (with_mark b (Leave slot))) slot k server now_left)
+            (same_at (server_at (with_mark b (Leave slot))) slot k server now_left)
             (λ ne. leave_others b slot k (λ e. ne (sym e))) (has.matches k within);
       })
 
-  pub after_settle : (t : Seen) (after : List Account) → t ≡ settled s
-      → ((slot : ℕ) → slot < 32 → account_in after slot
-      ≡ settled_of (account_in servers slot) (is_some (terms_at s.book slot)) (now_of s.book))
+  pub after_settle : (t : Seen) (after : List Server) → t ≡ settled s
+      → ((slot : ℕ) → slot < 32 → server_in after slot
+      ≡ settled_of (server_in servers slot) (is_some (terms_at s.book slot)) (now_of s.book))
       → HasServers t.book after
   after_settle t after is filled = rw is (record {
-    matches = λ slot lt. filled slot lt ∙ ap (λ (c : Account). settled_of c (is_some (terms_at s.book slot))
+    matches = λ slot lt. filled slot lt ∙ ap (λ (c : Server). settled_of c (is_some (terms_at s.book slot))
         (now_of s.book)) (has.matches slot lt)
-        ∙ sym (account-settled s.book slot (keeps_of s sound configured).tenants);
+        ∙ sym (server-settled s.book slot (keeps_of s sound configured).tenants);
   })
 
-  pub after_turn : (t : Seen) (choice to : Option ℕ) (after : List Account) → t ≡ turned choice s
+  pub after_turn : (t : Seen) (choice to : Option ℕ) (after : List Server) → t ≡ turned choice s
       → IsRight s choice → to ≡ (tick_row s.mask s.grant choice).to
-      → ((slot : ℕ) → slot < 32 → account_in after slot ≡ next_of (account_in servers slot)
+      → ((slot : ℕ) → slot < 32 → server_in after slot ≡ next_of (server_in servers slot)
       (is_some (terms_at s.book slot)) (slot_asks s.mask slot) (is_slot to slot) (now_of s.book))
       → HasServers t.book after
   after_turn t choice to after is right goes filled =
@@ -167,39 +167,39 @@ module _ (s : Seen) (servers : List Account) (sound : IsSound kinds.Edf s) (has 
       (row_allowed s choice sound.seated (λ slot chosen. tick_right s choice slot right chosen)) in
       rw is (record {
         matches = λ slot lt.
-            let next = account-next b row slot (keeps_of s sound configured).tenants (is-asking b row allowed) in
+            let next = server-next b row slot (keeps_of s sound configured).tenants (is-asking b row allowed) in
             filled slot lt
-            ∙ ap (λ (c : Account). next_of c (is_some (terms_at b slot)) (slot_asks s.mask slot) (is_slot to slot)
+            ∙ ap (λ (c : Server). next_of c (is_some (terms_at b slot)) (slot_asks s.mask slot) (is_slot to slot)
             (now_of b)) (has.matches slot lt)
-            ∙ ap (λ mask. next_of (account_at b slot) (is_some (terms_at b slot)) (slot_asks mask slot)
+            ∙ ap (λ mask. next_of (server_at b slot) (is_some (terms_at b slot)) (slot_asks mask slot)
             (is_slot to slot) (now_of b)) (sym of_mask)
-            ∙ ap (λ at. next_of (account_at b slot) (is_some (terms_at b slot)) (slot_asks row.mask slot)
+            ∙ ap (λ at. next_of (server_at b slot) (is_some (terms_at b slot)) (slot_asks row.mask slot)
             (is_slot at slot) (now_of b)) goes
             ∙ sym next;
       })
 
   -- the room
-  used_here : sum_below (λ slot. (account_in servers slot).parts) 32 ≡ room_used Edf s.book
+  used_here : sum_below (λ slot. (server_in servers slot).parts) 32 ≡ room_used Edf s.book
   used_here =
-      sum-eq (λ slot. (account_in servers slot).parts) (λ slot. (account_at s.book slot).parts) 32
-      (λ slot lt. ap (λ (c : Account). c.parts) (has.matches slot lt))
+      sum-eq (λ slot. (server_in servers slot).parts) (λ slot. (server_at s.book slot).parts) 32
+      (λ slot lt. ap (λ (c : Server). c.parts) (has.matches slot lt))
       ∙ sym (room-used s.book (keeps_of s sound configured).tenants)
 
-  pub used_is : sum_below (λ slot. (account_in servers slot).parts) 32 ≡ room_used (config_of s) s.book
-  used_is = subst (λ config. sum_below (λ slot. (account_in servers slot).parts) 32 ≡ room_used config s.book)
+  pub used_is : sum_below (λ slot. (server_in servers slot).parts) 32 ≡ room_used (config_of s) s.book
+  used_is = subst (λ config. sum_below (λ slot. (server_in servers slot).parts) 32 ≡ room_used config s.book)
       (sym (config_is s sound configured)) used_here
 
   -- a slot is free where its server has no parts
-  free_here : (slot : ℕ) → slot < 32 → (account_in servers slot).parts ≡ 0 → occupant_at Edf s.book slot ≡ None
+  free_here : (slot : ℕ) → slot < 32 → (server_in servers slot).parts ≡ 0 → occupant_at Edf s.book slot ≡ None
   free_here slot lt none =
       slot-free s.book slot (keeps_of s sound configured).tenants
-      (sym (ap (λ (c : Account). c.parts) (has.matches slot lt)) ∙ none)
+      (sym (ap (λ (c : Server). c.parts) (has.matches slot lt)) ∙ none)
 
-  taken_here : (slot : ℕ) → slot < 32 → (account_in servers slot).parts ≢ 0
+  taken_here : (slot : ℕ) → slot < 32 → (server_in servers slot).parts ≢ 0
       → occupant_at Edf s.book slot ≢ None
   taken_here slot lt some =
       slot-taken s.book slot (keeps_of s sound configured).tenants
-      (λ none. some (ap (λ (c : Account). c.parts) (has.matches slot lt) ∙ none))
+      (λ none. some (ap (λ (c : Server). c.parts) (has.matches slot lt) ∙ none))
 
   free_edf : (result : Option ℕ) → IfSome result (IsFirstFree servers) → IfSome result (IsFree Edf s.book)
   free_edf None found = tt

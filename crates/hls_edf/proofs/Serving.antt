@@ -24,8 +24,8 @@ use Rattle.hls_kinds.specs.Made.{IsMade}
 use Rattle.hls_kinds.proofs.SlotLaws.{any_below-at, any_below-or}
 use Rattle.hls_kinds.proofs.TenantLaws.{seated_in, seated-terms}
 use Rattle.hls_made.proofs.Books.{reservations_made}
-use Rattle.hls_edf_laws.specs.declared.account.Account.{Account}
-use Rattle.hls_edf_laws.specs.Accounts.{replenished}
+use Rattle.hls_edf_laws.specs.declared.server.Server.{Server}
+use Rattle.hls_edf_laws.specs.Servers.{replenished}
 use Rattle.hls_edf_laws.specs.Books.{amid_at}
 use Rattle.hls_edf_laws.proofs.Replenishing.{replenished-on}
 use Rattle.hls_edf_laws.proofs.RowSteps.{HasTenants}
@@ -33,12 +33,12 @@ use Rattle.hls_edf_laws.proofs.Choices.{and_left}
 use Rattle.hls_edf_laws.proofs.Claims.{deadline_at-is, budget_at-is}
 use Rattle.hls_sched.specs.Seen.{Seen, IsConfigured, config_of}
 use Rattle.hls_box.specs.Keys.{has_key, key_at, least_of}
-use Rattle.hls_box.specs.Sound.{IsSound}
+use Rattle.hls_box.specs.Inside.Sound.{IsSound}
 use Rattle.hls_box.proofs.Choosing.{IsRight}
 use Rattle.hls_box.proofs.Keyed.{FirstIs, first_agree, first_of_keys, keyed_if, key_if}
 use Rattle.hls_edf.specs.declared.servers.Need.{Need}
 use Rattle.hls_edf.specs.declared.servers.Need.TheVariants.{Budget, Soft}
-use Rattle.hls_edf.specs.Choice.{account_in, HasServers, amid_in, may_use, deadline_asking, first_or, choice_of}
+use Rattle.hls_edf.specs.Choice.{server_in, HasServers, amid_in, may_use, deadline_asking, first_or, choice_of}
 use Rattle.hls_edf.specs.Choice.{soft_in}
 
 -- a seat is soft by its terms
@@ -110,12 +110,12 @@ choose_case b mask None (Some slot) none is = (
 )
 choose_case b mask None None none neither = asks_as b mask ∙ rw (none, neither) refl
 
-module _ (b : Ledger) (mask : ℕ) (servers : List Account) (tenants : HasTenants b) (held : HasServers b servers)
+module _ (b : Ledger) (mask : ℕ) (servers : List Server) (tenants : HasTenants b) (held : HasServers b servers)
     (seated : (slot : ℕ) → SlotAsks mask slot → terms_at b slot ≢ None) where
   -- what the servers say of a slot
   amid_is : (slot : ℕ) → slot < 32 → amid_in servers b mask slot ≡ amid_at b mask slot
   amid_is slot lt =
-      ap (λ (c : Account). replenished all_parts c (slot_asks mask slot) (now_of b)) (held.matches slot lt)
+      ap (λ (c : Server). replenished all_parts c (slot_asks mask slot) (now_of b)) (held.matches slot lt)
 
   seat_there : (slot : ℕ) → slot_asks mask slot ≡ true → seated_in (tenant_at b slot) ≢ None
   seat_there slot on = λ none. seated slot (eqb-true (bit_at mask slot) 1 on) (sym (seated-terms b slot) ∙ none)
@@ -123,17 +123,17 @@ module _ (b : Ledger) (mask : ℕ) (servers : List Account) (tenants : HasTenant
   deadline_is : (slot : ℕ) → slot < 32 → slot_asks mask slot ≡ true
       → (amid_in servers b mask slot).deadline ≡ deadline_at b mask slot
   deadline_is slot lt on =
-      ap (λ (c : Account). c.deadline) (amid_is slot lt)
+      ap (λ (c : Server). c.deadline) (amid_is slot lt)
       ∙ sym (deadline_at-is b mask slot (tenants slot) (seat_there slot on))
 
   budget_is : (slot : ℕ) → slot < 32 → slot_asks mask slot ≡ true
       → (amid_in servers b mask slot).budget ≡ budget_at b mask slot
   budget_is slot lt on =
-      ap (λ (c : Account). c.budget) (amid_is slot lt)
+      ap (λ (c : Server). c.budget) (amid_is slot lt)
       ∙ sym (budget_at-is b mask slot (tenants slot) (seat_there slot on))
 
   asked_is : (slot : ℕ) → (amid_in servers b mask slot).asked ≡ slot_asks mask slot
-  asked_is slot = replenished-on all_parts (account_in servers slot) (slot_asks mask slot) (now_of b)
+  asked_is slot = replenished-on all_parts (server_in servers slot) (slot_asks mask slot) (now_of b)
 
   needs_same : (need : Need) (slot : ℕ) → slot < 32
       → may_use need (amid_in servers b mask slot) (terms_at b slot) ≡ Needs need b mask slot
@@ -174,7 +174,7 @@ right_if : (b : Ledger) (mask : ℕ) (choice : Option ℕ) → ServesOr b mask c
 right_if b mask None silent = (sym silent, tt)
 right_if b mask (Some slot) serves = (sym serves.1, serves.0)
 
-right_of : (config : Config) (b : Ledger) (mask : ℕ) (servers : List Account) → kind_of config ≡ kinds.Edf
+right_of : (config : Config) (b : Ledger) (mask : ℕ) (servers : List Server) → kind_of config ≡ kinds.Edf
     → IsMade config b → HasServers b servers → ((slot : ℕ) → SlotAsks mask slot → terms_at b slot ≢ None)
     → (is_some (choice_of servers b mask) ≡ asks config b mask)
     × IfSome (choice_of servers b mask) (Serves config b mask)
@@ -188,7 +188,7 @@ right_of (configs.Rr quantum) b mask servers is made held seated = absurd cc
 right_of (configs.Wheel frame) b mask servers is made held seated = absurd cc
 right_of (configs.Join ports) b mask servers is made held seated = absurd cc
 
-pub choice_right : (s : Seen) (servers : List Account) (choice : Option ℕ) → IsSound kinds.Edf s
+pub choice_right : (s : Seen) (servers : List Server) (choice : Option ℕ) → IsSound kinds.Edf s
     → HasServers s.book servers → IsConfigured s → choice ≡ choice_of servers s.book s.mask → IsRight s choice
 choice_right s servers choice sound held configured is =
     let right = right_of (config_of s) s.book s.mask servers (sound.configured configured) (sound.made configured)

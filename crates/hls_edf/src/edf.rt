@@ -9,16 +9,16 @@ ghost use Rattle.hls_edf_laws.specs.Books.{IsGiven, ReachesDeadline};
 ghost use Rattle.hls_kinds.specs.Asks.{slot_asks};
 ghost use Rattle.hls_sched.specs.Seen.{IsBlank, IsConfigured};
 ghost use Rattle.hls_box.specs.Keys.{keys_in, least_of};
-ghost use Rattle.hls_box.specs.Sound.{IsSound};
+ghost use Rattle.hls_box.specs.Inside.Sound.{IsSound};
 ghost use Rattle.hls_box.proofs.Props.{sound_prop};
 ghost use Rattle.hls_box.proofs.Choosing.{lawful};
-ghost use Rattle.hls_edf.specs.Choice.{account_in, deadline_asking, choice_of, HasServers};
+ghost use Rattle.hls_edf.specs.Choice.{server_in, deadline_asking, choice_of, HasServers};
 ghost use Rattle.hls_edf.specs.Changes.{next_of, settled_of};
 
+use crate::server::{fresh, held, offered, replenished, vacant};
 use crate::servers::{Need, SLOTS, Servers, deadline_where, first_free, next, parts_used, settled};
 use hls_box::{BoxState, has_slot, least_slot};
 use hls_chron::{Book, Config, Kind, Terms};
-use hls_edf_laws::Account;
 use hls_sched::{Scheduler, SeatFault};
 use std::alloc::{AllocError, Global};
 
@@ -39,7 +39,7 @@ impl Edf {
     {
         Edf {
             state: BoxState::blank(alloc, Kind::Edf),
-            servers: [Account::vacant(); 32],
+            servers: [vacant(); 32],
         }
     }
 
@@ -63,7 +63,7 @@ impl Edf {
         let mask = self.state.mask();
         let mut deadlines = [None; 32];
         for slot in 0..SLOTS {
-            let server = self.servers[slot as usize].replenished(has_slot(mask, slot), now);
+            let server = replenished(self.servers[slot as usize], has_slot(mask, slot), now);
             deadlines[slot as usize] = deadline_where(server, self.state.seat_at(slot), need);
         }
         deadlines
@@ -91,7 +91,7 @@ impl Edf {
 
     /// The servers after a tick that serves this slot, or none.
     fn after_tick(&self, served: Option<u32>) -> Servers
-        ensures { (slot : ℕ) → slot < 32 → account_in result slot ≡ next_of (account_in self.now.servers slot)
+        ensures { (slot : ℕ) → slot < 32 → server_in result slot ≡ next_of (server_in self.now.servers slot)
             (is_some (terms_at self.now.state.book slot)) (slot_asks self.now.state.mask slot) (is_slot served slot)
             (now_of self.now.state.book) }
     {
@@ -113,7 +113,7 @@ impl Edf {
 
     /// The servers after a settling.
     fn after_settle(&self) -> Servers
-        ensures { (slot : ℕ) → slot < 32 → account_in result slot ≡ settled_of (account_in self.now.servers slot)
+        ensures { (slot : ℕ) → slot < 32 → server_in result slot ≡ settled_of (server_in self.now.servers slot)
             (is_some (terms_at self.now.state.book slot)) (now_of self.now.state.book) }
     {
         let now = self.state.book().now();
@@ -149,7 +149,7 @@ impl Scheduler for Edf {
         commands: u32,
     ) -> Result<(), AllocError> {
         self.state.setup(config, now, horizon, commands)?;
-        self.servers = [Account::vacant(); 32];
+        self.servers = [vacant(); 32];
         Ok(())
     }
 
@@ -167,13 +167,13 @@ impl Scheduler for Edf {
         };
         let now = self.state.book().now();
         self.state.seat(slot, terms);
-        self.servers[slot as usize] = Account::offered(x, y).fresh(now);
+        self.servers[slot as usize] = fresh(offered(x, y), now);
     }
 
     fn leave(&mut self, slot: u32) {
         let now = self.state.book().now();
         self.state.leave(slot);
-        self.servers[slot as usize] = self.servers[slot as usize].held(u64::from(now));
+        self.servers[slot as usize] = held(self.servers[slot as usize], u64::from(now));
     }
 
     fn request(&mut self, slot: u32) {

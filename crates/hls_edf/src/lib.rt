@@ -2,6 +2,7 @@
 #![tactic(auto)]
 
 mod edf;
+mod server;
 mod servers;
 
 pub use edf::Edf;

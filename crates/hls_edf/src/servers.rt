@@ -1,17 +1,18 @@
 // The servers of the slots: what each may claim, and what a tick and a settling make of it.
 ghost use Rattle.std.specs.Prelude.{◌≡◌, ◌<◌, length, IfSome, IsNone};
 ghost use Rattle.hls_kinds.specs.Slots.{sum_below};
-ghost use Rattle.hls_edf.specs.Choice.{account_in, soft_in, may_use, deadline_if, IsFirstFree, AllPaid};
+ghost use Rattle.hls_edf.specs.Choice.{server_in, soft_in, may_use, deadline_if, IsFirstFree, AllPaid};
 ghost use Rattle.hls_edf.specs.Changes.{next_of, settled_of};
 
+use crate::server::{charged, fresh, held, replenished, vacant};
 use hls_chron::Terms;
-use hls_edf_laws::Account;
+use hls_edf_laws::Server;
 
 /// How many slots there are.
 pub const SLOTS: u32 = 32;
 
 /// The server of each slot.
-pub type Servers = [Account; 32];
+pub type Servers = [Server; 32];
 
 /// What a seat is served by.
 #[derive(Clone, Copy, Debug, PartialEq, Eq)]
@@ -33,7 +34,7 @@ fn is_soft(seat: Option<Terms>) -> bool
 }
 
 /// Whether a slot may be served by this.
-fn may_go(server: Account, seat: Option<Terms>, need: Need) -> bool
+fn may_go(server: Server, seat: Option<Terms>, need: Need) -> bool
     ensures { result ≡ may_use need server seat }
 {
     match need {
@@ -43,7 +44,7 @@ fn may_go(server: Account, seat: Option<Terms>, need: Need) -> bool
 }
 
 /// The deadline of a slot that may be served by this.
-pub fn deadline_where(server: Account, seat: Option<Terms>, need: Need) -> Option<u128>
+pub fn deadline_where(server: Server, seat: Option<Terms>, need: Need) -> Option<u128>
     ensures { result ≡ deadline_if need server seat }
 {
     if may_go(server, seat, need) {
@@ -54,7 +55,7 @@ pub fn deadline_where(server: Account, seat: Option<Terms>, need: Need) -> Optio
 }
 
 /// The least free slot.
-pub fn first_free(servers: &[Account]) -> Option<u32>
+pub fn first_free(servers: &[Server]) -> Option<u32>
     requires { length servers.now ≡ 32 }
     ensures free { IfSome result (IsFirstFree servers.now) }
     ensures full { IsNone result → AllPaid servers.now }
@@ -69,9 +70,9 @@ pub fn first_free(servers: &[Account]) -> Option<u32>
 
 /// The parts that all slots take up.
 #[tactic(auto, using(hls_kinds::proofs::SlotLaws::slot_sums))]
-pub fn parts_used(servers: &[Account]) -> u128
+pub fn parts_used(servers: &[Server]) -> u128
     requires { length servers.now ≡ 32 }
-    ensures { result ≡ sum_below (λ slot. (account_in servers.now slot).parts) 32 }
+    ensures { result ≡ sum_below (λ slot. (server_in servers.now slot).parts) 32 }
 {
     let mut used: u128 = 0;
     for slot in 0..SLOTS {
@@ -81,23 +82,19 @@ pub fn parts_used(servers: &[Account]) -> u128
 }
 
 /// The server of a slot after a tick.
-pub fn next(server: Account, taken: bool, asks: bool, served: bool, now: u32) -> Account
+pub fn next(server: Server, taken: bool, asks: bool, served: bool, now: u32) -> Server
     ensures { result ≡ next_of server taken asks served now }
 {
     if !taken {
-        return server.held(u64::from(now) + 1);
+        return held(server, u64::from(now) + 1);
     }
-    let within = server.replenished(asks, now);
-    if served { within.charged() } else { within }
+    let within = replenished(server, asks, now);
+    if served { charged(within) } else { within }
 }
 
 /// The server of a slot after a settling.
-pub fn settled(server: Account, taken: bool, now: u32) -> Account
+pub fn settled(server: Server, taken: bool, now: u32) -> Server
     ensures { result ≡ settled_of server taken now }
 {
-    if taken {
-        server.fresh(now)
-    } else {
-        Account::vacant()
-    }
+    if taken { fresh(server, now) } else { vacant() }
 }

@@ -16,8 +16,8 @@ use Rattle.hls_chron.specs.Parts.{all_parts, parts}
 use Rattle.hls_kinds.specs.Room.{IsFree, room_used}
 use Rattle.hls_kinds.specs.Fits.{Fits}
 use Rattle.hls_kinds.proofs.TenantLaws.{seated_in, seated-terms}
-use Rattle.hls_edf_laws.specs.Accounts.{parts_in}
-use Rattle.hls_edf_laws.specs.Books.{account_at, KeepsReservations}
+use Rattle.hls_edf_laws.specs.Servers.{parts_in}
+use Rattle.hls_edf_laws.specs.Books.{server_at, KeepsReservations}
 use Rattle.hls_edf_laws.proofs.Keeping.{keeps-seat, keeps-leave}
 use Rattle.hls_edf_laws.proofs.Occupants.{slot-vacant, room-used}
 
@@ -40,7 +40,7 @@ taken_within b slot keeps taken = elim (cases_lt slot 32) [
 
 -- a seating on terms that fit
 fits_room : (b : Ledger) (hard : Bool) (x y : ℕ) → KeepsReservations b → Fits Edf b (Res hard x y)
-    → parts_in (account_at b) 32 + parts x y ≤ all_parts
+    → parts_in (server_at b) 32 + parts x y ≤ all_parts
 fits_room b hard x y keeps fits =
     let used = room-used b keeps.tenants in
     let within = keeps.sound.fits in

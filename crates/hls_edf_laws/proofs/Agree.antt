@@ -1,10 +1,10 @@
--- The recomputed account goes by the ticks before alone.
+-- The recomputed server goes by the ticks before alone.
 use Rattle.std.proofs.Common.{◌≡◌, ℕ, ◌+◌, ◌-◌, ◌<◌, ◌≤◌, zero, suc, refl, arith, Bool, Option, Some, None}
 use Rattle.hls_chron.specs.Ticks.{count}
 use Rattle.hls_chron.proofs.CountLaws.{count-agree}
 use Rattle.hls_kinds.specs.declared.reservations.Reservation.{Reservation}
 use Rattle.hls_kinds.specs.Reservations.{budget_after, is_replenished, last_replenished}
-use Rattle.hls_edf_laws.specs.Recomputed.{asked_before, account_before, account_within}
+use Rattle.hls_edf_laws.specs.Recomputed.{asked_before, server_before, server_within}
 use Rattle.hls_edf_laws.proofs.Deadlines.{last_since, last_before}
 
 -- f and g agree from the tick m on and before the tick t
@@ -61,9 +61,9 @@ last_agree s a a' v v' (suc n) same_a same_v =
           (λ k ge lt. same_a k ge (omega arith)) (λ k ge lt. same_v k ge (omega arith)),
     )
 
-pub account_agree : (s : Reservation) (a a' v v' : ℕ → Bool) (n : ℕ) → Agree a a' s.since (s.since + n)
-    → Agree v v' s.since (s.since + n) → account_before s a v n ≡ account_before s a' v' n
-account_agree s a a' v v' n same_a same_v =
+pub server_agree : (s : Reservation) (a a' v v' : ℕ → Bool) (n : ℕ) → Agree a a' s.since (s.since + n)
+    → Agree v v' s.since (s.since + n) → server_before s a v n ≡ server_before s a' v' n
+server_agree s a a' v v' n same_a same_v =
     rw (
       last_agree s a a' v v' n same_a same_v,
       asked_agree s a a' n same_a,
@@ -71,7 +71,7 @@ account_agree s a a' v v' n same_a same_v =
     )
 
 pub within_agree : (s : Reservation) (a a' v v' : ℕ → Bool) (n : ℕ) → Agree a a' s.since (s.since + suc n)
-    → Agree v v' s.since (s.since + suc n) → account_within s a v n ≡ account_within s a' v' n
+    → Agree v v' s.since (s.since + suc n) → server_within s a v n ≡ server_within s a' v' n
 within_agree s a a' v v' n same_a same_v =
     rw (
       last_agree s a a' v v' (suc n) same_a same_v,

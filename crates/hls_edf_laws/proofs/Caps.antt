@@ -7,9 +7,9 @@ use Rattle.std.proofs.lemmas.Bool.{cases_lt, cases_Bool}
 use Rattle.hls_chron.specs.Ticks.{one_if, count}
 use Rattle.hls_kinds.specs.declared.reservations.Reservation.{Reservation}
 use Rattle.hls_chron.specs.Parts.{all_parts, parts}
-use Rattle.hls_edf_laws.specs.declared.account.Account.{Account}
-use Rattle.hls_edf_laws.specs.Accounts.{replenished, is_due}
-use Rattle.hls_edf_laws.specs.Recomputed.{account_before, account_within}
+use Rattle.hls_edf_laws.specs.declared.server.Server.{Server}
+use Rattle.hls_edf_laws.specs.Servers.{replenished, is_due}
+use Rattle.hls_edf_laws.specs.Recomputed.{server_before, server_within}
 use Rattle.hls_edf_laws.specs.Stays.{EachHard}
 use Rattle.hls_edf_laws.proofs.Owed.{reset-past, reset-test, first-charged, last-charged}
 use Rattle.hls_edf_laws.proofs.Claimed.{due-off, due-on}
@@ -36,7 +36,7 @@ set_down whole x y rate budget deadline now false covers is =
       ]
     ]
 
-replenished_down : (whole : ℕ) (c : Account) (asks : Bool) (now : ℕ) → c.x * whole ≤ c.parts * c.y
+replenished_down : (whole : ℕ) (c : Server) (asks : Bool) (now : ℕ) → c.x * whole ≤ c.parts * c.y
     → (replenished whole c asks now).budget * whole + c.parts * c.deadline
     ≤ c.budget * whole + c.parts * (replenished whole c asks now).deadline
 replenished_down whole c false now rate = rw (replenished-off whole c now) (omega arith)
@@ -83,9 +83,9 @@ cap_bound whole x y rate i t N budget e true le bound near (inr some) =
 -- the two facts, over a window that grows
 pub record IsCapped (s : Reservation) (asks serves : ℕ → Bool) (a m : ℕ) : Type 0 where
   pub carry : (served_in serves (s.since + a) (s.since + m) ≡ 0)
-      ⊎ (served_in serves (s.since + a) (s.since + m) * all_parts + (account_before s asks serves m).budget *
+      ⊎ (served_in serves (s.since + a) (s.since + m) * all_parts + (server_before s asks serves m).budget *
       all_parts + parts s.x s.y * (s.since + a) ≤ s.x * all_parts + parts s.x
-      s.y * (account_before s asks serves m).deadline)
+      s.y * (server_before s asks serves m).deadline)
   pub bound : served_in serves (s.since + a) (s.since + m) * all_parts + parts s.x s.y * (s.since + a)
       ≤ parts s.x s.y * (s.since + m) + 2 * (s.x * all_parts)
 
@@ -122,24 +122,24 @@ capped s asks serves now a (suc len) rate near big narrow wide le sure own =
     let n : served_in serves (s.since + a) (s.since + suc (a + len)) ≡ served_in serves (s.since + a)
     (s.since + (a + len)) + one_if (serves (s.since + (a + len))) = ap (served_in serves (s.since + a)) up
     ∙ count_more serves (s.since + a) (s.since + (a + len)) (omega arith) in
-    let q : (account_before s asks serves (suc (a + len))).budget
-    ≡ (account_within s asks serves (a + len)).budget - one_if (serves (s.since + (a + len))) =
-    ap (λ (c : Account). c.budget) (before_is s asks serves (a + len) sure_here)
-    ∙ after_q (account_within s asks serves (a + len)) (serves (s.since + (a + len))) in
-    let down : (account_within s asks serves (a + len)).budget * all_parts + parts s.x
-    s.y * (account_before s asks serves (a + len)).deadline
-    ≤ (account_before s asks serves (a + len)).budget * all_parts + parts s.x
-    s.y * (account_within s asks serves (a + len)).deadline =
-    subst (λ (c : Account). c.budget * all_parts + parts s.x
-    s.y * (account_before s asks serves (a + len)).deadline
-    ≤ (account_before s asks serves (a + len)).budget * all_parts + parts s.x s.y * c.deadline)
+    let q : (server_before s asks serves (suc (a + len))).budget
+    ≡ (server_within s asks serves (a + len)).budget - one_if (serves (s.since + (a + len))) =
+    ap (λ (c : Server). c.budget) (before_is s asks serves (a + len) sure_here)
+    ∙ after_q (server_within s asks serves (a + len)) (serves (s.since + (a + len))) in
+    let down : (server_within s asks serves (a + len)).budget * all_parts + parts s.x
+    s.y * (server_before s asks serves (a + len)).deadline
+    ≤ (server_before s asks serves (a + len)).budget * all_parts + parts s.x
+    s.y * (server_within s asks serves (a + len)).deadline =
+    subst (λ (c : Server). c.budget * all_parts + parts s.x
+    s.y * (server_before s asks serves (a + len)).deadline
+    ≤ (server_before s asks serves (a + len)).budget * all_parts + parts s.x s.y * c.deadline)
     (within_is s asks serves (a + len))
-    (replenished_down all_parts (account_before s asks serves (a + len)) (asks (s.since + (a + len)))
+    (replenished_down all_parts (server_before s asks serves (a + len)) (asks (s.since + (a + len)))
     (s.since + (a + len)) rate) in
     let after = cap_carry all_parts s.x (parts s.x s.y) (s.since + a) (s.since + (a + len))
-    (served_in serves (s.since + a) (s.since + (a + len))) (account_before s asks serves (a + len)).budget
-    (account_before s asks serves (a + len)).deadline (account_within s asks serves (a + len)).budget
-    (account_within s asks serves (a + len)).deadline (serves (s.since + (a + len))) (omega arith)
+    (served_in serves (s.since + a) (s.since + (a + len))) (server_before s asks serves (a + len)).budget
+    (server_before s asks serves (a + len)).deadline (server_within s asks serves (a + len)).budget
+    (server_within s asks serves (a + len)).deadline (serves (s.since + (a + len))) (omega arith)
     ih.carry down
     (λ g. (
       own.budget (a + len) (omega arith) g,
@@ -149,12 +149,12 @@ capped s asks serves now a (suc len) rate near big narrow wide le sure own =
     )) in
     rw e (record {
       carry = carry_same all_parts s.x (parts s.x s.y) (s.since + a) _ _ _ _
-          (account_within s asks serves (a + len)).deadline n q after;
+          (server_within s asks serves (a + len)).deadline n q after;
       bound = bound_same (parts s.x s.y) (s.since + a) _ _ _ _ all_parts (2 * (s.x * all_parts)) n up
           (cap_bound all_parts s.x s.y (parts s.x s.y) (s.since + a) (s.since + (a + len))
           (served_in serves (s.since + a) (s.since + (a + len)))
-          ((account_within s asks serves (a + len)).budget - one_if (serves (s.since + (a + len))))
-          (account_within s asks serves (a + len)).deadline (serves (s.since + (a + len))) (omega arith)
+          ((server_within s asks serves (a + len)).budget - one_if (serves (s.since + (a + len))))
+          (server_within s asks serves (a + len)).deadline (serves (s.since + (a + len))) (omega arith)
           ih.bound (λ g. (near, big, pace.near)) after);
     })
 

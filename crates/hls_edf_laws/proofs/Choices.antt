@@ -16,10 +16,10 @@ use Rattle.hls_kinds.specs.Asks.{asks, slot_asks, asks_in_budget, asks_softly}
 use Rattle.hls_kinds.specs.Discipline.{Serves, may_go}
 use Rattle.hls_kinds.proofs.SlotLaws.{any_below-at}
 use Rattle.hls_kinds.proofs.TenantLaws.{seated-terms}
-use Rattle.hls_edf_laws.specs.Accounts.{AreSound, HaveRoom}
+use Rattle.hls_edf_laws.specs.Servers.{AreSound, HaveRoom}
 use Rattle.hls_edf_laws.specs.Choosing.{IsChosen}
 use Rattle.hls_kinds.specs.Made.{IsRow}
-use Rattle.hls_edf_laws.specs.Books.{account_at, amid_at}
+use Rattle.hls_edf_laws.specs.Books.{server_at, amid_at}
 use Rattle.hls_edf_laws.proofs.Replenishing.{replenished-on}
 use Rattle.hls_edf_laws.proofs.RowSteps.{HasTenants, IsAsking, row-room}
 use Rattle.hls_edf_laws.proofs.Claims.{deadline_at-is, budget_at-is}
@@ -78,7 +78,7 @@ chosen b row tenants is given = record {
   first = λ rival lt on left.
       let seats = is-asking b row is in
       let asking : slot_asks row.mask rival ≡ true =
-      sym (replenished-on all_parts (account_at b rival) (slot_asks row.mask rival) (now_of b)) ∙ on in
+      sym (replenished-on all_parts (server_at b rival) (slot_asks row.mask rival) (now_of b)) ∙ on in
       let same_rival = seats.seats rival asking in
       let budget : 0 < budget_at b row.mask rival =
       rw (budget_at-is b row.mask rival (tenants rival) same_rival) left in
@@ -99,7 +99,7 @@ chosen b row tenants is given = record {
         record {
           to_it = to.1;
           within = serves.within;
-          asks = replenished-on all_parts (account_at b to.0) (slot_asks row.mask to.0) (now_of b) ∙ goes;
+          asks = replenished-on all_parts (server_at b to.0) (slot_asks row.mask to.0) (now_of b) ∙ goes;
           left = rw (budget_at-is b row.mask to.0 (tenants to.0) seat) at some;
         },
         rw (
@@ -113,7 +113,7 @@ chosen b row tenants is given = record {
 
 -- such a row keeps the room
 pub granted-room : (b : Ledger) (row : TickRow) → HasTenants b → IsRow Edf b row → IsGranted b row
-    → AreSound all_parts 32 (account_at b) → HaveRoom all_parts 32 (account_at b) (now_of b)
-    → HaveRoom all_parts 32 (account_at (with_row b row)) (now_of (with_row b row))
+    → AreSound all_parts 32 (server_at b) → HaveRoom all_parts 32 (server_at b) (now_of b)
+    → HaveRoom all_parts 32 (server_at (with_row b row)) (now_of (with_row b row))
 granted-room b row tenants is given kept have =
     row-room b row tenants (is-asking b row is) (chosen b row tenants is given) kept have

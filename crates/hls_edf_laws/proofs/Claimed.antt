@@ -1,10 +1,10 @@
--- What one account may still use, after each event.
+-- What one server may still use, after each event.
 use Rattle.std.proofs.Common.{◌≡◌, ◌≢◌, ℕ, ◌*◌, ◌-◌, ◌<◌, ◌≤◌, refl, arith, Bool, true, false}
 use Rattle.std.specs.Prelude.{◌⊎◌}
 use Rattle.std.proofs.lemmas.Bool.Decides.{nat_tests}
 use Rattle.hls_edf_laws.specs.Demand.{owed, claimed}
-use Rattle.hls_edf_laws.specs.declared.account.Account.{Account}
-use Rattle.hls_edf_laws.specs.Accounts.{vacant, fresh, marked, is_due, claimed_by}
+use Rattle.hls_edf_laws.specs.declared.server.Server.{Server}
+use Rattle.hls_edf_laws.specs.Servers.{vacant, fresh, marked, is_due, claimed_by}
 use Rattle.hls_edf_laws.proofs.Owed.{owed-due, owed-past}
 
 pub claimed-on : (whole budget deadline rate now bound : ℕ) → claimed true whole budget deadline rate now
@@ -23,13 +23,13 @@ pub due-vacant : (whole now bound : ℕ) → claimed_by whole vacant now bound �
 unfolding claimed
 due-vacant whole now bound = omega arith
 
-pub due-fresh : (whole : ℕ) (c : Account) (now bound : ℕ) → now ≤ bound
+pub due-fresh : (whole : ℕ) (c : Server) (now bound : ℕ) → now ≤ bound
     → claimed_by whole (fresh c now) now bound ≡ c.parts * (bound - now)
 unfolding claimed
 due-fresh whole c now bound le = omega (arith, owed-due whole c.x now c.parts bound le)
 
 -- whose deadline is past claims at least its rate
-pub due-gone : (whole : ℕ) (c : Account) (now bound : ℕ) → now ≤ bound → c.deadline ≤ now
+pub due-gone : (whole : ℕ) (c : Server) (now bound : ℕ) → now ≤ bound → c.deadline ≤ now
     → c.parts * (bound - now) ≤ claimed_by whole c now bound
 unfolding claimed
 due-gone whole c now bound le past =
@@ -38,7 +38,7 @@ due-gone whole c now bound le past =
       | false ↦ omega (arith, owed-past whole c.budget c.deadline c.parts now bound le past)
     ]
 
-pub due-marked : (whole : ℕ) (c : Account) (now bound : ℕ) → claimed_by whole (marked c false) now bound
+pub due-marked : (whole : ℕ) (c : Server) (now bound : ℕ) → claimed_by whole (marked c false) now bound
     ≤ claimed_by whole c now bound
 due-marked whole c now bound = off-on whole c.budget c.deadline c.parts now bound c.asked
 

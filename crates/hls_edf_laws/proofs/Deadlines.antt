@@ -1,10 +1,10 @@
--- One more tick of the recomputed account.
+-- One more tick of the recomputed server.
 use Rattle.std.proofs.Common.{◌≡◌, ℕ, ◌+◌, ◌-◌, ◌<◌, ◌≤◌, zero, suc, refl, sym, arith, inl, inr, ◌∙◌, Bool}
 use Rattle.std.proofs.Common.{true, false, Option, Some, None}
 use Rattle.std.specs.Prelude.{◌&&◌, if◌then◌else◌}
 use Rattle.std.proofs.lemmas.Bool.{cases_Bool}
 use Rattle.std.proofs.lemmas.Bool.Decides.{nat_tests}
-use Rattle.hls_edf_laws.specs.Accounts.{charged, replenished, is_due}
+use Rattle.hls_edf_laws.specs.Servers.{charged, replenished, is_due}
 use Rattle.hls_chron.specs.Ticks.{one_if}
 use Rattle.hls_chron.specs.Ticks.{count}
 use Rattle.hls_chron.proofs.CountLaws.{count-none, count-push}
@@ -12,7 +12,7 @@ use Rattle.hls_kinds.specs.declared.reservations.Reservation.{Reservation}
 use Rattle.hls_chron.specs.Parts.{all_parts, parts}
 use Rattle.hls_kinds.specs.Reservations.{deadline_after, budget_after, is_replenished}
 use Rattle.hls_kinds.specs.Reservations.{last_replenished}
-use Rattle.hls_edf_laws.specs.Recomputed.{asked_before, account_before, account_within}
+use Rattle.hls_edf_laws.specs.Recomputed.{asked_before, server_before, server_within}
 use Rattle.hls_edf_laws.proofs.Replenishing.{replenished-off, replenished-set, replenished-kept}
 
 abbrev pub IsRenewed : Reservation → (asks serves : ℕ → Bool) → ℕ → Bool
@@ -124,7 +124,7 @@ last_later s asks serves n m e =
     omega (arith, last_before s asks serves n m e, last_since s asks serves n m e)
 
 pub due_same : (s : Reservation) (asks serves : ℕ → Bool) (n : ℕ) → asks (s.since + n) ≡ true
-    → IsRenewed s asks serves n ≡ is_due all_parts (account_before s asks serves n) (s.since + n)
+    → IsRenewed s asks serves n ≡ is_due all_parts (server_before s asks serves n) (s.since + n)
 due_same s asks serves n on = due_case s asks serves n (last_replenished s asks serves n) on
     (none_asked s asks serves n) (last_later s asks serves n)
 
@@ -146,34 +146,34 @@ budget_more s serves (Some m) t idle before = omega (arith, count_more serves m 
 
 -- the replenishment of a tick, recomputed
 pub within_is : (s : Reservation) (asks serves : ℕ → Bool) (n : ℕ)
-    → replenished all_parts (account_before s asks serves n) (asks (s.since + n)) (s.since + n)
-    ≡ account_within s asks serves n
+    → replenished all_parts (server_before s asks serves n) (asks (s.since + n)) (s.since + n)
+    ≡ server_within s asks serves n
 within_is s asks serves n = elim (cases_Bool (asks (s.since + n))) [
   | inr off ↦
       let last =
       last-kept s asks serves n (replenished-silent s asks serves n (last_replenished s asks serves n)
       off) in
-      rw (off, replenished-off all_parts (account_before s asks serves n) (s.since + n), last) refl
+      rw (off, replenished-off all_parts (server_before s asks serves n) (s.since + n), last) refl
   | inl on ↦ elim (cases_Bool (IsRenewed s asks serves n)) [
     | inl is ↦
         let last = last-set s asks serves n is in
-        let set : is_due all_parts (account_before s asks serves n) (s.since + n) ≡ true =
+        let set : is_due all_parts (server_before s asks serves n) (s.since + n) ≡ true =
         sym (due_same s asks serves n on) ∙ is in
         let full : s.x - count serves (s.since + n) (s.since + n - (s.since + n)) ≡ s.x =
         omega (arith, count_past serves (s.since + n)) in
-        rw (on, replenished-set all_parts (account_before s asks serves n) (s.since + n) set, last, full) refl
+        rw (on, replenished-set all_parts (server_before s asks serves n) (s.since + n) set, last, full) refl
     | inr not ↦
         let last = last-kept s asks serves n not in
-        let kept : is_due all_parts (account_before s asks serves n) (s.since + n) ≡ false =
+        let kept : is_due all_parts (server_before s asks serves n) (s.since + n) ≡ false =
         sym (due_same s asks serves n on) ∙ not in
-        rw (on, replenished-kept all_parts (account_before s asks serves n) (s.since + n) kept, last) refl
+        rw (on, replenished-kept all_parts (server_before s asks serves n) (s.since + n) kept, last) refl
   ]
 ]
 
 -- and the tick after them
 pub before_is : (s : Reservation) (asks serves : ℕ → Bool) (n : ℕ)
-    → (serves (s.since + n) ≡ true → asks (s.since + n) ≡ true) → account_before s asks serves (suc n)
-    ≡ (if serves (s.since + n) then charged (account_within s asks serves n) else account_within s asks serves
+    → (serves (s.since + n) ≡ true → asks (s.since + n) ≡ true) → server_before s asks serves (suc n)
+    ≡ (if serves (s.since + n) then charged (server_within s asks serves n) else server_within s asks serves
     n)
 before_is s asks serves n sure =
     let next : s.since + suc n ≡ s.since + n + 1 = omega arith in

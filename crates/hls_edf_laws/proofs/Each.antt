@@ -21,18 +21,18 @@ use Rattle.hls_kinds.specs.Reservations.{is_soft, is_soft_in, budget_at}
 use Rattle.hls_kinds.specs.Asks.{slot_asks, asks_in_budget, asks_softly}
 use Rattle.hls_kinds.specs.Discipline.{Serves}
 use Rattle.hls_kinds.proofs.TenantLaws.{seated_in}
-use Rattle.hls_edf_laws.specs.declared.account.Account.{Account}
-use Rattle.hls_edf_laws.specs.Accounts.{AreSound, HaveRoom, replenished}
-use Rattle.hls_edf_laws.specs.Recomputed.{account_before, account_within}
+use Rattle.hls_edf_laws.specs.declared.server.Server.{Server}
+use Rattle.hls_edf_laws.specs.Servers.{AreSound, HaveRoom, replenished}
+use Rattle.hls_edf_laws.specs.Recomputed.{server_before, server_within}
 use Rattle.hls_edf_laws.specs.Stays.{EachTick, EachHard}
 use Rattle.hls_kinds.specs.Made.{IsRow}
-use Rattle.hls_edf_laws.specs.Books.{account_at, amid_at, IsTenant, IsReservation}
+use Rattle.hls_edf_laws.specs.Books.{server_at, amid_at, IsTenant, IsReservation}
 use Rattle.hls_edf_laws.proofs.Deadlines.{before_is}
 use Rattle.hls_edf_laws.proofs.Agree.{within_agree}
 use Rattle.hls_edf_laws.proofs.Budgets.{budget_fits}
 use Rattle.hls_edf_laws.proofs.Pacing.{after_q}
 use Rattle.hls_edf_laws.proofs.Rows.{is-slot, tenant_at-row, asked-past, served-past, served-now, amid_row}
-use Rattle.hls_edf_laws.proofs.RowSteps.{account_now, HasTenants}
+use Rattle.hls_edf_laws.proofs.RowSteps.{server_now, HasTenants}
 use Rattle.hls_edf_laws.proofs.Choices.{and_right, above_zero}
 use Rattle.hls_edf_laws.proofs.Claims.{budget_at-is}
 
@@ -45,13 +45,13 @@ pub seat_is : (b : Ledger) (slot : ℕ) (r : Reservation) (hard : Bool) → HasT
     → IsReservation (Res hard r.x r.y) × (r.since ≤ now_of b)
 seat_is b slot r hard tenants is = subst (λ tenant. IsTenant tenant (now_of b)) is (tenants slot)
 
-pub account_at-sits : (b : Ledger) (slot : ℕ) (r : Reservation) (hard : Bool) → tenant_at b slot ≡ sits r hard
-    → account_at b slot ≡ account_before r (asked b slot) (served b slot) (now_of b - r.since)
-account_at-sits b slot r hard is = ap (account_now b slot) is
+pub server_at-sits : (b : Ledger) (slot : ℕ) (r : Reservation) (hard : Bool) → tenant_at b slot ≡ sits r hard
+    → server_at b slot ≡ server_before r (asked b slot) (served b slot) (now_of b - r.since)
+server_at-sits b slot r hard is = ap (server_now b slot) is
 
 within_same : (b : Ledger) (row : TickRow) (slot : ℕ) (r : Reservation) (n : ℕ) → r.since + n < now_of b
-    → account_within r (asked (with_row b row) slot) (served (with_row b row) slot) n
-    ≡ account_within r (asked b slot) (served b slot) n
+    → server_within r (asked (with_row b row) slot) (served (with_row b row) slot) n
+    ≡ server_within r (asked b slot) (served b slot) n
 within_same b row slot r n lt =
     within_agree r (asked (with_row b row) slot) (asked b slot) (served (with_row b row) slot) (served b slot)
     n
@@ -59,7 +59,7 @@ within_same b row slot r n lt =
     (served-past b row slot r.since (r.since + suc n) (omega arith))
 
 -- a fact of one tick, carried over
-fits_same : (c c' : Account) (g g' : Bool) (t : ℕ) → c ≡ c' → g ≡ g' → c'.budget - one_if g' + t ≤ c'.deadline
+fits_same : (c c' : Server) (g g' : Bool) (t : ℕ) → c ≡ c' → g ≡ g' → c'.budget - one_if g' + t ≤ c'.deadline
     → c.budget - one_if g + t ≤ c.deadline
 fits_same c c' g g' t e f h = rw (e, f) h
 
@@ -67,8 +67,8 @@ pub each-row : (b : Ledger) (row : TickRow) (slot : ℕ) (r : Reservation) (hard
     → tenant_at b slot ≡ sits r hard
     → ((t : ℕ) → t < now_of (with_row b row) → served (with_row b row) slot t ≡ true
     → asked (with_row b row) slot t ≡ true)
-    → AreSound all_parts 32 (account_at (with_row b row))
-    → HaveRoom all_parts 32 (account_at (with_row b row)) (now_of (with_row b row))
+    → AreSound all_parts 32 (server_at (with_row b row))
+    → HaveRoom all_parts 32 (server_at (with_row b row)) (now_of (with_row b row))
     → EachTick r (asked b slot) (served b slot) (now_of b)
     → EachTick r (asked (with_row b row) slot) (served (with_row b row) slot) (now_of (with_row b row))
 each-row b row slot r hard lt is sure kept have each = record {
@@ -83,24 +83,24 @@ each-row b row slot r hard lt is sure kept have each = record {
     | inr last ↦
         let now : now_of (with_row b row) ≡ r.since + suc n = omega (arith, now_of-row b row) in
         let gap : now_of (with_row b row) - r.since ≡ suc n = omega arith in
-        let here : account_at (with_row b row) slot
-        ≡ account_before r (asked (with_row b row) slot) (served (with_row b row) slot) (suc n) =
-        account_at-sits (with_row b row) slot r hard (tenant_at-row b row slot ∙ is)
-        ∙ ap (account_before r (asked (with_row b row) slot) (served (with_row b row) slot)) gap in
-        let fit = (budget_fits all_parts 32 (account_at (with_row b row)) (now_of (with_row b row)) slot
+        let here : server_at (with_row b row) slot
+        ≡ server_before r (asked (with_row b row) slot) (served (with_row b row) slot) (suc n) =
+        server_at-sits (with_row b row) slot r hard (tenant_at-row b row slot ∙ is)
+        ∙ ap (server_before r (asked (with_row b row) slot) (served (with_row b row) slot)) gap in
+        let fit = (budget_fits all_parts 32 (server_at (with_row b row)) (now_of (with_row b row)) slot
         (omega arith) lt
-        kept have (ap (λ (c : Account). c.asked) here ∙ on)).1 in
+        kept have (ap (λ (c : Server). c.asked) here ∙ on)).1 in
         let after = before_is r (asked (with_row b row) slot) (served (with_row b row) slot) n
         (sure (r.since + n) (omega arith)) in
-        let budget : (account_at (with_row b row) slot).budget
-        ≡ (account_within r (asked (with_row b row) slot) (served (with_row b row) slot) n).budget
+        let budget : (server_at (with_row b row) slot).budget
+        ≡ (server_within r (asked (with_row b row) slot) (served (with_row b row) slot) n).budget
         - one_if (served (with_row b row) slot (r.since + n)) =
-        ap (λ (c : Account). c.budget) (here ∙ after)
-        ∙ after_q (account_within r (asked (with_row b row) slot) (served (with_row b row) slot) n)
+        ap (λ (c : Server). c.budget) (here ∙ after)
+        ∙ after_q (server_within r (asked (with_row b row) slot) (served (with_row b row) slot) n)
         (served (with_row b row) slot (r.since + n)) in
-        let deadline : (account_at (with_row b row) slot).deadline
-        ≡ (account_within r (asked (with_row b row) slot) (served (with_row b row) slot) n).deadline =
-        ap (λ (c : Account). c.deadline) here in
+        let deadline : (server_at (with_row b row) slot).deadline
+        ≡ (server_within r (asked (with_row b row) slot) (served (with_row b row) slot) n).deadline =
+        ap (λ (c : Server). c.deadline) here in
         omega (arith, fit, budget, deadline, now)
   ];
 }
@@ -125,7 +125,7 @@ hard-row b row slot r tenants is_row is own =
     record {
       budget = λ n before serving. elim (cases_lt (r.since + n) (now_of b)) [
         | inl earlier ↦
-            subst (λ (c : Account). 0 < c.budget) (sym (within_same b row slot r n earlier))
+            subst (λ (c : Server). 0 < c.budget) (sym (within_same b row slot r n earlier))
             (own.budget n earlier (sym (served-past b row slot r.since (now_of b) (omega arith) (r.since + n)
             (omega arith) earlier) ∙ serving))
         | inr last ↦
@@ -141,11 +141,11 @@ hard-row b row slot r tenants is_row is own =
             rw (budget_at-is b row.mask slot (tenants slot) seat) at some in
             let gap : now_of b - r.since ≡ n = omega arith in
             let amid : amid_at b row.mask slot
-            ≡ account_within r (asked (with_row b row) slot) (served (with_row b row) slot) n =
-            ap (λ (c : Account). replenished all_parts c (slot_asks row.mask slot) (now_of b))
-            (account_at-sits b slot r true is)
+            ≡ server_within r (asked (with_row b row) slot) (served (with_row b row) slot) n =
+            ap (λ (c : Server). replenished all_parts c (slot_asks row.mask slot) (now_of b))
+            (server_at-sits b slot r true is)
             ∙ sym (amid_row b row slot r stay.1)
-            ∙ ap (account_within r (asked (with_row b row) slot) (served (with_row b row) slot)) gap in
-            subst (λ (c : Account). 0 < c.budget) amid left
+            ∙ ap (server_within r (asked (with_row b row) slot) (served (with_row b row) slot)) gap in
+            subst (λ (c : Server). 0 < c.budget) amid left
       ];
     }

@@ -21,9 +21,9 @@ use Rattle.hls_kinds.specs.Tenants.{tenant_at, after_leaving, after_settling, se
 use Rattle.hls_chron.specs.Parts.{all_parts, parts}
 use Rattle.hls_kinds.specs.Asks.{asks}
 use Rattle.hls_promise.specs.Promise.{asked_by}
-use Rattle.hls_edf_laws.specs.Accounts.{AreSound, HaveRoom, vacant, parts_in}
+use Rattle.hls_edf_laws.specs.Servers.{AreSound, HaveRoom, vacant, parts_in}
 use Rattle.hls_kinds.specs.Made.{IsRow}
-use Rattle.hls_edf_laws.specs.Books.{account_at, IsGiven, IsReservation, KeepsReservations}
+use Rattle.hls_edf_laws.specs.Books.{server_at, IsGiven, IsReservation, KeepsReservations}
 use Rattle.hls_edf_laws.proofs.Bare.{before-last, asks-bare}
 use Rattle.hls_edf_laws.proofs.Rows.{is-slot, tenant_at-row, asked-past, served-past, asked-now, served-now}
 use Rattle.hls_edf_laws.proofs.RowSteps.{HasTenants, IsAsking, row-sound, row-tenants}
@@ -104,7 +104,7 @@ keeps-row b row keeps is =
     let same = settled_at-row b row in
     let sound = row-sound b row keeps.tenants seats keeps.sound in
     let sure = sure_row b row keeps seats in
-    let room : IsGiven (with_row b row) → HaveRoom all_parts 32 (account_at (with_row b row))
+    let room : IsGiven (with_row b row) → HaveRoom all_parts 32 (server_at (with_row b row))
     (now_of (with_row b row)) =
     λ given. granted-room b row keeps.tenants is
     (given_last b row keeps.dated (rw same keeps.settled) given) keeps.sound
@@ -139,8 +139,8 @@ AllNew b event = (slot : ℕ) (r : Reservation) (hard : Bool) → tenant_at (wit
 keeps_mark : (b : Ledger) (event : Event) → KeepsReservations b → Stayed b event
     → settled_at (with_mark b event) ≤ now_of b
     → ((slot : ℕ) → 32 ≤ slot → tenant_at (with_mark b event) slot ≡ Vacant)
-    → HasTenants (with_mark b event) → AreSound all_parts 32 (account_at (with_mark b event))
-    → (IsGiven (with_mark b event) → HaveRoom all_parts 32 (account_at (with_mark b event)) (now_of b))
+    → HasTenants (with_mark b event) → AreSound all_parts 32 (server_at (with_mark b event))
+    → (IsGiven (with_mark b event) → HaveRoom all_parts 32 (server_at (with_mark b event)) (now_of b))
     → AllNew b event ⊎ (IsGiven (with_mark b event) → IsGiven b) → KeepsReservations (with_mark b event)
 keeps_mark b event keeps stayed settled within tenants sound room given = record {
   dated = dated-mark b event keeps.dated;
@@ -198,7 +198,7 @@ seat_within b slot terms keeps lt other beyond =
     ∙ keeps.within other beyond
 
 pub keeps-seat : (b : Ledger) (slot : ℕ) (hard : Bool) (x y : ℕ) → KeepsReservations b → slot < 32
-    → account_at b slot ≡ vacant → IsReservation (Res hard x y) → parts_in (account_at b) 32 + parts x y
+    → server_at b slot ≡ vacant → IsReservation (Res hard x y) → parts_in (server_at b) 32 + parts x y
     ≤ all_parts
     → KeepsReservations (with_mark b (Seat slot (Res hard x y)))
 keeps-seat b slot hard x y keeps lt free is fits =

@@ -19,15 +19,15 @@ use Rattle.hls_kinds.specs.declared.tenant.Tenant.TheVariants.{Vacant, Sits, Lef
 use Rattle.hls_kinds.specs.Tenants.{after_leaving, after_settling, tenant_after, tenant_at, settled_after}
 use Rattle.hls_kinds.specs.Tenants.{settled_at}
 use Rattle.hls_chron.specs.Parts.{all_parts, parts}
-use Rattle.hls_edf_laws.specs.declared.account.Account.{Account}
-use Rattle.hls_edf_laws.specs.Accounts.{AreSound, HaveRoom, vacant, fresh, marked, parts_in, offered}
-use Rattle.hls_edf_laws.specs.Recomputed.{account_before}
-use Rattle.hls_edf_laws.specs.Books.{held, account_of, account_at, IsTenant, IsReservation}
+use Rattle.hls_edf_laws.specs.declared.server.Server.{Server}
+use Rattle.hls_edf_laws.specs.Servers.{AreSound, HaveRoom, vacant, fresh, marked, parts_in, offered}
+use Rattle.hls_edf_laws.specs.Recomputed.{server_before}
+use Rattle.hls_edf_laws.specs.Books.{held, server_of, server_at, IsTenant, IsReservation}
 use Rattle.hls_chron.proofs.PartLaws.{parts-rate}
 use Rattle.hls_edf_laws.proofs.Marks.{seating-sound, seating-room, leaving-sound, leaving-room}
 use Rattle.hls_edf_laws.proofs.Marks.{freeing-sound, freeing-room, settling-sound, settling-room}
 use Rattle.hls_edf_laws.proofs.Deadlines.{last-zero}
-use Rattle.hls_edf_laws.proofs.RowSteps.{account_now, HasTenants}
+use Rattle.hls_edf_laws.proofs.RowSteps.{server_now, HasTenants}
 
 -- what a mark leaves of the rows, of the tenants and of the last settling
 asked_mark : (b : Ledger) (event : Event) (slot t : ℕ) → asked (with_mark b event) slot t ≡ asked b slot t
@@ -58,15 +58,15 @@ settled_at-mark b event =
     fold-append (λ last (m : Mark). settled_after m.tick last m.event) b.start b.marks
     ((record { tick = now_of b; event = event }) ∷ [])
 
-account_same : (tenant tenant' : Tenant) (a a' v v' : ℕ → Bool) (now : ℕ) → tenant ≡ tenant' → a ≡ a' → v ≡ v'
-    → account_of tenant a v now ≡ account_of tenant' a' v' now
-account_same tenant tenant' a a' v v' now e f g = cc
+server_same : (tenant tenant' : Tenant) (a a' v v' : ℕ → Bool) (now : ℕ) → tenant ≡ tenant' → a ≡ a' → v ≡ v'
+    → server_of tenant a v now ≡ server_of tenant' a' v' now
+server_same tenant tenant' a a' v v' now e f g = cc
 
-pub account_at-mark : (b : Ledger) (event : Event) (slot : ℕ)
-    → account_at (with_mark b event) slot ≡ account_now b slot
+pub server_at-mark : (b : Ledger) (event : Event) (slot : ℕ)
+    → server_at (with_mark b event) slot ≡ server_now b slot
     (tenant_after slot (now_of b) (tenant_at b slot) event)
-account_at-mark b event slot =
-    account_same _ _ _ _ _ _ (now_of b) (tenant_at-mark b event slot) (asked-mark b event slot)
+server_at-mark b event slot =
+    server_same _ _ _ _ _ _ (now_of b) (tenant_at-mark b event slot) (asked-mark b event slot)
     (served-mark b event slot)
 
 -- the slot of a mark, and the others
@@ -96,48 +96,48 @@ pub leave_here : (slot now : ℕ) (tenant : Tenant) → tenant_after slot now te
 leave_here slot now tenant = rw (eqb_refl slot)
 
 -- a seat of the present tick is fresh
-pub seated_account : (x y now : ℕ) (asks serves : ℕ → Bool) (c : Account) → c.x ≡ x → c.y ≡ y
+pub seated_server : (x y now : ℕ) (asks serves : ℕ → Bool) (c : Server) → c.x ≡ x → c.y ≡ y
     → c.parts ≡ parts x y
-    → account_before (record { x = x; y = y; since = now }) asks serves (now - now) ≡ fresh c now
-seated_account x y now asks serves c ex ey ep =
+    → server_before (record { x = x; y = y; since = now }) asks serves (now - now) ≡ fresh c now
+seated_server x y now asks serves c ex ey ep =
     let none : now - now ≡ 0 = omega arith in
-    ap (account_before (record { x = x; y = y; since = now }) asks serves) none
+    ap (server_before (record { x = x; y = y; since = now }) asks serves) none
     ∙ rw (last-zero (record { x = x; y = y; since = now }) asks serves, ex, ey, ep) refl
 
 -- a seating where the slot claims nothing
-pub seat_account : (b : Ledger) (slot : ℕ) (hard : Bool) (x y : ℕ)
-    → account_at (with_mark b (Seat slot (Res hard x y))) slot ≡ fresh (offered x y) (now_of b)
-seat_account b slot hard x y =
-    account_at-mark b (Seat slot (Res hard x y)) slot
-    ∙ ap (account_now b slot) (seat_here slot (now_of b) (tenant_at b slot) (Res hard x y))
-    ∙ seated_account x y (now_of b) (asked b slot) (served b slot) (offered x y) refl refl refl
+pub seat_server : (b : Ledger) (slot : ℕ) (hard : Bool) (x y : ℕ)
+    → server_at (with_mark b (Seat slot (Res hard x y))) slot ≡ fresh (offered x y) (now_of b)
+seat_server b slot hard x y =
+    server_at-mark b (Seat slot (Res hard x y)) slot
+    ∙ ap (server_now b slot) (seat_here slot (now_of b) (tenant_at b slot) (Res hard x y))
+    ∙ seated_server x y (now_of b) (asked b slot) (served b slot) (offered x y) refl refl refl
 
 pub seat_others : (b : Ledger) (slot : ℕ) (terms : Terms) (other : ℕ) → other ≢ slot
-    → account_at (with_mark b (Seat slot terms)) other ≡ account_at b other
+    → server_at (with_mark b (Seat slot terms)) other ≡ server_at b other
 seat_others b slot terms other ne =
-    account_at-mark b (Seat slot terms) other
-    ∙ ap (account_now b other) (seat_other slot other (now_of b) (tenant_at b other) terms ne)
+    server_at-mark b (Seat slot terms) other
+    ∙ ap (server_now b other) (seat_other slot other (now_of b) (tenant_at b other) terms ne)
 
-pub seat-sound : (b : Ledger) (slot : ℕ) (hard : Bool) (x y : ℕ) → AreSound all_parts 32 (account_at b)
+pub seat-sound : (b : Ledger) (slot : ℕ) (hard : Bool) (x y : ℕ) → AreSound all_parts 32 (server_at b)
     → slot < 32
-    → account_at b slot ≡ vacant → 0 < y → parts_in (account_at b) 32 + parts x y ≤ all_parts
-    → AreSound all_parts 32 (account_at (with_mark b (Seat slot (Res hard x y))))
+    → server_at b slot ≡ vacant → 0 < y → parts_in (server_at b) 32 + parts x y ≤ all_parts
+    → AreSound all_parts 32 (server_at (with_mark b (Seat slot (Res hard x y))))
 seat-sound b slot hard x y kept lt free pos fits =
-    seating-sound all_parts 32 slot (now_of b) (offered x y) (account_at b)
-    (account_at (with_mark b (Seat slot (Res hard x y)))) kept lt free (seat_account b slot hard x y)
+    seating-sound all_parts 32 slot (now_of b) (offered x y) (server_at b)
+    (server_at (with_mark b (Seat slot (Res hard x y)))) kept lt free (seat_server b slot hard x y)
     (seat_others b slot (Res hard x y)) (parts-rate x y pos) fits
 
-pub seat-room : (b : Ledger) (slot : ℕ) (hard : Bool) (x y : ℕ) → HaveRoom all_parts 32 (account_at b)
+pub seat-room : (b : Ledger) (slot : ℕ) (hard : Bool) (x y : ℕ) → HaveRoom all_parts 32 (server_at b)
     (now_of b)
-    → slot < 32 → account_at b slot ≡ vacant
-    → HaveRoom all_parts 32 (account_at (with_mark b (Seat slot (Res hard x y)))) (now_of b)
+    → slot < 32 → server_at b slot ≡ vacant
+    → HaveRoom all_parts 32 (server_at (with_mark b (Seat slot (Res hard x y)))) (now_of b)
 seat-room b slot hard x y kept lt free =
-    seating-room all_parts 32 slot (now_of b) (offered x y) (account_at b)
-    (account_at (with_mark b (Seat slot (Res hard x y)))) kept lt free (seat_account b slot hard x y)
+    seating-room all_parts 32 slot (now_of b) (offered x y) (server_at b)
+    (server_at (with_mark b (Seat slot (Res hard x y)))) kept lt free (seat_server b slot hard x y)
     (seat_others b slot (Res hard x y))
 
 -- a leaving holds the parts, or frees them
-held_or_not : (c : Account) (now : ℕ)
+held_or_not : (c : Server) (now : ℕ)
     → (held c now ≡ marked c false) ⊎ ((c.deadline ≤ now) × (held c now ≡ vacant))
 unfolding held
 held_or_not c now = elim (cases_lt now c.deadline) [
@@ -145,83 +145,83 @@ held_or_not c now = elim (cases_lt now c.deadline) [
   | inr past ↦ let e : nat_lt now c.deadline ≡ false = grind (arith, nat_tests) in inr (past, rw e)
 ]
 
-left_account : (b : Ledger) (slot : ℕ) (tenant : Tenant) → IsTenant tenant (now_of b)
+left_server : (b : Ledger) (slot : ℕ) (tenant : Tenant) → IsTenant tenant (now_of b)
     → ((terms : Terms) (since : ℕ) → tenant ≡ Sits terms since
-    → account_now b slot (after_leaving (now_of b) tenant)
-    ≡ held (account_now b slot tenant) (now_of b))
-left_account b slot (Sits (Res hard x y) since) is terms since' e = refl
-left_account b slot Vacant is terms since' e = absurd (cc)
-left_account b slot (Left _ since at) is terms since' e = absurd (cc)
-left_account b slot (Sits _ since) is terms since' e = absurd is.0
+    → server_now b slot (after_leaving (now_of b) tenant)
+    ≡ held (server_now b slot tenant) (now_of b))
+left_server b slot (Sits (Res hard x y) since) is terms since' e = refl
+left_server b slot Vacant is terms since' e = absurd (cc)
+left_server b slot (Left _ since at) is terms since' e = absurd (cc)
+left_server b slot (Sits _ since) is terms since' e = absurd is.0
 
-pub leave_account : (b : Ledger) (slot : ℕ) (terms : Terms) (since : ℕ) → HasTenants b
+pub leave_server : (b : Ledger) (slot : ℕ) (terms : Terms) (since : ℕ) → HasTenants b
     → tenant_at b slot ≡ Sits terms since
-    → account_at (with_mark b (Leave slot)) slot ≡ held (account_at b slot) (now_of b)
-leave_account b slot terms since tenants is =
-    account_at-mark b (Leave slot) slot
-    ∙ ap (account_now b slot) (leave_here slot (now_of b) (tenant_at b slot))
-    ∙ left_account b slot (tenant_at b slot) (tenants slot) terms since is
+    → server_at (with_mark b (Leave slot)) slot ≡ held (server_at b slot) (now_of b)
+leave_server b slot terms since tenants is =
+    server_at-mark b (Leave slot) slot
+    ∙ ap (server_now b slot) (leave_here slot (now_of b) (tenant_at b slot))
+    ∙ left_server b slot (tenant_at b slot) (tenants slot) terms since is
 
 pub leave_others : (b : Ledger) (slot other : ℕ) → other ≢ slot
-    → account_at (with_mark b (Leave slot)) other ≡ account_at b other
+    → server_at (with_mark b (Leave slot)) other ≡ server_at b other
 leave_others b slot other ne =
-    account_at-mark b (Leave slot) other
-    ∙ ap (account_now b other) (leave_other slot other (now_of b) (tenant_at b other) ne)
+    server_at-mark b (Leave slot) other
+    ∙ ap (server_now b other) (leave_other slot other (now_of b) (tenant_at b other) ne)
 
 pub leave-sound : (b : Ledger) (slot : ℕ) (terms : Terms) (since : ℕ) → HasTenants b
-    → AreSound all_parts 32 (account_at b) → slot < 32 → tenant_at b slot ≡ Sits terms since
-    → AreSound all_parts 32 (account_at (with_mark b (Leave slot)))
-leave-sound b slot terms since tenants kept lt is = elim (held_or_not (account_at b slot) (now_of b)) [
-  | inl e ↦ leaving-sound all_parts 32 slot (account_at b) (account_at (with_mark b (Leave slot))) kept lt
-      (leave_account b slot terms since tenants is ∙ e) (leave_others b slot)
-  | inr e ↦ freeing-sound all_parts 32 slot (account_at b) (account_at (with_mark b (Leave slot))) kept lt
-      (leave_account b slot terms since tenants is ∙ e.1) (leave_others b slot)
+    → AreSound all_parts 32 (server_at b) → slot < 32 → tenant_at b slot ≡ Sits terms since
+    → AreSound all_parts 32 (server_at (with_mark b (Leave slot)))
+leave-sound b slot terms since tenants kept lt is = elim (held_or_not (server_at b slot) (now_of b)) [
+  | inl e ↦ leaving-sound all_parts 32 slot (server_at b) (server_at (with_mark b (Leave slot))) kept lt
+      (leave_server b slot terms since tenants is ∙ e) (leave_others b slot)
+  | inr e ↦ freeing-sound all_parts 32 slot (server_at b) (server_at (with_mark b (Leave slot))) kept lt
+      (leave_server b slot terms since tenants is ∙ e.1) (leave_others b slot)
 ]
 
 pub leave-room : (b : Ledger) (slot : ℕ) (terms : Terms) (since : ℕ) → HasTenants b
-    → HaveRoom all_parts 32 (account_at b) (now_of b) → slot < 32 → tenant_at b slot ≡ Sits terms since
-    → HaveRoom all_parts 32 (account_at (with_mark b (Leave slot))) (now_of b)
-leave-room b slot terms since tenants kept lt is = elim (held_or_not (account_at b slot) (now_of b)) [
-  | inl e ↦ leaving-room all_parts 32 slot (now_of b) (account_at b) (account_at (with_mark b (Leave slot)))
+    → HaveRoom all_parts 32 (server_at b) (now_of b) → slot < 32 → tenant_at b slot ≡ Sits terms since
+    → HaveRoom all_parts 32 (server_at (with_mark b (Leave slot))) (now_of b)
+leave-room b slot terms since tenants kept lt is = elim (held_or_not (server_at b slot) (now_of b)) [
+  | inl e ↦ leaving-room all_parts 32 slot (now_of b) (server_at b) (server_at (with_mark b (Leave slot)))
       kept lt
-      (leave_account b slot terms since tenants is ∙ e) (leave_others b slot)
-  | inr e ↦ freeing-room all_parts 32 slot (now_of b) (account_at b) (account_at (with_mark b (Leave slot)))
+      (leave_server b slot terms since tenants is ∙ e) (leave_others b slot)
+  | inr e ↦ freeing-room all_parts 32 slot (now_of b) (server_at b) (server_at (with_mark b (Leave slot)))
       kept lt
-      e.0 (leave_account b slot terms since tenants is ∙ e.1) (leave_others b slot)
+      e.0 (leave_server b slot terms since tenants is ∙ e.1) (leave_others b slot)
 ]
 
 -- a settling
-abbrev pub StartsAnew : (new old : Account) → ℕ → Type 0
+abbrev pub StartsAnew : (new old : Server) → ℕ → Type 0
 StartsAnew new old now = (new ≡ vacant) ⊎ (new ≡ fresh old now)
 
 settle_case : (b : Ledger) (slot : ℕ) (tenant : Tenant) → IsTenant tenant (now_of b)
-    → StartsAnew (account_now b slot (after_settling (now_of b) tenant)) (account_now b slot tenant)
+    → StartsAnew (server_now b slot (after_settling (now_of b) tenant)) (server_now b slot tenant)
     (now_of b)
 settle_case b slot Vacant is = inl refl
 settle_case b slot (Sits (Res hard x y) since) is =
-    inr (seated_account x y (now_of b) (asked b slot) (served b slot)
-    (account_now b slot (Sits (Res hard x y) since))
+    inr (seated_server x y (now_of b) (asked b slot) (served b slot)
+    (server_now b slot (Sits (Res hard x y) since))
     refl refl refl)
 settle_case b slot (Left terms since at) is = inl refl
 settle_case b slot (Sits _ since) is = absurd is.0
 
 pub settle_slot : (b : Ledger) (slot : ℕ) → HasTenants b
-    → StartsAnew (account_at (with_mark b Settle) slot) (account_at b slot) (now_of b)
+    → StartsAnew (server_at (with_mark b Settle) slot) (server_at b slot) (now_of b)
 settle_slot b slot tenants = elim (settle_case b slot (tenant_at b slot) (tenants slot)) [
-  | inl e ↦ inl (account_at-mark b Settle slot ∙ e)
-  | inr e ↦ inr (account_at-mark b Settle slot ∙ e)
+  | inl e ↦ inl (server_at-mark b Settle slot ∙ e)
+  | inr e ↦ inr (server_at-mark b Settle slot ∙ e)
 ]
 
-pub settle-sound : (b : Ledger) → HasTenants b → AreSound all_parts 32 (account_at b)
-    → AreSound all_parts 32 (account_at (with_mark b Settle))
+pub settle-sound : (b : Ledger) → HasTenants b → AreSound all_parts 32 (server_at b)
+    → AreSound all_parts 32 (server_at (with_mark b Settle))
 settle-sound b tenants kept =
-    settling-sound all_parts 32 (now_of b) (account_at b) (account_at (with_mark b Settle)) kept
+    settling-sound all_parts 32 (now_of b) (server_at b) (server_at (with_mark b Settle)) kept
     (λ slot lt. settle_slot b slot tenants)
 
-pub settle-room : (b : Ledger) → HasTenants b → HaveRoom all_parts 32 (account_at (with_mark b Settle))
+pub settle-room : (b : Ledger) → HasTenants b → HaveRoom all_parts 32 (server_at (with_mark b Settle))
     (now_of b)
 settle-room b tenants =
-    settling-room all_parts 32 (now_of b) (account_at b) (account_at (with_mark b Settle))
+    settling-room all_parts 32 (now_of b) (server_at b) (server_at (with_mark b Settle))
     (λ slot lt. settle_slot b slot tenants)
 
 -- who has the slots

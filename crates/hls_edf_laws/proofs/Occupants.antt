@@ -1,4 +1,4 @@
--- What takes up a slot, by its account.
+-- What takes up a slot, by its server.
 use Rattle.std.proofs.Common.{◌≡◌, ◌≢◌, ℕ, ◌-◌, ◌<◌, ◌≤◌, refl, sym, arith, ap, Bool}
 use Rattle.std.proofs.Common.{true, false}
 use Rattle.std.proofs.Common.{Option, Some, None}
@@ -17,13 +17,13 @@ use Rattle.hls_chron.specs.Parts.{parts}
 use Rattle.hls_kinds.specs.Reservations.{is_held, is_held_in}
 use Rattle.hls_kinds.specs.Room.{terms_left, occupant_at, parts_in, room_used}
 use Rattle.hls_kinds.proofs.TenantLaws.{seated_in, seated-terms}
-use Rattle.hls_edf_laws.specs.declared.account.Account.{Account}
-use Rattle.hls_edf_laws.specs.Accounts.{vacant, marked}
-use Rattle.hls_edf_laws.specs.Recomputed.{account_before}
-use Rattle.hls_edf_laws.specs.Books.{held, account_at, IsTenant}
+use Rattle.hls_edf_laws.specs.declared.server.Server.{Server}
+use Rattle.hls_edf_laws.specs.Servers.{vacant, marked}
+use Rattle.hls_edf_laws.specs.Recomputed.{server_before}
+use Rattle.hls_edf_laws.specs.Books.{held, server_at, IsTenant}
 use Rattle.hls_edf_laws.proofs.Parts.{parts-paid}
 use Rattle.hls_edf_laws.proofs.Sums.{sum-eq}
-use Rattle.hls_edf_laws.proofs.RowSteps.{account_now, HasTenants}
+use Rattle.hls_edf_laws.proofs.RowSteps.{server_now, HasTenants}
 
 abbrev pub occupant_of : Ledger → ℕ → Tenant → Option Terms
 occupant_of b slot tenant = if is_held_in b slot tenant then terms_left tenant else seated_in tenant
@@ -32,32 +32,32 @@ pub occupant-is : (b : Ledger) (slot : ℕ) → occupant_at Edf b slot ≡ occup
 unfolding is_held
 occupant-is b slot = rw (← seated-terms b slot) refl
 
--- a slot is free, or its account has parts
-pub record IsTaken (occupant : Option Terms) (account : Account) : Type 0 where
+-- a slot is free, or its server has parts
+pub record IsTaken (occupant : Option Terms) (server : Server) : Type 0 where
   pub some : occupant ≢ None
-  pub paid : 0 < account.parts
-  pub parts : parts_in occupant ≡ account.parts
+  pub paid : 0 < server.parts
+  pub parts : parts_in occupant ≡ server.parts
 
-pub record IsVacant (occupant : Option Terms) (account : Account) : Type 0 where
+pub record IsVacant (occupant : Option Terms) (server : Server) : Type 0 where
   pub none : occupant ≡ None
-  pub vacant : account ≡ vacant
+  pub vacant : server ≡ vacant
 
-pub data Occupied (occupant : Option Terms) (account : Account) : Type 0 where
-  taken : IsTaken occupant account → Occupied occupant account
-  free : IsVacant occupant account → Occupied occupant account
+pub data Occupied (occupant : Option Terms) (server : Server) : Type 0 where
+  taken : IsTaken occupant server → Occupied occupant server
+  free : IsVacant occupant server → Occupied occupant server
 
 some_none : (terms : Terms) → Some terms ≢ None
 some_none terms e = cc
 
-taken_by : (hard : Bool) (x y : ℕ) (account : Account) → 0 < x → x ≤ y → account.parts ≡ parts x y
-    → Occupied (Some (Res hard x y)) account
-taken_by hard x y account some narrow is = taken (record {
+taken_by : (hard : Bool) (x y : ℕ) (server : Server) → 0 < x → x ≤ y → server.parts ≡ parts x y
+    → Occupied (Some (Res hard x y)) server
+taken_by hard x y server some narrow is = taken (record {
   some = some_none (Res hard x y);
   paid = rw is (parts-paid x y some narrow);
   parts = sym is;
 })
 
-held_case : (hard : Bool) (x y : ℕ) (c : Account) (now : ℕ) (is : Bool) → nat_lt now c.deadline ≡ is → 0 < x
+held_case : (hard : Bool) (x y : ℕ) (c : Server) (now : ℕ) (is : Bool) → nat_lt now c.deadline ≡ is → 0 < x
     → x ≤ y
     → c.parts ≡ parts x y
     → Occupied (if is then Some (Res hard x y) else None) (if is then marked c false else vacant)
@@ -65,57 +65,57 @@ held_case hard x y c now true is some narrow same = taken_by hard x y (marked c 
 held_case hard x y c now false is some narrow same = free (record { none = refl; vacant = refl })
 
 occupied_case : (b : Ledger) (slot : ℕ) (tenant : Tenant) → IsTenant tenant (now_of b)
-    → Occupied (occupant_of b slot tenant) (account_now b slot tenant)
+    → Occupied (occupant_of b slot tenant) (server_now b slot tenant)
 unfolding held
 occupied_case b slot Vacant is = free (record { none = refl; vacant = refl })
 occupied_case b slot (Sits (Res hard x y) since) is =
-    taken_by hard x y (account_now b slot (Sits (Res hard x y) since)) is.0.0 is.0.1 refl
+    taken_by hard x y (server_now b slot (Sits (Res hard x y) since)) is.0.0 is.0.1 refl
 occupied_case b slot (Left (Res hard x y) since at) is =
     let r : Reservation = record { x = x; y = y; since = since } in
-    held_case hard x y (account_before r (asked b slot) (served b slot) (at - since)) (now_of b) _ refl is.0.0
+    held_case hard x y (server_before r (asked b slot) (served b slot) (at - since)) (now_of b) _ refl is.0.0
     is.0.1
     refl
 occupied_case b slot (Sits _ since) is = absurd is.0
 occupied_case b slot (Left _ since at) is = absurd is.0
 
-pub occupied : (b : Ledger) (slot : ℕ) → HasTenants b → Occupied (occupant_at Edf b slot) (account_at b slot)
+pub occupied : (b : Ledger) (slot : ℕ) → HasTenants b → Occupied (occupant_at Edf b slot) (server_at b slot)
 occupied b slot tenants = rw (occupant-is b slot) (occupied_case b slot (tenant_at b slot) (tenants slot))
 
-free_if : (occupant : Option Terms) (account : Account) → Occupied occupant account → account.parts ≡ 0
+free_if : (occupant : Option Terms) (server : Server) → Occupied occupant server → server.parts ≡ 0
     → occupant ≡ None
-free_if occupant account (taken is) none = absurd (omega (arith, is.paid, none))
-free_if occupant account (free is) none = is.none
+free_if occupant server (taken is) none = absurd (omega (arith, is.paid, none))
+free_if occupant server (free is) none = is.none
 
-taken_if : (occupant : Option Terms) (account : Account) → Occupied occupant account → account.parts ≢ 0
+taken_if : (occupant : Option Terms) (server : Server) → Occupied occupant server → server.parts ≢ 0
     → occupant ≢ None
-taken_if occupant account (taken is) some = is.some
-taken_if occupant account (free is) some = λ none. some (ap (λ (c : Account). c.parts) is.vacant)
+taken_if occupant server (taken is) some = is.some
+taken_if occupant server (free is) some = λ none. some (ap (λ (c : Server). c.parts) is.vacant)
 
-vacant_if : (occupant : Option Terms) (account : Account) → Occupied occupant account → occupant ≡ None
-    → account ≡ vacant
-vacant_if occupant account (taken is) none = absurd (is.some none)
-vacant_if occupant account (free is) none = is.vacant
+vacant_if : (occupant : Option Terms) (server : Server) → Occupied occupant server → occupant ≡ None
+    → server ≡ vacant
+vacant_if occupant server (taken is) none = absurd (is.some none)
+vacant_if occupant server (free is) none = is.vacant
 
-parts_if : (occupant : Option Terms) (account : Account) → Occupied occupant account
-    → parts_in occupant ≡ account.parts
-parts_if occupant account (taken is) = is.parts
-parts_if occupant account (free is) = rw (is.none, is.vacant) refl
+parts_if : (occupant : Option Terms) (server : Server) → Occupied occupant server
+    → parts_in occupant ≡ server.parts
+parts_if occupant server (taken is) = is.parts
+parts_if occupant server (free is) = rw (is.none, is.vacant) refl
 
-pub slot-free : (b : Ledger) (slot : ℕ) → HasTenants b → (account_at b slot).parts ≡ 0
+pub slot-free : (b : Ledger) (slot : ℕ) → HasTenants b → (server_at b slot).parts ≡ 0
     → occupant_at Edf b slot ≡ None
-slot-free b slot tenants none = free_if _ (account_at b slot) (occupied b slot tenants) none
+slot-free b slot tenants none = free_if _ (server_at b slot) (occupied b slot tenants) none
 
-pub slot-taken : (b : Ledger) (slot : ℕ) → HasTenants b → (account_at b slot).parts ≢ 0
+pub slot-taken : (b : Ledger) (slot : ℕ) → HasTenants b → (server_at b slot).parts ≢ 0
     → occupant_at Edf b slot ≢ None
-slot-taken b slot tenants some = taken_if _ (account_at b slot) (occupied b slot tenants) some
+slot-taken b slot tenants some = taken_if _ (server_at b slot) (occupied b slot tenants) some
 
-pub slot-vacant : (b : Ledger) (slot : ℕ) → HasTenants b → occupant_at Edf b slot ≡ None → account_at b slot
+pub slot-vacant : (b : Ledger) (slot : ℕ) → HasTenants b → occupant_at Edf b slot ≡ None → server_at b slot
     ≡ vacant
-slot-vacant b slot tenants none = vacant_if (occupant_at Edf b slot) (account_at b slot)
+slot-vacant b slot tenants none = vacant_if (occupant_at Edf b slot) (server_at b slot)
     (occupied b slot tenants) none
 
 pub room-used : (b : Ledger) → HasTenants b
-    → room_used Edf b ≡ sum_below (λ slot. (account_at b slot).parts) 32
-room-used b tenants = sum-eq (λ slot. parts_in (occupant_at Edf b slot)) (λ slot. (account_at b slot).parts)
+    → room_used Edf b ≡ sum_below (λ slot. (server_at b slot).parts) 32
+room-used b tenants = sum-eq (λ slot. parts_in (occupant_at Edf b slot)) (λ slot. (server_at b slot).parts)
     32
-    (λ slot lt. parts_if (occupant_at Edf b slot) (account_at b slot) (occupied b slot tenants))
+    (λ slot lt. parts_if (occupant_at Edf b slot) (server_at b slot) (occupied b slot tenants))

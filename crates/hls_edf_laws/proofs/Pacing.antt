@@ -1,4 +1,4 @@
--- How each account keeps its pace, and that the deadline of a seat that asks lies ahead.
+-- How each server keeps its pace, and that the deadline of a seat that asks lies ahead.
 use Rattle.std.proofs.Common.{◌≡◌, ◌≢◌, ℕ, ◌+◌, ◌-◌, ◌<◌, ◌≤◌, zero, suc, refl, sym, arith, inl, inr, ap, ◌∙◌}
 use Rattle.std.proofs.Common.{Bool, true, false, subst}
 use Rattle.std.specs.Prelude.{if◌then◌else◌}
@@ -6,19 +6,19 @@ use Rattle.std.proofs.lemmas.Bool.{cases_Bool}
 use Rattle.hls_chron.specs.Ticks.{one_if}
 use Rattle.hls_kinds.specs.declared.reservations.Reservation.{Reservation}
 use Rattle.hls_chron.specs.Parts.{all_parts}
-use Rattle.hls_edf_laws.specs.declared.account.Account.{Account}
-use Rattle.hls_edf_laws.specs.Accounts.{marked, charged, replenished, is_due}
-use Rattle.hls_edf_laws.specs.Recomputed.{account_before, account_within}
+use Rattle.hls_edf_laws.specs.declared.server.Server.{Server}
+use Rattle.hls_edf_laws.specs.Servers.{marked, charged, replenished, is_due}
+use Rattle.hls_edf_laws.specs.Recomputed.{server_before, server_within}
 use Rattle.hls_edf_laws.specs.Stays.{IsPaced}
 use Rattle.hls_edf_laws.proofs.Claimed.{due-off-not, due-on-not}
 use Rattle.hls_edf_laws.proofs.Replenishing.{replenished-off, replenished-set, replenished-kept}
 use Rattle.hls_edf_laws.proofs.Deadlines.{last-zero, within_is, before_is}
 
 -- each event keeps the pace
-pub paced-marked : (c : Account) (now : ℕ) (on : Bool) → IsPaced c now → IsPaced (marked c on) now
+pub paced-marked : (c : Server) (now : ℕ) (on : Bool) → IsPaced c now → IsPaced (marked c on) now
 paced-marked c now on p = record { narrow = p.narrow; near = p.near; small = p.small; paced = p.paced }
 
-pub paced-replenished : (whole : ℕ) (c : Account) (asks : Bool) (now : ℕ) → IsPaced c now
+pub paced-replenished : (whole : ℕ) (c : Server) (asks : Bool) (now : ℕ) → IsPaced c now
     → IsPaced (replenished whole c asks now) now
 paced-replenished whole c false now p = rw (replenished-off whole c now) (paced-marked c now false p)
 paced-replenished whole c true now p = elim (cases_Bool (is_due whole c now)) [
@@ -28,7 +28,7 @@ paced-replenished whole c true now p = elim (cases_Bool (is_due whole c now)) [
   | inr not ↦ rw (replenished-kept whole c now not) (paced-marked c now true p)
 ]
 
-pub paced-tick : (c : Account) (now : ℕ) → IsPaced c now → IsPaced c (now + 1)
+pub paced-tick : (c : Server) (now : ℕ) → IsPaced c now → IsPaced c (now + 1)
 paced-tick c now p = record {
   narrow = p.narrow;
   near = omega (arith, p.near);
@@ -36,7 +36,7 @@ paced-tick c now p = record {
   paced = omega (arith, p.paced);
 }
 
-pub paced-charged : (c : Account) (now : ℕ) → IsPaced c now → IsPaced (charged c) (now + 1)
+pub paced-charged : (c : Server) (now : ℕ) → IsPaced c now → IsPaced (charged c) (now + 1)
 paced-charged c now p = record {
   narrow = p.narrow;
   near = omega (arith, p.near);
@@ -44,40 +44,40 @@ paced-charged c now p = record {
   paced = omega (arith, p.paced, p.narrow);
 }
 
--- each account keeps its pace
+-- each server keeps its pace
 paced_start : (s : Reservation) (asks serves : ℕ → Bool) → s.x ≤ s.y
-    → IsPaced (account_before s asks serves 0) (s.since + 0)
+    → IsPaced (server_before s asks serves 0) (s.since + 0)
 paced_start s asks serves le = rw (last-zero s asks serves)
     (record { narrow = le; near = omega arith; small = omega arith; paced = omega arith })
 
 pub paced_within : (s : Reservation) (asks serves : ℕ → Bool) (n : ℕ)
-    → IsPaced (account_before s asks serves n) (s.since + n) → IsPaced (account_within s asks serves n)
+    → IsPaced (server_before s asks serves n) (s.since + n) → IsPaced (server_within s asks serves n)
     (s.since + n)
-paced_within s asks serves n p = subst (λ (c : Account). IsPaced c (s.since + n)) (within_is s asks serves n)
-    (paced-replenished all_parts (account_before s asks serves n) (asks (s.since + n)) (s.since + n) p)
+paced_within s asks serves n p = subst (λ (c : Server). IsPaced c (s.since + n)) (within_is s asks serves n)
+    (paced-replenished all_parts (server_before s asks serves n) (asks (s.since + n)) (s.since + n) p)
 
-paced_after : (c : Account) (g : Bool) (t : ℕ) → IsPaced c t → IsPaced (if g then charged c else c) (t + 1)
+paced_after : (c : Server) (g : Bool) (t : ℕ) → IsPaced c t → IsPaced (if g then charged c else c) (t + 1)
 paced_after c true t p = paced-charged c t p
 paced_after c false t p = paced-tick c t p
 
 pub paced_before : (s : Reservation) (asks serves : ℕ → Bool) (n : ℕ) → s.x ≤ s.y
     → ((m : ℕ) → m < n → serves (s.since + m) ≡ true → asks (s.since + m) ≡ true)
-    → IsPaced (account_before s asks serves n) (s.since + n)
+    → IsPaced (server_before s asks serves n) (s.since + n)
 paced_before s asks serves zero le sure = paced_start s asks serves le
 paced_before s asks serves (suc n) le sure =
     let p = paced_within s asks serves n (paced_before s asks serves n le (λ m lt. sure m (omega arith))) in
-    let a = paced_after (account_within s asks serves n) (serves (s.since + n)) (s.since + n) p in
+    let a = paced_after (server_within s asks serves n) (serves (s.since + n)) (s.since + n) p in
     let step : s.since + n + 1 ≡ s.since + suc n = omega arith in
-    subst (λ (c : Account). IsPaced c (s.since + suc n))
+    subst (λ (c : Server). IsPaced c (s.since + suc n))
     (sym (before_is s asks serves n (sure n (omega arith)))) (rw step at a)
 
 -- one tick of a run
-pub after_q : (c : Account) (g : Bool) → (if g then charged c else c).budget ≡ c.budget - one_if g
+pub after_q : (c : Server) (g : Bool) → (if g then charged c else c).budget ≡ c.budget - one_if g
 after_q c true = refl
 after_q c false = omega arith
 
 -- the deadline of a seat that asks is ahead, by the recomputed deadline alone
-replenished_later : (whole : ℕ) (c : Account) (now : ℕ) → 0 < c.y → (c.asked ≡ true → now ≤ c.deadline)
+replenished_later : (whole : ℕ) (c : Server) (now : ℕ) → 0 < c.y → (c.asked ≡ true → now ≤ c.deadline)
     → now + 1 ≤ (replenished whole c true now).deadline
 replenished_later whole c now wide ahead = elim (cases_Bool (is_due whole c now)) [
   | inl is ↦ rw (replenished-set whole c now is) (omega arith)
@@ -92,24 +92,24 @@ replenished_later whole c now wide ahead = elim (cases_Bool (is_due whole c now)
 ]
 
 pub before_ahead : (s : Reservation) (asks serves : ℕ → Bool) (m : ℕ) → 0 < s.y
-    → (account_before s asks serves m).asked ≡ true → s.since + m ≤ (account_before s asks serves m).deadline
+    → (server_before s asks serves m).asked ≡ true → s.since + m ≤ (server_before s asks serves m).deadline
 before_ahead s asks serves zero wide asked = absurd (cc)
 before_ahead s asks serves (suc m) wide on =
-    let w : replenished all_parts (account_before s asks serves m) true (s.since + m) ≡ account_within s asks
-    serves m = ap (λ v. replenished all_parts (account_before s asks serves m) v (s.since + m)) (sym on)
+    let w : replenished all_parts (server_before s asks serves m) true (s.since + m) ≡ server_within s asks
+    serves m = ap (λ v. replenished all_parts (server_before s asks serves m) v (s.since + m)) (sym on)
     ∙ within_is s asks serves m in
-    let later = replenished_later all_parts (account_before s asks serves m) (s.since + m) wide
+    let later = replenished_later all_parts (server_before s asks serves m) (s.since + m) wide
     (before_ahead s asks serves m wide) in
-    let same = ap (λ (c : Account). c.deadline) w in
+    let same = ap (λ (c : Server). c.deadline) w in
     omega (arith, later, same)
 
 pub within_ahead : (s : Reservation) (asks serves : ℕ → Bool) (m : ℕ) → 0 < s.y → asks (s.since + m) ≡ true
-    → s.since + m + 1 ≤ (account_within s asks serves m).deadline
+    → s.since + m + 1 ≤ (server_within s asks serves m).deadline
 within_ahead s asks serves m wide on =
-    let w : replenished all_parts (account_before s asks serves m) true (s.since + m) ≡ account_within s asks
-    serves m = ap (λ v. replenished all_parts (account_before s asks serves m) v (s.since + m)) (sym on)
+    let w : replenished all_parts (server_before s asks serves m) true (s.since + m) ≡ server_within s asks
+    serves m = ap (λ v. replenished all_parts (server_before s asks serves m) v (s.since + m)) (sym on)
     ∙ within_is s asks serves m in
-    let later = replenished_later all_parts (account_before s asks serves m) (s.since + m) wide
+    let later = replenished_later all_parts (server_before s asks serves m) (s.since + m) wide
     (before_ahead s asks serves m wide) in
-    let same = ap (λ (c : Account). c.deadline) w in
+    let same = ap (λ (c : Server). c.deadline) w in
     omega (arith, later, same)

@@ -10,17 +10,17 @@ use Rattle.hls_kinds.specs.declared.reservations.Reservation.{Reservation}
 use Rattle.hls_kinds.specs.Reservations.{deadline_after, budget_after}
 use Rattle.hls_guarantee.specs.declared.Guarantee.TheVariants.{Resb}
 use Rattle.hls_guarantee.specs.Satisfaction.{Satisfies, IsReserved, InPiece}
-use Rattle.hls_edf_laws.specs.Recomputed.{account_within}
+use Rattle.hls_edf_laws.specs.Recomputed.{server_within}
 use Rattle.hls_edf_laws.specs.Stays.{EachTick, EachHard}
 use Rattle.hls_edf_laws.proofs.Runs.{IsLast, AsksOn, last_there, run_phase, run_stays}
 
 -- what the budget and the deadline are by the last replenishment
 budget_is : (r : Reservation) (asks serves : ℕ → Bool) (n l : ℕ) → IsLast r asks serves n l
-    → (account_within r asks serves n).budget ≡ r.x - count serves l (r.since + n - l)
+    → (server_within r asks serves n).budget ≡ r.x - count serves l (r.since + n - l)
 budget_is r asks serves n l is = ap (λ last. budget_after r serves last (r.since + n)) is.last
 
 deadline_is : (r : Reservation) (asks serves : ℕ → Bool) (n l : ℕ) → IsLast r asks serves n l
-    → (account_within r asks serves n).deadline ≡ l + r.y
+    → (server_within r asks serves n).deadline ≡ l + r.y
 deadline_is r asks serves n l is = ap (deadline_after r) is.last
 
 -- m + 1 ticks from the nth since on, up to the deadline

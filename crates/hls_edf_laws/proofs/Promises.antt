@@ -24,10 +24,10 @@ use Rattle.hls_guarantee.specs.Supply.{Supplies}
 use Rattle.hls_guarantee.specs.Steps.{LendsByTerms, LendsNothing}
 use Rattle.hls_promise.specs.Promise as promises
 use Rattle.hls_promise.specs.Promise.{given, asked_by, KeepsPromise}
-use Rattle.hls_edf_laws.specs.declared.account.Account.{Account}
-use Rattle.hls_edf_laws.specs.Accounts.{AreSound, HaveRoom, vacant, claimed_by}
-use Rattle.hls_edf_laws.specs.Recomputed.{account_within}
-use Rattle.hls_edf_laws.specs.Books.{account_at, IsGiven, IsTenant, KeepsReservations, ReachesDeadline}
+use Rattle.hls_edf_laws.specs.declared.server.Server.{Server}
+use Rattle.hls_edf_laws.specs.Servers.{AreSound, HaveRoom, vacant, claimed_by}
+use Rattle.hls_edf_laws.specs.Recomputed.{server_within}
+use Rattle.hls_edf_laws.specs.Books.{server_at, IsGiven, IsTenant, KeepsReservations, ReachesDeadline}
 use Rattle.hls_edf_laws.proofs.Sums.{sum-eq}
 use Rattle.hls_edf_laws.proofs.Claimed.{due-vacant}
 use Rattle.hls_chron.proofs.PartLaws.{parts-rate, parts-near}
@@ -35,7 +35,7 @@ use Rattle.hls_edf_laws.proofs.Parts.{parts-big}
 use Rattle.hls_edf_laws.proofs.Deadlines.{count_more, last_before}
 use Rattle.hls_edf_laws.proofs.Caps.{cap}
 use Rattle.hls_edf_laws.proofs.Pieces.{run_satisfies}
-use Rattle.hls_edf_laws.proofs.RowSteps.{account_now}
+use Rattle.hls_edf_laws.proofs.RowSteps.{server_now}
 use Rattle.hls_edf_laws.proofs.Each.{sits, seat_is}
 
 -- a book that begins
@@ -56,32 +56,32 @@ served-unwritten : (b : Ledger) (slot t : ℕ) → b.rows ≡ [] → served b sl
 unfolding served
 served-unwritten b slot t unwritten = rw (row_at-unwritten b t unwritten) refl
 
-pub account_at-unmarked : (b : Ledger) (slot : ℕ) → b.marks ≡ [] → account_at b slot ≡ vacant
-account_at-unmarked b slot unmarked = ap (account_now b slot) (tenant_at-unmarked b slot unmarked)
+pub server_at-unmarked : (b : Ledger) (slot : ℕ) → b.marks ≡ [] → server_at b slot ≡ vacant
+server_at-unmarked b slot unmarked = ap (server_now b slot) (tenant_at-unmarked b slot unmarked)
 
 no_sits : (b : Ledger) (slot : ℕ) (r : Reservation) (hard : Bool) → b.marks ≡ [] → tenant_at b slot
     ≡ sits r hard → ⊥
 no_sits b slot r hard unmarked sat = let none = tenant_at-unmarked b slot unmarked in cc
 
-new-sound : (b : Ledger) → b.marks ≡ [] → AreSound all_parts 32 (account_at b)
+new-sound : (b : Ledger) → b.marks ≡ [] → AreSound all_parts 32 (server_at b)
 new-sound b unmarked = record {
   fits =
-      let same = sum-eq (λ slot. (account_at b slot).parts) (λ slot. 0) 32
-      (λ slot lt. ap (λ (c : Account). c.parts) (account_at-unmarked b slot unmarked)) in
+      let same = sum-eq (λ slot. (server_at b slot).parts) (λ slot. 0) 32
+      (λ slot lt. ap (λ (c : Server). c.parts) (server_at-unmarked b slot unmarked)) in
       omega (arith, same, sum-nothing 32);
-  sound = λ slot lt. rw (account_at-unmarked b slot unmarked) (record {
+  sound = λ slot lt. rw (server_at-unmarked b slot unmarked) (record {
     small = omega arith;
     rate = omega arith;
     live = λ e. absurd (cc);
   });
 }
 
-new-room : (b : Ledger) → b.marks ≡ [] → HaveRoom all_parts 32 (account_at b) (now_of b)
+new-room : (b : Ledger) → b.marks ≡ [] → HaveRoom all_parts 32 (server_at b) (now_of b)
 new-room b unmarked = record {
   room = λ bound le.
-      let same = sum-eq (λ slot. claimed_by all_parts (account_at b slot) (now_of b) bound) (λ slot. 0) 32
-      (λ slot lt. ap (λ (c : Account). claimed_by all_parts c (now_of b) bound)
-      (account_at-unmarked b slot unmarked)
+      let same = sum-eq (λ slot. claimed_by all_parts (server_at b slot) (now_of b) bound) (λ slot. 0) 32
+      (λ slot lt. ap (λ (c : Server). claimed_by all_parts c (now_of b) bound)
+      (server_at-unmarked b slot unmarked)
       ∙ due-vacant all_parts (now_of b) bound) in
       omega (arith, same, sum-nothing 32);
 }
@@ -108,10 +108,10 @@ demand : (b : Ledger) (slot : ℕ) (hard : Bool) (r : Reservation) (n last : ℕ
     → (last + r.y ≡ r.since + n + 1) × (budget_after r (served b slot) (Some last) (r.since + n + 1) ≡ 0)
 demand b slot hard r n last keeps given sat before on is reached =
     let fits = (keeps.each given slot hard r sat).fits n before on in
-    let budget : (account_within r (asked b slot) (served b slot) n).budget
+    let budget : (server_within r (asked b slot) (served b slot) n).budget
     ≡ r.x - count (served b slot) last (r.since + n - last) =
     ap (λ l. budget_after r (served b slot) l (r.since + n)) is in
-    let deadline : (account_within r (asked b slot) (served b slot) n).deadline ≡ last + r.y =
+    let deadline : (server_within r (asked b slot) (served b slot) n).deadline ≡ last + r.y =
     ap (deadline_after r) is in
     let le : last ≤ r.since + n = omega (arith, last_before r (asked b slot) (served b slot) (suc n) last is)
     in

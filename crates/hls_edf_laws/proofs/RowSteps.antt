@@ -14,11 +14,11 @@ use Rattle.hls_kinds.specs.Tenants.{tenant_at}
 use Rattle.hls_chron.specs.Parts.{all_parts}
 use Rattle.hls_kinds.specs.Asks.{slot_asks}
 use Rattle.hls_kinds.proofs.TenantLaws.{seated_in}
-use Rattle.hls_edf_laws.specs.declared.account.Account.{Account}
-use Rattle.hls_edf_laws.specs.Accounts.{AreSound, HaveRoom, vacant, charged, replenished}
+use Rattle.hls_edf_laws.specs.declared.server.Server.{Server}
+use Rattle.hls_edf_laws.specs.Servers.{AreSound, HaveRoom, vacant, charged, replenished}
 use Rattle.hls_edf_laws.specs.Choosing.{IsChosen, IsTick}
-use Rattle.hls_edf_laws.specs.Recomputed.{account_before}
-use Rattle.hls_edf_laws.specs.Books.{held, account_of, account_at, amid_at, IsTenant}
+use Rattle.hls_edf_laws.specs.Recomputed.{server_before}
+use Rattle.hls_edf_laws.specs.Books.{held, server_of, server_at, amid_at, IsTenant}
 use Rattle.hls_edf_laws.proofs.Replenishing.{replenished-off, replenished-on, replenishing-sound}
 use Rattle.hls_edf_laws.proofs.Replenishing.{replenishing-room}
 use Rattle.hls_edf_laws.proofs.Ticking.{ticking-sound, ticking-room}
@@ -27,12 +27,12 @@ use Rattle.hls_edf_laws.proofs.Budgets.{replenished_ahead}
 use Rattle.hls_edf_laws.proofs.Parts.{parts-paid}
 use Rattle.hls_edf_laws.proofs.Rows.{slot-is, slot-not, is-slot, tenant_at-row, sits_row, left_row, held_off}
 
--- the account of a slot where it has this tenant
-abbrev pub account_now : Ledger → ℕ → Tenant → Account
-account_now b slot tenant = account_of tenant (asked b slot) (served b slot) (now_of b)
+-- the server of a slot where it has this tenant
+abbrev pub server_now : Ledger → ℕ → Tenant → Server
+server_now b slot tenant = server_of tenant (asked b slot) (served b slot) (now_of b)
 
 -- after the tick of a row
-abbrev pub after_tick : (to_it asks : Bool) → Account → ℕ → Account
+abbrev pub after_tick : (to_it asks : Bool) → Server → ℕ → Server
 after_tick to_it asks old now =
     if to_it then charged (replenished all_parts old asks now) else replenished all_parts old asks now
 
@@ -41,17 +41,17 @@ pub record IsAsking (b : Ledger) (row : TickRow) : Type 0 where
   pub seats : (slot : ℕ) → slot_asks row.mask slot ≡ true → seated_in (tenant_at b slot) ≢ None
   pub asks : (slot : ℕ) → row.to ≡ Some slot → slot_asks row.mask slot ≡ true
 
--- the account goes on, or it was held and ends
-abbrev pub GoesOn : (tick new : Account) → ℕ → Type 0
+-- the server goes on, or it was held and ends
+abbrev pub GoesOn : (tick new : Server) → ℕ → Type 0
 GoesOn tick new now = (new ≡ tick) ⊎ ((tick.deadline ≤ now + 1) × (new ≡ vacant))
 
-silent_row : (old new : Account) (to_it asks : Bool) (now : ℕ) → asks ≡ false → (to_it ≡ true → asks ≡ true)
+silent_row : (old new : Server) (to_it asks : Bool) (now : ℕ) → asks ≡ false → (to_it ≡ true → asks ≡ true)
     → replenished all_parts old false now ≡ old → GoesOn old new now → GoesOn (after_tick to_it asks old now)
     new now
 silent_row old new true asks now off sure same goes = absurd (let on = sure refl in cc)
 silent_row old new false asks now off sure same goes = rw (off, same) goes
 
-idle_row : (old new : Account) (to_it asks : Bool) (now : ℕ) → (asks ≡ true → ⊥)
+idle_row : (old new : Server) (to_it asks : Bool) (now : ℕ) → (asks ≡ true → ⊥)
     → (to_it ≡ true → asks ≡ true)
     → replenished all_parts old false now ≡ old → GoesOn old new now → GoesOn (after_tick to_it asks old now)
     new now
@@ -61,9 +61,9 @@ idle_row old new to_it false now none sure same goes = silent_row old new to_it 
 slot_case : (b : Ledger) (row : TickRow) (slot : ℕ) (tenant : Tenant) → IsTenant tenant (now_of b)
     → (slot_asks row.mask slot ≡ true → seated_in tenant ≢ None)
     → (is_slot row.to slot ≡ true → slot_asks row.mask slot ≡ true)
-    → GoesOn (after_tick (is_slot row.to slot) (slot_asks row.mask slot) (account_now b slot tenant)
+    → GoesOn (after_tick (is_slot row.to slot) (slot_asks row.mask slot) (server_now b slot tenant)
     (now_of b))
-    (account_now (with_row b row) slot tenant) (now_of b)
+    (server_now (with_row b row) slot tenant) (now_of b)
 slot_case b row slot Vacant is seat sure =
     idle_row vacant vacant (is_slot row.to slot) (slot_asks row.mask slot) (now_of b) (λ on. seat on refl)
     sure
@@ -72,7 +72,7 @@ slot_case b row slot (Sits (Res hard x y) since) is seat sure =
     inl (sits_row b row slot (record { x = x; y = y; since = since }) is.1 sure)
 slot_case b row slot (Left (Res hard x y) since at) is seat sure =
     let r : Reservation = record { x = x; y = y; since = since } in
-    let old : Account = account_before r (asked b slot) (served b slot) (at - since) in
+    let old : Server = server_before r (asked b slot) (served b slot) (at - since) in
     idle_row (held old (now_of b)) _ (is_slot row.to slot) (slot_asks row.mask slot) (now_of b)
     (λ on. seat on refl)
     sure (replenished-off all_parts (held old (now_of b)) (now_of b) ∙ held_off old (now_of b))
@@ -82,7 +82,7 @@ slot_case b row slot (Left _ since at) is seat sure = absurd is.0
 
 -- what a seat has
 seat_case : (b : Ledger) (slot : ℕ) (tenant : Tenant) → IsTenant tenant (now_of b) → seated_in tenant ≢ None
-    → (0 < (account_now b slot tenant).parts) × (0 < (account_now b slot tenant).y)
+    → (0 < (server_now b slot tenant).parts) × (0 < (server_now b slot tenant).y)
 seat_case b slot Vacant is seat = absurd (seat refl)
 seat_case b slot (Sits (Res hard x y) since) is seat =
     let some : 0 < x = is.0.0 in let narrow : x ≤ y = is.0.1 in (parts-paid x y some narrow, omega arith)
@@ -93,11 +93,11 @@ seat_case b slot (Sits _ since) is seat = absurd is.0
 abbrev pub HasTenants : Ledger → Type 0
 HasTenants b = (slot : ℕ) → IsTenant (tenant_at b slot) (now_of b)
 
-abbrev pub ticked : Ledger → TickRow → ℕ → Account
+abbrev pub ticked : Ledger → TickRow → ℕ → Server
 ticked b row slot = if is_slot row.to slot then charged (amid_at b row.mask slot) else amid_at b row.mask slot
 
 pub slot_row : (b : Ledger) (row : TickRow) (slot : ℕ) → HasTenants b → IsAsking b row
-    → GoesOn (ticked b row slot) (account_at (with_row b row) slot) (now_of b)
+    → GoesOn (ticked b row slot) (server_at (with_row b row) slot) (now_of b)
 slot_row b row slot tenants is =
     rw (tenant_at-row b row slot) (slot_case b row slot (tenant_at b slot) (tenants slot) (is.seats slot)
     (λ e. is.asks slot (is-slot row.to slot e)))
@@ -109,49 +109,49 @@ tick_is b row = record {
 }
 
 pub live_row : (b : Ledger) (row : TickRow) → HasTenants b → IsAsking b row → (slot : ℕ)
-    → slot_asks row.mask slot ≡ true → (0 < (account_at b slot).parts) × (0 < (account_at b slot).y)
+    → slot_asks row.mask slot ≡ true → (0 < (server_at b slot).parts) × (0 < (server_at b slot).y)
 live_row b row tenants is slot on = seat_case b slot (tenant_at b slot) (tenants slot) (is.seats slot on)
 
 amid_sound : (b : Ledger) (row : TickRow) → HasTenants b → IsAsking b row
-    → AreSound all_parts 32 (account_at b)
+    → AreSound all_parts 32 (server_at b)
     → AreSound all_parts 32 (amid_at b row.mask)
 amid_sound b row tenants is kept =
-    replenishing-sound all_parts 32 (account_at b) (slot_asks row.mask) (now_of b) kept
+    replenishing-sound all_parts 32 (server_at b) (slot_asks row.mask) (now_of b) kept
     (λ slot lt on. (live_row b row tenants is slot on).0)
 
 pub row-sound : (b : Ledger) (row : TickRow) → HasTenants b → IsAsking b row
-    → AreSound all_parts 32 (account_at b)
-    → AreSound all_parts 32 (account_at (with_row b row))
+    → AreSound all_parts 32 (server_at b)
+    → AreSound all_parts 32 (server_at (with_row b row))
 row-sound b row tenants is kept =
     let after : AreSound all_parts 32 (ticked b row) = ticking-sound all_parts 32 (amid_at b row.mask)
     (ticked b row)
     row.to (amid_sound b row tenants is kept) (tick_is b row) in
-    ending-sound all_parts 32 (now_of b + 1) (ticked b row) (account_at (with_row b row)) after
+    ending-sound all_parts 32 (now_of b + 1) (ticked b row) (server_at (with_row b row)) after
     (λ slot lt. slot_row b row slot tenants is)
 
 -- after the replenishments, the deadline of each seat that asks lies ahead
 row_ahead : (b : Ledger) (row : TickRow) → HasTenants b → IsAsking b row
-    → AreSound all_parts 32 (account_at b)
-    → HaveRoom all_parts 32 (account_at b) (now_of b) → (slot : ℕ) → slot < 32
+    → AreSound all_parts 32 (server_at b)
+    → HaveRoom all_parts 32 (server_at b) (now_of b) → (slot : ℕ) → slot < 32
     → (amid_at b row.mask slot).asked ≡ true → now_of b + 1 ≤ (amid_at b row.mask slot).deadline
 row_ahead b row tenants is kept have slot lt on =
     let asks : slot_asks row.mask slot ≡ true =
-    sym (replenished-on all_parts (account_at b slot) (slot_asks row.mask slot) (now_of b)) ∙ on in
-    rw asks (replenished_ahead all_parts 32 (account_at b) (now_of b) slot (omega arith) lt kept have
+    sym (replenished-on all_parts (server_at b slot) (slot_asks row.mask slot) (now_of b)) ∙ on in
+    rw asks (replenished_ahead all_parts 32 (server_at b) (now_of b) slot (omega arith) lt kept have
     (live_row b row tenants is slot asks).1)
 
 pub row-room : (b : Ledger) (row : TickRow) → HasTenants b → IsAsking b row
-    → IsChosen 32 (amid_at b row.mask) row.to → AreSound all_parts 32 (account_at b)
-    → HaveRoom all_parts 32 (account_at b) (now_of b)
-    → HaveRoom all_parts 32 (account_at (with_row b row)) (now_of (with_row b row))
+    → IsChosen 32 (amid_at b row.mask) row.to → AreSound all_parts 32 (server_at b)
+    → HaveRoom all_parts 32 (server_at b) (now_of b)
+    → HaveRoom all_parts 32 (server_at (with_row b row)) (now_of (with_row b row))
 row-room b row tenants is chosen kept have =
     let room : HaveRoom all_parts 32 (amid_at b row.mask) (now_of b) =
-    replenishing-room all_parts 32 (account_at b) (slot_asks row.mask) (now_of b) kept have in
+    replenishing-room all_parts 32 (server_at b) (slot_asks row.mask) (now_of b) kept have in
     let after : HaveRoom all_parts 32 (ticked b row) (now_of b + 1) =
     ticking-room all_parts 32 (amid_at b row.mask) (ticked b row) row.to (now_of b)
     (amid_sound b row tenants is kept) room (row_ahead b row tenants is kept have) chosen (tick_is b row) in
-    let end : HaveRoom all_parts 32 (account_at (with_row b row)) (now_of b + 1) =
-    ending-room all_parts 32 (now_of b + 1) (ticked b row) (account_at (with_row b row)) after
+    let end : HaveRoom all_parts 32 (server_at (with_row b row)) (now_of b + 1) =
+    ending-room all_parts 32 (now_of b + 1) (ticked b row) (server_at (with_row b row)) after
     (λ slot lt. slot_row b row slot tenants is) in
     rw (now_of-row b row) end
 

@@ -1,4 +1,4 @@
--- The accounts of a book after one more row.
+-- The servers of a book after one more row.
 use Rattle.std.proofs.Common.{◌≡◌, ◌≢◌, ℕ, ◌+◌, ◌-◌, ◌≤◌, suc, refl, sym, arith, inl, inr, ap, ◌∙◌, Bool}
 use Rattle.std.proofs.Common.{true}
 use Rattle.std.proofs.Common.{false, Option, Some, None}
@@ -13,12 +13,12 @@ use Rattle.hls_kinds.specs.declared.reservations.Reservation.{Reservation}
 use Rattle.hls_kinds.specs.Tenants.{tenant_at}
 use Rattle.hls_chron.specs.Parts.{all_parts}
 use Rattle.hls_kinds.specs.Asks.{slot_asks}
-use Rattle.hls_edf_laws.specs.declared.account.Account.{Account}
-use Rattle.hls_edf_laws.specs.Accounts.{vacant, marked, charged, replenished}
-use Rattle.hls_edf_laws.specs.Recomputed.{account_before, account_within}
+use Rattle.hls_edf_laws.specs.declared.server.Server.{Server}
+use Rattle.hls_edf_laws.specs.Servers.{vacant, marked, charged, replenished}
+use Rattle.hls_edf_laws.specs.Recomputed.{server_before, server_within}
 use Rattle.hls_edf_laws.specs.Books.{held}
 use Rattle.hls_edf_laws.proofs.Deadlines.{within_is, before_is}
-use Rattle.hls_edf_laws.proofs.Agree.{Agree, account_agree}
+use Rattle.hls_edf_laws.proofs.Agree.{Agree, server_agree}
 
 -- whether a row serves a slot
 pub slot-is : (to : Option ℕ) (slot : ℕ) → to ≡ Some slot → is_slot to slot ≡ true
@@ -63,19 +63,19 @@ pub served-now : (b : Ledger) (row : TickRow) (slot : ℕ) → served (with_row 
 unfolding served
 served-now b row slot = rw (row_at-now b row) refl
 
-replenished_same : (c c' : Account) (a a' : Bool) (t t' : ℕ) → c ≡ c' → a ≡ a' → t ≡ t'
+replenished_same : (c c' : Server) (a a' : Bool) (t t' : ℕ) → c ≡ c' → a ≡ a' → t ≡ t'
     → replenished all_parts c a t ≡ replenished all_parts c' a' t'
 replenished_same c c' a a' t t' e f g = cc
 
-charged_same : (c c' : Account) (g g' : Bool) → c ≡ c' → g ≡ g'
+charged_same : (c c' : Server) (g g' : Bool) → c ≡ c' → g ≡ g'
     → (if g then charged c else c) ≡ (if g' then charged c' else c')
 charged_same c c' g g' e f = rw (e, f)
 
-pub held_same : (c c' : Account) (t : ℕ) → c ≡ c' → held c t ≡ held c' t
-held_same c c' t e = ap (λ (v : Account). held v t) e
+pub held_same : (c c' : Server) (t : ℕ) → c ≡ c' → held c t ≡ held c' t
+held_same c c' t e = ap (λ (v : Server). held v t) e
 
 -- one tick leaves what is held, or ends it
-held_tick : (c : Account) (now : ℕ)
+held_tick : (c : Server) (now : ℕ)
     → (held c (now + 1) ≡ held c now) ⊎ (((held c now).deadline ≤ now + 1) × (held c (now + 1) ≡ vacant))
 unfolding held
 held_tick c now = elim (cases_lt (now + 1) c.deadline) [
@@ -96,7 +96,7 @@ held_tick c now = elim (cases_lt (now + 1) c.deadline) [
 ]
 
 -- what is held does not ask
-pub held_off : (c : Account) (now : ℕ) → marked (held c now) false ≡ held c now
+pub held_off : (c : Server) (now : ℕ) → marked (held c now) false ≡ held c now
 unfolding held
 held_off c now = elim (nat_lt now c.deadline) as
     (λ v. marked (if v then marked c false else vacant) false ≡ (if v then marked c false else vacant)) [
@@ -104,16 +104,16 @@ held_off c now = elim (nat_lt now c.deadline) as
       | false ↦ refl
     ]
 
--- the account of a seat after the replenishment of the present tick
+-- the server of a seat after the replenishment of the present tick
 pub amid_row : (b : Ledger) (row : TickRow) (slot : ℕ) (r : Reservation) → r.since ≤ now_of b
-    → account_within r (asked (with_row b row) slot) (served (with_row b row) slot) (now_of b - r.since)
-    ≡ replenished all_parts (account_before r (asked b slot) (served b slot) (now_of b - r.since))
+    → server_within r (asked (with_row b row) slot) (served (with_row b row) slot) (now_of b - r.since)
+    ≡ replenished all_parts (server_before r (asked b slot) (served b slot) (now_of b - r.since))
     (slot_asks row.mask slot) (now_of b)
 amid_row b row slot r le =
     let here : r.since + (now_of b - r.since) ≡ now_of b = omega arith in
     sym (within_is r (asked (with_row b row) slot) (served (with_row b row) slot) (now_of b - r.since))
     ∙ replenished_same _ _ _ _ _ _
-    (account_agree r (asked (with_row b row) slot) (asked b slot) (served (with_row b row) slot)
+    (server_agree r (asked (with_row b row) slot) (asked b slot) (served (with_row b row) slot)
     (served b slot)
     (now_of b - r.since) (asked-past b row slot r.since (r.since + (now_of b - r.since)) (omega arith))
     (served-past b row slot r.since (r.since + (now_of b - r.since)) (omega arith)))
@@ -121,12 +121,12 @@ amid_row b row slot r le =
 
 pub sits_row : (b : Ledger) (row : TickRow) (slot : ℕ) (r : Reservation) → r.since ≤ now_of b
     → (is_slot row.to slot ≡ true → slot_asks row.mask slot ≡ true)
-    → account_before r (asked (with_row b row) slot) (served (with_row b row) slot)
+    → server_before r (asked (with_row b row) slot) (served (with_row b row) slot)
     (now_of (with_row b row) - r.since)
     ≡ (if is_slot row.to slot
-    then charged (replenished all_parts (account_before r (asked b slot) (served b slot) (now_of b - r.since))
+    then charged (replenished all_parts (server_before r (asked b slot) (served b slot) (now_of b - r.since))
     (slot_asks row.mask slot) (now_of b))
-    else replenished all_parts (account_before r (asked b slot) (served b slot) (now_of b - r.since))
+    else replenished all_parts (server_before r (asked b slot) (served b slot) (now_of b - r.since))
     (slot_asks row.mask slot) (now_of b))
 sits_row b row slot r le sure =
     let here : r.since + (now_of b - r.since) ≡ now_of b = omega arith in
@@ -136,32 +136,32 @@ sits_row b row slot r le sure =
     ap (served (with_row b row) slot) here ∙ served-now b row slot in
     let step : now_of (with_row b row) - r.since ≡ suc (now_of b - r.since) =
     omega (arith, now_of-row b row) in
-    ap (account_before r (asked (with_row b row) slot) (served (with_row b row) slot)) step
+    ap (server_before r (asked (with_row b row) slot) (served (with_row b row) slot)) step
     ∙ before_is r (asked (with_row b row) slot) (served (with_row b row) slot) (now_of b - r.since)
     (λ e. asks ∙ sure (sym goes ∙ e))
     ∙ charged_same _ _ _ _ (amid_row b row slot r le) goes
 
 pub left_same : (b : Ledger) (row : TickRow) (slot : ℕ) (r : Reservation) (at : ℕ) → r.since ≤ at
     → at ≤ now_of b
-    → account_before r (asked (with_row b row) slot) (served (with_row b row) slot) (at - r.since)
-    ≡ account_before r (asked b slot) (served b slot) (at - r.since)
+    → server_before r (asked (with_row b row) slot) (served (with_row b row) slot) (at - r.since)
+    ≡ server_before r (asked b slot) (served b slot) (at - r.since)
 left_same b row slot r at since to =
-    account_agree r (asked (with_row b row) slot) (asked b slot) (served (with_row b row) slot)
+    server_agree r (asked (with_row b row) slot) (asked b slot) (served (with_row b row) slot)
     (served b slot)
     (at - r.since) (asked-past b row slot r.since (r.since + (at - r.since)) (omega arith))
     (served-past b row slot r.since (r.since + (at - r.since)) (omega arith))
 
 pub left_row : (b : Ledger) (row : TickRow) (slot : ℕ) (r : Reservation) (at : ℕ) → r.since ≤ at
     → at ≤ now_of b
-    → let old = held (account_before r (asked b slot) (served b slot) (at - r.since)) (now_of b) in
-    let new = held (account_before r (asked (with_row b row) slot) (served (with_row b row) slot)
+    → let old = held (server_before r (asked b slot) (served b slot) (at - r.since)) (now_of b) in
+    let new = held (server_before r (asked (with_row b row) slot) (served (with_row b row) slot)
     (at - r.since))
     (now_of (with_row b row)) in
     (new ≡ old) ⊎ ((old.deadline ≤ now_of b + 1) × (new ≡ vacant))
 left_row b row slot r at since to =
     let same = left_same b row slot r at since to in
-    let old : Account = account_before r (asked b slot) (served b slot) (at - r.since) in
-    let eq : held (account_before r (asked (with_row b row) slot) (served (with_row b row) slot)
+    let old : Server = server_before r (asked b slot) (served b slot) (at - r.since) in
+    let eq : held (server_before r (asked (with_row b row) slot) (served (with_row b row) slot)
     (at - r.since))
     (now_of (with_row b row)) ≡ held old (now_of b + 1) =
     held_same _ _ (now_of (with_row b row)) same ∙ ap (held old) (now_of-row b row) in

@@ -5,8 +5,8 @@ use Rattle.std.specs.Prelude.{◌⊎◌}
 use Rattle.std.proofs.Math.Nat.{mul-le-mul_right, mul-suc}
 use Rattle.std.proofs.lemmas.Bool.{cases_lt, cases_Bool, cases_eq}
 use Rattle.hls_edf_laws.specs.Demand.{owed, claimed}
-use Rattle.hls_edf_laws.specs.declared.account.Account.{Account}
-use Rattle.hls_edf_laws.specs.Accounts.{IsAccount, AreSound, HaveRoom, claimed_by, parts_in, claimed_in}
+use Rattle.hls_edf_laws.specs.declared.server.Server.{Server}
+use Rattle.hls_edf_laws.specs.Servers.{IsServer, AreSound, HaveRoom, claimed_by, parts_in, claimed_in}
 use Rattle.hls_edf_laws.specs.Choosing.{IsHit, IsChosen, IsTick}
 use Rattle.hls_edf_laws.proofs.Owed.{owed-due, owed-later, idle-tick, owed-charged, owed-empty, owed-beyond}
 use Rattle.hls_edf_laws.proofs.Sums.{sum-le, sum-eq, sum-one, sum-mul}
@@ -70,24 +70,24 @@ tick-rate whole budget deadline rate now bound true le ahead idle = elim (idle r
 ]
 
 -- whether the tick serves a seat with budget that is due
-abbrev pub HitBy : (n : ℕ) → (ℕ → Account) → Option ℕ → ℕ → Type 0
-HitBy n accounts to bound = (k : ℕ) × IsHit n accounts to k × ((accounts k).deadline ≤ bound)
+abbrev pub HitBy : (n : ℕ) → (ℕ → Server) → Option ℕ → ℕ → Type 0
+HitBy n servers to bound = (k : ℕ) × IsHit n servers to k × ((servers k).deadline ≤ bound)
 
-hit_or_not : (n : ℕ) (accounts : ℕ → Account) (to : Option ℕ) (bound : ℕ) → HitBy n accounts to bound
-    ⊎ (HitBy n accounts to bound → ⊥)
-hit_or_not n accounts None bound = inr (λ h. let e : None ≡ Some h.0 = h.1.to_it in absurd (cc))
-hit_or_not n accounts (Some k) bound = elim (cases_lt k n) [
+hit_or_not : (n : ℕ) (servers : ℕ → Server) (to : Option ℕ) (bound : ℕ) → HitBy n servers to bound
+    ⊎ (HitBy n servers to bound → ⊥)
+hit_or_not n servers None bound = inr (λ h. let e : None ≡ Some h.0 = h.1.to_it in absurd (cc))
+hit_or_not n servers (Some k) bound = elim (cases_lt k n) [
   | inr far ↦ inr (λ h. let e : k ≡ h.0 = (let f : Some k ≡ Some h.0 = h.1.to_it in cc) in let l : h.0 < n =
       h.1.within in absurd (omega arith))
-  | inl near ↦ elim (cases_Bool (accounts k).asked) [
+  | inl near ↦ elim (cases_Bool (servers k).asked) [
     | inr off ↦ inr (λ h. let e : k ≡ h.0 = (let f : Some k ≡ Some h.0 = h.1.to_it in cc) in
-        let a : (accounts k).asked ≡ true = rw e h.1.asks in absurd (cc))
-    | inl on ↦ elim (cases_lt 0 (accounts k).budget) [
+        let a : (servers k).asked ≡ true = rw e h.1.asks in absurd (cc))
+    | inl on ↦ elim (cases_lt 0 (servers k).budget) [
       | inr none ↦ inr (λ h. let e : k ≡ h.0 = (let f : Some k ≡ Some h.0 = h.1.to_it in cc) in
-          let a : 0 < (accounts k).budget = rw e h.1.left in absurd (omega arith))
-      | inl some ↦ elim (cases_lt bound (accounts k).deadline) [
+          let a : 0 < (servers k).budget = rw e h.1.left in absurd (omega arith))
+      | inl some ↦ elim (cases_lt bound (servers k).deadline) [
         | inl later ↦ inr (λ h. let e : k ≡ h.0 = (let f : Some k ≡ Some h.0 = h.1.to_it in cc) in
-            let a : (accounts k).deadline ≤ bound = rw e h.2 in absurd (omega arith))
+            let a : (servers k).deadline ≤ bound = rw e h.2 in absurd (omega arith))
         | inr due ↦ inl (k, record { to_it = refl; within = near; asks = on; left = some }, due)
       ]
     ]
@@ -102,13 +102,13 @@ to_or_not (Some j) k = elim (cases_eq j k) [
   | inr ne ↦ inr (λ e. ne (cc))
 ]
 
-tick_u : (mid new : ℕ → Account) (to : Option ℕ) → IsTick mid to new → (k : ℕ) → (new k).parts ≡ (mid k).parts
+tick_u : (mid new : ℕ → Server) (to : Option ℕ) → IsTick mid to new → (k : ℕ) → (new k).parts ≡ (mid k).parts
 tick_u mid new to tick k = elim (to_or_not to k) [
   | inl e ↦ rw (tick.one k e) refl
   | inr ne ↦ rw (tick.other k ne) refl
 ]
 
-tick_le : (whole : ℕ) (mid new : ℕ → Account) (to : Option ℕ) (now bound : ℕ) → now + 1 ≤ bound
+tick_le : (whole : ℕ) (mid new : ℕ → Server) (to : Option ℕ) (now bound : ℕ) → now + 1 ≤ bound
     → IsTick mid to new → (k : ℕ) → claimed_by whole (new k) (now + 1) bound ≤ claimed_by whole (mid k) now
     bound
 tick_le whole mid new to now bound le tick k = elim (to_or_not to k) [
@@ -121,7 +121,7 @@ tick_le whole mid new to now bound le tick k = elim (to_or_not to k) [
 ]
 
 -- up to a bound by which a seat with budget is served
-room_hit : (whole n : ℕ) (mid new : ℕ → Account) (to : Option ℕ) (now bound : ℕ) → now + 1 ≤ bound
+room_hit : (whole n : ℕ) (mid new : ℕ → Server) (to : Option ℕ) (now bound : ℕ) → now + 1 ≤ bound
     → HaveRoom whole n mid now → IsTick mid to new → HitBy n mid to bound
     → claimed_in whole new n (now + 1) bound + whole ≤ parts_in mid n * (bound - now)
 room_hit whole n mid new to now bound le kept tick (k, hit, due) =
@@ -134,7 +134,7 @@ room_hit whole n mid new to now bound le kept tick (k, hit, due) =
     omega (arith, sums, kept.room bound (let f : now ≤ bound = omega arith in f))
 
 -- and up to one by which none is
-room_idle : (whole n : ℕ) (mid new : ℕ → Account) (to : Option ℕ) (now bound : ℕ) → now + 1 ≤ bound
+room_idle : (whole n : ℕ) (mid new : ℕ → Server) (to : Option ℕ) (now bound : ℕ) → now + 1 ≤ bound
     → ((k : ℕ) → k < n → (mid k).asked ≡ true → now + 1 ≤ (mid k).deadline) → IsChosen n mid to
     → IsTick mid to new → (HitBy n mid to bound → ⊥) → (k : ℕ) → k < n
     → claimed_by whole (new k) (now + 1) bound ≤ (new k).parts * (bound - (now + 1))
@@ -157,29 +157,29 @@ room_idle whole n mid new to now bound le ahead chosen tick none k lt =
           (mid k).asked le (ahead k lt) idle)
     ]
 
-tick_sound : (whole : ℕ) (mid new : ℕ → Account) (to : Option ℕ) → IsTick mid to new → (k : ℕ)
-    → IsAccount whole (mid k) → IsAccount whole (new k)
-tick_sound whole mid new to tick k account = elim (to_or_not to k) [
+tick_sound : (whole : ℕ) (mid new : ℕ → Server) (to : Option ℕ) → IsTick mid to new → (k : ℕ)
+    → IsServer whole (mid k) → IsServer whole (new k)
+tick_sound whole mid new to tick k server = elim (to_or_not to k) [
   | inl e ↦
       rw (tick.one k e)
-      (record { small = omega (arith, account.small); rate = account.rate; live = account.live })
-  | inr ne ↦ rw (tick.other k ne) account
+      (record { small = omega (arith, server.small); rate = server.rate; live = server.live })
+  | inr ne ↦ rw (tick.other k ne) server
 ]
 
-tick_parts : (n : ℕ) (mid new : ℕ → Account) (to : Option ℕ) → IsTick mid to new → parts_in new n
+tick_parts : (n : ℕ) (mid new : ℕ → Server) (to : Option ℕ) → IsTick mid to new → parts_in new n
     ≡ parts_in mid n
 tick_parts n mid new to tick = sum-eq (λ k. (new k).parts) (λ k. (mid k).parts) n
     (λ k lt. tick_u mid new to tick k)
 
 -- the tick keeps the room
-pub ticking-sound : (whole n : ℕ) (mid new : ℕ → Account) (to : Option ℕ) → AreSound whole n mid
+pub ticking-sound : (whole n : ℕ) (mid new : ℕ → Server) (to : Option ℕ) → AreSound whole n mid
     → IsTick mid to new → AreSound whole n new
 ticking-sound whole n mid new to kept tick = record {
   fits = omega (arith, tick_parts n mid new to tick, kept.fits);
   sound = λ k lt. tick_sound whole mid new to tick k (kept.sound k lt);
 }
 
-pub ticking-room : (whole n : ℕ) (mid new : ℕ → Account) (to : Option ℕ) (now : ℕ) → AreSound whole n mid
+pub ticking-room : (whole n : ℕ) (mid new : ℕ → Server) (to : Option ℕ) (now : ℕ) → AreSound whole n mid
     → HaveRoom whole n mid now → ((k : ℕ) → k < n → (mid k).asked ≡ true → now + 1 ≤ (mid k).deadline)
     → IsChosen n mid to → IsTick mid to new → HaveRoom whole n new (now + 1)
 ticking-room whole n mid new to now kept room ahead chosen tick =

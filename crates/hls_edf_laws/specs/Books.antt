@@ -1,4 +1,4 @@
--- The accounts of the slots of a book, and what a book of reservations keeps.
+-- The servers of the slots of a book, and what a book of reservations keeps.
 use Rattle.std.specs.Prelude.{◌≡◌, ℕ, ◌+◌, ◌-◌, ◌≤◌, ◌<◌, Bool, true, false, Some, is_some, nat_lt}
 use Rattle.std.specs.Prelude.{if◌then◌else◌}
 use Rattle.hls_chron.specs.declared.plain.Config.TheVariants.{Edf}
@@ -14,29 +14,29 @@ use Rattle.hls_chron.specs.Parts.{all_parts}
 use Rattle.hls_kinds.specs.Reservations.{deadline_after, last_replenished}
 use Rattle.hls_kinds.specs.Asks.{asks, slot_asks}
 use Rattle.hls_promise.specs.Promise.{asked_by}
-use Rattle.hls_edf_laws.specs.declared.account.Account.{Account}
-use Rattle.hls_edf_laws.specs.Accounts.{vacant, marked, replenished, AreSound, HaveRoom}
-use Rattle.hls_edf_laws.specs.Recomputed.{account_before}
+use Rattle.hls_edf_laws.specs.declared.server.Server.{Server}
+use Rattle.hls_edf_laws.specs.Servers.{vacant, marked, replenished, AreSound, HaveRoom}
+use Rattle.hls_edf_laws.specs.Recomputed.{server_before}
 use Rattle.hls_edf_laws.specs.Stays.{EachTick, EachHard}
 
--- the account of a reservation that left, while its deadline lies ahead
-unfoldable pub held : Account → ℕ → Account
-held account now = if nat_lt now account.deadline then marked account false else vacant
+-- the server of a reservation that left, while its deadline lies ahead
+unfoldable pub held : Server → ℕ → Server
+held server now = if nat_lt now server.deadline then marked server false else vacant
 
 -- of who has a slot, before the replenishments of the tick `now`
-abbrev pub account_of : Tenant → (asks serves : ℕ → Bool) → (now : ℕ) → Account
-account_of (Sits (Res hard x y) since) asks serves now =
-    account_before (record { x = x; y = y; since = since }) asks serves (now - since)
-account_of (Left (Res hard x y) since at) asks serves now =
-    held (account_before (record { x = x; y = y; since = since }) asks serves (at - since)) now
-account_of _ asks serves now = vacant
+abbrev pub server_of : Tenant → (asks serves : ℕ → Bool) → (now : ℕ) → Server
+server_of (Sits (Res hard x y) since) asks serves now =
+    server_before (record { x = x; y = y; since = since }) asks serves (now - since)
+server_of (Left (Res hard x y) since at) asks serves now =
+    held (server_before (record { x = x; y = y; since = since }) asks serves (at - since)) now
+server_of _ asks serves now = vacant
 
 -- of a slot, before the replenishments of the present tick, and after them where these slots ask
-abbrev pub account_at : Ledger → ℕ → Account
-account_at b slot = account_of (tenant_at b slot) (asked b slot) (served b slot) (now_of b)
+abbrev pub server_at : Ledger → ℕ → Server
+server_at b slot = server_of (tenant_at b slot) (asked b slot) (served b slot) (now_of b)
 
-abbrev pub amid_at : Ledger → (mask slot : ℕ) → Account
-amid_at b mask slot = replenished all_parts (account_at b slot) (slot_asks mask slot) (now_of b)
+abbrev pub amid_at : Ledger → (mask slot : ℕ) → Server
+amid_at b mask slot = replenished all_parts (server_at b slot) (slot_asks mask slot) (now_of b)
 
 abbrev pub IsReservation : Terms → Type 0
 IsReservation (Res hard x y) = (0 < x) × (x ≤ y) × (y ≤ 10000)
@@ -62,11 +62,11 @@ pub record KeepsReservations (b : Ledger) : Type 0 where
   pub settled : settled_at b ≤ now_of b
   pub within : (slot : ℕ) → 32 ≤ slot → tenant_at b slot ≡ Vacant
   pub tenants : (slot : ℕ) → IsTenant (tenant_at b slot) (now_of b)
-  pub sound : AreSound all_parts 32 (account_at b)
+  pub sound : AreSound all_parts 32 (server_at b)
   pub sure : (slot t : ℕ) → t < now_of b → served b slot t ≡ true → asked b slot t ≡ true
   pub hard : (slot : ℕ) (r : Reservation) → tenant_at b slot ≡ Sits (Res true r.x r.y) r.since
       → EachHard r (asked b slot) (served b slot) (now_of b)
-  pub room : IsGiven b → HaveRoom all_parts 32 (account_at b) (now_of b)
+  pub room : IsGiven b → HaveRoom all_parts 32 (server_at b) (now_of b)
   pub each : IsGiven b → (slot : ℕ) (hard : Bool) (r : Reservation)
       → tenant_at b slot ≡ Sits (Res hard r.x r.y) r.since → EachTick r (asked b slot) (served b slot)
       (now_of b)

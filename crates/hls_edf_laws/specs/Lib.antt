@@ -1,5 +1,5 @@
 pub mod Demand
-pub mod Accounts
+pub mod Servers
 pub mod Choosing
 pub mod Recomputed
 pub mod Stays

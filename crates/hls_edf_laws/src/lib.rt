@@ -1,8 +1,8 @@
-//! Reservations: the running account of a slot, the demand of all slots together over a whole book, and what
-//! follows for each seat: that its deadlines are met, its promise kept, and its cap.
+//! Reservations: the server of a slot, the demand of all slots together over a whole book, and what follows
+//! for each seat: that its deadlines are met, its promise kept, and its cap.
 #![tactic(auto)]
 
-mod account;
 pub mod laws;
+mod server;
 
-pub use account::{ALL_PARTS, Account};
+pub use server::Server;

@@ -19,7 +19,7 @@ use Rattle.hls_made.proofs.Books.{admission_made}
 use Rattle.hls_sched.specs.Seen.{Seen, IsConfigured, config_of}
 use Rattle.hls_sched.proofs.Masks.{within_width}
 use Rattle.hls_box.specs.Keys.{key_or, has_key, key_at}
-use Rattle.hls_box.specs.Sound.{IsSound}
+use Rattle.hls_box.specs.Inside.Sound.{IsSound}
 use Rattle.hls_box.proofs.Choosing.{IsRight}
 use Rattle.hls_box.proofs.Keyed.{least_asks, least_serves}
 use Rattle.hls_fp.specs.Choice.{priority_if, priority_asking, choice_of}

@@ -3,7 +3,7 @@ ghost use Rattle.std.specs.Prelude.{◌≡◌, ℕ, ◌<◌, IfSome};
 ghost use Rattle.hls_chron.specs.declared.plain.Kind.{Kind};
 ghost use Rattle.hls_sched.specs.Seen.{IsBlank};
 ghost use Rattle.hls_box.specs.Keys.{keys_in};
-ghost use Rattle.hls_box.specs.Sound.{IsSound};
+ghost use Rattle.hls_box.specs.Inside.Sound.{IsSound};
 ghost use Rattle.hls_box.proofs.Props.{sound_prop};
 ghost use Rattle.hls_box.proofs.Choosing.{lawful};
 ghost use Rattle.hls_fp.specs.Choice.{priority_asking, priority_if, choice_of};

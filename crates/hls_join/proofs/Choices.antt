@@ -15,7 +15,7 @@ use Rattle.hls_kinds.specs.Made.{IsMade}
 use Rattle.hls_made.proofs.Books.{admission_made}
 use Rattle.hls_sched.specs.Seen.{Seen, IsConfigured, config_of}
 use Rattle.hls_sched.proofs.Masks.{some_slot, some_if_asks}
-use Rattle.hls_box.specs.Sound.{IsSound}
+use Rattle.hls_box.specs.Inside.Sound.{IsSound}
 use Rattle.hls_box.proofs.Choosing.{IsRight}
 use Rattle.hls_kinds.specs.Discipline.{Serves, IsSole}
 use Rattle.hls_join.specs.Sole.{choice_of}

@@ -11,8 +11,8 @@ use Rattle.hls_report.specs.declared.lines.Lines.{Lines}
 use Rattle.hls_report_text.specs.declared.report.Account.{Account}
 use Rattle.hls_report_text.specs.ReportText.{account_text}
 use Rattle.hls_report_text.specs.WellFormed.{IsAccount}
-use Rattle.hls_report_text.specs.Reading.{count_at}
-use Rattle.hls_report.specs.Rests.{AccountRest, Passes}
+use Rattle.hls_report_text.specs.Inside.Reading.{count_at}
+use Rattle.hls_report.specs.Inside.Rests.{AccountRest, Passes}
 use Rattle.hls_report.proofs.Heads.{some_text}
 use Rattle.hls_report_text.proofs.RefusalTexts.{count_again}
 use Rattle.hls_report.proofs.RestLaws.{account_next}

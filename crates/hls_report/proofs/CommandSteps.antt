@@ -16,11 +16,11 @@ use Rattle.hls_report_text.specs.declared.report.Answer.{Answer}
 use Rattle.hls_report_text.specs.declared.report.Answered.{Answered}
 use Rattle.hls_report_text.specs.ReportText.{item_text, item_of, refusal_text, seat_text, answer_lines}
 use Rattle.hls_report_text.specs.ReportText.{answered_lines}
-use Rattle.hls_report_text.specs.Reading.{refusal_at}
+use Rattle.hls_report_text.specs.Inside.Reading.{refusal_at}
 use Rattle.hls_report_text.specs.WellFormed.{IsRefusal, IsSeated, TakesSeats, AreSeats, IsAnswer, AreAnswered}
 use Rattle.hls_report_text.specs.WellFormed.{IsOneLine}
-use Rattle.hls_report.specs.Rests.{HasRoom, Passes, CommandRest, SeatRest, AnswerRest, RunRest, IsNext}
-use Rattle.hls_report.specs.CommandLines.{SeatsPass, AnswerPasses, SeatPasses, ItemPasses, CommandPasses}
+use Rattle.hls_report.specs.Inside.Rests.{HasRoom, Passes, CommandRest, SeatRest, AnswerRest, RunRest, IsNext}
+use Rattle.hls_report.specs.Inside.CommandLines.{SeatsPass, AnswerPasses, SeatPasses, ItemPasses, CommandPasses}
 use Rattle.hls_report.proofs.Heads.{some_text}
 use Rattle.hls_report_text.proofs.RefusalTexts.{refusal_again}
 use Rattle.hls_report.proofs.RestLaws.{some_command, seat_next, seat_onto, seat_off, seats_done, no_last_seat}

@@ -7,7 +7,7 @@ use Rattle.hls_report_text.specs.Content.{Content, content_of}
 use Rattle.hls_report_text.specs.ReportText.{answered_lines, stretch_text, account_text, end_lines}
 use Rattle.hls_report_text.specs.ReportText.{content_lines, ended, report_text}
 use Rattle.hls_report_text.specs.WellFormed.{IsContent, IsReportText, Begins, IsFirstBad}
-use Rattle.hls_report.specs.Rests.{HeaderRest, BeginsIn, IsStuck}
+use Rattle.hls_report.specs.Inside.Rests.{HeaderRest, BeginsIn, IsStuck}
 use Rattle.hls_report_text.proofs.Contents.{some_report}
 use Rattle.hls_report.proofs.Sections.{content_one}
 use Rattle.hls_report.proofs.RestLaws.{depth_line, horizon_line}

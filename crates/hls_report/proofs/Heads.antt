@@ -5,8 +5,8 @@ use Rattle.hls_text.specs.Lines.{Text}
 use Rattle.hls_chron.specs.Ranges.{IsWithin}
 use Rattle.hls_text.specs.Cuts.{after_words}
 use Rattle.hls_text.specs.Decimals.{number_below}
-use Rattle.hls_report_text.specs.Reading.{count_at}
-use Rattle.hls_report.specs.Rests.{HorizonRest, DepthRest}
+use Rattle.hls_report_text.specs.Inside.Reading.{count_at}
+use Rattle.hls_report.specs.Inside.Rests.{HorizonRest, DepthRest}
 use Rattle.hls_report.proofs.Sections.{first_line}
 use Rattle.hls_text.proofs.Marks.{number_again}
 use Rattle.hls_report_text.proofs.RefusalTexts.{count_again}

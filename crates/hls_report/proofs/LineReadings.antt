@@ -10,7 +10,7 @@ use Rattle.hls_guarantee.specs.Limits.{IsValid}
 use Rattle.hls_derive.specs.declared.derivation.Derivation.{Derivation}
 use Rattle.hls_derive.specs.DerivationText.{derivation_text}
 use Rattle.hls_text.specs.Options.{◌>>=◌}
-use Rattle.hls_derive.specs.Reading.{Stands}
+use Rattle.hls_derive.specs.Inside.Reading.{Stands}
 use Rattle.hls_text.specs.Cuts.{after_words}
 use Rattle.hls_derive.proofs.Fronts.{one_guarantee}
 use Rattle.hls_scenario.specs.declared.scenario.Item.{Item}
@@ -22,10 +22,10 @@ use Rattle.hls_report_text.specs.declared.report.Account.{Account}
 use Rattle.hls_report_text.specs.ReportText.{two_words, item_text, seat_text, span_text, ticks_text}
 use Rattle.hls_report_text.specs.ReportText.{account_text}
 use Rattle.hls_report_text.specs.WellFormed.{IsSeated, IsAccount}
-use Rattle.hls_report.specs.Rests.{IsNext}
-use Rattle.hls_report_text.specs.Reading.{name_at, count_at, seat_front_at, span_at, spanned_at}
+use Rattle.hls_report.specs.Inside.Rests.{IsNext}
+use Rattle.hls_report_text.specs.Inside.Reading.{name_at, count_at, seat_front_at, span_at, spanned_at}
 use Rattle.hls_text.specs.Decimals.{number_below}
-use Rattle.hls_report_text.specs.Reading.{account_front_at, ticks_at}
+use Rattle.hls_report_text.specs.Inside.Reading.{account_front_at, ticks_at}
 use Rattle.hls_report_text.proofs.Marks.{name_lacks}
 use Rattle.hls_text.proofs.Marks.{number_lacks}
 use Rattle.hls_report_text.proofs.RefusalTexts.{name_again, count_again, cut_again}

@@ -16,8 +16,8 @@ use Rattle.hls_text.specs.Options.{◌>>=◌}
 use Rattle.hls_report_text.specs.declared.report.Path.{Path}
 use Rattle.hls_report_text.specs.Content.{path_names}
 use Rattle.hls_report_text.specs.WellFormed.{with_name, with_names}
-use Rattle.hls_report_text.specs.Reading.{name_at}
-use Rattle.hls_report.specs.Paths.{names_text, name_length, first_name_at, FitIn, IsPathRead}
+use Rattle.hls_report_text.specs.Inside.Reading.{name_at}
+use Rattle.hls_report.specs.Inside.Paths.{names_text, name_length, first_name_at, FitIn, IsPathRead}
 use Rattle.hls_text.proofs.Marks.{Lacks}
 use Rattle.hls_report_text.proofs.Marks.{name_lacks}
 use Rattle.hls_report_text.proofs.RefusalTexts.{name_again}

@@ -15,7 +15,7 @@ use Rattle.hls_report_text.specs.ReportText.{answered_lines, stretch_text, accou
 use Rattle.hls_report_text.specs.ReportText.{end_lines}
 use Rattle.hls_report_text.specs.ReportText.{content_lines, ended, report_text}
 use Rattle.hls_report_text.specs.WellFormed.{IsReportText, HasShort, IsContent}
-use Rattle.hls_report.specs.Rests.{Passes, FailsAt, HeaderRest, CommandRest, RunRest, AccountRest}
+use Rattle.hls_report.specs.Inside.Rests.{Passes, FailsAt, HeaderRest, CommandRest, RunRest, AccountRest}
 use Rattle.hls_report.specs.Reports.{ReadsAs, IsBadAt}
 use Rattle.hls_report.proofs.ContentLaws.{first_bad, never_stuck}
 use Rattle.hls_report.proofs.Sections.{report_same}

@@ -24,8 +24,8 @@ use Rattle.hls_report_text.specs.ReportText.{stretch_text, account_text}
 use Rattle.hls_report_text.specs.WellFormed.{IsRefusal, IsSeated, TakesSeats, AreSeats, IsAnswer, AreAnswered}
 use Rattle.hls_report_text.specs.WellFormed.{IsPath}
 use Rattle.hls_report_text.specs.WellFormed.{Cover, with_name, with_path, FewNames, IsAccount}
-use Rattle.hls_report.specs.Rests.{EndRest, AccountRest, RunRest, CommandRest, SeatRest, AnswerRest}
-use Rattle.hls_report.specs.Rests.{DepthRest, HorizonRest, HeaderRest, NextStretch, IsNext}
+use Rattle.hls_report.specs.Inside.Rests.{EndRest, AccountRest, RunRest, CommandRest, SeatRest, AnswerRest}
+use Rattle.hls_report.specs.Inside.Rests.{DepthRest, HorizonRest, HeaderRest, NextStretch, IsNext}
 use Rattle.hls_text.proofs.Marks.{number_same}
 use Rattle.hls_report_text.proofs.LineTexts.{IsItem, IsStretch, stretch_same, apart}
 use Rattle.hls_report.proofs.ItemTexts.{item_same}

@@ -18,10 +18,10 @@ use Rattle.hls_report_text.specs.declared.stretch.Stretch.{Stretch}
 use Rattle.hls_report_text.specs.Content.{path_names, stretch_of}
 use Rattle.hls_report_text.specs.ReportText.{two_words, span_text, path_text, stretch_text}
 use Rattle.hls_report_text.specs.WellFormed.{IsPath, Cover, with_path, FewNames, HasShort, IsOneLine}
-use Rattle.hls_report_text.specs.Reading.{spanned_at}
-use Rattle.hls_report.specs.Rests.{NextStretch, RunRest, AccountRest, Passes, FailsAt}
-use Rattle.hls_report.specs.RunLines.{FitsPath, IsInside, IsNextRun, IsRunTold, IsLast, AreNames, IsRunRead}
-use Rattle.hls_report.specs.RunLines.{RunFails, AccountsPass, AccountsFail, IsSchedule}
+use Rattle.hls_report_text.specs.Inside.Reading.{spanned_at}
+use Rattle.hls_report.specs.Inside.Rests.{NextStretch, RunRest, AccountRest, Passes, FailsAt}
+use Rattle.hls_report.specs.Inside.RunLines.{FitsPath, IsInside, IsNextRun, IsRunTold, IsLast, AreNames, IsRunRead}
+use Rattle.hls_report.specs.Inside.RunLines.{RunFails, AccountsPass, AccountsFail, IsSchedule}
 use Rattle.hls_report_text.specs.WellFormed.{names_after}
 use Rattle.hls_text.proofs.Marks.{cut_same}
 use Rattle.hls_report_text.proofs.LineTexts.{span_lacks, path_same}

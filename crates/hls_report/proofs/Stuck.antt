@@ -13,7 +13,7 @@ use Rattle.hls_report.specs.declared.fault.ReportFault.{ReportFault}
 use Rattle.hls_report.specs.declared.fault.ReportFault.TheVariants as faults
 use Rattle.hls_report_text.specs.ReportText.{ended}
 use Rattle.hls_report_text.specs.WellFormed.{IsOneLine}
-use Rattle.hls_report.specs.Rests.{BeginsIn, IsStuck, FailsAt, Passes, NoRest}
+use Rattle.hls_report.specs.Inside.Rests.{BeginsIn, IsStuck, FailsAt, Passes, NoRest}
 use Rattle.hls_text.proofs.Marks.{cut_same}
 use Rattle.hls_report_text.proofs.Writings.{ended-append}
 

@@ -4,8 +4,8 @@ ghost use Rattle.std.specs.Prelude.{OnOk, IfOk, IfErr, IfSome, Some};
 ghost use Rattle.std.specs.List.{AllByRecursion};
 ghost use Rattle.hls_report_text.specs.ReportText.{account_text, ended};
 ghost use Rattle.hls_report_text.specs.WellFormed.{IsAccount};
-ghost use Rattle.hls_report.specs.Rests.{HasRoom, Passes, FailsAt, AccountRest, EndRest, NoRest};
-ghost use Rattle.hls_report.specs.AccountLines.{AccountPasses};
+ghost use Rattle.hls_report.specs.Inside.Rests.{HasRoom, Passes, FailsAt, AccountRest, EndRest, NoRest};
+ghost use Rattle.hls_report.specs.Inside.AccountLines.{AccountPasses};
 
 use crate::ReportFault;
 use crate::line_reading::account;

@@ -3,9 +3,9 @@ ghost use Rattle.std.specs.Prelude.{◌≡◌, ◌↔◌, ℕ, ◌≤◌, ◌++�
 ghost use Rattle.std.specs.Prelude.{OnOk, IfOk, IfErr, IfSome, Some, IsTrue};
 ghost use Rattle.hls_report_text.specs.ReportText.{refusal_text, seat_text, answer_lines, answered_lines};
 ghost use Rattle.hls_report_text.specs.WellFormed.{IsRefusal, TakesSeats, AreSeats, IsAnswer, AreAnswered};
-ghost use Rattle.hls_report.specs.Rests.{HasRoom, Passes, FailsAt, CommandRest, AnswerRest, RunRest};
-ghost use Rattle.hls_report.specs.CommandLines.{SeatPasses, SeatsPass, AnswerPasses, ItemPasses};
-ghost use Rattle.hls_report.specs.CommandLines.{CommandPasses};
+ghost use Rattle.hls_report.specs.Inside.Rests.{HasRoom, Passes, FailsAt, CommandRest, AnswerRest, RunRest};
+ghost use Rattle.hls_report.specs.Inside.CommandLines.{SeatPasses, SeatsPass, AnswerPasses, ItemPasses};
+ghost use Rattle.hls_report.specs.Inside.CommandLines.{CommandPasses};
 
 use crate::ReportFault;
 use crate::line_reading::{item, seat};

@@ -9,9 +9,9 @@ ghost use Rattle.hls_scenario.specs.Grammar.{IsCommand};
 ghost use Rattle.hls_report_text.specs.ReportText.{two_words, item_text, seat_text, span_text, ticks_text};
 ghost use Rattle.hls_report_text.specs.ReportText.{account_text};
 ghost use Rattle.hls_report_text.specs.WellFormed.{IsSeated, IsAccount};
-ghost use Rattle.hls_report_text.specs.Reading.{seat_front_at, span_at, spanned_at, account_front_at};
-ghost use Rattle.hls_report_text.specs.Reading.{ticks_at};
-ghost use Rattle.hls_report.specs.Rests.{IsNext};
+ghost use Rattle.hls_report_text.specs.Inside.Reading.{seat_front_at, span_at, spanned_at, account_front_at};
+ghost use Rattle.hls_report_text.specs.Inside.Reading.{ticks_at};
+ghost use Rattle.hls_report.specs.Inside.Rests.{IsNext};
 
 use crate::words::{count, digit, name};
 use hls_chron::Name;
@@ -59,7 +59,7 @@ struct SeatFront<'a> {
     rest: &'a [u8],
 }
 
-#[tactic(auto, unfolding(hls_report_text::specs::Reading::seat_front_at))]
+#[tactic(auto, unfolding(hls_report_text::specs::Inside::Reading::seat_front_at))]
 fn seat_front(line: &[u8]) -> Option<SeatFront<'_>>
     ensures read { Gives (λ p. (p.name, p.port, p.rest.now)) result (seat_front_at line.now) }
     ensures found { IfSome result (λ p. IsName p.name × (p.port ≤ 3)
@@ -92,7 +92,7 @@ pub fn seat(alloc: Global, line: &[u8]) -> Result<Option<Seated>, AllocError>
     }
 }
 
-#[tactic(auto, unfolding(hls_report_text::specs::Reading::span_at))]
+#[tactic(auto, unfolding(hls_report_text::specs::Inside::Reading::span_at))]
 fn span(text: &[u8]) -> Option<(u32, u32)>
     ensures read { result ≡ span_at text.now }
     ensures found { IfSome result (λ p. text.now ≡ span_text p.0 p.1) }
@@ -105,7 +105,7 @@ fn span(text: &[u8]) -> Option<(u32, u32)>
 }
 
 /// A span, and what stands behind it and a space.
-#[tactic(auto, unfolding(hls_report_text::specs::Reading::spanned_at))]
+#[tactic(auto, unfolding(hls_report_text::specs::Inside::Reading::spanned_at))]
 pub fn spanned(text: &[u8]) -> Option<(u32, u32, &[u8])>
     ensures read { Gives (λ p. (p.0, p.1, p.2.now)) result (spanned_at text.now) }
     ensures found { IfSome result (λ p. text.now ≡ two_words (span_text p.0 p.1) p.2.now) }
@@ -115,7 +115,7 @@ pub fn spanned(text: &[u8]) -> Option<(u32, u32, &[u8])>
     Some((from, to, rest))
 }
 
-#[tactic(auto, unfolding(hls_report_text::specs::Reading::ticks_at))]
+#[tactic(auto, unfolding(hls_report_text::specs::Inside::Reading::ticks_at))]
 fn ticks(text: &[u8]) -> Option<(u32, u32)>
     ensures read { result ≡ ticks_at text.now }
     ensures found { IfSome result (λ p. text.now ≡ ticks_text p.0 p.1) }

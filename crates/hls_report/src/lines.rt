@@ -1,7 +1,7 @@
 // Whole lines of a text, and their numbers.
 ghost use Rattle.std.specs.Prelude.{◌≡◌, ◌+◌, ◌∷◌, ◌++◌, MatchOption, length};
 ghost use Rattle.hls_report_text.specs.WellFormed.{IsOneLine};
-ghost use Rattle.hls_report.specs.Rests.{HasRoom};
+ghost use Rattle.hls_report.specs.Inside.Rests.{HasRoom};
 
 use crate::ReportFault;
 use hls_text::cut;

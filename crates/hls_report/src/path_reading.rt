@@ -5,7 +5,7 @@ ghost use Rattle.std.specs.List.{position_or_len};
 ghost use Rattle.hls_text.specs.Lines.{Text};
 ghost use Rattle.hls_chron.specs.Name.{IsName};
 ghost use Rattle.hls_text.specs.Options.{Gives};
-ghost use Rattle.hls_report.specs.Paths.{names_text, first_name_at, FitIn, IsPathRead};
+ghost use Rattle.hls_report.specs.Inside.Paths.{names_text, first_name_at, FitIn, IsPathRead};
 
 use crate::places::place_in;
 use crate::words::name;
@@ -40,7 +40,7 @@ struct First<'a> {
 }
 
 /// The first name behind a slash.
-#[tactic(auto, unfolding(crate::specs::Paths::first_name_at))]
+#[tactic(auto, unfolding(crate::specs::Inside::Paths::first_name_at))]
 fn first_name(text: &[u8]) -> Option<First<'_>>
     ensures read { Gives (λ p. (p.name, p.rest.now)) result (first_name_at text.now) }
     ensures found { IfSome result (λ p. IsName p.name × (text.now ≡ codes "/" ++ (p.name ++ p.rest.now))) }

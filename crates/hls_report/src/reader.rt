@@ -5,8 +5,8 @@ ghost use Rattle.std.specs.List.{AllByRecursion};
 ghost use Rattle.hls_chron.specs.Ranges.{IsWithin};
 ghost use Rattle.hls_report_text.specs.ReportText.{account_text};
 ghost use Rattle.hls_report_text.specs.WellFormed.{IsAccount};
-ghost use Rattle.hls_report.specs.Rests.{HasRoom, Passes, FailsAt, HeaderRest, HorizonRest, DepthRest};
-ghost use Rattle.hls_report.specs.Rests.{CommandRest, AccountRest, EndRest};
+ghost use Rattle.hls_report.specs.Inside.Rests.{HasRoom, Passes, FailsAt, HeaderRest, HorizonRest, DepthRest};
+ghost use Rattle.hls_report.specs.Inside.Rests.{CommandRest, AccountRest, EndRest};
 
 use crate::ReportFault;
 use crate::line_reading::account;

@@ -3,16 +3,16 @@ ghost use Rattle.std.specs.Prelude.{◌≡◌, ◌∷◌, ◌++◌, codes, decim
 ghost use Rattle.hls_text.specs.Options.{Gives};
 ghost use Rattle.hls_report_text.specs.ReportText.{two_words, place_text, kind_text, refusal_text};
 ghost use Rattle.hls_report_text.specs.WellFormed.{IsRefusal};
-ghost use Rattle.hls_report_text.specs.Reading.{not_empty_at, seats_full_at, kit_empty_at, no_room_at};
-ghost use Rattle.hls_report_text.specs.Reading.{no_derivation_at, refusal_at, seat_refusal_at};
-ghost use Rattle.hls_report_text.specs.Reading.{late_refusal_at};
+ghost use Rattle.hls_report_text.specs.Inside.Reading.{not_empty_at, seats_full_at, kit_empty_at, no_room_at};
+ghost use Rattle.hls_report_text.specs.Inside.Reading.{no_derivation_at, refusal_at, seat_refusal_at};
+ghost use Rattle.hls_report_text.specs.Inside.Reading.{late_refusal_at};
 
 use crate::words::{count, digit, kind, name, place};
 use hls_report_text::Refusal;
 use hls_text::{after, cut, decimal_number};
 
 /// The refusal that a text spells.
-#[tactic(auto, unfolding(hls_report_text::specs::Reading::refusal_at))]
+#[tactic(auto, unfolding(hls_report_text::specs::Inside::Reading::refusal_at))]
 pub fn refusal(text: &[u8]) -> Option<Refusal>
     ensures read { result ≡ refusal_at text.now }
     ensures found { IfSome result (λ r. IsRefusal r × (text.now ≡ refusal_text r)) }
@@ -49,7 +49,7 @@ pub fn refusal(text: &[u8]) -> Option<Refusal>
 }
 
 /// A refusal for what stands on a scheduler.
-#[tactic(auto, unfolding(hls_report_text::specs::Reading::seat_refusal_at))]
+#[tactic(auto, unfolding(hls_report_text::specs::Inside::Reading::seat_refusal_at))]
 fn seat_refusal(text: &[u8]) -> Option<Refusal>
     ensures read { result ≡ seat_refusal_at text.now }
     ensures found { IfSome result (λ r. IsRefusal r × (text.now ≡ refusal_text r)) }
@@ -76,7 +76,7 @@ fn seat_refusal(text: &[u8]) -> Option<Refusal>
 }
 
 /// A refusal for the whole hierarchy, for room, or for want of a derivation.
-#[tactic(auto, unfolding(hls_report_text::specs::Reading::late_refusal_at))]
+#[tactic(auto, unfolding(hls_report_text::specs::Inside::Reading::late_refusal_at))]
 fn late_refusal(text: &[u8]) -> Option<Refusal>
     ensures read { result ≡ late_refusal_at text.now }
     ensures found { IfSome result (λ r. IsRefusal r × (text.now ≡ refusal_text r)) }

@@ -4,7 +4,7 @@ ghost use Rattle.std.specs.List.{AllByRecursion};
 ghost use Rattle.hls_chron.specs.Ranges.{IsWithin};
 ghost use Rattle.hls_report_text.specs.ReportText.{account_text, head_lines, end_lines, ended};
 ghost use Rattle.hls_report_text.specs.WellFormed.{IsAccount, IsReportText};
-ghost use Rattle.hls_report.specs.Rests.{HasRoom, Passes, FailsAt, HeaderRest, CommandRest, AccountRest};
+ghost use Rattle.hls_report.specs.Inside.Rests.{HasRoom, Passes, FailsAt, HeaderRest, CommandRest, AccountRest};
 ghost use Rattle.hls_report.specs.Reports.{HasNamesByUse, ReadsAs, IsBadAt};
 
 use crate::ReportFault;

@@ -6,10 +6,10 @@ ghost use Rattle.hls_text.specs.Lines.{Text};
 ghost use Rattle.hls_chron.specs.Name.{IsName};
 ghost use Rattle.hls_report_text.specs.Content.{stretch_of};
 ghost use Rattle.hls_report_text.specs.ReportText.{two_words, span_text, path_text, stretch_text};
-ghost use Rattle.hls_report.specs.Rests.{HasRoom, Passes, FailsAt, RunRest, AccountRest};
-ghost use Rattle.hls_report.specs.RunLines.{FitsPath, IsPathTold, IsNextRun, IsRunTold, IsLast, RunPasses};
-ghost use Rattle.hls_report.specs.RunLines.{stretches_of, IsSchedule, AreNames, IsRunRead, RunFails};
-ghost use Rattle.hls_report.specs.RunLines.{AccountsPass, AccountsFail};
+ghost use Rattle.hls_report.specs.Inside.Rests.{HasRoom, Passes, FailsAt, RunRest, AccountRest};
+ghost use Rattle.hls_report.specs.Inside.RunLines.{FitsPath, IsPathTold, IsNextRun, IsRunTold, IsLast, RunPasses};
+ghost use Rattle.hls_report.specs.Inside.RunLines.{stretches_of, IsSchedule, AreNames, IsRunRead, RunFails};
+ghost use Rattle.hls_report.specs.Inside.RunLines.{AccountsPass, AccountsFail};
 ghost use Rattle.hls_report_text.specs.declared.stretch.Stretch.{Stretch};
 
 use crate::ReportFault;

@@ -2,7 +2,7 @@
 ghost use Rattle.std.specs.Prelude.{◌≡◌, ◌<◌, ◌≤◌, decimal, IfSome};
 ghost use Rattle.hls_chron.specs.Name.{IsName};
 ghost use Rattle.hls_report_text.specs.WellFormed.{IsPlace, HasBoxes};
-ghost use Rattle.hls_report_text.specs.Reading.{name_at, place_at, kind_at, count_at};
+ghost use Rattle.hls_report_text.specs.Inside.Reading.{name_at, place_at, kind_at, count_at};
 ghost use Rattle.hls_text.specs.Decimals.{number_below};
 ghost use Rattle.hls_report_text.specs.ReportText.{place_text, kind_text};
 

@@ -28,7 +28,7 @@ use Rattle.hls_derive.specs.declared.derivation.Derivation.{Derivation}
 use Rattle.hls_derive.specs.Derivation.{IsWithinGrammar, PortFits, AreValid}
 use Rattle.hls_derive.specs.DerivationText.{rule_text, scheduler_text, step_text, sched_text, steps_text}
 use Rattle.hls_derive.specs.DerivationText.{derivation_text}
-use Rattle.hls_derive.specs.Reading.{Stands}
+use Rattle.hls_derive.specs.Inside.Reading.{Stands}
 use Rattle.hls_derive.proofs.Fronts.{one_guarantee}
 use Rattle.hls_derive.proofs.Parses.{derivation-same}
 use Rattle.hls_scenario.specs.declared.scenario.Item.{Item}

@@ -17,9 +17,9 @@ use Rattle.hls_report_text.specs.declared.refusal.Refusal.{Refusal}
 use Rattle.hls_report_text.specs.declared.refusal.Refusal.TheVariants as refusals
 use Rattle.hls_report_text.specs.ReportText.{kind_text, place_text, refusal_text}
 use Rattle.hls_report_text.specs.WellFormed.{IsPlace, HasBoxes, IsRefusal}
-use Rattle.hls_report_text.specs.Reading.{name_at, place_at, kind_at, refusal_at}
+use Rattle.hls_report_text.specs.Inside.Reading.{name_at, place_at, kind_at, refusal_at}
 use Rattle.hls_text.specs.Decimals.{number_below}
-use Rattle.hls_report_text.specs.Reading.{seat_refusal_at, late_refusal_at, count_at}
+use Rattle.hls_report_text.specs.Inside.Reading.{seat_refusal_at, late_refusal_at, count_at}
 use Rattle.hls_text.proofs.Marks.{Lacks, lacks_both, number_lacks, number_again}
 use Rattle.hls_report_text.proofs.Marks.{name_lacks}
 

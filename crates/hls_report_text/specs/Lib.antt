@@ -1,4 +1,4 @@
 pub mod Content
 pub mod ReportText
 pub mod WellFormed
-pub mod Reading
+pub mod Inside

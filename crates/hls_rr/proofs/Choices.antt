@@ -15,7 +15,7 @@ use Rattle.hls_kinds.specs.Turns.{turn_slot, turn_goes_on}
 use Rattle.hls_made.proofs.Books.{admission_made, discipline_made}
 use Rattle.hls_sched.specs.Seen.{Seen, IsConfigured, config_of}
 use Rattle.hls_sched.proofs.Masks.{some_slot, some_if_asks}
-use Rattle.hls_box.specs.Sound.{IsSound}
+use Rattle.hls_box.specs.Inside.Sound.{IsSound}
 use Rattle.hls_box.proofs.Choosing.{IsRight, right_asks}
 use Rattle.hls_rr.specs.Turns.{next_of, choice_of}
 use Rattle.hls_rr.proofs.Nexts.{next_first, next_none}

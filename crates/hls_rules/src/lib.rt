@@ -10,4 +10,5 @@ mod tests;
 
 pub use book::RuleBook;
 pub use conclusions::{converts, quotient, strongest};
+pub use hls_guarantee::RuleName;
 pub use rule::{Conclude, Rule, answer};

@@ -1,4 +1,3 @@
 pub mod Seen
-pub mod Fits
 pub mod Blank
 pub mod GoodKit

@@ -1,10 +1,9 @@
 //! Schedulers as boxes, and the kit that they are taken from.
 #![tactic(auto)]
 
-mod fault;
 mod kit;
 mod scheduler;
 
-pub use fault::SeatFault;
+pub use hls_kinds::SeatFault;
 pub use kit::Kit;
 pub use scheduler::Scheduler;

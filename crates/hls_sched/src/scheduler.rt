@@ -11,10 +11,10 @@ ghost use Rattle.hls_kinds.specs.Room.{room_used, IsFree, IsFull};
 ghost use Rattle.hls_promise.specs.Promise.{KeepsPromise};
 ghost use Rattle.hls_sched.specs.Seen.{Seen, config_of, IsConfigured, IsSetUp, IsLawful, seen_asks};
 ghost use Rattle.hls_sched.specs.Seen.{requested, released, seated, left, settled, granted, revoked, turned};
-ghost use Rattle.hls_sched.specs.Fits.{IsAnswer};
+ghost use Rattle.hls_kinds.specs.Faults.{IsAnswer};
 
-use crate::SeatFault;
 use hls_chron::{Book, Config, Kind, Terms};
+use hls_kinds::SeatFault;
 use std::alloc::AllocError;
 
 /// A scheduler that can be loaded into a hierarchy (after Regehr 2001), used boxed. It is told

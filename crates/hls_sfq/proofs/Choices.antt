@@ -16,7 +16,7 @@ use Rattle.hls_kinds.specs.Discipline.{Serves}
 use Rattle.hls_kinds.specs.Made.{IsMade}
 use Rattle.hls_sched.specs.Seen.{Seen, IsConfigured, config_of}
 use Rattle.hls_box.specs.Keys.{key_or, has_key, key_at}
-use Rattle.hls_box.specs.Sound.{IsSound}
+use Rattle.hls_box.specs.Inside.Sound.{IsSound}
 use Rattle.hls_box.proofs.Choosing.{IsRight}
 use Rattle.hls_box.proofs.Keyed.{least_asks, least_serves, first_agree}
 use Rattle.hls_sfq.specs.declared.shares.FairSeat.{FairSeat}

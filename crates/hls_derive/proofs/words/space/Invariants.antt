@@ -1,5 +1,5 @@
 use Rattle.std.proofs.Common.{◌≡◌, ◌+◌, drop}
-use Rattle.hls_derive.specs.Reading.{place_of_space}
+use Rattle.hls_derive.specs.Inside.Reading.{place_of_space}
 use Rattle.hls_derive.proofs.words.space.Given as goal
 
 abbrev pub invariant-loop-at : goal.invariant-loop-at

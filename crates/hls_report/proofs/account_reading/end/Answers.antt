@@ -1,6 +1,6 @@
 use Rattle.std.proofs.Common.{◌≡◌, ◌∷◌, [], ap, ◌∙◌, codes, length, true, false, eq-eqb}
 use Rattle.hls_report.specs.declared.fault.ReportFault.TheVariants as faults
-use Rattle.hls_report.specs.Rests.{EndRest, NoRest}
+use Rattle.hls_report.specs.Inside.Rests.{EndRest, NoRest}
 use Rattle.hls_report.proofs.Stuck.{fail_behind, fail_after}
 use Rattle.hls_report.proofs.account_reading.end.Goals as goal
 

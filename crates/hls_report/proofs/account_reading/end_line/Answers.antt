@@ -1,7 +1,7 @@
 use Rattle.std.proofs.Common.{◌≡◌, ◌∷◌, [], ◌++◌, ap, sym, ◌∙◌, codes, true, false, refl}
 use Rattle.std.proofs.lemmas.Slice.Eq.{bytes_eq-Decides}
 use Rattle.hls_report.specs.declared.fault.ReportFault.TheVariants as faults
-use Rattle.hls_report.specs.Rests.{EndRest, NoRest}
+use Rattle.hls_report.specs.Inside.Rests.{EndRest, NoRest}
 use Rattle.hls_report.proofs.Sections.{first_line, later_lines}
 use Rattle.hls_report.proofs.RestLaws.{some_end}
 use Rattle.hls_report.proofs.Stuck.{pass_line, fail_line, fail_end}

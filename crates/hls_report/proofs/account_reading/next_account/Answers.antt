@@ -2,7 +2,7 @@ use Rattle.std.proofs.Common.{◌∷◌, [], ◌++◌, ap, ◌∙◌, subst, cod
 use Rattle.hls_report.specs.declared.fault.ReportFault.TheVariants as faults
 use Rattle.hls_report_text.specs.ReportText.{account_text}
 use Rattle.hls_report_text.specs.WellFormed.{IsOneLine}
-use Rattle.hls_report.specs.Rests.{AccountRest, EndRest}
+use Rattle.hls_report.specs.Inside.Rests.{AccountRest, EndRest}
 use Rattle.hls_report.proofs.AccountSteps.{no_account}
 use Rattle.hls_report.proofs.LineReadings.{none_some}
 use Rattle.hls_report.proofs.Sections.{idle_text}

@@ -2,7 +2,7 @@ use Rattle.std.proofs.Common.{◌≡◌, ◌∷◌, ◌++◌, ap, ◌∙◌, sym
 use Rattle.std.proofs.lemmas.Slice.Eq.{bytes_eq-Decides}
 use Rattle.hls_report.specs.declared.fault.ReportFault.TheVariants as faults
 use Rattle.hls_report_text.specs.WellFormed.{IsOneLine}
-use Rattle.hls_report.specs.Rests.{AnswerRest}
+use Rattle.hls_report.specs.Inside.Rests.{AnswerRest}
 use Rattle.hls_report.proofs.CommandSteps.{no_answer, done_comes, refused_comes}
 use Rattle.hls_report.proofs.LineReadings.{none_some}
 use Rattle.hls_report.proofs.RestLaws.{some_answer, no_last_answer}

@@ -1,7 +1,7 @@
 use Rattle.std.proofs.Common.{◌-◌, ◌∷◌, []}
 use Rattle.std.proofs.lemmas.Result.{err_from_is_err_and}
 use Rattle.hls_report_text.specs.ReportText.{item_text}
-use Rattle.hls_report.specs.Rests.{CommandRest, AnswerRest}
+use Rattle.hls_report.specs.Inside.Rests.{CommandRest, AnswerRest}
 use Rattle.hls_report.proofs.CommandSteps.{answer_comes}
 use Rattle.hls_report.proofs.Stuck.{fail_behind}
 use Rattle.hls_report.proofs.command_reading.next_command.Goals as goal

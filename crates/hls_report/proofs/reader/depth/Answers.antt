@@ -1,7 +1,7 @@
 use Rattle.std.proofs.Common.{◌∷◌, ◌++◌, ap, ◌∙◌, subst}
 use Rattle.hls_report.specs.declared.fault.ReportFault.TheVariants as faults
 use Rattle.hls_report_text.specs.WellFormed.{IsOneLine}
-use Rattle.hls_report.specs.Rests.{DepthRest, CommandRest}
+use Rattle.hls_report.specs.Inside.Rests.{DepthRest, CommandRest}
 use Rattle.hls_report.proofs.Heads.{no_depth}
 use Rattle.hls_report.proofs.LineReadings.{none_some}
 use Rattle.hls_report.proofs.RestLaws.{no_last_depth, some_depth, some_command, depth_onto, depth_off}

@@ -1,7 +1,7 @@
 use Rattle.std.proofs.Common.{◌≡◌, ◌∷◌, ◌++◌, ap, sym, ◌∙◌, codes, true, false, refl}
 use Rattle.hls_report.specs.declared.fault.ReportFault.TheVariants as faults
 use Rattle.std.proofs.lemmas.Slice.Eq.{bytes_eq-Decides}
-use Rattle.hls_report.specs.Rests.{HeaderRest, HorizonRest}
+use Rattle.hls_report.specs.Inside.Rests.{HeaderRest, HorizonRest}
 use Rattle.hls_report.proofs.Sections.{first_line}
 use Rattle.hls_report.proofs.RestLaws.{no_last_header, some_header, some_horizon, header_onto, header_off}
 use Rattle.hls_report.proofs.Stuck.{pass_line, fail_line, fail_end}

@@ -1,7 +1,7 @@
 use Rattle.std.proofs.Common.{◌∷◌, ◌++◌, ap, ◌∙◌, subst}
 use Rattle.hls_report.specs.declared.fault.ReportFault.TheVariants as faults
 use Rattle.hls_report_text.specs.WellFormed.{IsOneLine}
-use Rattle.hls_report.specs.Rests.{HorizonRest, DepthRest}
+use Rattle.hls_report.specs.Inside.Rests.{HorizonRest, DepthRest}
 use Rattle.hls_report.proofs.Heads.{no_horizon}
 use Rattle.hls_report.proofs.LineReadings.{none_some}
 use Rattle.hls_report.proofs.RestLaws.{no_last_horizon, some_horizon, some_depth, horizon_onto}

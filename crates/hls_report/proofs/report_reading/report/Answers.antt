@@ -3,7 +3,7 @@ use Rattle.std.specs.Prelude.{map, None}
 use Rattle.std.proofs.lemmas.Result.{err_from_is_err_and}
 use Rattle.hls_report_text.specs.Content.{stretch_of}
 use Rattle.hls_report_text.specs.ReportText.{head_lines}
-use Rattle.hls_report.specs.Rests.{HeaderRest, CommandRest, RunRest, AccountRest}
+use Rattle.hls_report.specs.Inside.Rests.{HeaderRest, CommandRest, RunRest, AccountRest}
 use Rattle.hls_report.proofs.Reports.{command_lines, run_lines, report_told}
 use Rattle.hls_report.proofs.Stuck.{pass_on, fail_behind}
 use Rattle.hls_report.proofs.report_reading.report.Goals as goal

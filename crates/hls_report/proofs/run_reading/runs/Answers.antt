@@ -2,7 +2,7 @@ use Rattle.std.proofs.Common.{◌+◌, [], List, arith, sym, subst}
 use Rattle.std.specs.Prelude.{None}
 use Rattle.hls_text.specs.Lines.{Text}
 use Rattle.hls_report_text.specs.declared.report.Run.{Run}
-use Rattle.hls_report.specs.Rests.{RunRest, FailsAt}
+use Rattle.hls_report.specs.Inside.Rests.{RunRest, FailsAt}
 use Rattle.hls_report.proofs.RunSteps.{RunsRead, no_runs, one_run_more, whole_schedule, run_fails}
 use Rattle.hls_report.proofs.RunSteps.{accounts_fail, nothing, err_gives}
 use Rattle.hls_report.proofs.run_reading.runs.Goals as goal

@@ -1,9 +1,9 @@
 use Rattle.std.proofs.Common.{rules, ◌<◌, length, is_some}
 use Rattle.hls_chron.specs.Ledger.{now_of}
 use Rattle.hls_chron.specs.Seats.{terms_at}
-use Rattle.hls_edf.specs.Choice.{account_in}
+use Rattle.hls_edf.specs.Choice.{server_in}
 use Rattle.hls_edf.specs.Changes.{settled_of}
-use Rattle.hls_edf_laws.specs.Accounts.{vacant}
+use Rattle.hls_edf_laws.specs.Servers.{vacant}
 use Rattle.hls_box.proofs.Keyed.{entry_more}
 use Rattle.hls_edf.proofs.edf.Edf.after_settle.Goals as goal
 
@@ -14,7 +14,7 @@ loop-slot-preserved c =
     record {
       length = search rules;
       filled = entry_more
-          (λ k. settled_of (account_in self.servers k) (is_some (terms_at self.state.book k)) (now_of self.state.book))
+          (λ k. settled_of (server_in self.servers k) (is_some (terms_at self.state.book k)) (now_of self.state.book))
           c.loop-slot.after c.loop-slot.slot c.settled.result vacant within c.loop-slot.invariant.filled
           (search rules);
     }

@@ -1,13 +1,13 @@
 use Rattle.std.proofs.Common.{◌≡◌, ℕ, ◌<◌, is_some, length}
 use Rattle.hls_chron.specs.Ledger.{now_of}
 use Rattle.hls_chron.specs.Seats.{terms_at}
-use Rattle.hls_edf.specs.Choice.{account_in}
+use Rattle.hls_edf.specs.Choice.{server_in}
 use Rattle.hls_edf.specs.Changes.{settled_of}
 use Rattle.hls_edf.proofs.edf.Edf.after_settle.Given as goal
 
 abbrev pub invariant-loop-slot : goal.invariant-loop-slot
 invariant-loop-slot l = record {
   length : length l.after ≡ 32;
-  filled : (k : ℕ) → k < l.slot → account_in l.after k ≡ settled_of (account_in l.self.servers k)
+  filled : (k : ℕ) → k < l.slot → server_in l.after k ≡ settled_of (server_in l.self.servers k)
       (is_some (terms_at l.self.state.book k)) (now_of l.self.state.book);
 }

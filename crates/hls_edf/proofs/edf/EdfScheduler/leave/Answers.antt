@@ -3,7 +3,7 @@ use Rattle.hls_box.proofs.Calls.{after_leave}
 use Rattle.hls_box.proofs.Sounds.{taken_within}
 use Rattle.hls_edf_laws.specs.Books.{held}
 use Rattle.hls_chron.specs.Ledger.{now_of}
-use Rattle.hls_edf.specs.Choice.{account_in}
+use Rattle.hls_edf.specs.Choice.{server_in}
 use Rattle.hls_edf.proofs.Calls as calls
 use Rattle.hls_edf.proofs.edf.EdfScheduler.leave.Goals as goal
 
@@ -17,7 +17,7 @@ invariant_of-self c =
     let lt = taken_within _ c.args.slot c.args.self.now.state c.args.self.now.sound c.requires.configured
     c.requires.taken in
     let its : c.held.result
-    ≡ held (account_in c.args.self.now.servers c.args.slot) (now_of c.args.self.now.state.book) =
+    ≡ held (server_in c.args.self.now.servers c.args.slot) (now_of c.args.self.now.state.book) =
     c.held.ensures ∙ rw (c.from.ensures, c.now-now.ensures.now, c.book.ensures) refl in
     record {
       sound = after_leave _ _ _ _ c.leave.ensures c.args.self.now.sound c.requires.configured c.requires.taken;

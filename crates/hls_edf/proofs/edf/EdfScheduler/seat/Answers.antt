@@ -1,7 +1,7 @@
 use Rattle.std.proofs.Common.{rules, ◌≡◌, length, refl, ◌∙◌}
 use Rattle.hls_box.proofs.Calls.{after_seat}
 use Rattle.hls_box.proofs.Sounds.{free_within}
-use Rattle.hls_edf_laws.specs.Accounts.{fresh, offered}
+use Rattle.hls_edf_laws.specs.Servers.{fresh, offered}
 use Rattle.hls_chron.specs.Ledger.{now_of}
 use Rattle.hls_edf.proofs.Calls.{fits_are_reservations, fits_parts}
 use Rattle.hls_edf.proofs.Calls as calls

@@ -8,7 +8,7 @@ use Rattle.hls_report_text.specs.declared.report.Seated.{Seated}
 use Rattle.hls_report_text.specs.declared.report.Answered.{Answered}
 use Rattle.hls_report_text.specs.ReportText.{item_text, item_of, seat_text, answered_lines}
 use Rattle.hls_report_text.specs.WellFormed.{IsSeated, TakesSeats, IsAnswer}
-use Rattle.hls_report.specs.Rests.{Passes, CommandRest, SeatRest, AnswerRest, RunRest, IsNext}
+use Rattle.hls_report.specs.Inside.Rests.{Passes, CommandRest, SeatRest, AnswerRest, RunRest, IsNext}
 
 -- whatever further commands there are
 abbrev pub SeatsPass : Command → List Text → (old new : Lines) → Type 0

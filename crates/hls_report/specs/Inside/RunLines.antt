@@ -13,7 +13,7 @@ use Rattle.hls_report_text.specs.declared.stretch.Stretch.{Stretch}
 use Rattle.hls_report_text.specs.Content.{path_names, stretch_of}
 use Rattle.hls_report_text.specs.ReportText.{path_text, stretch_text}
 use Rattle.hls_report_text.specs.WellFormed.{IsPath, Cover, with_path, names_after, FewNames, HasShort}
-use Rattle.hls_report.specs.Rests.{Passes, FailsAt, RunRest, AccountRest}
+use Rattle.hls_report.specs.Inside.Rests.{Passes, FailsAt, RunRest, AccountRest}
 
 -- ---- the words of a path
 

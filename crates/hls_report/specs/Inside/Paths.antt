@@ -8,7 +8,7 @@ use Rattle.hls_text.specs.Cuts.{after_words}
 use Rattle.hls_report_text.specs.declared.report.Path.{Path}
 use Rattle.hls_report_text.specs.Content.{path_names}
 use Rattle.hls_report_text.specs.WellFormed.{IsPath, with_names}
-use Rattle.hls_report_text.specs.Reading.{name_at}
+use Rattle.hls_report_text.specs.Inside.Reading.{name_at}
 
 -- each with a slash before it
 abbrev pub names_text : List Text → Text

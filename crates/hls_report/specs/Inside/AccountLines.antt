@@ -5,7 +5,7 @@ use Rattle.hls_report.specs.declared.account_reading.AccountLine.TheVariants.{St
 use Rattle.hls_report.specs.declared.lines.Lines.{Lines}
 use Rattle.hls_report_text.specs.ReportText.{account_text}
 use Rattle.hls_report_text.specs.WellFormed.{IsAccount}
-use Rattle.hls_report.specs.Rests.{Passes, AccountRest, EndRest}
+use Rattle.hls_report.specs.Inside.Rests.{Passes, AccountRest, EndRest}
 
 -- an account of the horizon, behind which further accounts may come, or the idle ticks and the end
 abbrev pub AccountPasses : (horizon : ℕ) → AccountLine → (old new : Lines) → Type 0

@@ -1,0 +1,5 @@
+pub mod Rests
+pub mod AccountLines
+pub mod CommandLines
+pub mod RunLines
+pub mod Paths
