@@ -39,6 +39,7 @@ use Rattle.hls_tree.specs.Lists.{holder_view}
 use Rattle.hls_tree.proofs.Listed.{sched_same, sched_not, listed_less, filter_less}
 use Rattle.std.proofs.lemmas.List.{length-map}
 use Rattle.hls_tree.proofs.Named.{named_gone, name_there}
+use Rattle.hls_tree.proofs.Ported.{ported_effect}
 
 -- a node is taken out
 pub record IsRemoved (old mid : Nodes) (id : ℕ) : Type 0 where
@@ -298,6 +299,7 @@ module _ {V : Type 0} {P : V → Type 0} (seen : (x : V) × P x → Seen) where
                     t.counts.seats,
                   ));
             };
+            ported = ported_effect h id None nobody t.ported tt;
           }
 
     pub detached_ready : (later : Slab (StoredNode V P))

@@ -25,13 +25,13 @@ above_place s Processor = refl
 above_place s (At p slot) = refl
 
 -- one of the seats has the greatest level
-record IsTop (s : Nodes) (seats : List Seat) : Type 0 where
-  port : ℕ
-  seat : Seat
-  sits : slice_get seats port ≡ Some seat
-  top : level_at s seat.place ≡ level_over s seats
+pub record IsTop (s : Nodes) (seats : List Seat) : Type 0 where
+  pub port : ℕ
+  pub seat : Seat
+  pub sits : slice_get seats port ≡ Some seat
+  pub top : level_at s seat.place ≡ level_over s seats
 
-top_of : (s : Nodes) (seats : List Seat) → seats ≢ [] → IsTop s seats
+pub top_of : (s : Nodes) (seats : List Seat) → seats ≢ [] → IsTop s seats
 top_of s [] ne = absurd (ne refl)
 top_of s (seat ∷ []) ne = record { port = 0; seat = seat; sits = refl; top = omega arith }
 top_of s (seat ∷ (next ∷ rest)) ne =
@@ -71,7 +71,7 @@ loaded_by (Some (Admitted t)) slot terms e = absurd (let none = empty_terms slot
 most_loaded : (node : Option Node) (scheduler : Scheduler) → node ≡ Some (Loaded scheduler) → most_bare (bare node) ≡ 8
 most_loaded node scheduler e = ap (λ n. most_bare (bare n)) e
 
-chain_snoc : (h : Hierarchy) (parent : Option ℕ) (chain : List ℕ) (p k : ℕ) → IsChain h parent (chain ++ p ∷ [])
+pub chain_snoc : (h : Hierarchy) (parent : Option ℕ) (chain : List ℕ) (p k : ℕ) → IsChain h parent (chain ++ p ∷ [])
     → SitsUnder h (Some p) k → IsChain h parent ((chain ++ p ∷ []) ++ k ∷ [])
 chain_snoc h parent [] p k c under = (c.0, (under, tt))
 chain_snoc h parent (j ∷ chain) p k c under = (c.0, chain_snoc h (Some j) chain p k c.1 under)

@@ -31,7 +31,7 @@ use Rattle.hls_tree.specs.Names.{id_of}
 use Rattle.hls_tree.specs.Offers.{TakesAt, MayTakeEach, MayAdmit, MayLoad, AreTakenAs}
 use Rattle.hls_tree.specs.Seating.{AreBelow, MayTakeAll, IsAttached}
 use Rattle.hls_tree.specs.Trees.{IsTreeOf, IsReadyOf, Stands, IsSame, HasCounts, IsAsBefore, IsInserted, IsNamed}
-use Rattle.hls_tree.specs.Trees.{Admits, Loads}
+use Rattle.hls_tree.specs.Trees.{Admits, Loads, IsPorted}
 use Rattle.hls_tree.specs.declared.seat.Seat.{Seat as Wanted}
 use Rattle.hls_tree.specs.declared.tree.Tree.{Tree}
 use Rattle.hls_tree.proofs.Attaches.{attach_tree, taken_as, new_there, may_take_all, name_marked}
@@ -39,6 +39,7 @@ use Rattle.hls_tree.proofs.Levels.{level_is}
 use Rattle.hls_tree.proofs.Listed.{sched_what, sched_not, new_seats, sitters_of}
 use Rattle.hls_tree.specs.Lists.{holder_view, ports_of}
 use Rattle.hls_tree.proofs.Named.{name_there, named_alike, named_new}
+use Rattle.hls_tree.proofs.Ported.{ported_effect}
 
 lone : (seats : List Seat) → length seats ≡ 1 → (seat : Seat) × (seats ≡ seat ∷ [])
 lone [] e = absurd (omega (arith, e))
@@ -134,6 +135,7 @@ module _ {V : Type 0} {P : V → Type 0} (seen : (x : V) × P x → Seen) where
           threads = rw same.threads t.counts.threads;
           seats = rw same.seats t.counts.seats;
         };
+        ported = t.ported;
       }
 
   pub same_ready : (old new : Tree V P) → IsSame seen old new → (h : Hierarchy) → IsReadyOf seen old h
@@ -200,9 +202,9 @@ module _ {V : Type 0} {P : V → Type 0} (seen : (x : V) × P x → Seen) where
         → ((n : ℕ) → old.tick + n ≤ old.horizon → RoomBare n (Some (bare_what name x.seats what)))
         → name_bare (Some (bare_what name x.seats what)) ≡ Some name
         → (h : Hierarchy) → IsTreeOf seen old h → (node : Node)
-        → bare (Some node) ≡ Some (bare_what name x.seats what)
+        → bare (Some node) ≡ Some (bare_what name x.seats what) → IsPorted (Some node)
         → IsTreeOf seen new (effect h id (Some node) nobody)
-    inserted_tree Is stands may free small some most low posted room named h t node is = record {
+    inserted_tree Is stands may free small some most low posted room named h t node is ported = record {
       of = tree_to (shown_at (boxed seen) new.nodes) old.tick old.horizon new.tick new.horizon
           (root_with id x.seats old.root) new.root _ x.tick x.horizon x.root
           (attach_tree (shown_at (boxed seen) old.nodes)
@@ -225,6 +227,7 @@ module _ {V : Type 0} {P : V → Type 0} (seen : (x : V) × P x → Seen) where
           ap (λ l. l ++ sitters id 0 (seats_of (Some node))) (whole ∙ t.seats)
           ∙ ap (λ l. map holder_view old.seats.items ++ l) own ∙ sym x.holders;
       counts = counts;
+      ported = ported_effect h id (Some node) nobody t.ported ported;
     }
 
     inserted_taken : (Is : Hierarchy → Type 0) (stands : Stands seen old Is) → MayTakeEach stands.h wanted
@@ -272,7 +275,7 @@ module _ {V : Type 0} {P : V → Type 0} (seen : (x : V) × P x → Seen) where
       (below_nine (shown_at (boxed seen) old.nodes) old.tick old.horizon old.root stands.h stands.tree.of
       (w ∷ []) stands.is.seats)
       tt (λ n le. tt) refl h t (Admitted (admitted h.now name one.0))
-      (ap (λ l. Some (ThreadNode name l)) (sym one.1)) in
+      (ap (λ l. Some (ThreadNode name l)) (sym one.1)) tt in
       record {
         seat = one.0;
         unused = inserted_new old new id name (w ∷ []) (Thread false) x counts h t;
@@ -354,7 +357,8 @@ module _ {V : Type 0} {P : V → Type 0} (seen : (x : V) × P x → Seen) where
             stands.is.seats_fit stands.is.name_free (omega (arith, count, few))
             (not_empty wanted (omega (arith, count, some))) (omega arith) below
             (posted_fresh config old.tick old.horizon commands u stands.is.in_range f)
-            (λ n le. (let room = f.spare_ticks in omega (arith, room, le))) refl h t node bare_is;
+            (λ n le. (let room = f.spare_ticks in omega (arith, room, le))) refl h t node bare_is
+            (x.attached.taken.count ∙ count);
         ready = λ r. inserted_ready old new id name wanted (fresh_what config u) x counts h node
             (same_ready first old same h r)
             (λ t e. cc);

@@ -10,8 +10,8 @@ use Rattle.hls_chron.specs.declared.plain.Terms.{Terms}
 use Rattle.hls_chron.specs.Kinds.{kind_of}
 use Rattle.hls_chron.specs.Ledger.{Ledger}
 use Rattle.hls_sched.specs.Seen.{Seen, config_of}
-use Rattle.hls_sched.specs.Fits.{IsAnswer, IsFirst}
-use Rattle.hls_sched.specs.declared.fault.SeatFault.{SeatFault}
+use Rattle.hls_kinds.specs.Faults.{IsAnswer, IsFirst}
+use Rattle.hls_kinds.specs.declared.fault.SeatFault.{SeatFault}
 use Rattle.hls_legal.specs.Hierarchy.{Hierarchy, Node, Loaded, Admitted, SeatHolder, seat_of, book_of}
 use Rattle.hls_legal.specs.Hierarchy.{config_of as config_of_node, Scheduler as LoadedScheduler, Seat}
 use Rattle.hls_legal.specs.Seated.{IsSeated}

@@ -1,5 +1,6 @@
 -- What a call is handed, as the hierarchy sees it: which seats may be taken, and which were.
-use Rattle.std.specs.Prelude.{◌≡◌, ◌≢◌, ℕ, ◌+◌, ◌<◌, ◌≤◌, List, [], ◌∷◌, ◌++◌, length, Option, Some, None, slice_get}
+use Rattle.std.specs.Prelude.{◌≡◌, ◌≢◌, ℕ, ◌+◌, ◌<◌, ◌≤◌, ◌==◌, List, [], ◌∷◌, ◌++◌, length, Option, Some, None}
+use Rattle.std.specs.Prelude.{slice_get, if◌then◌else◌}
 use Rattle.hls_chron.specs.declared.plain.Config.{Config}
 use Rattle.hls_chron.specs.declared.plain.Terms.{Terms}
 use Rattle.hls_chron.specs.declared.plain.Kind.TheVariants as kinds
@@ -8,11 +9,13 @@ use Rattle.hls_chron.specs.Ranges.{ConfigInRange, TermsInRange}
 use Rattle.hls_chron.specs.Seats.{terms_at}
 use Rattle.hls_kinds.specs.Room.{IsFree}
 use Rattle.hls_guarantee.specs.Limits.{IsNarrow}
-use Rattle.hls_sched.specs.Fits.{IsAnswer}
+use Rattle.hls_kinds.specs.Faults.{IsAnswer}
 use Rattle.hls_legal.specs.Ledgers.{with_marks}
-use Rattle.hls_legal.specs.Hierarchy.{Hierarchy, Scheduler, Loaded, Place, At, name_of, book_of, config_of, seat_of}
+use Rattle.hls_legal.specs.Hierarchy.{Hierarchy, Node, Scheduler, Loaded, Admitted, Place, At, name_of, book_of}
+use Rattle.hls_legal.specs.Hierarchy.{config_of, seat_of}
 use Rattle.hls_legal.specs.Hierarchy.{Seat as TakenSeat}
-use Rattle.hls_legal.specs.Steps.{leavings}
+use Rattle.hls_legal.specs.Steps.{leavings, reseated}
+use Rattle.hls_legal.specs.Readings.{IsUnder}
 use Rattle.hls_legal.specs.Legal.{IsChain, scheduler_at}
 use Rattle.hls_chron.specs.Kinds.{port_count}
 use Rattle.hls_tree.specs.declared.seat.Seat.{Seat}
@@ -91,3 +94,37 @@ pub record MayGo (h : Hierarchy) (id : ℕ) : Type 0 where
   pub empty : (slot : ℕ) → terms_at (book_of (h.nodes id)) slot ≡ None
   pub room : (port p slot : ℕ) (seat : TakenSeat) → seat_of (h.nodes id) port ≡ Some seat
       → seat.place ≡ At p slot → 0 < (book_of (h.nodes p)).spare_marks
+
+-- ---- moves
+
+-- a thread moves to a scheduler, and a scheduler that is no join moves anywhere
+abbrev pub MovesTo : (parent : Option ℕ) → Option Node → Type 0
+MovesTo parent None = ⊥
+MovesTo parent (Some (Loaded s)) = kind_of s.config ≢ kinds.Join
+MovesTo parent (Some (Admitted t)) = parent ≢ None
+
+-- the hierarchy with a node in another seat, and nothing else changed
+abbrev pub moved_to : Hierarchy → (k : ℕ) → TakenSeat → Hierarchy
+moved_to h k seat = record h { nodes = λ c. if c == k then reseated seat (h.nodes c) else h.nodes c }
+
+-- the place is not the moved node and not below it
+abbrev pub IsNoCycle : Hierarchy → (k : ℕ) → (parent : Option ℕ) → Type 0
+IsNoCycle h k parent = (p : ℕ) → parent ≡ Some p → ¬ IsUnder h k p
+
+-- each book in which a move makes marks has room for them: one where the seat is left, one where one is taken,
+-- two where both are, and one where a scheduler is settled
+pub record HasMoveRoom (h : Hierarchy) (k : ℕ) (parent : Option ℕ) : Type 0 where
+  pub leaves : (p slot : ℕ) (seat : TakenSeat) → seat_of (h.nodes k) 0 ≡ Some seat → seat.place ≡ At p slot
+      → 0 < (book_of (h.nodes p)).spare_marks
+  pub both : (p slot : ℕ) (seat : TakenSeat) → seat_of (h.nodes k) 0 ≡ Some seat → seat.place ≡ At p slot
+      → parent ≡ Some p → 1 < (book_of (h.nodes p)).spare_marks
+  pub settles : (c : ℕ) (s : Scheduler) → IsUnder h k c → h.nodes c ≡ Some (Loaded s) → 0 < s.book.spare_marks
+
+-- a node may take another seat, so that no level is above 8
+pub record MayMove (h : Hierarchy) (k : ℕ) (wanted : Seat) : Type 0 where
+  pub sort : MovesTo wanted.parent (h.nodes k)
+  pub seat : MayTake h wanted
+  pub acyclic : IsNoCycle h k wanted.parent
+  pub room : HasMoveRoom h k wanted.parent
+  pub shallow : (s : Scheduler) (seat : TakenSeat) (chain : List ℕ) → h.nodes k ≡ Some (Loaded s)
+      → scheduler_at seat.place ≡ wanted.parent → IsChain (moved_to h k seat) None chain → length chain ≤ 8

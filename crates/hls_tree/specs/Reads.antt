@@ -1,14 +1,17 @@
 -- What the read calls answer, each by the hierarchy.
-use Rattle.std.specs.Prelude.{◌≡◌, ◌≢◌, ℕ, ◌==◌, List, Option, Some, None, Bool, false, filter, option_map}
+use Rattle.std.specs.Prelude.{◌≡◌, ◌≢◌, ℕ, ◌≤◌, ◌==◌, List, ◌∷◌, [], ◌++◌, length, Option, Some, None, Bool, false}
+use Rattle.std.specs.Prelude.{filter, option_map}
 use Rattle.hls_chron.specs.declared.plain.Kind.TheVariants as kinds
 use Rattle.hls_chron.specs.declared.plain.Terms.{Terms}
 use Rattle.hls_chron.specs.Kinds.{kind_of, terms_kind}
-use Rattle.hls_sched.specs.Fits.{IsAnswer}
-use Rattle.hls_sched.specs.declared.fault.SeatFault.{SeatFault}
-use Rattle.hls_sched.specs.declared.fault.SeatFault.TheVariants as faults
+use Rattle.hls_kinds.specs.Faults.{IsAnswer}
+use Rattle.hls_kinds.specs.declared.fault.SeatFault.{SeatFault}
+use Rattle.hls_kinds.specs.declared.fault.SeatFault.TheVariants as faults
 use Rattle.hls_legal.specs.Hierarchy.{Hierarchy, Node, Loaded, Admitted, Scheduler, Seat, SeatHolder, Place, Processor}
 use Rattle.hls_legal.specs.Hierarchy.{At, seat_of, book_of, config_of}
+use Rattle.hls_legal.specs.Legal.{IsChain, fair_queues}
 use Rattle.hls_tree.specs.Lists.{is_on}
+use Rattle.hls_tree.specs.Offers.{IsNoCycle}
 use Rattle.hls_tree.specs.declared.seat.Sort.{Sort}
 use Rattle.hls_tree.specs.declared.seat.Sort.TheVariants as sorts
 
@@ -43,3 +46,32 @@ IsParent h (Some p) = IsLoaded (h.nodes p)
 abbrev pub taken_on : Hierarchy → (p : ℕ) → List SeatHolder
 taken_on h p = filter (λ (s : SeatHolder).
     is_on (option_map (λ (seat : Seat). seat.place) (seat_of (h.nodes s.node) s.port)) p) h.seats
+
+-- so many fair queueing schedulers are on a path to a scheduler, itself included, and on no path more
+pub record IsShares (h : Hierarchy) (k shares : ℕ) : Type 0 where
+  pub above : List ℕ
+  pub chain : IsChain h None (above ++ k ∷ [])
+  pub shares_are : fair_queues h (above ++ k ∷ []) ≡ shares
+  pub most : (other : List ℕ) → IsChain h None (other ++ k ∷ []) → fair_queues h (other ++ k ∷ []) ≤ shares
+
+-- a scheduler has this level, and none a greater one
+pub record IsGreatestLevel (h : Hierarchy) (level : ℕ) : Type 0 where
+  pub chain : List ℕ
+  pub stands : IsChain h None chain
+  pub length_is : length chain ≡ level
+  pub greatest : (other : List ℕ) → IsChain h None other → length other ≤ level
+
+-- so many fair queueing schedulers are on a path, and on no path more
+pub record AreMostShares (h : Hierarchy) (shares : ℕ) : Type 0 where
+  pub chain : List ℕ
+  pub stands : IsChain h None chain
+  pub shares_are : fair_queues h chain ≡ shares
+  pub most : (other : List ℕ) → IsChain h None other → fair_queues h other ≤ shares
+
+-- a scheduler that is no join, and a place that is not below it
+pub record MayAskAbout (h : Hierarchy) (k : ℕ) (parent : Option ℕ) : Type 0 where
+  pub scheduler : Scheduler
+  pub there : h.nodes k ≡ Some (Loaded scheduler)
+  pub lone : kind_of scheduler.config ≢ kinds.Join
+  pub there_is : IsParent h parent
+  pub acyclic : IsNoCycle h k parent

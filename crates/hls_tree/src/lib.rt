@@ -1,8 +1,11 @@
 //! Boxes of schedulers and threads, seated on each other: the hierarchy that runs.
 #![tactic(auto)]
 
+mod depths;
 mod lists;
+mod moves;
 mod names;
+mod order;
 mod reads;
 mod seat;
 mod seating;

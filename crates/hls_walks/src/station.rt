@@ -5,7 +5,7 @@ ghost use Rattle.hls_chron.specs.Seats.{terms_at};
 ghost use Rattle.hls_kinds.specs.Asks.{slot_asks};
 ghost use Rattle.hls_kinds.specs.Discipline.{Serves};
 ghost use Rattle.hls_sched.specs.Seen.{config_of, IsConfigured, seen_asks, requested, released};
-ghost use Rattle.hls_sched.specs.Fits.{IsFirst};
+ghost use Rattle.hls_kinds.specs.Faults.{IsFirst};
 ghost use Rattle.hls_walks.specs.Shown.{HasNoFault, IsPosted, IsTold, post_granted, post_revoked, post_turned};
 ghost use Rattle.hls_walks.specs.Shown.{post_seated, post_left, post_settled, MaySit};
 ghost use Rattle.hls_kinds.specs.Room.{IsFree, IsFull};

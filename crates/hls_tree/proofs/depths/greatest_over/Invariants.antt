@@ -1,0 +1,9 @@
+use Rattle.std.proofs.Common.{◌≡◌, max, map, drop}
+use Rattle.hls_walks.specs.Views.{seat_view}
+use Rattle.hls_tree.specs.Inside.Sums.{sum_at, greatest_over}
+use Rattle.hls_tree.proofs.depths.greatest_over.Given as goal
+
+abbrev pub invariant-loop-seat : goal.invariant-loop-seat
+invariant-loop-seat l =
+    max l.greatest (greatest_over (sum_at l.schedulers l.sums) (drop l.seat-index (map seat_view l.seats)))
+    ≡ greatest_over (sum_at l.schedulers l.sums) (map seat_view l.seats)

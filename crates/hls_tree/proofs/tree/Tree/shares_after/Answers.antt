@@ -1,0 +1,7 @@
+use Rattle.hls_tree.proofs.Asked.{shares_after_read}
+use Rattle.hls_tree.proofs.tree.Tree.shares_after.Goals as goal
+
+pub returns : goal.returns
+returns g c = λ h seat tree seated at.
+    shares_after_read _ c.args.self.now c.args.id c.args.parent c.requires h tree seat at c.greatest_after.result _
+    c.from.ensures (c.greatest_after.ensures h seat tree seated at)

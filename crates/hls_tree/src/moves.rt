@@ -1,0 +1,236 @@
+// Nodes that take another seat.
+ghost use Rattle.std.specs.Prelude.{◌≡◌, ◌≢◌, ◌≤◌, ◌<◌, ◌+◌, ℕ, true, false, Option, length, map, [], ◌∷◌};
+ghost use Rattle.hls_legal.specs.Hierarchy.{Hierarchy, At};
+ghost use Rattle.hls_legal.specs.Steps.{root_with, root_without};
+ghost use Rattle.hls_walks.specs.Shown.{Shown, PostedIn, level_in, seats_in, with_seat};
+ghost use Rattle.hls_walks.specs.Views.{boxed, shown_at, seat_view, place_view};
+ghost use Rattle.hls_walks.specs.TreeOf.{level_at, level_over};
+ghost use Rattle.hls_tree.specs.Inside.Below.{plain, begun, HasRoomToSettle, SitsBelow, SitsAbove, IsBegun};
+ghost use Rattle.hls_tree.specs.Offers.{MayMove};
+ghost use Rattle.hls_tree.specs.Trees.{IsTreeOf, Stands, HasPassed, Moves};
+
+use crate::order::list_last;
+use crate::seating::{leave_seat, take_seat};
+use crate::{Seat, Tree};
+use hls_sched::Scheduler;
+use hls_walks::{Node, NodeId, Place, Role, TakenSeat, is_processor, level_at};
+use slab::Slab;
+
+/// What is added to the level of a node that was found below the moved one, until all are found.
+const BELOW: u8 = 32;
+
+/// Puts a node that has one seat into another.
+fn put_seat(nodes: &mut Slab<Node>, key: usize, seat: TakenSeat)
+    requires { length (seats_in (shown_at (boxed seen) nodes.old key)) ≡ 1 }
+    ensures here { shown_at (boxed seen) nodes.new key ≡ with_seat (seat_view seat)
+        (level_in (shown_at (boxed seen) nodes.old key)) (shown_at (boxed seen) nodes.old key) }
+    ensures others { (k : ℕ) → k ≢ key → shown_at (boxed seen) nodes.new k ≡ shown_at (boxed seen) nodes.old k }
+{
+    match nodes.get_mut(key) {
+        Some(node) => node.seats[0] = seat,
+        None => unreachable!(),
+    }
+}
+
+/// The new level of one who sits at a place.
+fn plain_on(nodes: &Slab<Node>, place: Place) -> u8
+    ensures level { result ≡ level_at (plain (shown_at (boxed seen) nodes.now)) (place_view place) }
+    ensures most { result ≤ 32 }
+{
+    match place {
+        Place::Processor => 1,
+        Place::At { scheduler, .. } => level_at(nodes, scheduler) % BELOW + 1,
+    }
+}
+
+/// The greatest new level of one who sits at one of these seats.
+fn plain_over(nodes: &Slab<Node>, seats: &[TakenSeat]) -> u8
+    ensures level { result ≡ level_over (plain (shown_at (boxed seen) nodes.now)) (map seat_view seats.now) }
+    ensures most { result ≤ 32 }
+{
+    let mut level = 0u8;
+    for seat in seats {
+        level = level.max(plain_on(nodes, seat.place));
+    }
+    level
+}
+
+/// The new level of a node.
+fn plain_at(nodes: &Slab<Node>, key: usize) -> u8
+    ensures level { result ≡ level_over (plain (shown_at (boxed seen) nodes.now))
+        (seats_in (shown_at (boxed seen) nodes.now key)) }
+    ensures most { result ≤ 32 }
+{
+    match nodes.get(key) {
+        Some(node) => plain_over(nodes, &node.seats),
+        None => 0,
+    }
+}
+
+/// Begins the accounts of a node anew, and notes its new level, and that it was found.
+fn begin_at(nodes: &mut Slab<Node>, key: usize)
+    requires posted { PostedIn (shown_at (boxed seen) nodes.old key) }
+    requires room { HasRoomToSettle (shown_at (boxed seen) nodes.old key) }
+    ensures here { shown_at (boxed seen) nodes.new key ≡ begun true
+        (level_over (plain (shown_at (boxed seen) nodes.old)) (seats_in (shown_at (boxed seen) nodes.old key)))
+        (shown_at (boxed seen) nodes.old key) }
+    ensures others { (k : ℕ) → k ≢ key → shown_at (boxed seen) nodes.new k ≡ shown_at (boxed seen) nodes.old k }
+{
+    let level = plain_at(nodes, key);
+    match nodes.get_mut(key) {
+        Some(node) => {
+            node.level = level + BELOW;
+            match &mut node.role {
+                Role::Sched(station) => station.settle(),
+                Role::Thread { .. } => {}
+            }
+        }
+        None => {}
+    }
+}
+
+/// Whether a place is on a node that was found.
+fn is_below(nodes: &Slab<Node>, place: Place) -> bool
+    ensures yes { result ≡ true → (p : ℕ) × (slot : ℕ) × (place_view place ≡ At p slot) ×
+        (32 ≤ level_in (shown_at (boxed seen) nodes.now p)) }
+    ensures no { result ≡ false → (p slot : ℕ) → place_view place ≡ At p slot →
+        level_in (shown_at (boxed seen) nodes.now p) < 32 }
+{
+    match place {
+        Place::Processor => false,
+        Place::At { scheduler, .. } => level_at(nodes, scheduler) >= BELOW,
+    }
+}
+
+/// Whether one of these seats is on a node that was found.
+fn are_below(nodes: &Slab<Node>, seats: &[TakenSeat]) -> bool
+    ensures yes { result ≡ true → SitsBelow (shown_at (boxed seen) nodes.now) (map seat_view seats.now) }
+    ensures no { result ≡ false → SitsAbove (shown_at (boxed seen) nodes.now) (map seat_view seats.now) }
+{
+    for seat in seats {
+        if is_below(nodes, seat.place) {
+            return true;
+        }
+    }
+    false
+}
+
+/// Whether a node sits on one that was found.
+fn sits_below(nodes: &Slab<Node>, key: usize) -> bool
+    ensures yes { result ≡ true → SitsBelow (shown_at (boxed seen) nodes.now)
+        (seats_in (shown_at (boxed seen) nodes.now key)) }
+    ensures no { result ≡ false → SitsAbove (shown_at (boxed seen) nodes.now)
+        (seats_in (shown_at (boxed seen) nodes.now key)) }
+{
+    match nodes.get(key) {
+        Some(node) => are_below(nodes, &node.seats),
+        None => false,
+    }
+}
+
+/// Begins the accounts of a node anew, if it was at this level and sits on one that was found.
+fn begin_node(nodes: &mut Slab<Node>, key: usize, level: u8)
+    requires low { level ≤ 9 }
+    requires begun { (h : Hierarchy) × (old : ℕ → Option Shown) × (k : ℕ) ×
+        IsBegun h old (shown_at (boxed seen) nodes.old) k level key }
+    ensures { (h : Hierarchy) (old : ℕ → Option Shown) (k : ℕ) →
+        IsBegun h old (shown_at (boxed seen) nodes.old) k level key →
+        IsBegun h old (shown_at (boxed seen) nodes.new) k level (key + 1) }
+{
+    if level_at(nodes, key) != level {
+        return;
+    }
+    if sits_below(nodes, key) {
+        begin_at(nodes, key);
+    }
+}
+
+/// Begins the accounts of those anew that were at this level and sit on one that was found.
+fn begin_level(nodes: &mut Slab<Node>, level: u8)
+    requires begun { (h : Hierarchy) × (old : ℕ → Option Shown) × (k : ℕ) ×
+        IsBegun h old (shown_at (boxed seen) nodes.old) k level 0 }
+    requires low { level ≤ 9 }
+    ensures { (h : Hierarchy) (old : ℕ → Option Shown) (k : ℕ) →
+        IsBegun h old (shown_at (boxed seen) nodes.old) k level 0 →
+        IsBegun h old (shown_at (boxed seen) nodes.new) k (level + 1) 0 }
+{
+    let end = nodes.capacity();
+    for key in 0..end {
+        begin_node(nodes, key, level);
+    }
+}
+
+/// Begins the accounts of all anew that are below one that was found.
+fn begin_all(nodes: &mut Slab<Node>)
+    requires { (h : Hierarchy) × (old : ℕ → Option Shown) × (k : ℕ) ×
+        IsBegun h old (shown_at (boxed seen) nodes.old) k 1 0 }
+    ensures { (h : Hierarchy) (old : ℕ → Option Shown) (k : ℕ) →
+        IsBegun h old (shown_at (boxed seen) nodes.old) k 1 0 →
+        IsBegun h old (shown_at (boxed seen) nodes.new) k 10 0 }
+{
+    for level in 1..10u8 {
+        begin_level(nodes, level);
+    }
+}
+
+/// Forgets that a node was found.
+fn forget_at(nodes: &mut Slab<Node>, key: usize)
+    ensures here { shown_at (boxed seen) nodes.new key ≡ plain (shown_at (boxed seen) nodes.old) key }
+    ensures others { (k : ℕ) → k ≢ key → shown_at (boxed seen) nodes.new k ≡ shown_at (boxed seen) nodes.old k }
+{
+    match nodes.get_mut(key) {
+        Some(node) => node.level %= BELOW,
+        None => {}
+    }
+}
+
+/// Forgets which nodes were found: their levels are the new ones.
+fn forget_all(nodes: &mut Slab<Node>)
+    ensures { (k : ℕ) → shown_at (boxed seen) nodes.new k ≡ plain (shown_at (boxed seen) nodes.old) k }
+{
+    let end = nodes.capacity();
+    for key in 0..end {
+        forget_at(nodes, key);
+    }
+}
+
+/// The root where a node leaves a seat and takes another.
+fn root_moved(
+    left: &TakenSeat,
+    taken: &TakenSeat,
+    id: NodeId,
+    root: Option<NodeId>,
+) -> Option<NodeId>
+    ensures { result ≡ root_with id (seat_view taken.now ∷ []) (root_without (seat_view left.now ∷ []) root) }
+{
+    if is_processor(taken.place) {
+        return Some(id);
+    }
+    if is_processor(left.place) {
+        return None;
+    }
+    root
+}
+
+impl Tree {
+    /// Moves a node to another seat: it leaves its own, and takes the new one in the least slot that is
+    /// neither taken nor held. The accounts of all that is below begin anew.
+    pub fn relocate(&mut self, id: NodeId, seat: Seat)
+        requires { Stands seen self.old (λ h. MayMove h id seat) }
+        ensures moved { (h : Hierarchy) → IsTreeOf seen self.old h → Moves seen self.old self.new h id seat }
+        ensures passed { ¬ HasPassed self.new }
+        ensures horizon { self.new.horizon ≡ self.old.horizon }
+    {
+        let key = id.key();
+        let left = self.seat(id, 0);
+        leave_seat(&mut self.nodes, &left);
+        let taken = take_seat(&mut self.nodes, &seat);
+        put_seat(&mut self.nodes, key, taken);
+        begin_at(&mut self.nodes, key);
+        begin_all(&mut self.nodes);
+        forget_all(&mut self.nodes);
+        list_last(&mut self.seats, id);
+        self.root = root_moved(&left, &taken, id, self.root);
+        self.passed = false;
+    }
+}
