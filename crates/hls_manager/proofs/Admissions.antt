@@ -24,7 +24,8 @@ use Rattle.hls_answers.specs.Moment.{Moment, node_of}
 use Rattle.hls_answers.specs.Dues.{Due, due_at, Derives, IsUnderivable}
 use Rattle.hls_answers.specs.Answers.{number, RefusesCommand, RefusesPlace, RefusesFirstPlace, Applies, IsRefused}
 use Rattle.hls_answers.specs.Answers.{IsDone}
-use Rattle.hls_manager.proofs.Places.{fault_refusal, from_ten, to_last, place_number, at_processor, unknown_place, known_place}
+use Rattle.hls_manager.specs.Faults.{fault_refusal}
+use Rattle.hls_manager.proofs.Places.{from_ten, to_last, place_number, at_processor, unknown_place, known_place}
 use Rattle.hls_manager.proofs.Places.{to_fault, of_fault, first_fault, late_fault}
 
 module _ (m : Moment) (name : Text) (perch : Perch) where

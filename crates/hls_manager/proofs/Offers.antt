@@ -1,9 +1,12 @@
 -- A thread that is offered a seat.
 use Rattle.std.proofs.Common.{◌≡◌, ℕ, zero, suc, [], ◌∷◌, Option, Some, None, refl, sym, ap, ◌∙◌}
 use Rattle.std.proofs.Common.{◌<◌, ◌≤◌, arith, subst, slice_get, length}
-use Rattle.std.specs.Prelude.{IsSome}
+use Rattle.std.specs.Prelude.{IsSome, IfOk, OnOk}
+use Rattle.std.specs.declared.result.Result.{Result}
+use Rattle.std.specs.declared.result.Result.TheVariants.{Ok, Err}
 use Rattle.hls_text.specs.Lines.{Text}
 use Rattle.hls_chron.specs.declared.plain.Terms.{Terms}
+use Rattle.hls_chron.specs.Name.{IsName}
 use Rattle.hls_chron.specs.Ranges.{TermsInRange}
 use Rattle.hls_guarantee.specs.declared.Guarantee.{Guarantee}
 use Rattle.hls_guarantee.specs.Limits.{IsNarrow}
@@ -16,10 +19,10 @@ use Rattle.hls_scenario.specs.Grammar.{IsCommand}
 use Rattle.hls_report_text.specs.declared.refusal.Refusal.{Refusal}
 use Rattle.hls_report_text.specs.declared.refusal.Refusal.TheVariants.{NameTaken, NoSuchName, WrongSort}
 use Rattle.hls_report_text.specs.declared.refusal.Refusal.TheVariants.{TooManyThreads, NoDerivation}
+use Rattle.hls_report_text.specs.declared.report.Answer.{Answer}
 use Rattle.hls_report_text.specs.declared.report.Answer.TheVariants.{Done}
-use Rattle.hls_sched.specs.declared.fault.SeatFault.{SeatFault}
-use Rattle.hls_sched.specs.declared.fault.SeatFault.TheVariants as faults
-use Rattle.hls_sched.specs.Fits.{IsAnswer}
+use Rattle.hls_kinds.specs.declared.fault.SeatFault.{SeatFault}
+use Rattle.hls_kinds.specs.Faults.{IsAnswer}
 use Rattle.hls_sched.specs.Seen.{Seen}
 use Rattle.hls_legal.specs.Hierarchy.{Hierarchy, Node, Loaded, Place, Processor, At}
 use Rattle.hls_legal.specs.Hierarchy.{config_of, haves_of, book_of, name_of}
@@ -39,12 +42,10 @@ use Rattle.hls_tree.specs.Trees.{Admits}
 use Rattle.hls_tree.specs.declared.seat.Seat.{Seat}
 use Rattle.hls_tree.specs.declared.tree.Tree.{Tree}
 use Rattle.hls_manager.specs.Finds.{IsNoScheduler}
-use Rattle.hls_manager.specs.Faults as spec
+use Rattle.hls_manager.specs.Faults.{fault_refusal}
 use Rattle.hls_manager.specs.Seats.{config_at, haves_at, due_for}
 use Rattle.hls_manager.specs.Offers.{IsOffered}
 use Rattle.hls_manager.specs.Outcomes.{IsReached, HasMarkRoom, CarriesOut}
-use Rattle.hls_manager.proofs.Places.{fault_refusal}
-use Rattle.hls_manager.proofs.Faults.{fault_of, first_of_box, none_of_box}
 use Rattle.hls_manager.proofs.Admissions.{name_taken, on_processor, on_nobody, on_thread, too_many, seat_fault}
 use Rattle.hls_manager.proofs.Admissions.{underived, derived}
 use Rattle.hls_manager.proofs.Admits.{IsTakenFor, can_admit}
@@ -53,7 +54,7 @@ use Rattle.hls_scenario.specs.Grammar as grammar
 use Rattle.hls_chron.specs.declared.plain.Terms.TheVariants as terms
 
 -- terms in the grammar are in range
-spot_terms : (spot : Spot) → grammar.IsSpot spot → TermsInRange (terms_in spot)
+pub spot_terms : (spot : Spot) → grammar.IsSpot spot → TermsInRange (terms_in spot)
 spot_terms Cpu is = tt
 spot_terms (Under sched terms.Cpu) is = absurd is.1
 spot_terms (Under sched (terms.Prio priority)) is = is.1
@@ -63,12 +64,22 @@ spot_terms (Under sched (terms.Slots places)) is = is.1
 spot_terms (Under sched terms.Turn) is = tt
 spot_terms (Under sched terms.Sole) is = tt
 
-same_refusal : (sched : Text) (fault : SeatFault)
-    → spec.fault_refusal sched fault ≡ fault_refusal sched (fault_of fault)
-same_refusal sched faults.Unfit = refl
-same_refusal sched (faults.PriorityTaken priority) = refl
-same_refusal sched (faults.Full seats) = refl
-same_refusal sched (faults.NoRoom free asked) = refl
+-- an answer that is returned as it was told
+pub answered_so : {E : Type 0} (r : Result Answer E) (told : Answer) (A : Type 0) (Q : Answer → Type 0)
+    → (A → Q told) → IfOk r (λ answer. answer ≡ told) → OnOk r A → IfOk r Q
+answered_so (Ok answer) told A Q to is has = subst Q (sym is) (to has)
+answered_so (Err error) told A Q to is has = tt
+
+-- the name of the scheduler and the terms of a thread's perch
+pub under_name : (name : Text) (perch : Perch) (sched : Text) (terms : Terms) → IsCommand (said.Thread name perch)
+    → perch.spot ≡ Under sched terms → IsName sched
+under_name name perch sched terms within at =
+    (subst (λ (spot : Spot). grammar.IsSpot spot) at within.1.spot).0
+
+pub under_range : (name : Text) (perch : Perch) (sched : Text) (terms : Terms) → IsCommand (said.Thread name perch)
+    → perch.spot ≡ Under sched terms → TermsInRange terms
+under_range name perch sched terms within at =
+    subst (λ (spot : Spot). TermsInRange (terms_in spot)) at (spot_terms perch.spot within.1.spot)
 
 some_there : (node : Option Node) (name : Text) → name_of node ≡ Some name → IsSome node
 some_there None name e = absurd (cc)
@@ -115,11 +126,9 @@ module _ (m : Moment) (name : Text) (perch : Perch) (free : node_of m.hierarchy 
 
     pub faulty : length m.hierarchy.threads < 256 → (fault : SeatFault)
         → IsAnswer (config_of (m.hierarchy.nodes p)) (book_of (m.hierarchy.nodes p)) terms (Some fault)
-        → IsRefused m (said.Thread name perch) (spec.fault_refusal sched fault)
+        → IsRefused m (said.Thread name perch) (fault_refusal sched fault)
     faulty few fault f =
-        subst (λ (r : Refusal). IsRefused m (said.Thread name perch) r) (sym (same_refusal sched fault))
-        (seat_fault m name perch free sched terms at is.scheduler there few (fault_of fault)
-        (first_of_box is.scheduler.config is.scheduler.book terms fault (answer_is (Some fault) f)))
+        seat_fault m name perch free sched terms at is.scheduler there few fault (answer_is (Some fault) f)
 
     pub offered : length m.hierarchy.threads < 256 → (seat : Seat) → seat.parent ≡ Some p → seat.terms ≡ terms
         → seat.kept ≡ perch.want
@@ -240,25 +249,32 @@ module _ (m : Moment) (name : Text) (perch : Perch) (seat : Seat) (o : IsOffered
       → IsRefused m (said.Thread name perch) (NoDerivation name m.depth)
   lacks_derivation lacks =
       underived m name perch o.name_free o.sched seat.terms o.place o.scheduler node o.few
-      (none_of_box o.scheduler.config o.scheduler.book seat.terms o.fits)
+      o.fits
       (subst (λ (d : Due). IsUnderivable m.depth d) due_is lacks)
+
+  pub lacks_within : (depth : ℕ) → m.depth ≡ depth → IsUnderivable depth (due_for m.hierarchy name 0 seat)
+      → IsRefused m (said.Thread name perch) (NoDerivation name depth)
+  lacks_within depth deep = subst
+      (λ (n : ℕ). IsUnderivable n (due_for m.hierarchy name 0 seat)
+      → IsRefused m (said.Thread name perch) (NoDerivation name n))
+      deep lacks_derivation
 
   pub has_derivation : (d : Derivation) → Derives m.depth (due_for m.hierarchy name 0 seat) d
       → IsDone m (said.Thread name perch) ((record { name = name; port = 0; derivation = d }) ∷ [])
   has_derivation d derives =
       derived m name perch o.name_free o.sched seat.terms o.place o.scheduler node o.few
-      (none_of_box o.scheduler.config o.scheduler.book seat.terms o.fits) d
+      o.fits d
       (subst (λ (x : Due). Derives m.depth x d) due_is derives)
 
 module _ {V : Type 0} {P : V → Type 0} (seen : (x : V) × P x → Seen) where
   -- a thread was admitted on the seat that was offered
-  pub admits : (old new : Tree V P) (m : Moment) (name : Text) (perch : Perch) (seat : Seat) (id : ℕ)
+  pub admits : (old new : Tree V P) (m : Moment) (commands : ℕ) (name : Text) (perch : Perch) (seat : Seat) (id : ℕ)
       (d : Derivation) → IsCommand (said.Thread name perch) → IsReached m.hierarchy
       → IsOffered m.hierarchy name perch seat → Derives m.depth (due_for m.hierarchy name 0 seat) d
       → Admits seen old new m.hierarchy id name seat
-      → CarriesOut seen old new m (said.Thread name perch)
+      → CarriesOut seen old new m commands (said.Thread name perch)
       (Done ((record { name = name; port = 0; derivation = d }) ∷ []))
-  admits old new m name perch seat id d within is o derives a =
+  admits old new m commands name perch seat id d within is o derives a =
       let listed = reached_listed m.hierarchy is in
       let answer = has_derivation m name perch seat o listed d derives in
       let at = taken_for m.hierarchy name perch seat o a.seat (a.taken.each 0 seat a.seat refl refl) in
@@ -269,6 +285,7 @@ module _ {V : Type 0} {P : V → Type 0} (seen : (x : V) × P x → Seen) where
         can = can_admit m is.past is.legal is.leads name perch within answer.none d
             (subst (λ (x : Due). Derives m.depth x d) (same_due m.hierarchy name perch seat o listed) derives) id
             a.seat a.unused at;
+        roomy = tt;
         tree = a.tree;
         ready = a.ready;
       }

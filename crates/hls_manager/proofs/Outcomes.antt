@@ -77,7 +77,7 @@ scheduler_goes h seated room id is = record {
 
 -- ---- unloads
 
-no_boxes : Boxes
+pub no_boxes : Boxes
 no_boxes = record { left = λ kind. 0; used = λ kind. 0 }
 
 can_by : (h : Hierarchy) → IsListed h → (id : ℕ) (name : Text) → HasName h id name → (step : Step)
@@ -128,29 +128,30 @@ module _ {V : Type 0} {P : V → Type 0} (seen : (x : V) × P x → Seen) where
   }
 
   -- a refusal changes nothing
-  pub refuses : (t : Tree V P) (m : Moment) (command : Command) (r : Refusal) → IsTreeOf seen t m.hierarchy
-      → IsAnswer m command (Refused r) → CarriesOut seen t t m command (Refused r)
-  refuses t m command r tree answer = record {
+  pub refuses : (t : Tree V P) (m : Moment) (commands : ℕ) (command : Command) (r : Refusal) → IsTreeOf seen t m.hierarchy
+      → IsAnswer m command (Refused r) → CarriesOut seen t t m commands command (Refused r)
+  refuses t m commands command r tree answer = record {
     answers = answer;
     step = Refuse;
     does = refl;
     can = tt;
+    roomy = tt;
     tree = tree;
     ready = λ ready. ready;
   }
 
-  pub ends : (old new : Tree V P) (m : Moment) (name : Text) (id : ℕ) → HasName m.hierarchy id name
+  pub ends : (old new : Tree V P) (m : Moment) (commands : ℕ) (name : Text) (id : ℕ) → HasName m.hierarchy id name
       → IsThread (m.hierarchy.nodes id) → IsAnswer m (said.End name) (Done [])
       → IsTreeOf seen new (after m.hierarchy (End id))
       → (IsReadyOf seen old m.hierarchy → IsReadyOf seen new (after m.hierarchy (End id)))
-      → CarriesOut seen old new m (said.End name) (Done [])
-  ends old new m name id has is answer tree ready =
-      record { answers = answer; step = End id; does = has; can = is; tree = tree; ready = ready }
+      → CarriesOut seen old new m commands (said.End name) (Done [])
+  ends old new m commands name id has is answer tree ready =
+      record { answers = answer; step = End id; does = has; can = is; roomy = tt; tree = tree; ready = ready }
 
-  pub unloads : (old new : Tree V P) (m : Moment) (name : Text) (id : ℕ) → HasName m.hierarchy id name
+  pub unloads : (old new : Tree V P) (m : Moment) (commands : ℕ) (name : Text) (id : ℕ) → HasName m.hierarchy id name
       → CanUnload (m.hierarchy.nodes id) → IsAnswer m (said.Unload name) (Done [])
       → IsTreeOf seen new (after m.hierarchy (Unload id))
       → (IsReadyOf seen old m.hierarchy → IsReadyOf seen new (after m.hierarchy (Unload id)))
-      → CarriesOut seen old new m (said.Unload name) (Done [])
-  unloads old new m name id has is answer tree ready =
-      record { answers = answer; step = Unload id; does = has; can = is; tree = tree; ready = ready }
+      → CarriesOut seen old new m commands (said.Unload name) (Done [])
+  unloads old new m commands name id has is answer tree ready =
+      record { answers = answer; step = Unload id; does = has; can = is; roomy = tt; tree = tree; ready = ready }

@@ -20,13 +20,7 @@ use Rattle.hls_answers.specs.Moment.{node_of}
 use Rattle.hls_answers.specs.Refusals.{HasFault}
 use Rattle.hls_answers.specs.Answers.{number, RefusesPlace}
 use Rattle.hls_answers.proofs.Taken.{fault_here}
-
--- the refusal that a fault comes to
-abbrev pub fault_refusal : (sched : Text) → SeatFault → Refusal
-fault_refusal sched faults.Unfit = TermsUnfit sched
-fault_refusal sched (faults.PriorityTaken priority) = PriorityTaken priority
-fault_refusal sched (faults.Full seats) = SeatsFull (Some sched) seats
-fault_refusal sched (faults.NoRoom free asked) = NoRoom free asked
+use Rattle.hls_manager.specs.Faults.{fault_refusal}
 
 pub number_fault : (sched : Text) (fault : SeatFault) → number (fault_refusal sched fault) ≡ fault_number fault
 number_fault sched faults.Unfit = refl

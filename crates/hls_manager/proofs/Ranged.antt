@@ -7,6 +7,7 @@ use Rattle.hls_chron.specs.declared.plain.Config.{Config}
 use Rattle.hls_chron.specs.declared.plain.Config.TheVariants as configs
 use Rattle.hls_chron.specs.declared.plain.Kind.TheVariants as kinds
 use Rattle.hls_chron.specs.Kinds.{kind_of, port_count}
+use Rattle.hls_chron.specs.Ranges.{ConfigInRange}
 use Rattle.hls_legal.specs.Hierarchy.{Hierarchy, Node, Loaded, Admitted, Seat, Wake, Asleep}
 use Rattle.hls_legal.specs.Hierarchy.{Place, start, seats_of}
 use Rattle.hls_legal.specs.Steps.{Step, Refuse, Load, Admit, End, Unload, Move, Rouse, Block, Elapse, Hop}
@@ -19,7 +20,7 @@ AreInRange seats = (port : ℕ) (seat : Seat) → slice_get seats port ≡ Some 
 
 abbrev pub IsRangedNode : Option Node → Type 0
 IsRangedNode None = Unit {0}
-IsRangedNode (Some (Loaded s)) = AreInRange s.ports × (length s.ports ≡ port_count s.config)
+IsRangedNode (Some (Loaded s)) = AreInRange s.ports × (length s.ports ≡ port_count s.config) × ConfigInRange s.config
 IsRangedNode (Some (Admitted t)) = SeatInRange t.seat
 
 abbrev pub AllRanged : Hierarchy → Type 0
@@ -40,7 +41,7 @@ lone_range : (seat : Seat) → SeatInRange seat → AreInRange (seat ∷ [])
 lone_range seat is zero other e = (let same : seat ≡ other = cc in subst (λ (s : Seat). SeatInRange s) same is)
 lone_range seat is (suc port) other e = absurd (cc)
 
-one_port : (config : Config) → kind_of config ≢ kinds.Join → 1 ≡ port_count config
+pub one_port : (config : Config) → kind_of config ≢ kinds.Join → 1 ≡ port_count config
 one_port configs.Cpu ne = refl
 one_port configs.Fp ne = refl
 one_port configs.Edf ne = refl
@@ -50,10 +51,10 @@ one_port (configs.Wheel frame) ne = refl
 one_port (configs.Join ports) ne = absurd (ne refl)
 
 ranged_reseated : (seat : Seat) (place : Place) (node : Option Node) → SeatInRange seat → MayMoveTo place node
-    → IsRangedNode (reseated seat node)
-ranged_reseated seat place None is sort = tt
-ranged_reseated seat place (Some (Loaded s)) is sort = (lone_range seat is, one_port s.config sort)
-ranged_reseated seat place (Some (Admitted t)) is sort = is
+    → IsRangedNode node → IsRangedNode (reseated seat node)
+ranged_reseated seat place None is sort has = tt
+ranged_reseated seat place (Some (Loaded s)) is sort has = (lone_range seat is, one_port s.config sort, has.2)
+ranged_reseated seat place (Some (Admitted t)) is sort has = is
 
 ranged_roused : (b : Bool) (how : Wake) (node : Option Node) → IsRangedNode node
     → IsRangedNode (if b then roused how node else node)
@@ -85,14 +86,14 @@ step_ranged : (h : Hierarchy) (step : Step) → Can h step → AllRanged h → A
 step_ranged h Refuse can has = has
 step_ranged h (Load k name config spare_ticks spare_marks seats) can has =
     effect_ranged h k _ nobody
-    ((λ port seat e. (can.0.places.take port seat e).in_range), can.0.ports) has
+    ((λ port seat e. (can.0.places.take port seat e).in_range), can.0.ports, can.0.in_range) has
 step_ranged h (Admit k name seat) can has =
     effect_ranged h k _ nobody (can.places.take 0 seat refl).in_range has
 step_ranged h (End k) can has = effect_ranged h k None nobody tt has
 step_ranged h (Unload k) can has = effect_ranged h k None nobody tt has
 step_ranged h (Move k seat below) can has =
     effect_ranged h k (reseated seat (h.nodes k)) below
-    (ranged_reseated seat seat.place (h.nodes k) can.0.take.in_range can.0.sort) has
+    (ranged_reseated seat seat.place (h.nodes k) can.0.take.in_range can.0.sort (has k)) has
 step_ranged h (Rouse k burst) can has =
     λ c. ranged_roused (c == k) (wake_by burst h.now) (h.nodes c) (has c)
 step_ranged h (Block k) can has = λ c. ranged_roused (c == k) Asleep (h.nodes c) (has c)

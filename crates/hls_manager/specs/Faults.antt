@@ -1,8 +1,8 @@
 -- The refusal that a fault of a seat comes to.
 use Rattle.std.specs.Prelude.{Some}
 use Rattle.hls_text.specs.Lines.{Text}
-use Rattle.hls_sched.specs.declared.fault.SeatFault.{SeatFault}
-use Rattle.hls_sched.specs.declared.fault.SeatFault.TheVariants as faults
+use Rattle.hls_kinds.specs.declared.fault.SeatFault.{SeatFault}
+use Rattle.hls_kinds.specs.declared.fault.SeatFault.TheVariants as faults
 use Rattle.hls_report_text.specs.declared.refusal.Refusal.{Refusal}
 use Rattle.hls_report_text.specs.declared.refusal.Refusal.TheVariants.{TermsUnfit, PriorityTaken, SeatsFull, NoRoom}
 

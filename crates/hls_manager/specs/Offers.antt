@@ -1,7 +1,7 @@
 -- A thread that only the want of a derivation can still refuse.
 use Rattle.std.specs.Prelude.{◌≡◌, ◌<◌, ℕ, None, Some, length}
 use Rattle.hls_text.specs.Lines.{Text}
-use Rattle.hls_sched.specs.Fits.{IsAnswer}
+use Rattle.hls_kinds.specs.Faults.{IsAnswer}
 use Rattle.hls_scenario.specs.declared.scenario.Perch.{Perch}
 use Rattle.hls_scenario.specs.declared.scenario.Spot.TheVariants.{Under}
 use Rattle.hls_legal.specs.Hierarchy.{Hierarchy, Scheduler, Loaded}

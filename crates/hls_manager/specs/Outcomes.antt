@@ -1,12 +1,13 @@
 -- What a command leaves of a tree.
-use Rattle.std.specs.Prelude.{◌≡◌, ◌≤◌, ℕ, List, Some, length, slice_index}
+use Rattle.std.specs.Prelude.{◌≡◌, ◌≤◌, ◌*◌, ℕ, List, Some, length, slice_index}
 use Rattle.hls_scenario.specs.declared.scenario.Command.{Command}
-use Rattle.hls_scenario.specs.declared.scenario.Command.TheVariants.{Load, Thread, End, Unload}
+use Rattle.hls_scenario.specs.declared.scenario.Command.TheVariants.{Load, Thread, End, Unload, Move}
 use Rattle.hls_report_text.specs.declared.report.Answer.{Answer}
 use Rattle.hls_sched.specs.Seen.{Seen}
 use Rattle.hls_sched.specs.GoodKit.{boxes_of, place_of}
 use Rattle.hls_sched.specs.declared.kit.Kit.{Kit}
 use Rattle.hls_legal.specs.Hierarchy.{Hierarchy, Scheduler, Loaded, start}
+use Rattle.hls_legal.specs.Steps as steps
 use Rattle.hls_legal.specs.Steps.{Step, after, state}
 use Rattle.hls_legal.specs.Legal.{Can, IsLegal}
 use Rattle.hls_accounts.specs.Tells.{Answers}
@@ -35,6 +36,15 @@ IsWithdrawal (End name) = Unit {0}
 IsWithdrawal (Unload name) = Unit {0}
 IsWithdrawal _ = ⊥
 
+abbrev pub IsMove : Command → Type 0
+IsMove (Move name perch) = Unit {0}
+IsMove _ = ⊥
+
+-- a new book has room for two marks for each of so many commands
+abbrev pub IsRoomy : (commands : ℕ) → Step → Type 0
+IsRoomy commands (steps.Load k name config spare_ticks spare_marks seats) = 2 * commands ≤ spare_marks
+IsRoomy commands _ = Unit {0}
+
 -- V and P are what the checker knows a box by
 module _ {V : Type 0} {P : V → Type 0} where
   -- the boxes of a kit, by their kinds
@@ -49,18 +59,13 @@ module _ {V : Type 0} {P : V → Type 0} where
   moment h kit depth = record { hierarchy = h; boxes = boxes_in kit; depth = depth }
 
   -- The answer is the defined one, and the tree is of the hierarchy after a step that does the command; after a
-  -- refusal it is of the hierarchy as it was.
-  pub record CarriesOut (seen : (x : V) × P x → Seen) (old new : Tree V P) (m : Moment) (command : Command)
-      (answer : Answer) : Type 0 where
+  -- refusal it is of the hierarchy as it was. A scenario has so many commands.
+  pub record CarriesOut (seen : (x : V) × P x → Seen) (old new : Tree V P) (m : Moment) (commands : ℕ)
+      (command : Command) (answer : Answer) : Type 0 where
     pub answers : IsAnswer m command answer
     pub step : Step
     pub does : Answers m.hierarchy command answer step
     pub can : Can m.hierarchy step
+    pub roomy : IsRoomy commands step
     pub tree : IsTreeOf seen new (after m.hierarchy step)
     pub ready : IsReadyOf seen old m.hierarchy → IsReadyOf seen new (after m.hierarchy step)
-
-  -- whichever legal run led here
-  abbrev pub Carries : ((x : V) × P x → Seen) → (old new : Tree V P) → (depth : ℕ) → Kit V P → Command → Answer
-      → Type 0
-  Carries seen old new depth kit command answer = (h : Hierarchy) → IsTreeOf seen old h → IsReached h
-      → CarriesOut seen old new (moment h kit depth) command answer

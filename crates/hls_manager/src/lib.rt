@@ -1,8 +1,24 @@
 //! Commands on a tree: each is answered as it is to be, and changes the tree as it says or not at all.
 #![tactic(auto)]
 
+mod admitting;
+mod aiming;
+mod boxes;
+mod derivations;
+mod heights;
+mod hindrances;
+mod loading;
 mod lookups;
+mod ports;
+mod rederiving;
+mod refusing;
+mod settling;
+mod shifting;
+mod threads;
 mod withdrawals;
 
+pub use admitting::admit;
 pub use lookups::find_thread;
+pub use rederiving::{Rederived, rederive};
+pub use shifting::shift;
 pub use withdrawals::withdraw;

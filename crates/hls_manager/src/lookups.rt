@@ -1,7 +1,9 @@
 // Names that commands use.
-ghost use Rattle.std.specs.Prelude.{◌≡◌, ◌≢◌, None, Some, [], IfOk, IfErr};
+ghost use Rattle.std.specs.Prelude.{◌≡◌, Some, [], IfOk, IfErr};
 ghost use Rattle.hls_scenario.specs.declared.scenario.Command.{Command};
 ghost use Rattle.hls_report_text.specs.declared.report.Answer.TheVariants.{Done, Refused};
+ghost use Rattle.hls_chron.specs.Name.{IsName};
+ghost use Rattle.hls_report_text.specs.WellFormed.{IsRefusal};
 ghost use Rattle.hls_legal.specs.Hierarchy.{Hierarchy};
 ghost use Rattle.hls_legal.specs.Legal.{IsThread};
 ghost use Rattle.hls_legal.specs.Lists.{IsListed};
@@ -10,10 +12,12 @@ ghost use Rattle.hls_answers.specs.Moment.{Moment};
 ghost use Rattle.hls_answers.specs.Answers.{IsAnswer};
 ghost use Rattle.hls_tree.specs.Trees.{IsTreeOf, Stands, Any};
 ghost use Rattle.hls_tree.specs.Reads.{IsLoaded};
+ghost use Rattle.hls_manager.specs.Faults.{fault_refusal};
 ghost use Rattle.hls_manager.specs.Finds.{IsNoScheduler, IsOfThread};
 
 use hls_chron::Name;
 use hls_report_text::Refusal;
+use hls_sched::SeatFault;
 use hls_tree::{NodeId, Sort, Tree};
 
 /// The thread of a name that a command is about, or why the command is refused. An end, a wake and a block
@@ -30,6 +34,7 @@ pub fn find_thread(tree: &Tree, name: &Name) -> Result<NodeId, Refusal>
     ensures refused { IfErr result (λ refusal. (m : Moment) (command : Command) →
         IsTreeOf seen tree.now m.hierarchy → IsListed m.hierarchy → IsOfThread command name.now →
         IsAnswer m command (Refused refusal)) }
+    ensures formed { IfErr result (λ refusal. IsName name.now → IsRefusal refusal) }
 {
     let Some(id) = tree.find(name) else {
         return Err(Refusal::NoSuchName { name: *name });
@@ -47,6 +52,7 @@ pub(crate) fn find_scheduler(tree: &Tree, name: &Name) -> Result<NodeId, Refusal
         HasName h id name.now × IsLoaded (h.nodes id)) }
     ensures refused { IfErr result (λ refusal. (h : Hierarchy) → IsTreeOf seen tree.now h → IsListed h →
         IsNoScheduler h name.now refusal) }
+    ensures formed { IfErr result (λ refusal. IsName name.now → IsRefusal refusal) }
 {
     let Some(id) = tree.find(name) else {
         return Err(Refusal::NoSuchName { name: *name });
@@ -54,5 +60,21 @@ pub(crate) fn find_scheduler(tree: &Tree, name: &Name) -> Result<NodeId, Refusal
     match tree.sort(id) {
         Sort::Sched(_) => Ok(id),
         Sort::Thread => Err(Refusal::WrongSort { name: Some(*name) }),
+    }
+}
+
+/// Why a command is refused that wants a seat on the scheduler of this name, where the seat has this fault.
+pub(crate) fn fault_refusal(sched: &Name, fault: SeatFault) -> Refusal
+    ensures is { result ≡ fault_refusal sched.now fault }
+    ensures formed { IsName sched.now → IsRefusal result }
+{
+    match fault {
+        SeatFault::Unfit => Refusal::TermsUnfit { name: *sched },
+        SeatFault::PriorityTaken { priority } => Refusal::PriorityTaken { priority },
+        SeatFault::Full { seats } => Refusal::SeatsFull {
+            name: Some(*sched),
+            seats,
+        },
+        SeatFault::NoRoom { free, asked } => Refusal::NoRoom { free, asked },
     }
 }

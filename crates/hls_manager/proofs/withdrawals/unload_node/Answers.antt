@@ -14,10 +14,10 @@ detach-requires g c =
 pub returns-clause-done : goal.returns-clause-done
 returns-clause-done g c =
     let zero : c.slots_taken-seats.result ≡ 0 = omega arith in
-    λ m tree is.
+    λ m commands tree is.
     (let found = c.requires.named m.hierarchy tree in
     let empty = sym (c.slots_taken-seats.ensures m.hierarchy tree) ∙ zero in
-    unloads _ c.args.tree.now _ m c.args.name.now c.args.id found.0
+    unloads _ c.args.tree.now _ m commands c.args.name.now c.args.id found.0
     (can_unload m.hierarchy is c.args.id c.args.name.now found.0 found.1 empty)
     (unload_empty_of m (reached_listed m.hierarchy is) c.args.id c.args.name.now found.0 found.1 empty)
     (c.detach.ensures.unloaded m.hierarchy tree) (c.detach.ensures.ready m.hierarchy))
@@ -25,8 +25,8 @@ returns-clause-done g c =
 pub returns-then-seats-gt0-clause-refused : goal.returns-then-seats-gt0-clause-refused
 returns-then-seats-gt0-clause-refused g c =
     let some : 1 ≤ c.slots_taken-seats.result = omega arith in
-    λ m tree is.
+    λ m commands tree is.
     (let found = c.requires.named m.hierarchy tree in
-    refuses _ c.args.tree.now m _ _ tree
+    refuses _ c.args.tree.now m commands _ _ tree
     (unload_full_of m (reached_listed m.hierarchy is) c.args.id c.args.name.now found.0 found.1
     c.slots_taken-seats.result (c.slots_taken-seats.ensures m.hierarchy tree) some))

@@ -1,0 +1,14 @@
+use Rattle.std.proofs.Common.{◌≤◌}
+use Rattle.hls_legal.specs.Legal.{fair_queues}
+use Rattle.hls_legal.specs.Hierarchy.{Hierarchy}
+use Rattle.hls_tree.specs.Trees.{IsTreeOf}
+use Rattle.hls_manager.specs.Outcomes.{IsReached}
+use Rattle.hls_manager.specs.Inside.Heights.{IsMost}
+use Rattle.hls_manager.proofs.heights.shares_over.Given as goal
+
+abbrev pub invariant-loop-seat : goal.invariant-loop-seat
+invariant-loop-seat g l = record {
+  most : (h : Hierarchy) → IsTreeOf (λ z. (goal.Scheduler-dyn g z).seen z.1) l.tree h → IsReached h
+      → IsMost h (fair_queues h) l.seats l.seat-index l.most;
+  within : l.most ≤ 4;
+}

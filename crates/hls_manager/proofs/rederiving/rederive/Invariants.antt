@@ -1,0 +1,13 @@
+use Rattle.std.proofs.Common.{◌≡◌, Some, length}
+use Rattle.hls_legal.specs.Hierarchy.{Hierarchy}
+use Rattle.hls_answers.specs.Dues.{dues_on}
+use Rattle.hls_tree.specs.Trees.{IsTreeOf}
+use Rattle.hls_manager.proofs.Rederivals.{AreSettledFirst}
+use Rattle.hls_manager.proofs.rederiving.rederive.Given as goal
+
+abbrev pub invariant-loop-at : goal.invariant-loop-at
+invariant-loop-at g l = record {
+  count : length l.seats.items ≡ l.at;
+  first : (h : Hierarchy) → IsTreeOf (λ z. (goal.Scheduler-dyn g z).seen z.1) l.tree h
+      → AreSettledFirst l.depth (dues_on h l.have (Some l.id)) l.seats.items;
+}
