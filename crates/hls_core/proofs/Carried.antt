@@ -1,8 +1,9 @@
 -- What commands leave of a tree and of bursts.
 use Rattle.std.proofs.lemmas.Bool.{cases_eq}
-use Rattle.std.proofs.Common.{◌≡◌, ◌≢◌, ℕ, inl, inr, ◌⊎◌, List, [], ◌∷◌, ◌++◌, Option, Some, None, Bool, true}
-use Rattle.std.proofs.Common.{false, refl, sym, ap, ◌∙◌, subst}
-use Rattle.std.specs.Prelude.{Result, Ok, Err, OnErr}
+use Rattle.std.proofs.Common.{◌≡◌, ◌≢◌, ℕ, inl, inr, ◌⊎◌, [], Option, true}
+use Rattle.std.proofs.Common.{false, refl, sym, ap, ◌∙◌, subst, length}
+use Rattle.std.specs.Prelude.{Result, Ok, Err, IfOk, OnErr, slice_index}
+use Rattle.std.proofs.lemmas.List.{length-map}
 use Rattle.hls_text.specs.Lines.{Text}
 use Rattle.hls_scenario.specs.declared.scenario.Command.{Command}
 use Rattle.hls_scenario.specs.declared.scenario.Command.TheVariants.{Wake, Block}
@@ -12,41 +13,30 @@ use Rattle.hls_report_text.specs.declared.report.Answer.{Answer}
 use Rattle.hls_report_text.specs.declared.report.Answer.TheVariants.{Done, Refused}
 use Rattle.hls_report_text.specs.WellFormed as formed
 use Rattle.hls_sched.specs.Seen.{Seen}
-use Rattle.hls_legal.specs.Hierarchy.{Hierarchy, start, Node, Admitted, Loaded}
+use Rattle.hls_sched.specs.GoodKit.{boxes_of, place_of}
+use Rattle.hls_sched.specs.declared.kit.Kit.{Kit}
+use Rattle.hls_walks.specs.Views.{boxed}
+use Rattle.hls_legal.specs.Hierarchy.{Hierarchy}
 use Rattle.hls_legal.specs.Hierarchy.{Asleep}
-use Rattle.hls_legal.specs.Steps.{Refuse, Rouse, after, state, with_wake, wake_by}
+use Rattle.hls_legal.specs.Steps.{Refuse, Rouse, with_wake, wake_by}
 use Rattle.hls_legal.specs.Steps as steps
 use Rattle.hls_legal.specs.Legal.{IsThread}
-use Rattle.hls_legal.specs.Lists.{IsListed}
-use Rattle.hls_legal.specs.Seated.{IsSeated}
-use Rattle.hls_legal.proofs.Lists.{run_listed}
 use Rattle.hls_accounts.specs.Tells.{HasName}
 use Rattle.hls_answers.specs.Moment.{Boxes, Moment}
 use Rattle.hls_answers.specs.Answers.{IsAnswer}
-use Rattle.hls_tree.specs.Trees.{IsTreeOf, IsReadyOf, Stands, Any, ready_of}
-use Rattle.hls_tree.specs.Reads.{IsSort, IsLoaded}
-use Rattle.hls_tree.specs.declared.seat.Sort.{Sort}
-use Rattle.hls_tree.specs.declared.seat.Sort.TheVariants as sorts
+use Rattle.hls_tree.specs.Kits.{IsSameKit}
+use Rattle.hls_tree.specs.Trees.{IsTreeOf, IsAsBefore, ready_of}
 use Rattle.hls_tree.specs.declared.tree.Tree.{Tree}
 use Rattle.hls_chron.specs.declared.plain.Kind.{Kind}
 use Rattle.hls_core.specs.Bursts.{left_in}
 use Rattle.hls_core.specs.declared.bursts.Bursts.{Bursts}
 use Rattle.hls_core.specs.Left.{IsLeft}
-use Rattle.hls_core.specs.Outcomes.{IsReached, CarriesOut, IsAt}
+use Rattle.hls_manager.specs.Outcomes as manager
+use Rattle.hls_manager.specs.Outcomes.{IsReached, boxes_in, moment}
+use Rattle.hls_core.specs.Standing.{IsAt}
+use Rattle.hls_core.specs.Inside.Outcomes.{CarriesOut}
+use Rattle.hls_core.proofs.Seats.{IsOfSeats, seats_left}
 use Rattle.hls_core.proofs.Readiness.{left_woken, ready_woken, left_blocked, ready_blocked}
-
-pub loaded_of : (node : Option Node) (kind : Kind) → IsSort node (sorts.Sched kind) → IsLoaded node
-loaded_of None kind is = absurd is
-loaded_of (Some (Loaded s)) kind is = record { scheduler = s; there = refl }
-loaded_of (Some (Admitted t)) kind is = absurd is
-
-pub thread_of_sort : (node : Option Node) → IsSort node sorts.Thread → IsThread node
-thread_of_sort None is = absurd is
-thread_of_sort (Some (Loaded s)) is = absurd is
-thread_of_sort (Some (Admitted t)) is = record { thread = t; there = refl }
-
-pub reached_listed : (h : Hierarchy) → IsReached h → IsListed h
-reached_listed h r = subst IsListed (sym r.leads) (run_listed r.past r.legal)
 
 pub same_left : (left new : ℕ → Option ℕ) (h : Hierarchy) → ((k : ℕ) → new k ≡ left k) → IsLeft left h
     → IsLeft new h
@@ -67,66 +57,83 @@ all_left left new id here others k = by (cases_eq k id)
     by (inl same) = ap new same ∙ here ∙ sym (ap left same)
     by (inr other) = others k other
 
+-- a done answer without seats is well formed
+pub formed_none : (command : Command) (answer : Answer) → answer ≡ Done [] → formed.IsAnswer command answer
+formed_none command answer done = subst (λ (a : Answer). formed.IsAnswer command a) (sym done) tt
+
+pub same_boxes : (one other : Boxes) → ((kind : Kind) → one.left kind ≡ other.left kind)
+    → ((kind : Kind) → one.used kind ≡ other.used kind) → one ≡ other
+same_boxes one other left used = λ i. record { left = λ kind. left kind i; used = λ kind. used kind i }
+
 -- V and P are what the checker knows a box by
 module _ {V : Type 0} {P : V → Type 0} (seen : (x : V) × P x → Seen) where
-  pub stands_so : (t : Tree V P) (Is Also : Hierarchy → Type 0) (x : Stands seen t Is) → Also x.h
-      → Stands seen t Also
-  stands_so t Is Also x also = record { h = x.h; tree = x.tree; seated = x.seated; listed = x.listed; is = also }
-
-  pub refused : (t : Tree V P) (bursts : Bursts) (h : Hierarchy) (command : Command) (r : Refusal)
-      → IsAt seen t bursts h
-      → ((boxes : Boxes) (depth : ℕ) → IsAnswer (record { hierarchy = h; boxes = boxes; depth = depth }) command
-      (Refused r))
-      → formed.IsAnswer command (Refused r) → CarriesOut seen t bursts h command (Refused r)
-  refused t bursts h command r is answers fits = record {
-    answers = answers;
-    formed = fits;
-    step = Refuse;
-    does = refl;
-    can = tt;
-    tree = is.tree;
-    ready = is.ready;
+  pub refused : (t : Tree V P) (bursts : Bursts) (m : Moment) (commands : ℕ) (command : Command) (r : Refusal)
+      → IsAt seen t bursts m.hierarchy → IsAnswer m command (Refused r)
+      → CarriesOut seen t t bursts m commands command (Refused r)
+  refused t bursts m commands command r is answers = record {
+    out = record {
+      answers = answers;
+      step = Refuse;
+      does = refl;
+      can = tt;
+      roomy = tt;
+      tree = is.tree;
+      ready = λ ready. ready;
+    };
     left = is.left;
   }
 
-  pub woken : (old new : Tree V P) (bursts later : Bursts) (h : Hierarchy) (id : ℕ) (name : Text) (burst : Option ℕ)
-      → IsAt seen old bursts h → HasName h id name → IsThread (h.nodes id) → IsBurst burst
-      → ((boxes : Boxes) (depth : ℕ) → IsAnswer (record { hierarchy = h; boxes = boxes; depth = depth })
-      (Wake name burst) (Done []))
-      → IsTreeOf seen new (with_wake h id (wake_by burst h.now)) → ready_of seen new id ≡ true
+  pub woken : (old new : Tree V P) (bursts later : Bursts) (m : Moment) (commands id : ℕ) (name : Text)
+      (burst : Option ℕ) → IsAt seen old bursts m.hierarchy → HasName m.hierarchy id name
+      → IsThread (m.hierarchy.nodes id) → IsBurst burst → IsAnswer m (Wake name burst) (Done [])
+      → IsTreeOf seen new (with_wake m.hierarchy id (wake_by burst m.hierarchy.now)) → ready_of seen new id ≡ true
       → ((k : ℕ) → k ≢ id → ready_of seen new k ≡ ready_of seen old k)
       → left_in later id ≡ burst → ((k : ℕ) → k ≢ id → left_in later k ≡ left_in bursts k)
-      → (answer : Answer) → answer ≡ Done [] → CarriesOut seen new later h (Wake name burst) answer
-  woken old new bursts later h id name burst is has thread some answers tree here others left rest answer done =
-      subst (CarriesOut seen new later h (Wake name burst)) (sym done) (record {
-        answers = answers;
-        formed = tt;
-        step = Rouse id burst;
-        does = (has, refl);
-        can = thread;
-        tree = tree;
-        ready = ready_woken (ready_of seen old) (ready_of seen new) h id burst some is.ready here others;
-        left = left_woken (left_in bursts) (left_in later) h id burst is.left left rest;
+      → (answer : Answer) → answer ≡ Done [] → CarriesOut seen old new later m commands (Wake name burst) answer
+  woken old new bursts later m commands id name burst is has thread some answers tree here others left rest answer
+      done =
+      subst (CarriesOut seen old new later m commands (Wake name burst)) (sym done) (record {
+        out = record {
+          answers = answers;
+          step = Rouse id burst;
+          does = (has, refl);
+          can = thread;
+          roomy = tt;
+          tree = tree;
+          ready = λ ready.
+              ready_woken (ready_of seen old) (ready_of seen new) m.hierarchy id burst some ready here others;
+        };
+        left = left_woken (left_in bursts) (left_in later) m.hierarchy id burst is.left left rest;
       })
 
-  pub blocked : (old new : Tree V P) (bursts : Bursts) (h : Hierarchy) (id : ℕ) (name : Text)
-      → IsAt seen old bursts h → HasName h id name → IsThread (h.nodes id)
-      → ((boxes : Boxes) (depth : ℕ) → IsAnswer (record { hierarchy = h; boxes = boxes; depth = depth })
-      (Block name) (Done []))
-      → IsTreeOf seen new (with_wake h id Asleep) → ready_of seen new id ≡ false
-      → ((k : ℕ) → k ≢ id → ready_of seen new k ≡ ready_of seen old k)
-      → (answer : Answer) → answer ≡ Done [] → CarriesOut seen new bursts h (Block name) answer
-  blocked old new bursts h id name is has thread answers tree here others answer done =
-      subst (CarriesOut seen new bursts h (Block name)) (sym done) (record {
-        answers = answers;
-        formed = tt;
-        step = steps.Block id;
-        does = has;
-        can = thread;
-        tree = tree;
-        ready = ready_blocked (ready_of seen old) (ready_of seen new) h id is.ready here others;
-        left = left_blocked (left_in bursts) h id is.left;
+  pub blocked : (old new : Tree V P) (bursts : Bursts) (m : Moment) (commands id : ℕ) (name : Text)
+      → IsAt seen old bursts m.hierarchy → HasName m.hierarchy id name → IsThread (m.hierarchy.nodes id)
+      → IsAnswer m (Block name) (Done []) → IsTreeOf seen new (with_wake m.hierarchy id Asleep)
+      → ready_of seen new id ≡ false → ((k : ℕ) → k ≢ id → ready_of seen new k ≡ ready_of seen old k)
+      → (answer : Answer) → answer ≡ Done [] → CarriesOut seen old new bursts m commands (Block name) answer
+  blocked old new bursts m commands id name is has thread answers tree here others answer done =
+      subst (CarriesOut seen old new bursts m commands (Block name)) (sym done) (record {
+        out = record {
+          answers = answers;
+          step = steps.Block id;
+          does = has;
+          can = thread;
+          roomy = tt;
+          tree = tree;
+          ready = λ ready. ready_blocked (ready_of seen old) (ready_of seen new) m.hierarchy id ready here others;
+        };
+        left = left_blocked (left_in bursts) m.hierarchy id is.left;
       })
+
+  -- what the manager carries out keeps what is left of bursts
+  pub managed : (old new : Tree V P) (bursts : Bursts) (m : Moment) (commands : ℕ) (command : Command) (answer : Answer)
+      → IsOfSeats command → IsAt seen old bursts m.hierarchy
+      → manager.CarriesOut seen old new m commands command answer
+      → CarriesOut seen old new bursts m commands command answer
+  managed old new bursts m commands command answer of is out = record {
+    out = out;
+    left = seats_left (left_in bursts) m.hierarchy command answer out.step of out.does is.left;
+  }
 
   pub unmoved : (t : Tree V P) (bursts later : Bursts) (h : Hierarchy) → ((k : ℕ) → left_in later k ≡ left_in bursts k)
       → IsAt seen t bursts h → IsAt seen t later h
@@ -136,3 +143,59 @@ module _ {V : Type 0} {P : V → Type 0} (seen : (x : V) × P x → Seen) where
     left = same_left (left_in bursts) (left_in later) h same is.left;
     reached = is.reached;
   }
+
+  pub as_before : (old new : Tree V P) (bursts : Bursts) (h : Hierarchy) → IsAsBefore seen old new
+      → IsAt seen old bursts h → IsAt seen new bursts h
+  as_before old new bursts h same is = record {
+    tree = same.tree h is.tree;
+    ready = λ k t there. is.ready k t there ∙ sym (same.ready k);
+    left = is.left;
+    reached = is.reached;
+  }
+
+  -- the boxes of a kit that is as it was
+  pub kit_boxes : (old new : Kit V P) → IsSameKit (boxed seen) old new → boxes_in new ≡ boxes_in old
+  kit_boxes old new same =
+      same_boxes (boxes_in new) (boxes_in old)
+      (λ kind. sym (length-map (boxes_of kind new) (boxed seen)) ∙ ap length (same.boxes kind)
+      ∙ length-map (boxes_of kind old) (boxed seen))
+      (λ kind. ap (λ used. slice_index used (place_of kind)) same.used)
+
+  pub same_kit : (kit : Kit V P) → IsSameKit (boxed seen) kit kit
+  same_kit kit = record { boxes = λ kind. refl; used = refl }
+
+  pub managed_all : {E : Type 0} (old new : Tree V P) (bursts : Bursts) (kit : Kit V P) (depth commands : ℕ)
+      (command : Command) (r : Result Answer E) → IsOfSeats command
+      → IfOk r (λ answer. (h : Hierarchy) → IsTreeOf seen old h → IsReached h
+      → manager.CarriesOut seen old new (moment h kit depth) commands command answer)
+      → IfOk r (λ answer. (h : Hierarchy) → IsAt seen old bursts h
+      → CarriesOut seen old new bursts (moment h kit depth) commands command answer)
+  managed_all old new bursts kit depth commands command (Ok answer) of carried = λ h is.
+      managed old new bursts (moment h kit depth) commands command answer of is (carried h is.tree is.reached)
+  managed_all old new bursts kit depth commands command (Err e) of carried = tt
+
+  pub at_depth : {E : Type 0} (old new : Tree V P) (kit : Kit V P) (depth commands : ℕ) (command : Command)
+      (r : Result Answer E)
+      → IfOk r (λ answer. (m : Moment) (commands : ℕ) → m.depth ≡ depth → IsTreeOf seen old m.hierarchy
+      → IsReached m.hierarchy → manager.CarriesOut seen old new m commands command answer)
+      → IfOk r (λ answer. (h : Hierarchy) → IsTreeOf seen old h → IsReached h
+      → manager.CarriesOut seen old new (moment h kit depth) commands command answer)
+  at_depth old new kit depth commands command (Ok answer) carried = λ h tree reached.
+      carried (moment h kit depth) commands refl tree reached
+  at_depth old new kit depth commands command (Err e) carried = tt
+
+  pub at_moment : {E : Type 0} (old new : Tree V P) (bursts later : Bursts) (kit : Kit V P) (depth commands : ℕ)
+      (command : Command) (r : Result Answer E)
+      → IfOk r (λ answer. (m : Moment) (commands : ℕ) → IsAt seen old bursts m.hierarchy
+      → CarriesOut seen old new later m commands command answer)
+      → IfOk r (λ answer. (h : Hierarchy) → IsAt seen old bursts h
+      → CarriesOut seen old new later (moment h kit depth) commands command answer)
+  at_moment old new bursts later kit depth commands command (Ok answer) carried = λ h is.
+      carried (moment h kit depth) commands is
+  at_moment old new bursts later kit depth commands command (Err e) carried = tt
+
+  pub err_before : {E : Type 0} (old new : Tree V P) (bursts : Bursts) (r : Result Answer E)
+      → OnErr r (IsAsBefore seen old new)
+      → OnErr r ((h : Hierarchy) → IsAt seen old bursts h → IsAt seen new bursts h)
+  err_before old new bursts (Ok answer) same = tt
+  err_before old new bursts (Err e) same = λ h is. as_before old new bursts h same is

@@ -1,20 +1,19 @@
 -- A tick elapses on a tree.
-use Rattle.std.proofs.Common.{◌≡◌, ◌≢◌, ℕ, inl, inr, ◌+◌, ◌-◌, ◌<◌, ◌≤◌, Bool, true, false, cond, List, [], ◌∷◌}
+use Rattle.std.proofs.Common.{◌≡◌, ℕ, ◌-◌, ◌<◌, Bool, true, false, cond, List, [], ◌∷◌}
 use Rattle.std.proofs.Common.{◌++◌, length, map}
 use Rattle.std.proofs.Common.{refl, sym, ap, ◌∙◌, subst, arith}
 use Rattle.std.specs.Prelude.{Option, Some, None, All, option_map}
 use Rattle.std.proofs.lemmas.Bool.{eqb-true}
-use Rattle.std.proofs.lemmas.List.{length-append}
 use Rattle.std.proofs.lemmas.List.Elements.{All-nil, All-cons}
 use Rattle.hls_text.specs.Lines.{Text}
 use Rattle.hls_report_text.specs.declared.report.Path.{Path}
 use Rattle.hls_sched.specs.Seen.{Seen}
-use Rattle.hls_legal.specs.Hierarchy.{Hierarchy, Place, Processor, At, Node, Loaded, Admitted, Thread}
-use Rattle.hls_legal.specs.Hierarchy.{Scheduler, start, name_of}
+use Rattle.hls_legal.specs.Hierarchy.{Hierarchy, Place, Processor, At, Admitted, Thread}
+use Rattle.hls_legal.specs.Hierarchy.{start, name_of}
 use Rattle.hls_legal.specs.Hierarchy.{is_ready, was_served, is_just}
 use Rattle.hls_legal.specs.Steps.{Hop, Step, Elapse, after, state, thread_of, hops_of, hop_at, ticked}
 use Rattle.hls_legal.specs.Steps as steps
-use Rattle.hls_legal.specs.Legal.{Can, Walk, MayRun, IsThread}
+use Rattle.hls_legal.specs.Legal.{Can, Walk, MayRun}
 use Rattle.hls_legal.proofs.Goes.{state_goes, legal_goes}
 use Rattle.hls_legal.proofs.Lists.{run_listed}
 use Rattle.hls_legal.proofs.Seated.{run_seated}
@@ -28,10 +27,9 @@ use Rattle.hls_journal.specs.declared.journal.Journal.{Journal}
 use Rattle.hls_journal.specs.Kept.{IsWayOrIdle}
 use Rattle.hls_journal.specs.Ways.{names_by}
 use Rattle.hls_core.specs.Bursts.{left_in, is_last}
-use Rattle.hls_core.specs.Ways.{IsKnown, IsRoute, IsRouteOrIdle, HasNames, TellsRoute}
-use Rattle.hls_core.specs.Outcomes.{IsReached, IsAt}
+use Rattle.hls_core.specs.Inside.Ways.{IsKnown, IsRouteOrIdle, TellsRoute}
 use Rattle.hls_core.specs.Cores.{AreNoted}
-use Rattle.hls_core.specs.Elapses.{IsThreadOrNone, MayElapse, Elapses}
+use Rattle.hls_core.specs.Inside.Elapses.{IsThreadOrNone, MayElapse, Elapses}
 use Rattle.hls_core.specs.declared.bursts.Bursts.{Bursts}
 use Rattle.hls_core.proofs.Readiness.{left_ticked, ready_ticked}
 

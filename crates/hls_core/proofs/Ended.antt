@@ -1,40 +1,39 @@
 -- A core lets ticks pass, and ends.
-use Rattle.std.proofs.Common.{◌≡◌, ℕ, ◌+◌, ◌-◌, ◌<◌, ◌≤◌, Bool, List, [], ◌∷◌, ◌++◌, length, map, refl, sym, ap}
+use Rattle.std.proofs.Common.{◌≡◌, ℕ, ◌-◌, ◌<◌, ◌≤◌, List, [], ◌∷◌, ◌++◌, length, refl, sym, ap}
 use Rattle.std.proofs.Common.{◌∙◌, subst, arith}
-use Rattle.std.specs.Prelude.{Option, Some, None, Result, Ok, Err, IfOk}
-use Rattle.std.proofs.lemmas.List.{append-nil}
-use Rattle.hls_scenario.specs.declared.scenario.Item.{Item}
+use Rattle.std.specs.Prelude.{Option, Result, Ok, Err, IfOk}
+use Rattle.std.specs.Fn.{Mut}
+use Rattle.hls_guarantee.specs.declared.Guarantee.{Guarantee}
 use Rattle.hls_scenario.specs.declared.scenario.Scenario.{Scenario}
 use Rattle.hls_report_text.specs.declared.report.Answered.{Answered}
 use Rattle.hls_report_text.specs.declared.report.Path.{Path}
 use Rattle.hls_report_text.specs.declared.report.Report.{Report}
 use Rattle.hls_report_text.specs.Content.{Content, content_of}
-use Rattle.hls_report_text.specs.ReportText.{item_of}
 use Rattle.hls_report_text.specs.WellFormed.{HasShort}
 use Rattle.hls_sched.specs.Seen.{Seen}
-use Rattle.hls_legal.specs.Hierarchy.{Hierarchy, Node, Loaded, Admitted, start, name_of}
-use Rattle.hls_legal.specs.Steps.{Step, Elapse, Hop, after, state, ticked, hop_at, hops_of}
+use Rattle.hls_legal.specs.Hierarchy.{Hierarchy, start}
+use Rattle.hls_legal.specs.Steps.{Step, Elapse, after, state, hop_at, hops_of}
 use Rattle.hls_legal.specs.Steps as steps
 use Rattle.hls_legal.proofs.Goes.{state_goes}
 use Rattle.hls_legal.proofs.Lists.{run_listed}
 use Rattle.hls_legal.proofs.Seated.{run_seated}
 use Rattle.hls_accounts.specs.Tells.{TellsFrom, Tells}
-use Rattle.hls_accounts.specs.Accounts.{accounts_of, idle_of}
 use Rattle.hls_accounts.specs.Ready.{is_ready}
 use Rattle.hls_answers.specs.Moment.{Boxes}
 use Rattle.hls_legal_report.specs.Legal.{IsRun, IsLegalReport}
 use Rattle.hls_legal_report.proofs.Growth.{run_tick}
 use Rattle.hls_tree.specs.Trees.{Stands}
-use Rattle.hls_journal.specs.declared.journal.Journal.{Journal}
 use Rattle.hls_journal.specs.Told.{answered_by, told, with_totals, IsReportOf}
-use Rattle.hls_journal.specs.Kept.{IsTicked, MayTick, IsWayOrIdle}
+use Rattle.hls_journal.specs.Kept.{IsTicked, MayTick}
 use Rattle.hls_journal.proofs.Keeps.{kept_tick, told_tick, may_tick, way_short}
-use Rattle.hls_core.specs.Outcomes.{IsAt}
-use Rattle.hls_core.specs.Elapses.{MayElapse, Elapses}
-use Rattle.hls_core.specs.Cores.{AreNoted, NoneDue, IsCoreOf, Runs}
+use Rattle.hls_core.specs.Marks.{HasMarksFor}
+use Rattle.hls_core.specs.Inside.Elapses.{MayElapse, Elapses}
+use Rattle.hls_core.specs.Cores.{AreNoted, NoneDue, IsCoreOf}
 use Rattle.hls_core.specs.declared.cores.Core.{Core}
 use Rattle.hls_core.proofs.Items.{ahead_next, none_left, all_told}
 use Rattle.hls_core.proofs.Going.{at_next}
+use Rattle.hls_core.proofs.Rooms.{tick_marks}
+use Rattle.hls_core.proofs.Seats.{ticked_name}
 
 -- where a run leads it is the present tick
 state_now : (c : Content) (steps : List Step) (h : Hierarchy) (left : List Answered) → TellsFrom c h steps left
@@ -61,18 +60,15 @@ retold c d horizon stretches (step ∷ steps) h [] told = absurd told
 retold c d horizon stretches (step ∷ steps) h (b ∷ left) told =
     (told.0, told.1, retold c d horizon stretches steps (after h step) left told.2)
 
-ticked_name : (mask : ℕ) (hop : Option Hop) (node : Option Node) → name_of (ticked mask hop node) ≡ name_of node
-ticked_name mask hop None = refl
-ticked_name mask hop (Some (Loaded s)) = refl
-ticked_name mask hop (Some (Admitted t)) = refl
-
 totals_same : (c : Content) → with_totals (with_totals c) ≡ with_totals c
 unfolding is_ready
 totals_same c = refl
 
--- V and P are what the checker knows a box by
-module _ {V : Type 0} {P : V → Type 0} (seen : (x : V) × P x → Seen) where
-  pub core_may_elapse : (c : Core V P) (s : Scenario) (given : ℕ) (boxes : Boxes) → IsCoreOf seen c s given boxes
+-- V and P are what the checker knows a box by, and W, Q and X a rule
+module _ {V W : Type 0} {P : V → Type 0} {Q : W → Type 0}
+    {X : Mut ((x : W) × Q x) (Guarantee × (Guarantee × Unit {0})) (Option Guarantee)}
+    (seen : (x : V) × P x → Seen) where
+  pub core_may_elapse : (c : Core V W P Q X) (s : Scenario) (given : ℕ) (boxes : Boxes) → IsCoreOf seen c s given boxes
       → c.journal.ticks < c.scenario.horizon → Stands seen c.tree (MayElapse seen c.tree c.bursts c.journal)
   core_may_elapse c s given boxes is lt =
       let now = state_now (told s.items c.depth c.journal) is.steps start
@@ -87,20 +83,20 @@ module _ {V : Type 0} {P : V → Type 0} (seen : (x : V) × P x → Seen) where
         is = record { at_state = is.at_state; noted = is.noted; early = omega (arith, now, own, horizon, lt) };
       }
 
-  pub core_few : (c : Core V P) (s : Scenario) (given : ℕ) (boxes : Boxes) → IsCoreOf seen c s given boxes
+  pub core_few : (c : Core V W P Q X) (s : Scenario) (given : ℕ) (boxes : Boxes) → IsCoreOf seen c s given boxes
       → length c.journal.names.keys ≤ 65536
   core_few c s given boxes is =
       let one = is.kept.fewer in
       let two = is.kept.few in
       let three = is.within.few in omega (arith, one, two, three)
 
-  pub core_may_tick : (c : Core V P) (s : Scenario) (given : ℕ) (boxes : Boxes) → IsCoreOf seen c s given boxes
+  pub core_may_tick : (c : Core V W P Q X) (s : Scenario) (given : ℕ) (boxes : Boxes) → IsCoreOf seen c s given boxes
       → c.journal.ticks < c.scenario.horizon → MayTick c.journal
   core_may_tick c s given boxes is lt =
       let own = ap (λ (x : Scenario). x.horizon) is.scenario in
       may_tick s c.journal is.kept is.within.horizon.1 (omega (arith, own, lt))
 
-  pub path_short : (c : Core V P) (s : Scenario) (given : ℕ) (boxes : Boxes)
+  pub path_short : (c : Core V W P Q X) (s : Scenario) (given : ℕ) (boxes : Boxes)
       (new : Rattle.hls_tree.specs.declared.tree.Tree.Tree V P)
       (later : Rattle.hls_core.specs.declared.bursts.Bursts.Bursts) (path : Option Path)
       (is : IsCoreOf seen c s given boxes) → c.journal.ticks < c.scenario.horizon
@@ -110,7 +106,7 @@ module _ {V : Type 0} {P : V → Type 0} (seen : (x : V) × P x → Seen) where
   path_short c s given boxes new later path is lt elapses =
       way_short c.journal path (elapses (state start is.steps) (core_may_elapse c s given boxes is lt).is).way
 
-  pub ticks_on : (old new : Core V P) (s : Scenario) (given : ℕ) (boxes : Boxes) (path : Option Path)
+  pub ticks_on : (old new : Core V W P Q X) (s : Scenario) (given : ℕ) (boxes : Boxes) (path : Option Path)
       (is : IsCoreOf seen old s given boxes)
       → NoneDue old.scenario.items old.agenda old.journal.ticks → old.journal.ticks < old.scenario.horizon
       → ((h : Hierarchy) → MayElapse seen old.tree old.bursts old.journal h
@@ -133,7 +129,6 @@ module _ {V : Type 0} {P : V → Type 0} (seen : (x : V) × P x → Seen) where
       record {
         scenario = scenario ∙ is.scenario;
         within = is.within;
-        early = is.early;
         depth = depth ∙ is.depth;
         deep = subst (λ n. n ≤ 6) (sym depth) is.deep;
         place = agenda ∙ is.place ∙ sym (ap (λ xs. length xs.items) noted.answers);
@@ -144,7 +139,7 @@ module _ {V : Type 0} {P : V → Type 0} (seen : (x : V) × P x → Seen) where
         good = subst (Rattle.hls_sched.specs.GoodKit.IsGood (Rattle.hls_walks.specs.Views.boxed seen)) (sym kit)
             is.good;
         left =
-            ap Rattle.hls_core.specs.Outcomes.boxes_in kit ∙ is.left
+            ap Rattle.hls_manager.specs.Outcomes.boxes_in kit ∙ is.left
             ∙ ap (λ xs. Rattle.hls_answers.specs.Kit.boxes_left boxes (answered_by s.items xs.items))
             (sym noted.answers);
         steps = is.steps ++ step ∷ [];
@@ -157,10 +152,14 @@ module _ {V : Type 0} {P : V → Type 0} (seen : (x : V) × P x → Seen) where
             (sym noted.names)
             (is.noted k name (sym (ticked_name (e.masks k) (hop_at (hops_of e.path) k)
             ((state start is.steps).nodes k)) ∙ has)));
+        marks =
+            subst (λ n. HasMarksFor (length s.items - n) (state start (is.steps ++ step ∷ []))) (sym agenda)
+            (subst (λ g. HasMarksFor (length s.items - old.agenda) g) (sym (state_goes is.steps start step))
+            (tick_marks (state start is.steps) e.asking e.masks e.path (length s.items - old.agenda) is.marks));
         horizon = horizon ∙ is.horizon;
       }
 
-  pub ends_legal : (c : Core V P) (s : Scenario) (given : ℕ) (boxes : Boxes) (r : Report)
+  pub ends_legal : (c : Core V W P Q X) (s : Scenario) (given : ℕ) (boxes : Boxes) (r : Report)
       → IsReportOf (told c.scenario.items c.depth c.journal) r → c.journal.ticks ≡ c.scenario.horizon
       → IsCoreOf seen c s given boxes → IsLegalReport s given boxes r
   ends_legal c s given boxes r of ended is =
@@ -191,7 +190,7 @@ module _ {V : Type 0} {P : V → Type 0} (seen : (x : V) × P x → Seen) where
         });
       }
 
-  pub all_legal : {E : Type 0} (c : Core V P) (result : Result Report E)
+  pub all_legal : {E : Type 0} (c : Core V W P Q X) (result : Result Report E)
       → IfOk result (IsReportOf (told c.scenario.items c.depth c.journal)) → c.journal.ticks ≡ c.scenario.horizon
       → IfOk result (λ r. (s : Scenario) (given : ℕ) (boxes : Boxes) → IsCoreOf seen c s given boxes
       → IsLegalReport s given boxes r)

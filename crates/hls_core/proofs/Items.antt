@@ -1,8 +1,8 @@
 -- The items of a scenario at their places.
-use Rattle.std.proofs.Common.{◌≡◌, ◌≢◌, ℕ, zero, suc, inl, inr, ◌⊎◌, ◌+◌, ◌-◌, ◌<◌, ◌≤◌, Bool, true, false}
+use Rattle.std.proofs.Common.{◌≡◌, ◌≢◌, ℕ, zero, suc, inl, inr, ◌⊎◌, ◌+◌, ◌<◌, ◌≤◌, Bool, true, false}
 use Rattle.std.proofs.Common.{cond, ◌==◌, List, []}
-use Rattle.std.proofs.Common.{◌∷◌, ◌++◌, length, map, refl, sym, ap, ◌∙◌, subst, arith, slice_get}
-use Rattle.std.specs.Prelude.{Option, Some, None, zip}
+use Rattle.std.proofs.Common.{◌∷◌, length, map, refl, sym, ap, ◌∙◌, subst, arith, slice_get}
+use Rattle.std.specs.Prelude.{Option, Some, None}
 use Rattle.std.proofs.lemmas.Bool.{cases_lt, eqb-true, eqb-false}
 use Rattle.std.proofs.lemmas.Option.{slice_get_within, slice_get-get_or}
 use Rattle.hls_scenario.specs.declared.scenario.Item.{Item}
@@ -11,7 +11,7 @@ use Rattle.hls_scenario.specs.Grammar.{AreItems, IsCommand}
 use Rattle.hls_report_text.specs.declared.report.Answer.{Answer}
 use Rattle.hls_report_text.specs.ReportText.{item_of}
 use Rattle.hls_clock.specs.Agenda.{due_of, due_command}
-use Rattle.hls_journal.specs.Told.{answered_as, answered_by}
+use Rattle.hls_journal.specs.Told.{answered_by}
 use Rattle.hls_core.specs.Cores.{AreAhead, NoneDue}
 
 -- the command that is due

@@ -1,6 +1,6 @@
+pub mod Rooms
 pub mod Readiness
-pub mod Plain
-pub mod Finds
+pub mod Seats
 pub mod Carried
 pub mod Paths
 pub mod Opened

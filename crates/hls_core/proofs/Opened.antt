@@ -1,7 +1,8 @@
 -- A core that has carried nothing out.
-use Rattle.std.proofs.Common.{◌≡◌, ℕ, ◌≤◌, List, [], ◌∷◌, length, Option, Some, None, map, refl, sym, ap, ◌∙◌}
+use Rattle.std.proofs.Common.{◌≡◌, ℕ, ◌≤◌, List, [], ◌∷◌, length, Option, Some, None, refl, sym, ap, ◌∙◌}
 use Rattle.std.proofs.Common.{subst, arith}
-use Rattle.std.specs.Prelude.{zip, fold}
+use Rattle.std.specs.Fn.{Mut}
+use Rattle.hls_guarantee.specs.declared.Guarantee.{Guarantee}
 use Rattle.hls_scenario.specs.declared.scenario.Item.{Item}
 use Rattle.hls_scenario.specs.declared.scenario.Scenario.{Scenario}
 use Rattle.hls_scenario.specs.Grammar.{IsScenario, IsDepth}
@@ -11,20 +12,19 @@ use Rattle.hls_report_text.specs.Content.{Content}
 use Rattle.hls_sched.specs.Seen.{Seen}
 use Rattle.hls_sched.specs.GoodKit.{IsGood}
 use Rattle.hls_walks.specs.Views.{boxed}
-use Rattle.hls_legal.specs.Hierarchy.{Hierarchy, start, name_of}
-use Rattle.hls_accounts.specs.Tells.{Tells, TellsFrom}
+use Rattle.hls_legal.specs.Hierarchy.{start}
+use Rattle.hls_accounts.specs.Tells.{TellsFrom}
 use Rattle.hls_answers.specs.Moment.{Boxes}
-use Rattle.hls_answers.specs.Kit.{boxes_left, boxes_after}
+use Rattle.hls_answers.specs.Kit.{boxes_left}
 use Rattle.hls_answers.specs.Along.{AnswersAlong}
 use Rattle.hls_legal_report.specs.Legal.{depth_in_force, IsRun}
 use Rattle.hls_tree.specs.Trees.{IsTreeOf, IsReadyOf}
-use Rattle.hls_journal.specs.Told.{answered_as, answered_by, told}
+use Rattle.hls_journal.specs.Told.{answered_by, told}
 use Rattle.hls_journal.specs.Kept.{IsNew}
 use Rattle.hls_journal.proofs.Keeps.{kept_new}
 use Rattle.hls_core.specs.Bursts.{left_in}
 use Rattle.hls_core.specs.Left.{IsLeft}
-use Rattle.hls_core.specs.Early.{IsEarly}
-use Rattle.hls_core.specs.Outcomes.{boxes_in, IsAt}
+use Rattle.hls_manager.specs.Outcomes.{boxes_in}
 use Rattle.hls_core.specs.Cores.{IsCoreOf}
 use Rattle.hls_core.specs.declared.cores.Core.{Core}
 
@@ -49,20 +49,21 @@ run_none depth boxes c none idle = record {
   answers = subst (λ (xs : List Answered). AnswersAlong depth start boxes [] xs) (sym none) tt;
 }
 
--- V and P are what the checker knows a box by
-module _ {V : Type 0} {P : V → Type 0} (seen : (x : V) × P x → Seen) where
-  pub opened : (c : Core V P) (s : Scenario) (given : ℕ) → c.scenario ≡ s → IsScenario s → IsEarly s
+-- V and P are what the checker knows a box by, and W, Q and X a rule
+module _ {V W : Type 0} {P : V → Type 0} {Q : W → Type 0}
+    {X : Mut ((x : W) × Q x) (Guarantee × (Guarantee × Unit {0})) (Option Guarantee)}
+    (seen : (x : V) × P x → Seen) where
+  pub opened : (c : Core V W P Q X) (s : Scenario) (given : ℕ) → c.scenario ≡ s → IsScenario s
       → c.depth ≡ depth_in_force given s.depth → given ≤ 6 → c.agenda ≡ 0
       → IsNew (length s.items) s.horizon c.journal → IsGood (boxed seen) c.kit → IsTreeOf seen c.tree start
       → IsReadyOf seen c.tree start → ((k : ℕ) → left_in c.bursts k ≡ None) → c.tree.horizon ≡ s.horizon
       → IsCoreOf seen c s given (boxes_in c.kit)
-  opened c s given same is early depth few place new good tree ready none horizon =
+  opened c s given same is depth few place new good tree ready none horizon =
       let answered : answered_by s.items c.journal.answers.items ≡ [] =
       ap (answered_by s.items) new.answers ∙ none_answered s.items in
       record {
         scenario = same;
         within = is;
-        early = early;
         depth = depth;
         deep = subst (λ n. n ≤ 6) (sym depth) (depth_few given s.depth few is.depth);
         place = place ∙ sym (ap (λ (xs : List Answer). length xs) new.answers);
@@ -79,5 +80,6 @@ module _ {V : Type 0} {P : V → Type 0} (seen : (x : V) × P x → Seen) where
           reached = record { past = []; legal = tt; leads = refl };
         };
         noted = λ k name e. absurd (cc);
+        marks = λ k other e. absurd (cc);
         horizon = horizon;
       }

@@ -1,17 +1,17 @@
 -- The path of a route, node by node.
 use Rattle.std.proofs.Common.{◌≡◌, ◌≢◌, ℕ, inl, inr, ◌⊎◌, ◌+◌, ◌<◌, ◌≤◌, List, [], ◌∷◌, ◌++◌, length, take}
-use Rattle.std.proofs.Common.{get_or, map, refl}
+use Rattle.std.proofs.Common.{get_or, map}
 use Rattle.std.proofs.Common.{sym, ap, ◌∙◌, subst, arith, true}
-use Rattle.std.specs.Prelude.{Option, Some, None, All}
+use Rattle.std.specs.Prelude.{Option, Some, None}
 use Rattle.std.proofs.lemmas.List.{map-append, length-map, take_more, take_all}
 use Rattle.hls_text.specs.Lines.{Text}
 use Rattle.hls_report_text.specs.declared.report.Path.{Path}
 use Rattle.hls_report_text.specs.Content.{path_names}
 use Rattle.hls_legal.specs.Hierarchy.{Hierarchy, name_of}
 use Rattle.hls_journal.specs.declared.journal.Journal.{Journal}
-use Rattle.hls_journal.specs.Kept.{AreWithin, IsWay, has_name}
+use Rattle.hls_journal.specs.Kept.{AreWithin, has_name}
 use Rattle.hls_journal.proofs.Lists.{HasLast, last_or_none}
-use Rattle.hls_core.specs.Ways.{IsKnown, IsRoute, IsRouteOrIdle, HasNames, TellsRoute}
+use Rattle.hls_core.specs.Inside.Ways.{IsKnown, IsRoute, IsRouteOrIdle, HasNames, TellsRoute}
 
 abbrev pub names_in : Hierarchy → List ℕ → List (Option Text)
 names_in h ids = map (λ k. name_of (h.nodes k)) ids

@@ -1,13 +1,13 @@
 -- Readiness and what is left of bursts, as wakes, blocks and ticks come.
 use Rattle.std.proofs.Common.{◌≡◌, ◌≢◌, ℕ, suc, inl, inr, ◌+◌, ◌-◌, ◌<◌, ◌≤◌, ◌⊎◌, Bool, true, false, cond, ◌==◌}
-use Rattle.std.proofs.Common.{refl, sym, ap, ◌∙◌, subst, arith}
+use Rattle.std.proofs.Common.{refl, sym, ap, ◌∙◌, arith}
 use Rattle.std.specs.Prelude.{Option, Some, None, nat_lt, nat_le, option_map}
-use Rattle.std.proofs.lemmas.Bool.{cases_eq, cases_lt, eq-eqb, ne_eqb, eqb-true, ltb-true, lt-ltb, le-ltb}
+use Rattle.std.proofs.lemmas.Bool.{cases_eq, cases_lt, eq-eqb, ne_eqb, ltb-true, lt-ltb, le-ltb}
 use Rattle.std.proofs.lemmas.Bool.{lt-leb, le-leb}
 use Rattle.hls_chron.specs.Ticks.{count, one_if}
 use Rattle.hls_chron.proofs.CountLaws.{count-none, count-push, count-agree}
 use Rattle.hls_scenario.specs.Grammar.{IsBurst}
-use Rattle.hls_legal.specs.Hierarchy.{Hierarchy, Thread, Node, Loaded, Admitted, Wake, Asleep, Awake, Awake_for, Tick}
+use Rattle.hls_legal.specs.Hierarchy.{Hierarchy, Thread, Node, Loaded, Admitted, Wake, Asleep, Awake, Awake_for}
 use Rattle.hls_legal.specs.Hierarchy.{is_ready, was_served, is_just}
 use Rattle.hls_legal.specs.Steps.{Path, thread_of, hops_of, hop_at, ticked, roused, wake_by, with_wake, elapsed}
 use Rattle.hls_core.specs.Bursts.{is_last}

@@ -1,6 +1,8 @@
 -- What a core is of.
-use Rattle.std.specs.Prelude.{◌≡◌, ℕ, ◌≤◌, ◌<◌, List, Some, None, length, slice_get, true}
+use Rattle.std.specs.Prelude.{◌≡◌, ℕ, ◌-◌, ◌≤◌, ◌<◌, List, Option, Some, length, slice_get, true}
+use Rattle.std.specs.Fn.{Mut}
 use Rattle.hls_text.specs.Lines.{Text}
+use Rattle.hls_guarantee.specs.declared.Guarantee.{Guarantee}
 use Rattle.hls_scenario.specs.declared.scenario.Item.{Item}
 use Rattle.hls_scenario.specs.declared.scenario.Scenario.{Scenario}
 use Rattle.hls_scenario.specs.Grammar.{IsScenario}
@@ -15,8 +17,9 @@ use Rattle.hls_answers.specs.Kit.{boxes_left}
 use Rattle.hls_journal.specs.declared.journal.Journal.{Journal}
 use Rattle.hls_journal.specs.Told.{answered_by, told}
 use Rattle.hls_journal.specs.Kept.{IsKept, has_name}
-use Rattle.hls_core.specs.Early.{IsEarly}
-use Rattle.hls_core.specs.Outcomes.{boxes_in, IsAt}
+use Rattle.hls_manager.specs.Outcomes.{boxes_in}
+use Rattle.hls_core.specs.Marks.{HasMarksFor}
+use Rattle.hls_core.specs.Standing.{IsAt}
 use Rattle.hls_core.specs.declared.cores.Core.{Core}
 
 -- the name of each node was noted
@@ -31,15 +34,16 @@ AreAhead items place now = (at : ℕ) (item : Item) → place ≤ at → slice_g
 abbrev pub NoneDue : List Item → (place now : ℕ) → Type 0
 NoneDue items place now = (item : Item) → slice_get items place ≡ Some item → now < item.tick
 
--- V and P are what the checker knows a box by, and W and Q a rule
-module _ {V : Type 0} {P : V → Type 0} where
+-- V and P are what the checker knows a box by, and W, Q and X a rule
+module _ {V W : Type 0} {P : V → Type 0} {Q : W → Type 0}
+    {X : Mut ((x : W) × Q x) (Guarantee × (Guarantee × Unit {0})) (Option Guarantee)} where
   -- What was carried out so far is a legal run that the journal tells, with the defined answers, and the tree is of
-  -- the hierarchy where it leads. The scenario, the depth that was given and the boxes that the kit had are these.
-  pub record IsCoreOf (seen : (x : V) × P x → Seen) (c : Core V P) (s : Scenario) (given : ℕ) (boxes : Boxes)
+  -- the hierarchy where it leads. Its books have room for the commands that are still to come. The scenario, the
+  -- depth that was given and the boxes that the kit had are these.
+  pub record IsCoreOf (seen : (x : V) × P x → Seen) (c : Core V W P Q X) (s : Scenario) (given : ℕ) (boxes : Boxes)
       : Type 0 where
     pub scenario : c.scenario ≡ s
     pub within : IsScenario s
-    pub early : IsEarly s
     pub depth : c.depth ≡ depth_in_force given s.depth
     pub deep : c.depth ≤ 6
     pub place : c.agenda ≡ length c.journal.answers.items
@@ -51,10 +55,11 @@ module _ {V : Type 0} {P : V → Type 0} where
     pub run : IsRun c.depth boxes (told s.items c.depth c.journal) steps
     pub at_state : IsAt seen c.tree c.bursts (state start steps)
     pub noted : AreNoted (state start steps) c.journal
+    pub marks : HasMarksFor (length s.items - c.agenda) (state start steps)
     pub horizon : c.tree.horizon ≡ s.horizon
 
   -- of some scenario, and so on
-  pub record Runs (seen : (x : V) × P x → Seen) (c : Core V P) : Type 0 where
+  pub record Runs (seen : (x : V) × P x → Seen) (c : Core V W P Q X) : Type 0 where
     pub s : Scenario
     pub given : ℕ
     pub boxes : Boxes

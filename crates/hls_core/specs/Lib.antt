@@ -1,7 +1,6 @@
 pub mod Bursts
 pub mod Left
-pub mod Early
-pub mod Ways
-pub mod Outcomes
+pub mod Marks
+pub mod Standing
 pub mod Cores
-pub mod Elapses
+pub mod Inside

@@ -1,48 +1,29 @@
 // Commands.
-ghost use Rattle.std.specs.Prelude.{◌≡◌, [], IfOk, IfErr, OnErr};
+ghost use Rattle.std.specs.Prelude.{◌≡◌, ◌≤◌, ℕ, [], IfOk, OnErr};
 ghost use Rattle.hls_scenario.specs.Grammar.{IsCommand};
-ghost use Rattle.hls_scenario.specs.declared.scenario.Command.{Command};
-ghost use Rattle.hls_chron.specs.Name.{IsName};
-ghost use Rattle.hls_report_text.specs.declared.report.Answer.TheVariants.{Done, Refused};
-ghost use Rattle.hls_report_text.specs.WellFormed.{IsRefusal};
-ghost use Rattle.hls_answers.specs.Moment.{Moment};
-ghost use Rattle.hls_answers.specs.Answers.{IsAnswer};
-ghost use Rattle.hls_legal.specs.Lists.{IsListed};
 ghost use Rattle.hls_scenario.specs.declared.scenario.Command.TheVariants.{Wake, Block};
+ghost use Rattle.hls_report_text.specs.declared.report.Answer.TheVariants.{Done};
+ghost use Rattle.hls_report_text.specs.WellFormed.{IsAnswer as IsWellFormed};
+ghost use Rattle.hls_sched.specs.GoodKit.{IsGood};
 ghost use Rattle.hls_legal.specs.Hierarchy.{Hierarchy};
-ghost use Rattle.hls_legal.specs.Legal.{IsThread};
-ghost use Rattle.hls_accounts.specs.Tells.{HasName};
-ghost use Rattle.hls_tree.specs.Trees.{IsTreeOf, Stands, Any};
-ghost use Rattle.hls_core.specs.Early.{IsEarlyCommand};
-ghost use Rattle.hls_core.specs.Outcomes.{CarriesOut, IsAt, IsOfThread};
+ghost use Rattle.hls_answers.specs.Moment.{Moment};
+ghost use Rattle.hls_answers.specs.Kit.{boxes_after};
+ghost use Rattle.hls_walks.specs.Views.{boxed};
+ghost use Rattle.hls_tree.specs.Kits.{IsSameKit};
+ghost use Rattle.hls_tree.specs.Trees.{Stands};
+ghost use Rattle.hls_manager.specs.Outcomes.{HasMarkRoom, boxes_in, moment};
+ghost use Rattle.hls_core.specs.Standing.{IsAt};
+ghost use Rattle.hls_core.specs.Inside.Outcomes.{CarriesOut};
 
 use crate::bursts::Bursts;
 use hls_chron::{List, Name};
-use hls_report_text::{Answer, Refusal};
+use hls_manager::{admit, find_thread, shift, withdraw};
+use hls_report_text::Answer;
+use hls_rules::RuleBook;
 use hls_scenario::Command;
-use hls_tree::{NodeId, Sort, Tree};
+use hls_sched::{Kit, Scheduler};
+use hls_tree::Tree;
 use std::alloc::{AllocError, Global};
-
-/// The thread of a name, or why there is none.
-fn find_thread(tree: &Tree, name: &Name) -> Result<NodeId, Refusal>
-    requires { Stands seen tree.now Any }
-    ensures found { IfOk result (λ id. (h : Hierarchy) → IsTreeOf seen tree.now h →
-        HasName h id name.now × IsThread (h.nodes id)) }
-    ensures done { IfOk result (λ _. (m : Moment) (command : Command) → IsTreeOf seen tree.now m.hierarchy →
-        IsListed m.hierarchy → IsOfThread command name.now → IsAnswer m command (Done [])) }
-    ensures refused { IfErr result (λ refusal. (m : Moment) (command : Command) →
-        IsTreeOf seen tree.now m.hierarchy → IsListed m.hierarchy → IsOfThread command name.now →
-        IsAnswer m command (Refused refusal)) }
-    ensures formed { IfErr result (λ refusal. IsName name.now → IsRefusal refusal) }
-{
-    let Some(id) = tree.find(name) else {
-        return Err(Refusal::NoSuchName { name: *name });
-    };
-    match tree.sort(id) {
-        Sort::Thread => Ok(id),
-        Sort::Sched(_) => Err(Refusal::WrongSort { name: Some(*name) }),
-    }
-}
 
 /// That a command was done and took no seats.
 fn done(alloc: Global) -> Answer
@@ -61,8 +42,9 @@ fn wake(
 ) -> Result<Answer, AllocError>
     requires stands { Stands seen tree.old (IsAt seen tree.old bursts.old) }
     requires command { IsCommand (Wake name.now burst) }
-    ensures carried { IfOk result (λ answer. (h : Hierarchy) → IsAt seen tree.old bursts.old h →
-        CarriesOut seen tree.new bursts.new h (Wake name.now burst) answer) }
+    ensures carried { IfOk result (λ answer. (m : Moment) (commands : ℕ) → IsAt seen tree.old bursts.old m.hierarchy →
+        CarriesOut seen tree.old tree.new bursts.new m commands (Wake name.now burst) answer) }
+    ensures formed { IfOk result (λ answer. IsWellFormed (Wake name.now burst) answer) }
     ensures unchanged { OnErr result ((h : Hierarchy) → IsAt seen tree.old bursts.old h →
         IsAt seen tree.new bursts.new h) }
     ensures horizon { tree.new.horizon ≡ tree.old.horizon }
@@ -81,8 +63,9 @@ fn wake(
 fn block(alloc: Global, tree: &mut Tree, bursts: &Bursts, name: &Name) -> Answer
     requires command { IsCommand (Block name.now) }
     requires stands { Stands seen tree.old (IsAt seen tree.old bursts.now) }
-    ensures carried { (h : Hierarchy) → IsAt seen tree.old bursts.now h →
-        CarriesOut seen tree.new bursts.now h (Block name.now) result }
+    ensures carried { (m : Moment) (commands : ℕ) → IsAt seen tree.old bursts.now m.hierarchy →
+        CarriesOut seen tree.old tree.new bursts.now m commands (Block name.now) result }
+    ensures formed { IsWellFormed (Block name.now) result }
     ensures horizon { tree.new.horizon ≡ tree.old.horizon }
 {
     match find_thread(tree, name) {
@@ -94,28 +77,42 @@ fn block(alloc: Global, tree: &mut Tree, bursts: &Bursts, name: &Name) -> Answer
     }
 }
 
-/// Carries a command out, and answers it.
+/// Carries a command out, in a scenario of so many, and answers it.
 ///
 /// # Errors
 /// Returns `AllocError` for want of memory, and then nothing has changed.
 pub fn carry_out(
     alloc: Global,
     tree: &mut Tree,
+    kit: &mut Kit,
     bursts: &mut Bursts,
+    rules: &RuleBook,
+    depth: u8,
+    commands: u32,
     command: &Command,
 ) -> Result<Answer, AllocError>
-    requires early { IsEarlyCommand command.now }
     requires command { IsCommand command.now }
-    requires stands { Stands seen tree.old (IsAt seen tree.old bursts.old) }
+    requires depth { depth ≤ 6 }
+    requires kit { IsGood (boxed seen) kit.old }
+    requires commands { commands ≤ 65536 }
+    requires stands { Stands seen tree.old (λ h. IsAt seen tree.old bursts.old h × HasMarkRoom h) }
     ensures carried { IfOk result (λ answer. (h : Hierarchy) → IsAt seen tree.old bursts.old h →
-        CarriesOut seen tree.new bursts.new h command.now answer) }
+        CarriesOut seen tree.old tree.new bursts.new (moment h kit.old depth) commands command.now answer) }
+    ensures boxes { IfOk result (λ answer. boxes_in kit.new ≡ boxes_after (boxes_in kit.old) command.now answer) }
+    ensures formed { IfOk result (λ answer. IsWellFormed command.now answer) }
     ensures unchanged { OnErr result ((h : Hierarchy) → IsAt seen tree.old bursts.old h →
         IsAt seen tree.new bursts.new h) }
+    ensures same_kit { OnErr result (IsSameKit (boxed seen) kit.old kit.new) }
+    ensures good { IsGood (boxed seen) kit.new }
     ensures horizon { tree.new.horizon ≡ tree.old.horizon }
 {
     match command {
+        Command::Load { .. } | Command::Thread { .. } => {
+            admit(alloc, tree, kit, rules, depth, commands, command)
+        }
+        Command::End { .. } | Command::Unload { .. } => Ok(withdraw(alloc, tree, command)),
+        Command::Move { .. } => shift(alloc, tree, rules, depth, command),
         Command::Wake { name, burst } => wake(alloc, tree, bursts, name, *burst),
         Command::Block { name } => Ok(block(alloc, tree, bursts, name)),
-        _ => unreachable!(),
     }
 }

@@ -15,6 +15,7 @@ use crate::ways::way_of;
 use hls_clock::Agenda;
 use hls_journal::Journal;
 use hls_report_text::{Answer, Report};
+use hls_rules::RuleBook;
 use hls_scenario::Scenario;
 use hls_sched::{Kit, Scheduler};
 use hls_tree::Tree;
@@ -27,6 +28,7 @@ pub struct Core {
     pub(crate) scenario: Scenario,
     pub(crate) depth: u8,
     pub(crate) kit: Kit,
+    pub(crate) rules: RuleBook,
     pub(crate) tree: Tree,
     pub(crate) agenda: Agenda,
     pub(crate) journal: Journal,
@@ -44,18 +46,22 @@ fn depth_in_force(given: u8, own: Option<u8>) -> u8
 }
 
 impl Core {
-    ghost use Rattle.hls_core.specs.Early.{IsEarly};
-    ghost use Rattle.hls_core.specs.Outcomes.{boxes_in};
+    ghost use Rattle.hls_manager.specs.Outcomes.{boxes_in};
     ghost use Rattle.hls_core.specs.Cores.{IsCoreOf, Runs, NoneDue};
 
     /// Begins with a scenario, of which nothing was carried out. The scenario's own depth wins over the one
-    /// that is given.
+    /// that is given. Boxes come out of the kit, and derivations go by the rules.
     ///
     /// # Errors
     /// Returns `AllocError` for want of memory. What was handed in is dropped.
-    pub fn open(alloc: Global, scenario: Scenario, depth: u8, kit: Kit) -> Result<Core, AllocError>
+    pub fn open(
+        alloc: Global,
+        scenario: Scenario,
+        depth: u8,
+        kit: Kit,
+        rules: RuleBook,
+    ) -> Result<Core, AllocError>
         requires scenario { IsScenario scenario }
-        requires early { IsEarly scenario }
         requires depth { depth ≤ 6 }
         requires kit { IsGood (boxed seen) kit }
         ensures { IfOk result (λ core. IsCoreOf seen core scenario depth (boxes_in kit)) }
@@ -68,6 +74,7 @@ impl Core {
             scenario,
             depth,
             kit,
+            rules,
             tree,
             agenda: Agenda::new(),
             journal,
@@ -109,10 +116,20 @@ impl Core {
         ensures ticks { self.new.journal.ticks ≡ self.old.journal.ticks }
     {
         let now = self.journal.ticks();
+        let commands = self.scenario.items.items().len() as u32;
         let Some(command) = self.agenda.due(&self.scenario, now) else {
             return Ok(false);
         };
-        let answer = carry_out(self.alloc, &mut self.tree, &mut self.bursts, command)?;
+        let answer = carry_out(
+            self.alloc,
+            &mut self.tree,
+            &mut self.kit,
+            &mut self.bursts,
+            &self.rules,
+            self.depth,
+            commands,
+            command,
+        )?;
         self.journal.note(command, answer);
         self.agenda.advance();
         Ok(true)
@@ -148,6 +165,7 @@ impl Core {
             scenario,
             depth,
             kit: _,
+            rules: _,
             tree: _,
             agenda: _,
             journal,

@@ -3,7 +3,7 @@ ghost use Rattle.std.specs.Prelude.{◌≡◌, ◌≤◌, ℕ, ◌-◌, true, fa
 ghost use Rattle.hls_legal.specs.Hierarchy.{Hierarchy, is_just};
 ghost use Rattle.hls_tree.specs.Trees.{IsTreeOf, Stands, ready_of};
 ghost use Rattle.hls_core.specs.Bursts.{left_in, is_last};
-ghost use Rattle.hls_core.specs.Elapses.{IsThreadOrNone, MayElapse, Elapses};
+ghost use Rattle.hls_core.specs.Inside.Elapses.{IsThreadOrNone, MayElapse, Elapses};
 
 use crate::bursts::Bursts;
 use crate::ways::way_of;

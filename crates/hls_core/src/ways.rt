@@ -2,7 +2,7 @@
 ghost use Rattle.std.specs.Prelude.{◌≡◌, ◌≤◌, length};
 ghost use Rattle.hls_legal.specs.Hierarchy.{Hierarchy};
 ghost use Rattle.hls_tree.specs.Trees.{IsTreeOf, Stands, HasPassed, route_of};
-ghost use Rattle.hls_core.specs.Ways.{IsRoute, IsRouteOrIdle, HasNames, TellsRoute};
+ghost use Rattle.hls_core.specs.Inside.Ways.{IsRoute, IsRouteOrIdle, HasNames, TellsRoute};
 
 use hls_journal::Journal;
 use hls_report_text::Path;

@@ -1,6 +1,8 @@
-use Rattle.std.proofs.Common.{refl, arith}
-use Rattle.hls_core.proofs.Going.{core_stands, core_may_note, carried, stayed, due_for, due_command_is, due_early}
-use Rattle.hls_core.proofs.Carried.{on_err}
+use Rattle.std.proofs.Common.{refl, arith, ap, length, ◌≤◌}
+use Rattle.hls_scenario.specs.declared.scenario.Scenario.{Scenario}
+use Rattle.hls_legal.specs.Hierarchy.{start}
+use Rattle.hls_legal.specs.Steps.{state}
+use Rattle.hls_core.proofs.Going.{core_stands, core_may_note, carried, stayed, due_for, due_command_is, due_small}
 use Rattle.hls_core.proofs.cores.Core.command.Goals as goal
 
 pub carry_out-requires-clause-command : goal.carry_out-requires-clause-command
@@ -9,15 +11,11 @@ carry_out-requires-clause-command g c =
     c.in-Some.ensures in
     due_command_is c.requires.s _ _ _ c.requires.is.within due
 
-pub carry_out-requires-clause-early : goal.carry_out-requires-clause-early
-carry_out-requires-clause-early g c =
-    let due = due_for c.args.self.now.scenario c.requires.s _ _ _ _ c.requires.is.scenario c.ticks-now.ensures
-    c.in-Some.ensures in
-    due_early c.requires.s _ _ _ c.requires.is.early due
-
 pub carry_out-requires-clause-stands : goal.carry_out-requires-clause-stands
 carry_out-requires-clause-stands g c =
-    core_stands _ c.args.self.now c.requires.s c.requires.given c.requires.boxes c.requires.is
+    let due = due_for c.args.self.now.scenario c.requires.s _ _ _ _ c.requires.is.scenario c.ticks-now.ensures
+    c.in-Some.ensures in
+    core_stands _ c.args.self.now c.requires.s c.requires.given c.requires.boxes c.in-Some.command.now c.requires.is due
 
 pub note-requires : goal.note-requires
 note-requires g c =
@@ -30,12 +28,20 @@ pub advance-requires : goal.advance-requires
 advance-requires g c =
     let due = due_for c.args.self.now.scenario c.requires.s _ _ _ _ c.requires.is.scenario c.ticks-now.ensures
     c.in-Some.ensures in
-    Rattle.hls_core.proofs.Going.due_small c.requires.s _ _ _ c.requires.is.within due
+    due_small c.requires.s _ _ _ c.requires.is.within due
+
+pub returns-in_err-answer-clause-is : goal.returns-in_err-answer-clause-is
+returns-in_err-answer-clause-is g c = λ s given boxes is.
+    stayed _ c.args.self.now c.carry_out.new.tree c.carry_out.new.kit c.carry_out.new.bursts s given boxes is
+    (c.in_err-answer.ensures.unchanged (state start is.steps) is.at_state) c.in_err-answer.ensures.same_kit
+    c.carry_out.ensures.good c.carry_out.ensures.horizon
 
 pub returns-clause-is : goal.returns-clause-is
 returns-clause-is g c = λ s given boxes is.
     let due = due_for c.args.self.now.scenario s _ _ _ _ is.scenario c.ticks-now.ensures c.in-Some.ensures in
-    carried _ c.args.self.now _ s given boxes c.in-Some.command.now c.in_ok-answer.answer is due
-    (due_early s _ _ _ is.early due)
-    (c.in_ok-answer.ensures.carried _ is.at_state) c.note.ensures c.advance.ensures refl refl refl
-    c.carry_out.ensures.horizon
+    let count = ap length c.items.ensures in
+    let own = ap (λ (x : Scenario). length x.items) is.scenario in
+    let all : length s.items ≤ length c.items.result.now = omega (arith, count, own) in
+    carried _ c.args.self.now _ s given boxes _ c.in-Some.command.now c.in_ok-answer.answer is due all
+    (c.in_ok-answer.ensures.carried _ is.at_state) c.in_ok-answer.ensures.boxes c.in_ok-answer.ensures.formed
+    c.carry_out.ensures.good c.note.ensures c.advance.ensures refl refl c.carry_out.ensures.horizon

@@ -5,7 +5,7 @@ use Rattle.hls_core.proofs.cores.Core.open.Goals as goal
 
 pub returns : goal.returns
 returns g c =
-    opened _ _ c.args.scenario c.args.depth refl c.requires.scenario c.requires.early
+    opened _ _ c.args.scenario c.args.depth refl c.requires.scenario
     c.depth_in_force-depth.ensures c.requires.depth c.new.ensures
     (subst (λ items. IsNew (length items) c.args.scenario.horizon c.in_ok-journal.journal) c.items.ensures
     c.in_ok-journal.ensures) c.requires.kit c.new-tree.ensures.tree c.new-tree.ensures.ready c.new-2.ensures

@@ -1,5 +1,5 @@
 -- What a tick comes to.
-use Rattle.std.specs.Prelude.{◌≡◌, ℕ, ◌<◌, Option, Some, None, Bool}
+use Rattle.std.specs.Prelude.{ℕ, ◌<◌, Option, Some, None, Bool}
 use Rattle.hls_report_text.specs.declared.report.Path.{Path}
 use Rattle.hls_sched.specs.Seen.{Seen}
 use Rattle.hls_legal.specs.Hierarchy.{Hierarchy}
@@ -14,7 +14,7 @@ use Rattle.hls_journal.specs.Kept.{IsWayOrIdle}
 use Rattle.hls_journal.specs.Ways.{names_by}
 use Rattle.hls_core.specs.Bursts.{left_in}
 use Rattle.hls_core.specs.Left.{IsLeft}
-use Rattle.hls_core.specs.Outcomes.{IsAt}
+use Rattle.hls_core.specs.Standing.{IsAt}
 use Rattle.hls_core.specs.Cores.{AreNoted}
 use Rattle.hls_core.specs.declared.bursts.Bursts.{Bursts}
 
