@@ -1,84 +1,72 @@
 // What a run comes to, over sources and sinks in memory.
-use super::*;
-use hls_io::{MemSink, MemSource};
+use super::starting::start;
+use hls_io::{MemSink, MemSource, Status};
 use std::alloc::{AllocError, Global};
 use std::test::Fail;
 
 const USAGE: &[u8] = b"usage: hls run [--depth K] | check | gen N | trial N\n";
 
-const REFUSED: &[u8] = b"refused early\n";
+const TWO: &[u8] = b"hls 1\n\
+    horizon 20\n\
+    at 0 load root edf on cpu as ALL\n\
+    at 0 thread a on root res 3 10 hard as RESBH 3 10\n\
+    at 0 thread b on root res 5 10 hard as RESBH 5 10\n\
+    at 0 wake a\n\
+    at 0 wake b\n";
 
-const SMALLEST: &[u8] = b"hls 1\n\
-    horizon 1\n\
-    at 0 load root fp on cpu as ALL\n\
-    at 0 thread a on root prio 0 as ALL\n\
-    at 0 wake a\n";
-
-const SMALLEST_REPORT: &[u8] = b"hls-report 1\n\
-    horizon 1\n\
+const TWO_REPORT: &[u8] = b"hls-report 1\n\
+    horizon 20\n\
     depth 3\n\
-    at 0 load root fp on cpu as ALL\n\
+    at 0 load root edf on cpu as ALL\n\
     = done\n\
     by root 0 ALL CPU ALL\n\
-    at 0 thread a on root prio 0 as ALL\n\
+    at 0 thread a on root res 3 10 hard as RESBH 3 10\n\
     = done\n\
-    by a 0 ALL FP ALL\n\
+    by a 0 ALL EDF RESBH 3 10\n\
+    at 0 thread b on root res 5 10 hard as RESBH 5 10\n\
+    = done\n\
+    by b 0 ALL EDF RESBH 5 10\n\
     at 0 wake a\n\
     = done\n\
+    at 0 wake b\n\
+    = done\n\
     schedule\n\
-    0..0 cpu/root/a\n\
+    0..2 cpu/root/a\n\
+    3..7 cpu/root/b\n\
+    8..9 idle\n\
+    10..12 cpu/root/a\n\
+    13..17 cpu/root/b\n\
+    18..19 idle\n\
     accounts\n\
-    a 0..0 ALL ready 1 served 1\n\
-    idle 0\n\
+    a 0..19 RESBH 3 10 ready 20 served 6\n\
+    b 0..19 RESBH 5 10 ready 20 served 10\n\
+    idle 4\n\
     end\n";
 
-const REFUSALS: &[u8] = b"hls 1\n\
-    horizon 4\n\
-    at 0 load root fp on cpu as ALL\n\
-    at 0 thread a on root prio 0 as ALL\n\
-    at 0 thread b on root prio 3 as NULL\n\
-    at 0 thread a on root prio 5 as NULL\n\
-    at 0 thread c on root prio 3 as NULL\n\
-    at 0 wake b\n\
-    at 1 wake a\n\
-    at 3 block a\n\
-    at 3 wake z\n";
+const DEEP: &[u8] = b"hls 1\n\
+    horizon 5\n\
+    at 0 load root edf on cpu as ALL\n\
+    at 0 load f fp on root res 3 10 soft as RESBS 3 10\n\
+    at 0 thread t on f prio 0 as RESCS 3 17\n";
 
-const REFUSALS_REPORT: &[u8] = b"hls-report 1\n\
-    horizon 4\n\
-    depth 3\n\
-    at 0 load root fp on cpu as ALL\n\
+const DEEP_REPORT: &[u8] = b"hls-report 1\n\
+    horizon 5\n\
+    depth 0\n\
+    at 0 load root edf on cpu as ALL\n\
     = done\n\
     by root 0 ALL CPU ALL\n\
-    at 0 thread a on root prio 0 as ALL\n\
+    at 0 load f fp on root res 3 10 soft as RESBS 3 10\n\
     = done\n\
-    by a 0 ALL FP ALL\n\
-    at 0 thread b on root prio 3 as NULL\n\
-    = done\n\
-    by b 0 ALL FP NULL\n\
-    at 0 thread a on root prio 5 as NULL\n\
-    = refused 10 NameTaken a\n\
-    at 0 thread c on root prio 3 as NULL\n\
-    = refused 17 PriorityTaken 3\n\
-    at 0 wake b\n\
-    = done\n\
-    at 1 wake a\n\
-    = done\n\
-    at 3 block a\n\
-    = done\n\
-    at 3 wake z\n\
-    = refused 11 NoSuchName z\n\
+    by f 0 ALL EDF RESBS 3 10\n\
+    at 0 thread t on f prio 0 as RESCS 3 17\n\
+    = refused 24 NoDerivation t 0\n\
     schedule\n\
-    0..0 cpu/root/b\n\
-    1..2 cpu/root/a\n\
-    3..3 cpu/root/b\n\
+    0..4 idle\n\
     accounts\n\
-    a 0..3 ALL ready 2 served 2\n\
-    b 0..3 NULL ready 4 served 2\n\
-    idle 0\n\
+    idle 5\n\
     end\n";
 
-/// How a run at these words ends, where the kit has one box.
+/// How a run at these words ends.
 fn run_at(
     alloc: Global,
     words: &[&str],
@@ -89,31 +77,38 @@ fn run_at(
     for word in words {
         list.push(word.to_string(alloc)?)?;
     }
-    let mut kit = Kit {
-        fp: Vec::new(alloc),
-        edf: Vec::new(alloc),
-        sfq: Vec::new(alloc),
-        rr: Vec::new(alloc),
-        wheel: Vec::new(alloc),
-        join: Vec::new(alloc),
-        used: [0; 6],
-    };
-    kit.put(Kind::Fp, Box::new(alloc, Fp::blank(alloc))?)?;
-    Ok(hls_run(alloc, &list, source, sink, kit))
+    Ok(start(alloc, &list, source, sink))
 }
 
 #[test]
 fn answers_words_and_texts(rt: HostRuntime) -> Result<(), Fail> {
     let alloc = rt.alloc();
-    let no_end = &SMALLEST[..SMALLEST.len() - 1];
-    let cases: [(&[&str], &[u8], Status, &[u8]); 7] = [
-        (&[], SMALLEST, Status::Usage, USAGE),
-        (&["x"], SMALLEST, Status::Usage, USAGE),
-        (&["run", "x"], SMALLEST, Status::Usage, USAGE),
-        (&["run"], b"", Status::RefusedText, REFUSED),
-        (&["run"], no_end, Status::RefusedText, REFUSED),
-        (&["run"], SMALLEST, Status::Done, SMALLEST_REPORT),
-        (&["run"], REFUSALS, Status::Done, REFUSALS_REPORT),
+    let cases: [(&[&str], &[u8], Status, &[u8]); 10] = [
+        (&[], TWO, Status::Usage, USAGE),
+        (&["run", "x"], TWO, Status::Usage, USAGE),
+        (&["run", "--depth", "7"], TWO, Status::Usage, USAGE),
+        (&["run", "--"], TWO, Status::Usage, USAGE),
+        (
+            &["run"],
+            b"",
+            Status::RefusedText,
+            b"refused line 1 Header\n",
+        ),
+        (
+            &["run"],
+            b"hls 1",
+            Status::RefusedText,
+            b"refused line 2 Horizon\n",
+        ),
+        (
+            &["run"],
+            b"hls 1\nhorizon 5\nat 5 wake a\n",
+            Status::RefusedText,
+            b"refused line 3 Late\n",
+        ),
+        (&["run"], TWO, Status::Done, TWO_REPORT),
+        (&["run", "--depth", "0"], DEEP, Status::Done, DEEP_REPORT),
+        (&["run", "--depth=0"], DEEP, Status::Done, DEEP_REPORT),
     ];
     for (case, (words, text, status, written)) in cases.iter().enumerate() {
         let mut source = MemSource::new(text.to_vec(alloc)?, 100, Vec::new(alloc));
@@ -136,7 +131,7 @@ fn stops_at_the_first_fault(rt: HostRuntime) -> Result<(), Fail> {
     for (case, (read, write, status, written)) in cases.iter().enumerate() {
         let read_fails = [*read].to_vec(alloc)?;
         let write_fails = [*write].to_vec(alloc)?;
-        let mut source = MemSource::new(REFUSALS.to_vec(alloc)?, 100, read_fails);
+        let mut source = MemSource::new(TWO.to_vec(alloc)?, 100, read_fails);
         let mut sink = MemSink::new(alloc, 4096, 16, write_fails)?;
         let ended = run_at(alloc, &["run"], &mut source, &mut sink)?;
         assert_eq!(rt; ended, *status, "case {case}");
@@ -149,7 +144,7 @@ fn stops_at_the_first_fault(rt: HostRuntime) -> Result<(), Fail> {
 fn takes_no_more_than_the_limit(rt: HostRuntime) -> Result<(), Fail> {
     let alloc = rt.alloc();
     let cases: [(usize, Status, &[u8]); 2] = [
-        (4_194_304, Status::RefusedText, REFUSED),
+        (4_194_304, Status::RefusedText, b"refused line 2 Header\n"),
         (4_194_305, Status::TooLong, b""),
     ];
     for (case, (length, status, written)) in cases.iter().enumerate() {

@@ -2,14 +2,15 @@
 use Rattle.std.specs.Prelude.{ℕ, ◌+◌, ◌≡◌, ◌≤◌, List, Option}
 use Rattle.hls_io.specs.Bytes.{TellsAlike, TakesAtMost}
 use Rattle.hls_io.specs.Faults.{Rose}
-use Rattle.hls_top.specs.EarlyText.{Text}
-use Rattle.hls_top.specs.Words.{IsRun}
+use Rattle.hls_text.specs.Lines.{Text}
+use Rattle.hls_words.specs.Table.{IsNoJob}
+use Rattle.hls_answers.specs.Moment.{Boxes}
 
--- the words, the bytes that are left to be read and those that were written, where they are told, and the
--- faults that were
--- counted, each before the run and after it
+-- The words and the boxes of the kit; and, each before the run and after it, the bytes that are left to be read and
+-- those that were written, where they are told, and the faults that were counted.
 pub record Exchange : Type 0 where
   pub words : List Text
+  pub boxes : Boxes
   pub left : Option Text
   pub left_after : Option Text
   pub read_faults : ℕ
@@ -21,9 +22,10 @@ pub record Exchange : Type 0 where
 
 -- as a source and a sink show it before and after
 abbrev pub exchange : {S K : Type 0} → (S → Option Text) → (S → ℕ) → (K → Option Text) → (K → ℕ)
-    → List Text → S → S → K → K → Exchange
-exchange left read_faults written write_faults words source source' sink sink' = record {
+    → List Text → Boxes → S → S → K → K → Exchange
+exchange left read_faults written write_faults words boxes source source' sink sink' = record {
   words = words;
+  boxes = boxes;
   left = left source;
   left_after = left source';
   read_faults = read_faults source;
@@ -43,13 +45,12 @@ pub record IsFaultless (x : Exchange) : Type 0 where
   pub reads : ¬ Rose x.read_faults x.read_faults_after
   pub writes : ¬ Rose x.write_faults x.write_faults_after
 
--- what holds however a run ends: whether bytes are told stays as it was, no count of faults falls, at most
--- one byte past the
--- limit is read, and none at other words
+-- what holds however a run ends: whether bytes are told stays as it was, no count of faults falls, at most one byte
+-- past the limit is read, and none at words that the program does not know
 pub record IsOrderly (x : Exchange) : Type 0 where
   pub source_told : TellsAlike x.left x.left_after
   pub sink_told : TellsAlike x.written x.written_after
   pub reads_counted : x.read_faults ≤ x.read_faults_after
   pub writes_counted : x.write_faults ≤ x.write_faults_after
   pub taken : TakesAtMost (limit + 1) x.left x.left_after
-  pub unread : ¬ IsRun x.words → x.left_after ≡ x.left
+  pub unread : IsNoJob x.words → x.left_after ≡ x.left

@@ -1,15 +1,6 @@
-pub mod EarlyText
-pub mod EarlyReading
-pub mod ReportText
-pub mod Threads
-pub mod Ready
-pub mod Schedule
-pub mod Legal
-pub mod Progress
-pub mod Reporting
-pub mod Linked
-pub mod Changes
 pub mod Words
 pub mod Exchange
+pub mod Refusing
+pub mod Promises
 pub mod Ends
 pub mod Says

@@ -5,7 +5,8 @@ use Rattle.hls_io.specs.Bytes.{TellsAlike, AppendsPart}
 use Rattle.hls_io.specs.Faults.{Rose}
 use Rattle.hls_io.specs.declared.status.Status.{Status}
 use Rattle.hls_io.specs.declared.status.Status.TheVariants.{WriteFault, Memory}
-use Rattle.hls_top.specs.EarlyText.{Text}
+use Rattle.hls_text.specs.Lines.{Text}
+use Rattle.hls_answers.specs.Moment.{Boxes}
 use Rattle.hls_top.specs.Ends.{IsAnswer}
 
 -- what a sink shows before a call and after it
@@ -50,8 +51,8 @@ pub record SaysNothing (s : Shown) (result : Status) : Type 0 where
   pub same_faults : s.faults_after ≡ s.faults
 
 -- an output about the bytes of a text was written
-pub record SaysAnswer (s : Shown) (bytes : Text) (result : Status) : Type 0 where
+pub record SaysAnswer (s : Shown) (depth : ℕ) (boxes : Boxes) (bytes : Text) (result : Status) : Type 0 where
   pub status : Status
   pub output : Text
-  pub due : IsAnswer bytes status output
+  pub due : IsAnswer depth boxes bytes status output
   pub said : Says s output status result

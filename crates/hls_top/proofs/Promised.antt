@@ -1,0 +1,195 @@
+-- A legal report keeps what the program promises of it.
+use Rattle.std.proofs.Common.{◌≡◌, ℕ, zero, suc, ◌≤◌, List, [], ◌∷◌, ◌++◌, refl, sym, ap, ◌∙◌, subst, arith}
+use Rattle.std.proofs.Common.{inl, inr, take, true}
+use Rattle.std.specs.Prelude.{Option, None, Some, ◌↔◌, slice_get, option_and_then, Result, Ok, Err, IfOk}
+use Rattle.std.proofs.lemmas.Slice.Eq.{bytes_eq-Decides}
+use Rattle.hls_text.specs.Lines.{Text}
+use Rattle.hls_scenario.specs.declared.scenario.Scenario.{Scenario}
+use Rattle.hls_scenario.specs.declared.scenario.Command.{Command}
+use Rattle.hls_scenario.specs.Grammar.{IsScenarioText}
+use Rattle.hls_report_text.specs.declared.refusal.Refusal.{Refusal}
+use Rattle.hls_report_text.specs.declared.refusal.Refusal.TheVariants.{NameTaken, NoSuchName, WrongSort}
+use Rattle.hls_report_text.specs.declared.refusal.Refusal.TheVariants.{TooManyNodes, TooManyThreads, NotEmpty}
+use Rattle.hls_report_text.specs.declared.refusal.Refusal.TheVariants.{TermsUnfit, PriorityTaken, SeatsFull}
+use Rattle.hls_report_text.specs.declared.refusal.Refusal.TheVariants.{Cycle, TooDeep, TooManyShares, KitEmpty}
+use Rattle.hls_report_text.specs.declared.refusal.Refusal.TheVariants.{NoRoom, NoDerivation}
+use Rattle.hls_report_text.specs.declared.report.Answer.{Answer}
+use Rattle.hls_report_text.specs.declared.report.Answer.TheVariants.{Done, Refused}
+use Rattle.hls_report_text.specs.declared.report.Answered.{Answered}
+use Rattle.hls_report_text.specs.declared.stretch.Stretch.{Stretch}
+use Rattle.hls_report_text.specs.declared.report.Report.{Report}
+use Rattle.hls_report_text.specs.Content.{Content, content_of}
+use Rattle.hls_report_text.specs.ReportText.{report_text}
+use Rattle.hls_legal.specs.Hierarchy.{Hierarchy, start}
+use Rattle.hls_legal.specs.Steps.{Step, Elapse, after, state}
+use Rattle.hls_legal.specs.Legal.{IsLegal}
+use Rattle.hls_supply.proofs.Runs as supply
+use Rattle.hls_accounts.specs.Schedule.{last_name, is_name, is_served, path_at}
+use Rattle.hls_accounts.proofs.Keeping.{stays_kept}
+use Rattle.hls_accounts.proofs.Agreements.{ran_ready}
+use Rattle.hls_answers.specs.Moment.{Boxes, Moment}
+use Rattle.hls_answers.specs.Refusals.{IsUnderived}
+use Rattle.hls_answers.specs.Answers.{number, Applies, IsAnswer}
+use Rattle.hls_answers.specs.Along.{AnswersAlong}
+use Rattle.hls_answers.specs.Kit.{boxes_left, boxes_after}
+use Rattle.hls_legal_report.specs.Legal.{IsLegalContent, IsLegalReport}
+use Rattle.hls_legal_report.proofs.Keeping.{report_kept}
+use Rattle.hls_legal_report.proofs.Removal.{removed}
+use Rattle.hls_top.specs.Ends.{IsReportOf}
+use Rattle.hls_top.specs.Promises.{IsRefusal, HasRoom, IsAnswerIn, AnswersEach, KeepsPromises}
+
+-- ---- one thread at most
+
+one_name : (name other : Text) (found : Option Text) → is_name name found ≡ true → is_name other found ≡ true
+    → name ≡ other
+one_name name other None is also = absurd cc
+one_name name other (Some last) is also =
+    sym ((bytes_eq-Decides last name).0 is) ∙ (bytes_eq-Decides last other).0 also
+
+one_served : (stretches : List Stretch) (t : ℕ) (name other : Text) → is_served stretches name t ≡ true
+    → is_served stretches other t ≡ true → name ≡ other
+unfolding is_served
+one_served stretches t name other is also =
+    one_name name other (option_and_then last_name (path_at stretches t)) is also
+
+-- ---- the answers along a run
+
+-- the first steps of a legal run are one
+begun : (h : Hierarchy) (past rest : List Step) → IsLegal h (past ++ rest) → IsLegal h past
+begun h [] rest legal = tt
+begun h (step ∷ past) rest legal = (legal.0, begun (after h step) past rest legal.1)
+
+-- a command has its defined answer where the first steps lead
+record IsBehind (depth : ℕ) (h : Hierarchy) (boxes : Boxes) (steps : List Step) (before : List Answered)
+    (a : Answered) : Type 0 where
+  pub past : List Step
+  pub rest : List Step
+  pub whole : past ++ rest ≡ steps
+  pub answer : IsAnswer (record {
+    hierarchy = state h past;
+    boxes = boxes_left boxes before;
+    depth = depth;
+  }) a.command a.answer
+
+further : (depth : ℕ) (h : Hierarchy) (boxes later : Boxes) (step : Step) (steps : List Step)
+    (before now : List Answered) (a : Answered) → boxes_left boxes now ≡ boxes_left later before
+    → IsBehind depth (after h step) later steps before a → IsBehind depth h boxes (step ∷ steps) now a
+further depth h boxes later step steps before now a same b = record {
+  past = step ∷ b.past;
+  rest = b.rest;
+  whole = ap (λ l. step ∷ l) b.whole;
+  answer = subst (λ (left : Boxes). IsAnswer (record {
+    hierarchy = state (after h step) b.past;
+    boxes = left;
+    depth = depth;
+  }) a.command a.answer) (sym same) b.answer;
+}
+
+first_behind : (depth : ℕ) (h : Hierarchy) (boxes : Boxes) (steps : List Step) (b a : Answered) → b ≡ a
+    → IsAnswer (record { hierarchy = h; boxes = boxes; depth = depth }) b.command b.answer
+    → IsBehind depth h boxes steps [] a
+first_behind depth h boxes steps b a same answer = record {
+  past = [];
+  rest = steps;
+  whole = refl;
+  answer = subst (λ (x : Answered). IsAnswer (record { hierarchy = h; boxes = boxes; depth = depth }) x.command
+      x.answer) same answer;
+}
+
+behind : (depth : ℕ) (h : Hierarchy) (boxes : Boxes) (steps : List Step) (left : List Answered) (at : ℕ)
+    (a : Answered) → AnswersAlong depth h boxes steps left → slice_get left at ≡ Some a
+    → IsBehind depth h boxes steps (take at left) a
+behind depth h boxes [] [] at a along there = absurd (let no : None ≡ Some a = there in cc)
+behind depth h boxes [] (b ∷ left) at a along there = absurd along
+behind depth h boxes (Elapse asking masks path ∷ steps) left at a along there =
+    further depth h boxes boxes (Elapse asking masks path) steps (take at left) (take at left) a refl
+    (behind depth (after h (Elapse asking masks path)) boxes steps left at a along there)
+behind depth h boxes (step ∷ steps) [] at a along there = absurd along
+behind depth h boxes (step ∷ steps) (b ∷ left) zero a along there =
+    first_behind depth h boxes (step ∷ steps) b a (let same : Some b ≡ Some a = there in cc) along.0
+behind depth h boxes (step ∷ steps) (b ∷ left) (suc at) a along there =
+    further depth h boxes (boxes_after boxes b.command b.answer) step steps (take at left) (b ∷ take at left) a refl
+    (behind depth (after h step) (boxes_after boxes b.command b.answer) steps left at a along.1 there)
+
+-- ---- what has room is refused exactly where there is no derivation
+
+underived : (m : Moment) (command : Command) (r : Refusal) → Applies m command r → 24 ≤ number r
+    → (name : Text) × IsUnderived m.hierarchy m.depth command name
+underived m command (NameTaken name) applies late = absurd (omega (arith, late))
+underived m command (NoSuchName name) applies late = absurd (omega (arith, late))
+underived m command (WrongSort name) applies late = absurd (omega (arith, late))
+underived m command (TooManyNodes most) applies late = absurd (omega (arith, late))
+underived m command (TooManyThreads most) applies late = absurd (omega (arith, late))
+underived m command (NotEmpty name seats) applies late = absurd (omega (arith, late))
+underived m command (TermsUnfit name) applies late = absurd (omega (arith, late))
+underived m command (PriorityTaken priority) applies late = absurd (omega (arith, late))
+underived m command (SeatsFull name seats) applies late = absurd (omega (arith, late))
+underived m command (Cycle name) applies late = absurd (omega (arith, late))
+underived m command (TooDeep level) applies late = absurd (omega (arith, late))
+underived m command (TooManyShares count) applies late = absurd (omega (arith, late))
+underived m command (KitEmpty kind used) applies late = absurd (omega (arith, late))
+underived m command (NoRoom free asked) applies late = absurd (omega (arith, late))
+underived m command (NoDerivation name depth) (inl whole) late = (name, whole.0)
+underived m command (NoDerivation name depth) (inr place) late = absurd place.first.tells.refuses
+
+exact : (m : Moment) (command : Command) (answer : Answer) → IsAnswer m command answer → HasRoom m command
+    → (IsRefusal answer ↔ ((name : Text) × IsUnderived m.hierarchy m.depth command name))
+exact m command (Refused r) is room = (λ u. underived m command r is.applies (room r is.applies), λ lacks. tt)
+exact m command (Done seats) is room =
+    (λ no. absurd no, λ lacks. is.none (NoDerivation lacks.0 m.depth) (inl (lacks.1, refl)))
+
+answer_in : (m : Moment) (command : Command) (answer : Answer) → IsAnswer m command answer
+    → IsAnswerIn m command answer
+answer_in m command answer is = record { defined = is; refused = exact m command answer is }
+
+answers_each : (boxes : Boxes) (c : Content) (steps : List Step) → IsLegal start steps
+    → AnswersAlong c.depth start boxes steps c.answered → AnswersEach boxes c
+answers_each boxes c steps legal along = λ at a there.
+    let b = behind c.depth start boxes steps c.answered at a along there in
+    let m : Moment = record {
+      hierarchy = state start b.past;
+      boxes = boxes_left boxes (take at c.answered);
+      depth = c.depth;
+    } in
+    record {
+      moment = m;
+      reached = record {
+        past = b.past;
+        legal = begun start b.past b.rest (subst (λ all. IsLegal start all) (sym b.whole) legal);
+        leads = refl;
+      };
+      boxes_are = refl;
+      depth_is = refl;
+      answer = answer_in m a.command a.answer b.answer;
+    }
+
+-- ---- all of it
+
+pub promises_kept : (s : Scenario) (given : ℕ) (boxes : Boxes) (c : Content) → IsLegalContent s given boxes c
+    → KeepsPromises s given boxes c
+promises_kept s given boxes c legal = record {
+  ready = record {
+    one = λ t name other. one_served c.stretches t name other;
+    ready = λ t name. ran_ready c legal.steps legal.run.legal legal.run.tells t name;
+  };
+  stays = report_kept c legal.accounts
+      (stays_kept c legal.steps legal.run.legal legal.run.tells
+      (supply.stays_kept legal.steps legal.run.legal));
+  answers = answers_each boxes c legal.steps legal.run.legal legal.run.answers;
+  refusals = λ at a r there refused. removed s given boxes c at a r legal there refused;
+}
+
+-- the text of a legal report is as promised
+pub report_if_ok : {B E : Type 0} (result : Result B E) (bytes_of : B → Text) (text : Text) (s : Scenario)
+    (given : ℕ) (boxes : Boxes) (report : Report) → IsScenarioText text s → IsLegalReport s given boxes report
+    → IfOk result (λ bytes. bytes_of bytes ≡ report_text report)
+    → IfOk result (λ bytes. IsReportOf given boxes text (bytes_of bytes))
+report_if_ok (Ok bytes) bytes_of text s given boxes report read legal spelled = record {
+  scenario = s;
+  report = report;
+  read = read;
+  legal = legal;
+  promises = promises_kept s given boxes (content_of report) legal.legal;
+  spelled = spelled;
+}
+report_if_ok (Err e) bytes_of text s given boxes report read legal spelled = tt
