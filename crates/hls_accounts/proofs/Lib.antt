@@ -1,4 +1,3 @@
-pub mod ScheduleLaws
 pub mod UnderLaws
 pub mod StayLaws
 pub mod Rousings

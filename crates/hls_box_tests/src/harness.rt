@@ -6,7 +6,8 @@ ghost use Rattle.hls_chron.specs.Seats.{SlotAsks, terms_at as seated_at};
 ghost use Rattle.hls_sched.specs.Seen.{IsBlank, IsConfigured, seated};
 
 use hls_chron::{Book, Config, Terms};
-use hls_kinds::{asks_at, discipline_choice, occupant, room_used, terms_at};
+use hls_kinds::terms_at;
+use hls_plain_kinds::{asks_at, discipline_choice, occupant, room_used};
 use hls_sched::{Scheduler, SeatFault};
 use std::alloc::AllocError;
 use std::process::Abort;

@@ -13,7 +13,8 @@ use hls_fp::Fp;
 use hls_frac::Frac;
 use hls_guarantee::{Guarantee, holds, valid};
 use hls_join::Join;
-use hls_kinds::{Tenant, room_asked, room_total, room_used, tenant_at, terms_at};
+use hls_kinds::{Tenant, room_asked, room_total, terms_at};
+use hls_plain_kinds::{room_used, tenant_at};
 use hls_rr::Rr;
 use hls_sched::{Scheduler, SeatFault};
 use hls_sfq::Sfq;
@@ -22,7 +23,8 @@ use std::alloc::{AllocError, Global};
 use std::process::Abort;
 use std::test::Fail;
 
-/// So many lists are drawn for each kind, and each has so many calls; of reservations a third, since their definitions are slow.
+/// So many lists are drawn for each kind, and each has so many calls; of reservations a third, since their definitions
+/// are slow.
 const LISTS: u32 = 150;
 
 const CALLS: u32 = 60;

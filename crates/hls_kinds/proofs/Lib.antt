@@ -1,11 +1,7 @@
 pub mod TickLaws
-pub mod ReservationLaws
-pub mod AskingLaws
 pub mod TagLaws
 pub mod FrameLaws
 pub mod SlotLaws
-pub mod RankingLaws
-pub mod ChoiceLaws
 pub mod TenantLaws
 pub mod DisciplineLaws
 pub mod MarkLaws

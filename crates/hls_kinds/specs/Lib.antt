@@ -10,6 +10,5 @@ pub mod Shares
 pub mod Discipline
 pub mod Room
 pub mod Fits
-pub mod Rankings
 pub mod Made
 pub mod Faults
