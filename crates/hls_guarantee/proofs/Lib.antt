@@ -3,6 +3,7 @@ pub mod Promises
 pub mod Windows
 pub mod Slides
 pub mod Debts
+pub mod Excesses
 pub mod Blocks
 pub mod Spellings
 pub mod Injective

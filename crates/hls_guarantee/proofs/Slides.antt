@@ -105,3 +105,36 @@ pub slid_not : (hard : Bool) (x y : ℕ) (f : ℕ → Bool) (k len n got : ℕ) 
     EveryPart (λ i n got. n ≤ y → IsReserved hard x y n got) f 0 len → IsReserved hard x y n got
 slid_not hard x y f k len n got small is lt each =
     rw (small, is) (each (k + 1 - y) (min y (k + 1)) (omega arith) (omega arith) (omega arith))
+
+-- the service of the ticks that end before each tick up to k is at most x
+pub record Capped (x y : ℕ) (f : ℕ → Bool) (k got : ℕ) : Type 0 where
+  pub counted : got ≡ service_before f y k
+  pub kept : (m : ℕ) → m ≤ k → service_before f y m ≤ x
+
+pub capped_none : (x y : ℕ) (f : ℕ → Bool) → Capped x y f 0 0
+capped_none x y f =
+    let none = count-none f 0 in
+    let start : 0 - y ≡ 0 = omega arith in
+    let n : min y 0 ≡ 0 = omega arith in
+    record {
+      counted = rw (start, n) (omega arith);
+      kept = λ m lt. let e : m ≡ 0 = omega arith in rw (e, start, n) (omega arith);
+    }
+
+pub capped_next : (x y : ℕ) (f : ℕ → Bool) (k got before : ℕ) → got ≡ service_before f y (k + 1) → got ≤ x →
+    Capped x y f k before → Capped x y f (k + 1) got
+capped_next x y f k got before is few capped = record {
+  counted = is;
+  kept = λ m le. elim (cases_lt k m) [
+    | inl new ↦ (let e : m ≡ k + 1 = omega arith in rw e (omega (arith, is, few)))
+    | inr old ↦ capped.kept m old
+  ];
+}
+
+-- then no part of at most y ticks has more
+pub capped_all : (x y : ℕ) (f : ℕ → Bool) (len got : ℕ) → Capped x y f len got →
+    EveryPart (λ i n got. n ≤ y → got ≤ x) f 0 len
+capped_all x y f len got capped = λ i n lo hi short.
+    let k : ℕ = i + n in
+    let w = count-within f (k - y) (min y k) i n (omega arith) (omega arith) in
+    omega (arith, w.less, capped.kept k hi)

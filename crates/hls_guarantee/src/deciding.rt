@@ -106,7 +106,7 @@ fn service_at(list: &[bool], at: usize) -> u32
 }
 
 /// The service of the `width` ticks that end with the one at an index, from that of the ticks one earlier.
-fn next_service(list: &[bool], width: usize, at: usize, before: u32) -> u32
+pub(crate) fn next_service(list: &[bool], width: usize, at: usize, before: u32) -> u32
     requires some { 1 ≤ width }
     requires few { width ≤ 20000 }
     requires before { before ≡ service_before (schedule_of list.now) width at }

@@ -7,6 +7,7 @@ ghost use Rattle.hls_guarantee.specs.Limits.{IsReservation, IsLimited, IsValid, 
 
 use hls_frac::Frac;
 
+mod capping;
 pub mod conversion_laws;
 mod deciding;
 pub mod laws;
@@ -17,6 +18,7 @@ pub mod step_laws;
 mod tests;
 mod writing;
 
+pub use capping::keeps_cap;
 pub use deciding::holds;
 pub use reading::read_guarantee;
 pub use rule::RuleName;

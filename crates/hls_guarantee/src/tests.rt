@@ -2,7 +2,7 @@
 
 ghost use Rattle.std.specs.Prelude.{ℕ, ◌≤◌, ◌<◌, length};
 
-use crate::{Guarantee, holds, read_guarantee, valid, write_guarantee};
+use crate::{Guarantee, holds, keeps_cap, read_guarantee, valid, write_guarantee};
 use hls_frac::Frac;
 use std::process::Abort;
 use std::test::Fail;
@@ -118,6 +118,30 @@ fn is_satisfied(g: &Guarantee, list: &[bool]) -> bool {
     }
 }
 
+/// Whether a part gets at most the share `x / y` of its ticks and `2 * x`, for a share that is no rounded price.
+fn is_within_share(x: u32, y: u32, part: &[bool]) -> bool {
+    let most = u64::from(x)
+        .saturating_mul(part.len() as u64)
+        .saturating_add(
+            2u64.saturating_mul(u64::from(x))
+                .saturating_mul(u64::from(y)),
+        );
+    count(part).saturating_mul(u64::from(y)) <= most
+}
+
+/// The cap of a guarantee, read part by part.
+fn is_capped(g: &Guarantee, list: &[bool]) -> bool {
+    match *g {
+        Guarantee::Resc { hard: true, x, y } => {
+            every_part(list, y as usize, |part| count(part) <= u64::from(x))
+        }
+        Guarantee::Resb { hard: true, x, y } => {
+            every_part(list, list.len(), |part| is_within_share(x, y, part))
+        }
+        _ => true,
+    }
+}
+
 fn compare(rt: &impl Abort, g: Guarantee, list: &[bool])
     requires { length list.now ≤ 8 }
 {
@@ -126,6 +150,11 @@ fn compare(rt: &impl Abort, g: Guarantee, list: &[bool])
         holds(&g, list),
         is_satisfied(&g, list),
         "{g:?} at {list:?}"
+    );
+    assert_eq!(rt;
+        keeps_cap(&g, list),
+        is_capped(&g, list),
+        "cap of {g:?} at {list:?}"
     );
 }
 

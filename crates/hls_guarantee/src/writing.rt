@@ -9,7 +9,10 @@ use hls_frac::Frac;
 use itoa::{Buffer, Integer};
 use std::alloc::AllocError;
 
-/// Appends the text of a guarantee. Where memory is wanting, `out` stays as it was.
+/// Appends the text of a guarantee.
+///
+/// # Errors
+/// Returns `AllocError` for want of memory; `out` is as before then.
 pub fn write_guarantee(g: &Guarantee, out: &mut Vec<u8>) -> Result<(), AllocError>
     requires { IsValid g.now }
     ensures ok { OnOk result (out.new.items ≡ out.old.items ++ spelling g.now) }

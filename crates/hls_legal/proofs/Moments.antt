@@ -20,7 +20,8 @@ use Rattle.hls_legal.specs.Derived.{Follows}
 use Rattle.hls_legal.specs.Hierarchy.{Hierarchy, Tick, Node, Loaded, Admitted, Place, Processor, At, Seat}
 use Rattle.hls_legal.specs.Hierarchy.{seats_of, seat_of, haves_of, book_of, config_of, since_of, asking_of}
 use Rattle.hls_legal.specs.Hierarchy.{given_of}
-use Rattle.hls_legal.specs.Linked.{since_at, asking_at, given_at, book_at, config_at, SitsBelow, SitsAtProcessor, SitsAt}
+use Rattle.hls_legal.specs.Linked.{since_at, asking_at, given_at, book_at, config_at}
+use Rattle.hls_legal.specs.Linked.{SitsBelow, SitsAtProcessor, SitsAt}
 use Rattle.hls_legal.specs.Linked.{IsLinked, KeepsPromises, IsSupplied}
 use Rattle.hls_legal.proofs.Marks.{ports-empty}
 use Rattle.hls_legal.proofs.Nodes.{IsCurrent, nobody_sits}

@@ -1,7 +1,7 @@
 //! What holds of legal runs: each function's contract is a law, and its body does nothing.
 
 ghost use Rattle.std.specs.Prelude.{◌≡◌, ◌≢◌, ◌++◌, ◌∷◌, [], ℕ, List, Option, Some, None, Bool, true};
-ghost use Rattle.std.specs.Prelude.{false, All};
+ghost use Rattle.std.specs.Prelude.{◌↔◌, false, All};
 ghost use Rattle.hls_chron.specs.Ledger.{Ledger};
 ghost use Rattle.hls_chron.specs.Ranges.{ConfigInRange};
 ghost use Rattle.hls_chron.specs.Seats.{asked, served, terms_at};
@@ -14,10 +14,10 @@ ghost use Rattle.hls_promise.specs.Admission.{HasSeats};
 ghost use Rattle.hls_legal.specs.Ledgers.{with_marks};
 ghost use Rattle.hls_legal.specs.Hierarchy.{Hierarchy, Scheduler, Loaded, Seat, start, was_served, had_asked};
 ghost use Rattle.hls_legal.specs.Steps.{Path, Step, Move, Block, Elapse, leavings, after, state};
-ghost use Rattle.hls_legal.specs.Legal.{asks_now, Can, IsLegal};
+ghost use Rattle.hls_legal.specs.Legal.{asks_now, Can, IsBelow, IsLegal};
 ghost use Rattle.hls_legal.specs.Linked.{book_at, IsLinked, KeepsPromises, IsSupplied};
 ghost use Rattle.hls_legal.specs.Supplied.{IsKept, KeepsStays, accounts};
-ghost use Rattle.hls_legal.specs.Readings.{Renews, LetSleep};
+ghost use Rattle.hls_legal.specs.Readings.{IsUnder, Renews, LetSleep};
 ghost use Rattle.hls_legal.specs.Alike.{AreAlike};
 ghost use Rattle.hls_legal.specs.Lists.{IsListed};
 ghost use Rattle.hls_legal.specs.Seated.{IsSeated};
@@ -110,6 +110,14 @@ pub fn moves_renew_what_is_below()
     ensures { (steps : List Step) → IsLegal start steps → (k : ℕ) (seat : Seat) (below : ℕ → Bool) →
         Can (state start steps) (Move k seat below) →
         Renews (state start steps) k (after (state start steps) (Move k seat below)) }
+{}
+
+/// Where a legal run leads, a test tells what is below a node exactly where it is true of what sits some seats
+/// below it. So a step, which has a test, and a refusal, which counts seats, speak of the same nodes.
+pub fn tests_tell_what_is_below()
+    ensures { (steps : List Step) → IsLegal start steps → (k : ℕ) (below : ℕ → Bool) →
+        IsBelow (state start steps) k below →
+        (c : ℕ) → (below c ≡ true) ↔ IsUnder (state start steps) k c }
 {}
 
 /// A legal run is a function of its commands, of which of them are refused, and of what is

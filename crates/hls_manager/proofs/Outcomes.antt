@@ -128,7 +128,8 @@ module _ {V : Type 0} {P : V → Type 0} (seen : (x : V) × P x → Seen) where
   }
 
   -- a refusal changes nothing
-  pub refuses : (t : Tree V P) (m : Moment) (commands : ℕ) (command : Command) (r : Refusal) → IsTreeOf seen t m.hierarchy
+  pub refuses : (t : Tree V P) (m : Moment) (commands : ℕ) (command : Command) (r : Refusal)
+      → IsTreeOf seen t m.hierarchy
       → IsAnswer m command (Refused r) → CarriesOut seen t t m commands command (Refused r)
   refuses t m commands command r tree answer = record {
     answers = answer;

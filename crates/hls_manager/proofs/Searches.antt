@@ -91,7 +91,8 @@ module _ (h : Hierarchy) (seat : Seat) (config : Config) (haves : List Guarantee
 
 -- ---- what is told has a text
 
-pub port_fits : (config : Config) (port : ℕ) → ConfigInRange config → IsPort config port → PortFits (kind_of config) port
+pub port_fits : (config : Config) (port : ℕ) → ConfigInRange config → IsPort config port
+    → PortFits (kind_of config) port
 port_fits configs.Cpu port range is = is
 port_fits configs.Fp port range is = is
 port_fits configs.Edf port range is = is

@@ -3,7 +3,6 @@
 
 mod admitting;
 mod aiming;
-mod boxes;
 mod derivations;
 mod heights;
 mod hindrances;

@@ -13,7 +13,6 @@ ghost use Rattle.hls_manager.specs.Inside.Least.{is_early as is_early_of};
 ghost use Rattle.hls_manager.specs.Inside.Ports.{AreAtParents, AreInRange, ArePerchesInRange};
 ghost use Rattle.hls_manager.specs.Inside.Loads.{IsPlaced, IsOpen};
 
-use crate::boxes::{boxes_left, boxes_used};
 use crate::heights::height_refusal;
 use crate::ports::{least_fault, number};
 use hls_chron::{Config, Kind};
@@ -58,8 +57,8 @@ pub(crate) fn find_refusal(
         return Some(refusal);
     }
     let kind = config.kind();
-    let used = boxes_used(kit, kind);
-    if boxes_left(kit, kind) == 0 {
+    let used = kit.boxes_used(kind);
+    if kit.boxes_left(kind) == 0 {
         return Some(Refusal::KitEmpty { kind, used });
     }
     fault

@@ -159,7 +159,8 @@ pub trait Scheduler: Drop {
         ensures served { (t slot : ℕ) → t < now_of (seen self.now).book
             → (row_at (seen self.now).book t).to ≡ Some slot → SlotAsks (row_at (seen self.now).book t).mask slot }
         ensures asked { (t slot : ℕ) → t < now_of (seen self.now).book
-            → SlotAsks (row_at (seen self.now).book t).mask slot → terms_at (before t (seen self.now).book) slot ≢ None }
+            → SlotAsks (row_at (seen self.now).book t).mask slot
+            → terms_at (before t (seen self.now).book) slot ≢ None }
     {}
 
     /// Whatever was called, the book is made by what it allows, and only seats ask. What it keeps and
