@@ -75,6 +75,9 @@ impl Book {
 
     /// Makes room for so many rows and marks more. What was written stays, and so does the
     /// room that there was, also where memory is wanting. Takes no memory where there is room enough.
+    ///
+    /// # Errors
+    /// Returns `AllocError` for want of memory.
     pub fn reserve(&mut self, ticks: u32, marks: u32) -> Result<(), AllocError>
         requires { now_of self.old + ticks < 2 ^ 32 }
         ensures ticks { OnOk result (ticks ≤ self.new.spare_ticks) }

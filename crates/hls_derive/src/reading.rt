@@ -82,6 +82,9 @@ fn steps(alloc: Global, text: &[u8]) -> Result<(Vec<Step>, &[u8]), AllocError>
 /// The derivation that a text spells, of at most six conversions, with a port of at most 3 that
 /// is 0 but for a join, and with guarantees in the limits of derivations; `None` for every
 /// other text.
+///
+/// # Errors
+/// Returns `AllocError` for want of memory.
 pub fn read_derivation(alloc: Global, text: &[u8]) -> Result<Option<Derivation>, AllocError>
     ensures found { IfOk result (λ found.
         IfSome found (λ d. IsWithinGrammar d × (text.now ≡ derivation_text d))) }

@@ -13,7 +13,10 @@ use hls_guarantee::{Guarantee, RuleName, write_guarantee};
 use itoa::Buffer;
 use std::alloc::AllocError;
 
-/// Appends the text of a derivation. Where memory is wanting, `out` stays as it was.
+/// Appends the text of a derivation.
+///
+/// # Errors
+/// Returns `AllocError` for want of memory; `out` is as before then.
 pub fn write_derivation(d: &Derivation, out: &mut Vec<u8>) -> Result<(), AllocError>
     requires { IsWithinGrammar d.now }
     ensures ok { OnOk result (out.new.items ≡ out.old.items ++ derivation_text d.now) }

@@ -1,5 +1,6 @@
 -- What is generated is within the grammar.
-use Rattle.std.proofs.Common.{◌≡◌, ℕ, zero, suc, ◌+◌, ◌*◌, ◌%◌, ◌==◌, ◌<◌, ◌≤◌, List, [], ◌∷◌, ◌++◌, length, refl, arith}
+use Rattle.std.proofs.Common.{◌≡◌, ℕ, zero, suc, ◌+◌, ◌*◌, ◌%◌, ◌==◌, ◌<◌, ◌≤◌, refl, arith}
+use Rattle.std.proofs.Common.{List, [], ◌∷◌, ◌++◌, length}
 use Rattle.std.proofs.Common.{Bool, true, false, if◌then◌else◌, Some, subst, codes, slice_index_or, sym, ◌/◌}
 use Rattle.std.proofs.Math.Nat.{mod-lt}
 use Rattle.hls_text.specs.Lines.{Text}
@@ -124,7 +125,8 @@ module _ (tick count : ℕ) (made : Made) (before : ℕ) (from : before ≤ tick
     where
       by : (blocks : Bool) → drawn (next_state (next_state (next_state made.state))) 20 < 20
           → Is tick (suc count) (if blocks then
-          with_command tick (said.Block (thread_name (drawn (next_state made.state) 9))) (next_state (next_state made.state)) made
+          with_command tick (said.Block (thread_name (drawn (next_state made.state) 9)))
+          (next_state (next_state made.state)) made
           else with_command tick
           (said.Wake (thread_name (drawn (next_state made.state) 9))
           (Some (1 + drawn (next_state (next_state (next_state made.state))) 20)))
@@ -193,7 +195,11 @@ turns count made has =
 
 opened : (number : ℕ) → Is 0 13 (opening number)
 opened number =
-    turns 11 _ (weights 8 _ (reservations 4 _ (schedulers _ (record { items = tt; late = omega arith; few = omega arith }))))
+    turns 11 _ (weights 8 _ (reservations 4 _ (schedulers _ (record {
+      items = tt;
+      late = omega arith;
+      few = omega arith;
+    }))))
 
 -- ---- rounds
 
@@ -225,13 +231,15 @@ round : (tick count : ℕ) (made : Made) (before : ℕ) → before ≤ tick → 
     → Is tick (suc (suc (suc (suc count)))) (with_round tick made)
 unfolding with_round
 round tick count made before from below has =
-    wake tick (suc (suc (suc count))) _ tick (omega arith) below (amid (tick % 2000 == 0) tick count made before from below has)
+    wake tick (suc (suc (suc count))) _ tick (omega arith) below
+    (amid (tick % 2000 == 0) tick count made before from below has)
 
 rounds : (n : ℕ) (made : Made) → n ≤ 1999 → Is 0 13 made → Is (10 * n) (4 * n + 13) (after_rounds n made)
 rounds zero made few has = subst (λ (m : Made). Is 0 13 m) (sym (rounds_none made)) has
 rounds (suc n) made few has =
     let before = rounds n made (omega (arith, few)) has in
-    let next = round (10 * suc n) (4 * n + 13) (after_rounds n made) (10 * n) (omega arith) (omega (arith, few)) before in
+    let next =
+    round (10 * suc n) (4 * n + 13) (after_rounds n made) (10 * n) (omega arith) (omega (arith, few)) before in
     let few = next.few in
     subst (λ (m : Made). Is (10 * suc n) (4 * suc n + 13) m) (sym (rounds_more n made))
     (record { items = next.items; late = next.late; few = omega (arith, few) })

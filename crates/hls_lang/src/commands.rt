@@ -198,6 +198,9 @@ pub fn item(alloc: Global, line: &[u8], horizon: u32, last: u32) -> Result<Item,
 
 /// The item that is all of a line, of a tick from `last` on and below the horizon. `None` for every other
 /// line.
+///
+/// # Errors
+/// Returns `AllocError` for want of memory.
 pub fn read_item(
     alloc: Global,
     line: &[u8],

@@ -9,8 +9,11 @@ use crate::reader::read_lines;
 use crate::{Scenario, ScenarioFault};
 use std::alloc::Global;
 
-/// The scenario of a text, or the first line that cannot stand and why. Lines are counted from 1 on, and
-/// a text that ends before its header or its horizon has its fault one line after its last.
+/// The scenario of a text.
+///
+/// # Errors
+/// Returns the first line that cannot stand and why; lines are counted from 1 on, and a text that ends before its
+/// header or its horizon has its fault one line after its last. Returns `Memory` for want of memory.
 pub fn read_scenario(alloc: Global, text: &[u8]) -> Result<Scenario, ScenarioFault>
     requires { length text.now < 2 ^ 32 - 1 }
     // What is read is in the grammar.

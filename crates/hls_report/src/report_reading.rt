@@ -69,7 +69,10 @@ fn report(alloc: Global, lines: &mut Lines<'_>) -> Result<Report, ReportFault>
     })
 }
 
-/// The report of a text of at most 4,294,967,294 bytes, or the first line that cannot stand.
+/// The report of a text of at most 4,294,967,294 bytes.
+///
+/// # Errors
+/// Returns the first line that cannot stand, or `Memory` for want of memory.
 pub fn read_report(alloc: Global, text: &[u8]) -> Result<Report, ReportFault>
     requires { length text.now < 2 ^ 32 - 1 }
     ensures found { IfOk result (λ report. IsReportText text.now report) }

@@ -8,6 +8,9 @@ use hls_text::{put, put_number};
 use std::alloc::AllocError;
 
 /// Appends the text of a refusal.
+///
+/// # Errors
+/// Returns `AllocError` for want of memory.
 pub fn put_refusal(out: &mut Vec<u8>, refusal: &Refusal) -> Result<(), AllocError>
     ensures { OnOk result (out.new.items ≡ out.old.items ++ refusal_text refusal.now) }
 {

@@ -21,6 +21,9 @@ use hls_text::{put, put_number};
 use std::alloc::{AllocError, Global};
 
 /// The text of a report.
+///
+/// # Errors
+/// Returns `AllocError` for want of memory.
 #[tactic(auto, unfolding(crate::specs::ReportText::report_text))]
 pub fn write_report(alloc: Global, report: &Report) -> Result<Vec<u8>, AllocError>
     requires { IsWellFormed report.now }
@@ -72,6 +75,9 @@ fn put_item(alloc: Global, out: &mut Vec<u8>, answered: &Answered) -> Result<(),
 }
 
 /// Appends a tick and a command.
+///
+/// # Errors
+/// Returns `AllocError` for want of memory.
 pub fn put_command(
     alloc: Global,
     out: &mut Vec<u8>,

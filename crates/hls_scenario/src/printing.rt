@@ -17,6 +17,9 @@ use std::alloc::{AllocError, Global};
 
 /// The canonical text of a scenario: one space between words, a line for each item, no comment, and
 /// fractions in lowest terms.
+///
+/// # Errors
+/// Returns `AllocError` for want of memory.
 #[tactic(auto, unfolding(crate::specs::Forms::scenario_text))]
 pub fn print_scenario(alloc: Global, scenario: &Scenario) -> Result<Vec<u8>, AllocError>
     requires { IsScenario scenario.now }
@@ -31,6 +34,9 @@ pub fn print_scenario(alloc: Global, scenario: &Scenario) -> Result<Vec<u8>, All
 }
 
 /// The canonical text of a command without its tick, as reports have it.
+///
+/// # Errors
+/// Returns `AllocError` for want of memory.
 pub fn print_command(alloc: Global, command: &Command) -> Result<Vec<u8>, AllocError>
     requires { IsCommand command.now }
     ensures { IfOk result (λ text. text.items ≡ command_text command.now) }

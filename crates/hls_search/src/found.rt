@@ -20,6 +20,9 @@ impl Found {
     ghost use Rattle.hls_search.specs.Inside.Found.{derivation_of};
 
     /// The derivation as plain data.
+    ///
+    /// # Errors
+    /// Returns `AllocError` for want of memory.
     pub fn derivation(&self, alloc: Global) -> Result<Derivation, AllocError>
         ensures { IfOk result (λ d. d ≡ derivation_of self.now) }
     {

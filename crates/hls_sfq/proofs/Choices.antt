@@ -42,7 +42,8 @@ module _ (total most : ℕ) (b : Ledger) (mask time : ℕ) (seats : List (Option
       same_tests (has_key (tag_asking time seats mask) slot) (slot_asks mask slot)
       (λ has. tag_asks total most b time seats made held mask slot has) (λ on. ap is_some (tagged slot lt on))
 
-  first_serves : (slot : ℕ) → IsFirst 32 (has_key (tag_asking time seats mask)) (key_at (tag_asking time seats mask)) slot
+  first_serves : (slot : ℕ)
+      → IsFirst 32 (has_key (tag_asking time seats mask)) (key_at (tag_asking time seats mask)) slot
       → IsFirst 32 (slot_asks mask) (start_tag b (now_of b)) slot
   first_serves slot first =
       first_agree (has_key (tag_asking time seats mask)) (slot_asks mask) (key_at (tag_asking time seats mask))

@@ -15,7 +15,8 @@ loop-slot-preserved c =
     record {
       length = search rules;
       filled = entry_more
-          (λ k. next_of (server_in self.servers k) (is_some (terms_at self.state.book k)) (slot_asks self.state.mask k) (is_slot c.args.served k) (now_of self.state.book))
+          (λ k. next_of (server_in self.servers k) (is_some (terms_at self.state.book k))
+          (slot_asks self.state.mask k) (is_slot c.args.served k) (now_of self.state.book))
           c.loop-slot.after c.loop-slot.slot c.next.result vacant within c.loop-slot.invariant.filled
           (search rules);
     }

@@ -10,5 +10,6 @@ abbrev pub invariant-loop-slot : goal.invariant-loop-slot
 invariant-loop-slot l = record {
   length : length l.after ≡ 32;
   filled : (k : ℕ) → k < l.slot → server_in l.after k ≡ next_of (server_in l.self.servers k)
-      (is_some (terms_at l.self.state.book k)) (slot_asks l.self.state.mask k) (is_slot l.served k) (now_of l.self.state.book);
+      (is_some (terms_at l.self.state.book k)) (slot_asks l.self.state.mask k) (is_slot l.served k)
+      (now_of l.self.state.book);
 }
