@@ -1,0 +1,17 @@
+pub mod Schedules
+pub mod Trees
+pub mod TreeSteps
+pub mod TreeRuns
+pub mod Perches
+pub mod Leading
+pub mod Placing
+pub mod Settling
+pub mod Decided
+pub mod Kept
+pub mod Promised
+pub mod Broken
+pub mod Ranked
+pub mod Barred
+pub mod Allowed
+pub mod Reasoned
+pub mod Descending
