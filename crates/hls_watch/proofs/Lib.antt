@@ -1,0 +1,7 @@
+pub mod Endings
+pub mod Rings
+pub mod Cutting
+pub mod Periods
+pub mod Carrying
+pub mod Watching
+pub mod Shorts

@@ -1,0 +1,4 @@
+pub mod Watched
+pub mod First
+pub mod Shortages
+pub mod Inside

@@ -1,0 +1,15 @@
+//! Whether what a seat gets, told tick by tick, satisfies its guarantee so far and keeps its cap.
+#![tactic(auto)]
+
+mod cuts;
+mod keeping;
+mod past;
+mod recent;
+mod reservation;
+mod shortage;
+#[cfg(test)]
+mod tests;
+mod watch;
+
+pub use shortage::{first_over, first_short};
+pub use watch::Watch;

@@ -1,0 +1,127 @@
+//! Lists of the published table, and a watch beside what decides whole lists.
+
+ghost use Rattle.std.specs.Prelude.{◌≡◌, ◌≤◌, length};
+ghost use Rattle.hls_guarantee.specs.Limits.{IsValid};
+
+use crate::Watch;
+use hls_frac::Frac;
+use hls_guarantee::{Guarantee, holds, keeps_cap, valid};
+use std::alloc::Global;
+use std::process::Abort;
+use std::test::Fail;
+
+fn blocks(hard: bool, x: u32, y: u32) -> Guarantee {
+    Guarantee::Resb { hard, x, y }
+}
+
+fn windows(hard: bool, x: u32, y: u32) -> Guarantee {
+    Guarantee::Resc { hard, x, y }
+}
+
+fn share(s: (u128, u128), d: (u128, u128)) -> Result<Guarantee, Fail> {
+    Ok(Guarantee::Psbe {
+        s: Frac::make(s.0, s.1).ok_or("a rate over 0")?,
+        d: Frac::make(d.0, d.1).ok_or("an error over 0")?,
+    })
+}
+
+/// Tells a list, and compares what is answered after each tick, as digits.
+fn tell(rt: &impl Abort, watch: &mut Watch, digits: &[u8], kept: &[u8], capped: &[u8])
+    requires ticks { watch.old.ticks ≡ 8 }
+    requires few { length digits.now ≤ 8 }
+    requires kept { length kept.now ≡ length digits.now }
+    requires capped { length capped.now ≡ length digits.now }
+{
+    watch.restart();
+    for at in 0..digits.len() {
+        watch.push(digits[at] == b'1');
+        assert_eq!(rt; watch.kept(), kept[at] == b'1', "{digits:?}");
+        assert_eq!(rt; watch.capped(), capped[at] == b'1', "cap of {digits:?}");
+    }
+}
+
+#[test]
+fn watches_lists(rt: HostRuntime) -> Result<(), Fail> {
+    let cases: [(Guarantee, &[u8], &[u8], &[u8]); 7] = [
+        (Guarantee::All, b"110", b"110", b"111"),
+        (blocks(false, 1, 2), b"1001", b"1111", b"1111"),
+        (blocks(false, 1, 2), b"000", b"110", b"111"),
+        (blocks(true, 1, 2), b"11111", b"11000", b"11110"),
+        (windows(false, 1, 2), b"1001", b"1100", b"1111"),
+        (windows(true, 1, 2), b"1011", b"1110", b"1110"),
+        (share((1, 2), (1, 1))?, b"0001", b"1100", b"1111"),
+    ];
+    for (g, digits, kept, capped) in cases {
+        assert!(rt; valid(&g));
+        assert!(rt; digits.len() <= 8);
+        assert_eq!(rt; kept.len(), digits.len());
+        assert_eq!(rt; capped.len(), digits.len());
+        let mut watch = Watch::new(rt.alloc(), &g, 8)?;
+        tell(&rt, &mut watch, digits, kept, capped);
+    }
+    Ok(())
+}
+
+/// Tells a list, and compares what is answered with what is decided of each list so far.
+fn compare(rt: &impl Abort, watch: &mut Watch, g: &Guarantee, list: &[bool])
+    requires ticks { watch.old.ticks ≡ 8 }
+    requires few { length list.now ≤ 8 }
+    requires valid { IsValid g.now }
+    ensures ticks { watch.new.ticks ≡ 8 }
+{
+    watch.restart();
+    for at in 0..list.len() {
+        watch.push(list[at]);
+        let so_far = &list[..at + 1];
+        assert_eq!(rt; watch.kept(), holds(g, so_far), "{g:?} at {so_far:?}");
+        assert_eq!(rt;
+            watch.capped(),
+            keeps_cap(g, so_far),
+            "cap of {g:?} at {so_far:?}"
+        );
+    }
+}
+
+/// The lowest bits of a number.
+fn bits(number: u32) -> [bool; 8] {
+    let mut list = [false; 8];
+    for at in 0..8u32 {
+        list[at as usize] = number >> at & 1 == 1;
+    }
+    list
+}
+
+/// Compares a guarantee at every list of eight ticks.
+fn compare_all(rt: &impl Abort, alloc: Global, g: Guarantee) -> Result<(), Fail> {
+    assert!(rt; valid(&g));
+    let mut watch = Watch::new(alloc, &g, 8)?;
+    for number in 0..256 {
+        compare(rt, &mut watch, &g, &bits(number));
+    }
+    Ok(())
+}
+
+#[test]
+fn watches_as_whole_lists_are_decided(rt: HostRuntime) -> Result<(), Fail> {
+    compare_all(&rt, rt.alloc(), Guarantee::All)?;
+    compare_all(&rt, rt.alloc(), Guarantee::Null)?;
+    for y in [1, 2, 3, 4, 5, 7, 8, 9, 12] {
+        for x in 1..y + 1 {
+            for hard in [false, true] {
+                compare_all(&rt, rt.alloc(), blocks(hard, x, y))?;
+                compare_all(&rt, rt.alloc(), windows(hard, x, y))?;
+            }
+            compare_all(
+                &rt,
+                rt.alloc(),
+                share((u128::from(x), u128::from(y)), (1, 2))?,
+            )?;
+            compare_all(
+                &rt,
+                rt.alloc(),
+                share((u128::from(x), u128::from(y)), (3, 2))?,
+            )?;
+        }
+    }
+    Ok(())
+}
