@@ -1,0 +1,280 @@
+-- Commands and runs, tick by tick.
+use Rattle.std.proofs.Common.{◌≡◌, ℕ, zero, suc, ◌+◌, ◌<◌, ◌≤◌, List, [], ◌∷◌, inl, inr}
+use Rattle.std.proofs.Common.{refl, sym, ap, ◌∙◌, subst, arith, cond, length, get_or, take, map}
+use Rattle.std.specs.Prelude.{Bool, true, false, Option, Some, None, ◌&&◌, nat_le, slice_get, filter, option_map}
+use Rattle.std.proofs.lemmas.Bool.{cases_eq, le-leb, lt-leb}
+use Rattle.std.proofs.lemmas.List.Sums.{fold_more}
+use Rattle.std.proofs.lemmas.Option.{slice_get_read, slice_get_within, get_or_from_slice_get}
+use Rattle.hls_text.specs.Lines.{Text}
+use Rattle.hls_report_text.specs.declared.report.Answered.{Answered}
+use Rattle.hls_report_text.specs.declared.report.Run.{Run}
+use Rattle.hls_report_text.specs.declared.stretch.Stretch.{Stretch}
+use Rattle.hls_report_text.specs.Content.{Content, path_names, stretch_of}
+use Rattle.hls_report_text.specs.WellFormed.{Cover, IsContent}
+use Rattle.hls_accounts.specs.Schedule.{has_tick, path_at}
+use Rattle.hls_clauses.specs.declared.member.Member.{Member}
+use Rattle.hls_clauses.specs.Names.{after_answer, tree_of, tree_at}
+use Rattle.hls_clauses.specs.Ways.{leads_down}
+use Rattle.hls_clauses.specs.Clauses.{IsAstray}
+use Rattle.hls_audit.specs.Inside.Sites.{AreInOrder}
+use Rattle.hls_audit.specs.Inside.Leading.{IsAbreast, IsReached}
+use Rattle.hls_audit.proofs.OnPaths.{path_first}
+
+-- ---- commands
+
+-- within a tick, of whose commands some may be still to come
+pub record IsUnderway (all : List Answered) (t next : ℕ) (tree : List Member) : Type 0 where
+  pub within : next ≤ length all
+  pub tree_is : tree ≡ tree_of (take next all)
+  pub before : (k : ℕ) (a : Answered) → k < next → slice_get all k ≡ Some a → a.tick ≤ t
+
+pub abreast_none : (all : List Answered) (tree : List Member) → tree ≡ [] → IsAbreast all 0 0 tree
+abreast_none all tree e = record {
+  within = omega arith;
+  tree_is = e;
+  before = λ k a lt there. absurd (omega (arith, lt));
+  behind = λ k a le there. omega arith;
+}
+
+pub underway : (all : List Answered) (t next : ℕ) (tree : List Member) → IsAbreast all t next tree
+    → IsUnderway all t next tree
+underway all t next tree so_far = record {
+  within = so_far.within;
+  tree_is = so_far.tree_is;
+  before = λ k a lt there. let early = so_far.before k a lt there in omega (arith, early);
+}
+
+pub underway_more : (all : List Answered) (t next : ℕ) (a : Answered) (tree more : List Member) → next < length all
+    → a ≡ get_or all next a → a.tick ≤ t → more ≡ after_answer tree a → IsUnderway all t next tree
+    → IsUnderway all t (next + 1) more
+underway_more all t next a tree more lt e early step so_far = record {
+  within = omega (arith, lt);
+  tree_is = step ∙ ap (λ (t : List Member). after_answer t a) so_far.tree_is
+      ∙ ap (after_answer (tree_of (take next all))) e ∙ sym (fold_more after_answer [] all next a lt);
+  before = λ k b less there. elim (cases_eq k next) [
+    | inl same ↦
+        let at : slice_get all next ≡ Some b = subst (λ n. slice_get all n ≡ Some b) same there in
+        let one : a ≡ b = e ∙ get_or_from_slice_get all next b a at in
+        subst (λ (x : Answered). x.tick ≤ t) one early
+    | inr ne ↦ so_far.before k b (omega arith) there
+  ];
+}
+
+pub abreast_at : (all : List Answered) (t next : ℕ) (a : Answered) (tree : List Member) → AreInOrder all
+    → next < length all → a ≡ get_or all next a → t < a.tick → IsUnderway all t next tree
+    → IsAbreast all (t + 1) next tree
+abreast_at all t next a tree order lt e late so_far = record {
+  within = omega (arith, lt);
+  tree_is = so_far.tree_is;
+  before = λ k b less there. let early = so_far.before k b less there in omega (arith, early);
+  behind = λ k b le there.
+      let first : slice_get all next ≡ Some a = slice_get_read all (length all) next a refl lt e in
+      let later = order next k a b le first there in omega (arith, later, late);
+}
+
+pub abreast_all : (all : List Answered) (t next end : ℕ) (tree : List Member) → end ≡ length all → end ≤ next
+    → IsUnderway all t next tree → IsAbreast all (t + 1) end tree
+abreast_all all t next end tree e le so_far =
+    let within = so_far.within in
+    subst (λ (n : ℕ). IsAbreast all (t + 1) n tree) (let same : next ≡ end = omega (arith, within, e, le) in same)
+    (record {
+      within = within;
+      tree_is = so_far.tree_is;
+      before = λ k b less there. let early = so_far.before k b less there in omega (arith, early);
+      behind = λ k b more there.
+          let lt = slice_get_within all k b there in absurd (omega (arith, lt, le, e, more));
+    })
+
+up_to : (t next : ℕ) (all : List Answered)
+    → ((k : ℕ) (a : Answered) → k < next → slice_get all k ≡ Some a → a.tick ≤ t)
+    → ((k : ℕ) (a : Answered) → next ≤ k → slice_get all k ≡ Some a → t < a.tick)
+    → filter (λ (a : Answered). nat_le a.tick t) all ≡ take next all
+up_to t zero [] before behind = refl
+up_to t (suc next) [] before behind = refl
+up_to t zero (a ∷ all) before behind =
+    ap (λ (b : Bool). cond b (a ∷ filter (λ (a : Answered). nat_le a.tick t) all)
+    (filter (λ (a : Answered). nat_le a.tick t) all)) (lt-leb a.tick t (behind 0 a (omega arith) refl))
+    ∙ up_to t zero all (λ k b lt. absurd (omega (arith, lt))) (λ k b le. behind (suc k) b (omega arith))
+up_to t (suc next) (a ∷ all) before behind =
+    ap (λ (b : Bool). cond b (a ∷ filter (λ (a : Answered). nat_le a.tick t) all)
+    (filter (λ (a : Answered). nat_le a.tick t) all)) (le-leb a.tick t (before 0 a (omega arith) refl))
+    ∙ ap (λ (l : List Answered). a ∷ l)
+    (up_to t next all (λ k b lt. before (suc k) b (omega (arith, lt))) (λ k b le. behind (suc k) b (omega (arith, le))))
+
+-- the tree is that of the tick
+pub tree_here : (all : List Answered) (t then next : ℕ) (tree : List Member) → then ≡ t + 1
+    → IsAbreast all then next tree → tree ≡ tree_at t all
+tree_here all t then next tree e so_far =
+    so_far.tree_is ∙ sym (ap tree_of (up_to t next all
+    (λ k a lt there. let early = so_far.before k a lt there in omega (arith, early, e))
+    (λ k a le there. let late = so_far.behind k a le there in omega (arith, late, e))))
+
+-- ---- runs
+
+module _ (names : List Text) where
+  run_since : (from : ℕ) (last : Option (Option (List Text))) (runs : List Run) (end at : ℕ) (run : Run)
+      → Cover from last (map (stretch_of names) runs) end → slice_get runs at ≡ Some run
+      → (from ≤ run.from) × (run.from ≤ run.to)
+  run_since from last [] end at run cover there = absurd (cc)
+  run_since from last (r ∷ runs) end zero run cover there =
+      let same : r ≡ run = cc in
+      let starts = cover.0 in
+      let ahead = cover.1 in
+      subst (λ (x : Run). (from ≤ x.from) × (x.from ≤ x.to)) same (omega (arith, starts), omega (arith, starts, ahead))
+  run_since from last (r ∷ runs) end (suc at) run cover there =
+      let starts = cover.0 in
+      let ahead = cover.1 in
+      let rest = run_since (r.to + 1) (Some (stretch_of names r).path) runs end at run cover.4 there in
+      let first = rest.0 in
+      (omega (arith, ahead, first), rest.1)
+
+  -- a run and the next one
+  record HasNext (runs : List Run) (at : ℕ) (run : Run) : Type 0 where
+    next : Run
+    there : slice_get runs (suc at) ≡ Some next
+    since : next.from ≡ run.to + 1
+
+  run_next : (from : ℕ) (last : Option (Option (List Text))) (runs : List Run) (end at : ℕ) (run : Run)
+      → Cover from last (map (stretch_of names) runs) end → slice_get runs at ≡ Some run → run.to + 1 < end
+      → HasNext runs at run
+  run_next from last [] end at run cover there early = absurd (cc)
+  run_next from last (r ∷ []) end zero run cover there early =
+      let same : r ≡ run = cc in
+      absurd (subst (λ (x : Run). x.to + 1 < end → ⊥) same (λ lt. let ends = cover.4 in omega (arith, lt, ends)) early)
+  run_next from last (r ∷ s ∷ runs) end zero run cover there early =
+      let same : r ≡ run = cc in
+      record { next = s; there = refl; since = subst (λ (x : Run). s.from ≡ x.to + 1) same cover.4.0 }
+  run_next from last (r ∷ runs) end (suc at) run cover there early =
+      let rest = run_next (r.to + 1) (Some (stretch_of names r).path) runs end at run cover.4 there early in
+      record { next = rest.next; there = rest.there; since = rest.since }
+
+  path_here : (from : ℕ) (last : Option (Option (List Text))) (runs : List Run) (end at t : ℕ) (run : Run)
+      → Cover from last (map (stretch_of names) runs) end → slice_get runs at ≡ Some run → run.from ≤ t → t ≤ run.to
+      → path_at (map (stretch_of names) runs) t ≡ option_map (path_names names) run.path
+  path_here from last [] end at t run cover there lo hi = absurd (cc)
+  path_here from last (r ∷ runs) end zero t run cover there lo hi =
+      let same : run ≡ r = cc in
+      let now : has_tick t (stretch_of names run) ≡ true =
+      ap (λ b. b && nat_le t run.to) (le-leb run.from t lo) ∙ le-leb t run.to hi in
+      let first : has_tick t (stretch_of names r) ≡ true =
+      subst (λ (x : Run). has_tick t (stretch_of names x) ≡ true) same now in
+      path_first (stretch_of names r) (map (stretch_of names) runs) t true first
+      ∙ ap (λ (x : Run). option_map (path_names names) x.path) (sym same)
+  path_here from last (r ∷ runs) end (suc at) t run cover there lo hi =
+      let starts = cover.0 in
+      let ahead = cover.1 in
+      let later = (run_since (r.to + 1) (Some (stretch_of names r).path) runs end at run cover.4 there).0 in
+      let began : r.from ≤ t = omega (arith, starts, ahead, later, lo) in
+      let past : r.to < t = omega (arith, later, lo) in
+      let over : has_tick t (stretch_of names r) ≡ false =
+      ap (λ b. b && nat_le t r.to) (le-leb r.from t began) ∙ lt-leb t r.to past in
+      path_first (stretch_of names r) (map (stretch_of names) runs) t false over
+      ∙ path_here (r.to + 1) (Some (stretch_of names r).path) runs end at t run cover.4 there lo hi
+
+-- ---- what a step of the audit does
+
+path_is : (c : Content) (names : List Text) (runs : List Run) (t at : ℕ) (run : Run) → IsContent c
+    → c.stretches ≡ map (stretch_of names) runs → slice_get runs at ≡ Some run → run.from ≤ t → t ≤ run.to
+    → path_at c.stretches t ≡ option_map (path_names names) run.path
+path_is c names runs t at run formed e there lo hi =
+    subst (λ (l : List Stretch). path_at l t ≡ option_map (path_names names) run.path) (sym e)
+    (path_here names 0 None runs c.horizon at t run
+    (subst (λ (l : List Stretch). Cover 0 None l c.horizon) e formed.cover) there lo hi)
+
+one_run : (one other : Run) → Some one ≡ Some other → one ≡ other
+one_run one other e = cc
+
+-- the path of a tick that a run has
+pub path_reached : (c : Content) (names : List Text) (runs items : List Run) (t at : ℕ) (run : Run) → IsContent c
+    → c.stretches ≡ map (stretch_of names) runs → items ≡ runs → Some run ≡ slice_get items at
+    → IsReached runs (t + 1) at → path_at c.stretches t ≡ option_map (path_names names) run.path
+path_reached c names runs items t at run formed e same found reached =
+    let one : reached.run ≡ run =
+    one_run reached.run run (sym reached.there ∙ ap (λ (l : List Run). slice_get l at) (sym same) ∙ sym found) in
+    let since = reached.since in
+    let until = reached.until in
+    path_is c names runs t at reached.run formed e reached.there (omega (arith, since)) (omega (arith, until))
+    ∙ ap (λ (x : Run). option_map (path_names names) x.path) one
+
+pub unreached : (runs items : List Run) (t at : ℕ) → items ≡ runs → length items ≤ at → IsReached runs t at → ⊥
+unreached runs items t at same past reached =
+    let lt = slice_get_within runs at reached.run reached.there in
+    let le : length runs ≤ at = subst (λ (l : List Run). length l ≤ at) same past in omega (arith, lt, le)
+
+-- the run at a place, as it is read
+pub read_at : (items : List Run) (at : ℕ) (run : Run) → at < length items → run ≡ get_or items at run
+    → Some run ≡ slice_get items at
+read_at items at run lt e = sym (slice_get_read items (length items) at run refl lt e)
+
+pub reach_first : (c : Content) (names : List Text) (runs : List Run) → IsContent c
+    → c.stretches ≡ map (stretch_of names) runs → IsReached runs 0 0
+reach_first c names [] formed e =
+    absurd (let some = formed.horizon.0 in
+    let none : 0 ≡ c.horizon = subst (λ (l : List Stretch). Cover 0 None l c.horizon) e formed.cover in
+    omega (arith, some, none))
+reach_first c names (r ∷ runs) formed e =
+    let cover = subst (λ (l : List Stretch). Cover 0 None l c.horizon) e formed.cover in
+    let starts = cover.0 in
+    record { run = r; there = refl; since = omega (arith, starts); until = omega arith }
+
+-- the run goes on
+pub reach_on : (runs items : List Run) (t at : ℕ) (run : Run) → items ≡ runs → Some run ≡ slice_get items at
+    → t ≤ run.to → IsReached runs t at → IsReached runs (t + 1) at
+reach_on runs items t at run same found le reached =
+    let one : reached.run ≡ run =
+    one_run reached.run run (sym reached.there ∙ ap (λ (l : List Run). slice_get l at) (sym same) ∙ sym found) in
+    let since = reached.since in
+    record {
+      run = reached.run;
+      there = reached.there;
+      since = omega (arith, since);
+      until = subst (λ (x : Run). t + 1 ≤ x.to + 1) (sym one) (omega (arith, le));
+    }
+
+-- the next run begins
+pub reach_next : (c : Content) (names : List Text) (runs items : List Run) (t at : ℕ) (run : Run) → IsContent c
+    → c.stretches ≡ map (stretch_of names) runs → items ≡ runs → Some run ≡ slice_get items at
+    → t < c.horizon → run.to < t → IsReached runs t at → IsReached runs (t + 1) (at + 1)
+reach_next c names runs items t at run formed e same found early past reached =
+    let one : reached.run ≡ run =
+    one_run reached.run run (sym reached.there ∙ ap (λ (l : List Run). slice_get l at) (sym same) ∙ sym found) in
+    let until = reached.until in
+    let over : reached.run.to < t = subst (λ (x : Run). x.to < t) (sym one) past in
+    let cover = subst (λ (l : List Stretch). Cover 0 None l c.horizon) e formed.cover in
+    let more = run_next names 0 None runs c.horizon at reached.run cover reached.there
+    (omega (arith, until, over, early)) in
+    let since = more.since in
+    let ahead = (run_since names 0 None runs c.horizon (suc at) more.next cover more.there).1 in
+    let here : suc at ≡ at + 1 = omega arith in
+    record {
+      run = more.next;
+      there = subst (λ (n : ℕ). slice_get runs n ≡ Some more.next) here more.there;
+      since = omega (arith, since, until, over);
+      until = omega (arith, since, until, over, ahead);
+    }
+
+-- where neither run nor commands are new, nothing leads astray that did not before
+pub same_before : (c : Content) (names : List Text) (runs : List Run) (t next at : ℕ) (old new : List Member)
+    → IsContent c → c.stretches ≡ map (stretch_of names) runs → 0 < t → IsAbreast c.answered t next old
+    → IsAbreast c.answered (t + 1) next new → IsReached runs t at → IsReached runs (t + 1) at
+    → ((k : ℕ) → k < t → ¬ IsAstray c k) → ¬ IsAstray c t
+same_before c names runs zero next at old new formed e some tree more was is none now = absurd (omega (arith, some))
+same_before c names runs (suc t) next at old new formed e some tree more was is none now =
+    let since = was.since in
+    let until = was.until in
+    let one : is.run ≡ was.run = one_run is.run was.run (sym is.there ∙ was.there) in
+    let begun = is.since in
+    let ends = is.until in
+    let here = path_is c names runs (suc t) at is.run formed e is.there (omega (arith, begun)) (omega (arith, ends)) in
+    let before = path_is c names runs t at was.run formed e was.there (omega (arith, since)) (omega (arith, until)) in
+    let same = before ∙ ap (λ (x : Run). option_map (path_names names) x.path) (sym one) ∙ sym here in
+    let then : old ≡ tree_at t c.answered = tree_here c.answered t (suc t) next old (omega arith) tree in
+    let later : new ≡ tree_at (suc t) c.answered =
+    tree_here c.answered (suc t) (suc t + 1) next new refl more in
+    let trees : tree_at (suc t) c.answered ≡ tree_at t c.answered =
+    sym later ∙ more.tree_is ∙ sym tree.tree_is ∙ then in
+    none t (omega arith) (record {
+      names = now.names;
+      path = same ∙ now.path;
+      astray = ap (λ (l : List Member). leads_down l now.names) (sym trees) ∙ now.astray;
+    })

@@ -1,0 +1,43 @@
+use Rattle.std.proofs.Common.{refl, arith}
+use Rattle.hls_report_text.specs.Content.{content_of}
+use Rattle.hls_clauses.specs.Clauses.{Placed, Leading, Ready, Supplied, Capped, Derived, Counted}
+use Rattle.hls_audit.specs.declared.auditing.Outcome.TheVariants.{Kept}
+use Rattle.hls_audit.proofs.Firsts.{least_none, step, step_below, placed_to, underived_early, least_all}
+use Rattle.hls_audit.proofs.auditing.audit.Goals as goal
+
+pub first_underived-requires-clause-placed : goal.first_underived-requires-clause-placed
+first_underived-requires-clause-placed c =
+    let content = content_of c.args.report.now in
+    let one = step content 0 1 Placed Kept c.sooner-misplaced.result c.in_ok-first_misplaced.field-0 refl refl
+    c.sooner-misplaced.ensures (least_none content) c.in_ok-first_misplaced.ensures in
+    let two = step content 1 2 Leading c.sooner-misplaced.result c.sooner-astray.result
+    c.in_ok-first_astray.field-0 refl refl c.sooner-astray.ensures one c.in_ok-first_astray.ensures in
+    let three = step content 2 3 Ready c.sooner-astray.result c.sooner-unready.result c.in_ok-first_unready.field-0 refl
+    refl
+    c.sooner-unready.ensures two c.in_ok-first_unready.ensures in
+    let four = step content 3 4 Supplied c.sooner-unready.result c.sooner-starved.result
+    c.in_ok-first_starved.field-0 refl refl c.sooner-starved.ensures three c.in_ok-first_starved.ensures in
+    let five = step content 4 5 Capped c.sooner-starved.result c.sooner-over_cap.result
+    c.in_ok-first_over_cap.field-0 refl refl c.sooner-over_cap.ensures four c.in_ok-first_over_cap.ensures in
+    placed_to content 5 c.bound.result c.sooner-over_cap.result (omega arith) c.bound.ensures five
+
+pub returns : goal.returns
+returns c =
+    let content = content_of c.args.report.now in
+    let one = step content 0 1 Placed Kept c.sooner-misplaced.result c.in_ok-first_misplaced.field-0 refl refl
+    c.sooner-misplaced.ensures (least_none content) c.in_ok-first_misplaced.ensures in
+    let two = step content 1 2 Leading c.sooner-misplaced.result c.sooner-astray.result
+    c.in_ok-first_astray.field-0 refl refl c.sooner-astray.ensures one c.in_ok-first_astray.ensures in
+    let three = step content 2 3 Ready c.sooner-astray.result c.sooner-unready.result c.in_ok-first_unready.field-0 refl
+    refl
+    c.sooner-unready.ensures two c.in_ok-first_unready.ensures in
+    let four = step content 3 4 Supplied c.sooner-unready.result c.sooner-starved.result
+    c.in_ok-first_starved.field-0 refl refl c.sooner-starved.ensures three c.in_ok-first_starved.ensures in
+    let five = step content 4 5 Capped c.sooner-starved.result c.sooner-over_cap.result
+    c.in_ok-first_over_cap.field-0 refl refl c.sooner-over_cap.ensures four c.in_ok-first_over_cap.ensures in
+    let six = step_below content 5 6 Derived c.sooner-over_cap.result c.sooner-underived.result
+    c.in_ok-first_underived.field-0 c.bound.result refl refl c.sooner-underived.ensures c.bound.ensures
+    (underived_early content c.requires.content) five c.in_ok-first_underived.ensures in
+    least_all content c.sooner.result
+    (step content 6 7 Counted c.sooner-underived.result c.sooner.result c.in_ok-first_miscounted.field-0 refl refl
+    c.sooner.ensures six c.in_ok-first_miscounted.ensures)

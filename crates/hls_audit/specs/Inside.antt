@@ -1,0 +1,15 @@
+pub mod Members
+pub mod Marks
+pub mod Steps
+pub mod Told
+pub mod Fits
+pub mod First
+pub mod Sites
+pub mod Failing
+pub mod Known
+pub mod Places
+pub mod Ticks
+pub mod Lines
+pub mod Least
+pub mod Leading
+pub mod Unready
