@@ -1,13 +1,13 @@
 -- Seats that are counted, and seats that are read.
-use Rattle.std.proofs.Common.{◌≡◌, ◌≢◌, ℕ, zero, suc, ◌+◌, ◌≤◌, Option, Some, None, Bool, true, false, refl, sym, ap, ◌∙◌, arith, List, map}
+use Rattle.std.proofs.Common.{◌≡◌, ℕ, suc, ◌+◌, ◌≤◌, Option, Some, Bool, true, false, sym, ap, ◌∙◌, arith, List, map}
 use Rattle.hls_chron.specs.Ticks.{count, one_if}
-use Rattle.hls_chron.proofs.CountLaws.{count-none, count-push}
+use Rattle.hls_chron.proofs.CountLaws.{count-push}
 use Rattle.hls_guarantee.specs.declared.Guarantee.{Guarantee}
 use Rattle.hls_sched.specs.Seen.{Seen}
-use Rattle.hls_legal.specs.Hierarchy.{Hierarchy, Node, Loaded, Seat, seats_of, haves_of}
+use Rattle.hls_legal.specs.Hierarchy.{Hierarchy, Node, Seat, haves_of}
 use Rattle.hls_walks.specs.Shown.{Shown, bare, bare_in, seats_in}
-use Rattle.hls_walks.specs.Views.{boxed, shown_at, seat_view, shown}
-use Rattle.hls_walks.proofs.Passes.{seats_same, book_same}
+use Rattle.hls_walks.specs.Views.{boxed, seat_view, shown}
+use Rattle.hls_walks.proofs.Passes.{seats_same}
 use Rattle.slab.specs.Slab.{get}
 use Rattle.hls_walks.specs.Views.{shown_opt}
 use Rattle.hls_walks.specs.declared.node.Node.{Node as StoredNode}

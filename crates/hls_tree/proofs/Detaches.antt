@@ -7,13 +7,13 @@ use Rattle.hls_chron.specs.Seats.{terms_at}
 use Rattle.hls_sched.specs.Seen.{Seen, config_of}
 use Rattle.hls_legal.specs.Hierarchy.{Hierarchy, Node, Loaded, Admitted, Thread as AdmittedThread, Seat, Place}
 use Rattle.hls_legal.specs.Hierarchy.{Processor, At}
-use Rattle.hls_legal.specs.Hierarchy.{seats_of, seat_of, book_of, is_ready, was_served}
+use Rattle.hls_legal.specs.Hierarchy.{seats_of, seat_of, is_ready, was_served}
 use Rattle.hls_legal.specs.Hierarchy.{Scheduler as LoadedScheduler}
 use Rattle.std.proofs.Common.{false, not, filter, map}
 use Rattle.hls_legal.specs.Hierarchy.{SeatHolder}
 use Rattle.hls_legal.specs.Steps.{listed, marked, leavings, effect, nobody, root_without}
 use Rattle.hls_legal.proofs.Kept.{at_same, at_other}
-use Rattle.hls_walks.specs.Shown.{What, Scheduler, Thread, Shown, SchedulerNode, ThreadNode, bare, bare_in, bare_what}
+use Rattle.hls_walks.specs.Shown.{What, Scheduler, Thread, Shown, bare, bare_in, bare_what}
 use Rattle.hls_walks.specs.Shown.{level_in, seats_in, place_in, book_in, ready_in, PostedIn, RoomBare, most_bare}
 use Rattle.hls_walks.specs.Shown.{most_in}
 use Rattle.hls_walks.specs.Shown.{name_bare, name_in, is_thread_what}
@@ -23,13 +23,14 @@ use Rattle.slab.specs.Slab.{Slab, get, Updates}
 use Rattle.hls_walks.specs.declared.node.Node.{Node as StoredNode}
 use Rattle.hls_walks.specs.Views.{boxed, shown, shown_opt, shown_at, IsBody}
 use Rattle.hls_walks.specs.TreeOf.{IsOf, IsLaid, IsReady, StandsAt, level_over}
+use Rattle.hls_walks.proofs.Tells.{any_told}
 use Rattle.hls_walks.proofs.Snapshots.{Nodes, one_of, rise, level_over_same}
 use Rattle.hls_walks.proofs.Passes.{laid_from, seats_same, book_same}
 use Rattle.hls_walks.proofs.Leads.{sat}
 use Rattle.hls_tree.specs.Names.{id_of}
 use Rattle.hls_tree.specs.Offers.{MayGo}
 use Rattle.hls_tree.specs.Seating.{marked_bare, IsMarked, MayLeave, MayLeaveAt, MayLeaveAll, HasRoomToLeave}
-use Rattle.hls_tree.specs.Trees.{IsTreeOf, IsReadyOf, Stands, IsNamed, IsBodyOf}
+use Rattle.hls_tree.specs.Trees.{IsTreeOf, IsReadyOf, Stands, IsBodyOf}
 use Rattle.hls_walks.specs.declared.node.Body.{Body}
 use Rattle.hls_walks.specs.declared.node.Body.TheVariants as bodies
 use Rattle.hls_tree.specs.declared.tree.Tree.{Tree}
@@ -38,7 +39,7 @@ use Rattle.hls_tree.proofs.Loads.{thread_marked, stands_at, tree_to}
 use Rattle.hls_tree.specs.Lists.{holder_view}
 use Rattle.hls_tree.proofs.Listed.{sched_same, sched_not, listed_less, filter_less}
 use Rattle.std.proofs.lemmas.List.{length-map}
-use Rattle.hls_tree.proofs.Named.{named_gone, name_there}
+use Rattle.hls_tree.proofs.Named.{named_gone}
 use Rattle.hls_tree.proofs.Ported.{ported_effect}
 
 -- a node is taken out
@@ -257,8 +258,9 @@ module _ {V : Type 0} {P : V → Type 0} (seen : (x : V) × P x → Seen) where
           → map holder_view new.seats.items ≡ filter (λ (s : SeatHolder). not (s.node == id))
           (map holder_view old.seats.items)
           → new.root ≡ root_without x.seats old.root → new.tick ≡ old.tick → new.horizon ≡ old.horizon
+          → new.changed ≡ None
           → (h : Hierarchy) → IsTreeOf seen old h → IsTreeOf seen new (effect h id None nobody)
-      detached none others schedulers threads seats root tick horizon h t =
+      detached none others schedulers threads seats root tick horizon changed h t =
           let is : bare (h.nodes id) ≡ bare_in (Some x) =
           t.of.nodes id ∙ ap bare_in (ap (shown_at (boxed seen) old.nodes) (sym key_is) ∙ own) in
           record {
@@ -299,6 +301,7 @@ module _ {V : Type 0} {P : V → Type 0} (seen : (x : V) × P x → Seen) where
                     t.counts.seats,
                   ));
             };
+            told = any_told (shown_at (boxed seen) new.nodes) new.changed changed;
             ported = ported_effect h id None nobody t.ported tt;
           }
 

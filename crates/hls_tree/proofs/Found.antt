@@ -1,7 +1,7 @@
 -- A moved node and those below it, found one by one.
 use Rattle.std.proofs.Common.{◌≡◌, ◌≢◌, ◌⊎◌, inl, inr, ℕ, suc, ◌+◌, ◌%◌, ◌<◌, ◌≤◌, List, [], ◌∷◌, length}
-use Rattle.std.proofs.Common.{Bool, true, false, Option, Some, None, if◌then◌else◌, ◌==◌, refl, sym, ap, ◌∙◌, subst, arith}
-use Rattle.std.proofs.Common.{slice_get, max}
+use Rattle.std.proofs.Common.{Bool, true, false, Option, Some, None, if◌then◌else◌, ◌==◌}
+use Rattle.std.proofs.Common.{slice_get, refl, sym, ap, ◌∙◌, subst, arith}
 use Rattle.std.specs.Prelude.{option_map}
 use Rattle.std.proofs.lemmas.Bool.{cases_eq, cases_lt, eq-eqb, ne_eqb}
 use Rattle.std.proofs.lemmas.Option.{slice_get_within}
@@ -10,13 +10,14 @@ use Rattle.hls_chron.specs.declared.book.Event.TheVariants as events
 use Rattle.hls_chron.proofs.BookLaws.{terms_at-mark}
 use Rattle.hls_legal.specs.Hierarchy.{Hierarchy, Seat, Place, Processor, At}
 use Rattle.hls_legal.specs.Readings.{IsUnder}
-use Rattle.hls_walks.specs.Shown.{Shown, Post, What, Scheduler, Thread, IsPosted, PostedIn, PostedWhat, bare_in, level_in}
-use Rattle.hls_walks.specs.Shown.{seats_in, place_in, ready_in, on_post, post_settled}
+use Rattle.hls_walks.specs.Shown.{Shown, Post, What, Scheduler, Thread, IsPosted, PostedIn, bare_in, level_in}
+use Rattle.hls_walks.specs.Shown.{seats_in, place_in, ready_in, post_settled}
 use Rattle.hls_walks.specs.TreeOf.{level_at, level_over}
 use Rattle.hls_walks.proofs.Snapshots.{Nodes, one_of, level_over_same}
 use Rattle.hls_walks.proofs.Leads.{sat}
 use Rattle.hls_tree.specs.Seating.{marked_bare}
-use Rattle.hls_tree.specs.Inside.Below.{at_level, plain, begun, HasRoomToSettle, SitsBelow, SitsAbove, CanBegin, IsReached, IsBegun}
+use Rattle.hls_tree.specs.Inside.Below.{at_level, plain, begun, HasRoomToSettle}
+use Rattle.hls_tree.specs.Inside.Below.{SitsBelow, SitsAbove, CanBegin, IsBegun}
 
 -- of the seats the first so many are on nodes that were not found
 pub record AreAbove (s : Nodes) (seats : List Seat) (n : ℕ) : Type 0 where
@@ -371,7 +372,8 @@ module _ (h : Hierarchy) (old s : Nodes) (k level key : ℕ) (b : IsBegun h old 
         | inr ge ↦ absurd (not_none (old c) port (At p slot) e (none c ge))
       ],
     );
-    only = λ c f ne. (let r = b.only c f ne in let le = r.0 in (omega (arith, le), λ eq. absurd (omega (arith, eq, le))));
+    only = λ c f ne.
+        (let r = b.only c f ne in let le = r.0 in (omega (arith, le), λ eq. absurd (omega (arith, eq, le))));
     levels_are = b.levels_are;
     most = b.most;
   }

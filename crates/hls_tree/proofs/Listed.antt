@@ -1,17 +1,17 @@
 -- Lists, where a node comes or goes.
 use Rattle.std.proofs.Common.{◌≡◌, ◌≢◌, inl, inr, ℕ, zero, suc, ◌+◌, ◌-◌, ◌<◌, ◌≤◌, List, [], ◌∷◌, ◌++◌, length}
 use Rattle.std.proofs.Common.{Option, Some, None}
-use Rattle.std.proofs.Common.{Bool, true, false, not, ◌==◌, cond, filter, map, append_assoc, append-nil, add-one}
+use Rattle.std.proofs.Common.{Bool, true, false, not, ◌==◌, cond, filter, map, append_assoc, add-one}
 use Rattle.std.proofs.Common.{refl, sym}
 use Rattle.std.proofs.Common.{ap, ◌∙◌, arith, length-append, slice_get, drop, if◌then◌else◌, ◌^◌}
-use Rattle.std.specs.Prelude.{Contains, ◌↔◌}
+use Rattle.std.specs.Prelude.{Contains}
 use Rattle.std.proofs.lemmas.List.{map-append, length-map}
 use Rattle.std.proofs.lemmas.Bool.{cases_eq, ne_eqb}
 use Rattle.hls_legal.specs.Hierarchy.{Hierarchy, Node, Loaded, Admitted, Seat, SeatHolder, seats_of}
 use Rattle.hls_legal.specs.Steps.{listed, sitters, is_scheduler, is_thread}
 use Rattle.hls_legal.specs.Lists.{IsListed}
 use Rattle.hls_legal.proofs.Listings.{contains_first, contains_later}
-use Rattle.hls_walks.specs.Shown.{What, Scheduler, Thread, Shown, SchedulerNode, ThreadNode, bare, bare_in, bare_what}
+use Rattle.hls_walks.specs.Shown.{What, Scheduler, Thread, Shown, bare, bare_in, bare_what}
 use Rattle.hls_walks.specs.Shown.{is_sched_what, is_thread_what}
 use Rattle.hls_tree.specs.Lists.{holder_view, ports_of}
 use Rattle.hls_tree.specs.declared.lists.Holder.{Holder}

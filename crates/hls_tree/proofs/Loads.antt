@@ -1,7 +1,7 @@
 -- A thread that is admitted, and a scheduler that is loaded.
-use Rattle.std.proofs.Common.{◌≡◌, ◌≢◌, ℕ, ◌+◌, ◌*◌, ◌<◌, ◌≤◌, false, List, [], ◌∷◌, ◌++◌, length}
+use Rattle.std.proofs.Common.{◌≡◌, ◌≢◌, ℕ, ◌+◌, ◌<◌, ◌≤◌, false, List, [], ◌∷◌, ◌++◌, length}
 use Rattle.std.proofs.Common.{Option, Some, None, if◌then◌else◌, ◌==◌, refl, sym, ap, ◌∙◌, subst, arith, is_some}
-use Rattle.std.proofs.Common.{unwrap_or, not, map, slice_get, Result, Ok, Err}
+use Rattle.std.proofs.Common.{unwrap_or, not, map, Result, Ok, Err}
 use Rattle.std.specs.Prelude.{OnErr, IfSome}
 use Rattle.hls_chron.specs.declared.book.Event.{Event}
 use Rattle.hls_chron.specs.declared.plain.Config.{Config}
@@ -25,6 +25,7 @@ use Rattle.hls_walks.specs.Shown.{bare, bare_what, level_in}
 use Rattle.hls_walks.specs.Shown.{ready_in, ready_what, name_in, name_bare, most_in, most_bare}
 use Rattle.hls_walks.specs.Views.{boxed, shown_at}
 use Rattle.hls_walks.specs.TreeOf.{IsOf, IsReady, StandsAt}
+use Rattle.hls_walks.proofs.Tells.{any_told, told_by}
 use Rattle.hls_walks.proofs.Snapshots.{Nodes, one_of, below_ten}
 use Rattle.hls_walks.proofs.Passes.{laid_from, seats_same}
 use Rattle.hls_tree.specs.Names.{id_of}
@@ -135,6 +136,8 @@ module _ {V : Type 0} {P : V → Type 0} (seen : (x : V) × P x → Seen) where
           threads = rw same.threads t.counts.threads;
           seats = rw same.seats t.counts.seats;
         };
+        told = told_by (shown_at (boxed seen) old.nodes) (shown_at (boxed seen) new.nodes) old.changed new.changed
+            same.nodes same.changed t.told;
         ported = t.ported;
       }
 
@@ -227,6 +230,7 @@ module _ {V : Type 0} {P : V → Type 0} (seen : (x : V) × P x → Seen) where
           ap (λ l. l ++ sitters id 0 (seats_of (Some node))) (whole ∙ t.seats)
           ∙ ap (λ l. map holder_view old.seats.items ++ l) own ∙ sym x.holders;
       counts = counts;
+      told = any_told (shown_at (boxed seen) new.nodes) new.changed x.changed;
       ported = ported_effect h id (Some node) nobody t.ported ported;
     }
 

@@ -1,14 +1,14 @@
 -- A node that is moved, and all that is below it.
-use Rattle.std.proofs.Common.{◌≡◌, ◌≢◌, ◌⊎◌, inl, inr, ℕ, zero, suc, ◌+◌, ◌<◌, ◌≤◌, ◌^◌, List, [], ◌∷◌, ◌++◌, length}
-use Rattle.std.proofs.Common.{Bool, true, false, Option, Some, None, if◌then◌else◌, ◌==◌, refl, sym, ap, ◌∙◌, subst, arith}
-use Rattle.std.proofs.Common.{slice_get, length-append}
+use Rattle.std.proofs.Common.{◌≡◌, ◌≢◌, inl, inr, ℕ, zero, suc, ◌+◌, ◌<◌, ◌≤◌, List, [], ◌∷◌, ◌++◌, length}
+use Rattle.std.proofs.Common.{Bool, true, false, Option, Some, None, if◌then◌else◌, ◌==◌}
+use Rattle.std.proofs.Common.{slice_get, length-append, refl, sym, ap, ◌∙◌, subst, arith}
 use Rattle.std.specs.Prelude.{option_map}
 use Rattle.std.proofs.lemmas.Bool.{cases_eq, eq-eqb, ne_eqb}
 use Rattle.hls_chron.specs.declared.book.Event.{Event}
-use Rattle.hls_chron.specs.declared.plain.Terms.{Terms}
 use Rattle.hls_chron.specs.Seats.{terms_at}
 use Rattle.hls_kinds.specs.Room.{IsFree}
-use Rattle.hls_legal.specs.Hierarchy.{Hierarchy, Node, Loaded, Admitted, Thread as AdmittedThread, Seat, Place, Processor}
+use Rattle.hls_legal.specs.Hierarchy.{Hierarchy, Node, Loaded, Admitted, Thread as AdmittedThread}
+use Rattle.hls_legal.specs.Hierarchy.{Seat, Place, Processor}
 use Rattle.hls_legal.specs.Hierarchy.{At, seats_of, seat_of, book_of, is_ready, was_served}
 use Rattle.hls_legal.specs.Hierarchy.{config_of as config_of_node}
 use Rattle.hls_legal.specs.Hierarchy.{Scheduler as LoadedScheduler}
@@ -20,13 +20,13 @@ use Rattle.hls_legal.specs.Seated.{IsSeated}
 use Rattle.hls_walks.specs.Shown.{Shown, What, Scheduler, Thread, Bare, SchedulerNode, ThreadNode, PostedIn, RoomBare}
 use Rattle.hls_walks.specs.Shown.{bare, bare_in, book_bare, book_in, level_in, seats_in, place_in, ready_in, is_sched}
 use Rattle.hls_walks.specs.Shown.{IsFreeIn, IsFreeWhat, most_in, most_bare, name_in, name_bare, with_seat}
-use Rattle.hls_walks.specs.TreeOf.{IsOf, IsLaid, IsReady, IsRanked, StandsAt, level_at, level_over}
+use Rattle.hls_walks.specs.TreeOf.{IsOf, IsLaid, IsReady, IsRanked, level_at, level_over}
 use Rattle.hls_walks.proofs.Snapshots.{Nodes, one_of, empty_terms, rise, below_ten, level_over_same}
 use Rattle.hls_walks.proofs.Passes.{laid_from, seats_same, book_same, place_there}
 use Rattle.hls_walks.proofs.Leads.{sat}
-use Rattle.hls_tree.specs.Inside.Below.{at_level, plain, begun, HasRoomToSettle, CanBegin, IsBegun}
-use Rattle.hls_tree.specs.Offers.{MayMove, MovesTo, Takes, TakesAt, IsTakenAs, moved_to}
-use Rattle.hls_tree.specs.Seating.{marked_bare, IsMarked, MayTake, MayLeave, MayLeaveAt, LeavesAt, IsTaken, IsWanted}
+use Rattle.hls_tree.specs.Inside.Below.{at_level, plain, HasRoomToSettle, CanBegin, IsBegun}
+use Rattle.hls_tree.specs.Offers.{MayMove, MovesTo, TakesAt, IsTakenAs, moved_to}
+use Rattle.hls_tree.specs.Seating.{marked_bare, IsMarked, MayTake, MayLeaveAt, LeavesAt, IsTaken, IsWanted}
 use Rattle.hls_tree.specs.Seating.{IsAtFree}
 use Rattle.hls_tree.specs.Seating.{Takes as TakesSeat}
 use Rattle.hls_tree.specs.declared.seat.Seat.{Seat as Wanted}
@@ -264,7 +264,8 @@ module _ (s : Nodes) (tick horizon : ℕ) (root : Option ℕ) (h : Hierarchy) (t
         (place_there s h tree.nodes c sits.port sits.seat sits.sits ∙ ap (λ (x : Place). Some x) sits.at_place) in
         omega (arith, rest, up)
 
-    module _ (seat : Seat) (mid late s0 : Nodes) (leaves : LeavesAt left.place s mid) (takes : TakesSeat w seat mid late)
+    module _ (seat : Seat) (mid late s0 : Nodes) (leaves : LeavesAt left.place s mid)
+        (takes : TakesSeat w seat mid late)
         (here : s0 k ≡ with_seat seat (level_in (late k)) (late k)) (others : (c : ℕ) → c ≢ k → s0 c ≡ late c) where
       m : IsMarked (leavings (left ∷ [])) s mid
       m = left_marked s mid left can_leave leaves
@@ -300,8 +301,8 @@ module _ (s : Nodes) (tick horizon : ℕ) (root : Option ℕ) (h : Hierarchy) (t
             port = port;
             seat = x.seat;
             slot = slot;
-            sits = ap (λ (l : List Seat). slice_get l port) (seats_same (g.nodes c) (s c) (nodes c) ∙ sym (r.seats c ne))
-                ∙ x.is;
+            sits = ap (λ (l : List Seat). slice_get l port)
+                (seats_same (g.nodes c) (s c) (nodes c) ∙ sym (r.seats c ne)) ∙ x.is;
             at_place = x.at_place;
           }
 
@@ -345,7 +346,8 @@ module _ (s : Nodes) (tick horizon : ℕ) (root : Option ℕ) (h : Hierarchy) (t
             let e : level_in (s0 c) ≡ level_in (s c) = r.levels c in omega (arith, low, e));
         posted = r.posted;
         rises = λ c port p slot ne e.
-            (let up : level_in (s p) < level_in (s c) = rise s laid.ranked c port p slot (sym (old_place c port ne) ∙ e) in
+            (let up : level_in (s p) < level_in (s c) =
+            rise s laid.ranked c port p slot (sym (old_place c port ne) ∙ e) in
             let a : level_in (s0 c) ≡ level_in (s c) = r.levels c in
             let b : level_in (s0 p) ≡ level_in (s p) = r.levels p in omega (arith, up, a, b));
         under = λ c port p slot ne e u. (suc u.0, (p, sits_of h tree.nodes c port p slot ne e, u.1));
@@ -505,7 +507,8 @@ module _ (s : Nodes) (tick horizon : ℕ) (root : Option ℕ) (h : Hierarchy) (t
               under = ap scheduler_at on;
             }
 
-        up_from : (n : ℕ) → ((p : ℕ) (y : LoadedScheduler) → h.nodes p ≡ Some (Loaded y) → level_in (new p) ≤ n → IsUp p)
+        up_from : (n : ℕ)
+            → ((p : ℕ) (y : LoadedScheduler) → h.nodes p ≡ Some (Loaded y) → level_in (new p) ≤ n → IsUp p)
             → (c : ℕ) (y : LoadedScheduler) → h.nodes c ≡ Some (Loaded y) → (port : ℕ) (x : Seat)
             → slice_get (seats_in (new c)) port ≡ Some x → (place : Place) → x.place ≡ place
             → level_at new place ≡ level_in (new c) → level_in (new c) ≤ n + 1 → IsUp c
@@ -518,7 +521,8 @@ module _ (s : Nodes) (tick horizon : ℕ) (root : Option ℕ) (h : Hierarchy) (t
             let count : length u.above + 1 ≡ level_in (new p) = u.count in
             record {
               above = u.above ++ p ∷ [];
-              chain = chain_snoc (moved_to h k seat) None u.above p c u.chain (sits_under c y there port x at (At p slot) on);
+              chain =
+                  chain_snoc (moved_to h k seat) None u.above p c u.chain (sits_under c y there port x at (At p slot) on);
               count = omega (arith, length-append u.above (p ∷ []), count, level);
             }
 
@@ -626,15 +630,16 @@ module _ (s : Nodes) (tick horizon : ℕ) (root : Option ℕ) (h : Hierarchy) (t
                   (marked (leavings (left ∷ []) c ++ seatings (seat ∷ []) c) (g.nodes c))
                   ∙ ap (marked_bare (settling (b.found c)))
                   (bare_marked (leavings (left ∷ []) c ++ seatings (seat ∷ []) c) (g.nodes c)
-                  ∙ ap (marked_bare (leavings (left ∷ []) c ++ seatings (seat ∷ []) c)) (x.nodes c) ∙ sym (r.nodes c ne))
+                  ∙ ap (marked_bare (leavings (left ∷ []) c ++ seatings (seat ∷ []) c)) (x.nodes c)
+                  ∙ sym (r.nodes c ne))
                   ∙ sym (node_new c)));
               ranked = ranked_new;
               posted = posted_new;
               room = λ c n le. rw (node_new c) (room_marked (settling (b.found c)) n (bare_in (s0 c))
                   (one_of (λ d. RoomBare n (bare_in (s0 d))) k
                   (rw r.node (room_reseated seat n (bare_in (s k)) (x.room k n le)))
-                  (λ d ne. rw (r.nodes d ne) (room_marked (leavings (left ∷ []) d ++ seatings (seat ∷ []) d) n (bare_in (s d))
-                  (x.room d n le))) c));
+                  (λ d ne. rw (r.nodes d ne)
+                  (room_marked (leavings (left ∷ []) d ++ seatings (seat ∷ []) d) n (bare_in (s d)) (x.room d n le))) c));
               within = x.within;
             }
 
@@ -643,9 +648,11 @@ module _ (s : Nodes) (tick horizon : ℕ) (root : Option ℕ) (h : Hierarchy) (t
             (leavings (seats_of (g.nodes k)) c ++ seatings (seats_of (reseated seat (g.nodes k))) c) (g.nodes c))
             ≡ Some (Admitted y) → (x : AdmittedThread) × (g.nodes c ≡ Some (Admitted x)) × (x.wake ≡ y.wake)
         was_thread g c y e = elim (cases_eq c k) [
-          | inl same ↦ subst (λ n. (x : AdmittedThread) × (g.nodes n ≡ Some (Admitted x)) × (x.wake ≡ y.wake)) (sym same)
+          | inl same ↦ subst (λ n. (x : AdmittedThread) × (g.nodes n ≡ Some (Admitted x)) × (x.wake ≡ y.wake))
+              (sym same)
               (thread_reseated seat (g.nodes k) y (rw (eq-eqb c k same) at e))
-          | inr ne ↦ thread_kept (leavings (seats_of (g.nodes k)) c ++ seatings (seats_of (reseated seat (g.nodes k))) c)
+          | inr ne ↦ thread_kept
+              (leavings (seats_of (g.nodes k)) c ++ seatings (seats_of (reseated seat (g.nodes k))) c)
               (g.nodes c) y (rw (ne_eqb c k ne) at e)
         ]
 

@@ -1,21 +1,19 @@
 -- What the read calls answer.
-use Rattle.std.proofs.Common.{◌≡◌, ◌≢◌, ℕ, ◌<◌, Bool, Option, Some, None, map, filter, length, slice_get, refl, sym, ap}
+use Rattle.std.proofs.Common.{◌≡◌, ◌≢◌, ℕ, ◌<◌, Bool, Option, Some, None, map, filter, length, slice_get, sym, ap}
 use Rattle.std.proofs.Common.{◌∙◌, subst}
 use Rattle.std.specs.Prelude.{option_map}
 use Rattle.std.specs.Prelude.{IfSome, IsNone}
 use Rattle.slab.specs.Slab.{get}
-use Rattle.hls_chron.specs.declared.plain.Config.{Config}
 use Rattle.hls_chron.specs.declared.plain.Kind.{Kind}
 use Rattle.hls_chron.specs.declared.plain.Terms.{Terms}
 use Rattle.hls_chron.specs.Kinds.{kind_of}
-use Rattle.hls_chron.specs.Ledger.{Ledger}
 use Rattle.hls_sched.specs.Seen.{Seen, config_of}
 use Rattle.hls_kinds.specs.Faults.{IsAnswer, IsFirst}
 use Rattle.hls_kinds.specs.declared.fault.SeatFault.{SeatFault}
-use Rattle.hls_legal.specs.Hierarchy.{Hierarchy, Node, Loaded, Admitted, SeatHolder, seat_of, book_of}
+use Rattle.hls_legal.specs.Hierarchy.{Hierarchy, Node, Loaded, SeatHolder, seat_of, book_of}
 use Rattle.hls_legal.specs.Hierarchy.{config_of as config_of_node, Scheduler as LoadedScheduler, Seat}
 use Rattle.hls_legal.specs.Seated.{IsSeated}
-use Rattle.hls_walks.specs.Shown.{Post, IsPosted, PostedIn, PostedWhat, What, Scheduler, HasNoFault, bare, bare_in}
+use Rattle.hls_walks.specs.Shown.{IsPosted, PostedIn, PostedWhat, HasNoFault, bare, bare_in}
 use Rattle.hls_walks.specs.Shown.{bare_what}
 use Rattle.hls_walks.specs.Shown.{level_in}
 use Rattle.hls_walks.specs.Views.{boxed, shown_at, shown_opt, post_of, what_of, seat_view}

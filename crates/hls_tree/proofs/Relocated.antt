@@ -1,5 +1,5 @@
 -- What a move leaves of a tree.
-use Rattle.std.proofs.Common.{◌≡◌, ◌≢◌, ℕ, ◌+◌, ◌<◌, ◌≤◌, List, [], ◌∷◌, ◌++◌, length, Bool, true, false, not, cond}
+use Rattle.std.proofs.Common.{◌≡◌, ◌≢◌, ℕ, ◌<◌, ◌≤◌, List, [], ◌∷◌, ◌++◌, length, Bool, true, false, not, cond}
 use Rattle.std.proofs.Common.{Option, Some, None, ◌==◌, refl, sym, ap, ◌∙◌, subst, arith, slice_get, map, filter}
 use Rattle.std.specs.Prelude.{Contains}
 use Rattle.std.proofs.lemmas.Bool.{eq-eqb}
@@ -7,11 +7,11 @@ use Rattle.std.proofs.lemmas.List.{length-map}
 use Rattle.hls_sched.specs.Seen.{Seen}
 use Rattle.hls_legal.specs.Hierarchy.{Hierarchy, Node, Loaded, Admitted, Seat, SeatHolder, seats_of, seat_of}
 use Rattle.hls_legal.specs.Hierarchy.{Scheduler as LoadedScheduler}
-use Rattle.hls_legal.specs.Steps.{reseated, listed, is_scheduler, is_thread, root_with, root_without, effect}
-use Rattle.hls_legal.proofs.Listings.{IsIn, First, Later, in_cases, none_in}
-use Rattle.hls_walks.specs.Shown.{Shown, SchedulerNode, PostedIn, bare, bare_in, level_in, seats_in, with_seat}
+use Rattle.hls_legal.specs.Steps.{reseated, listed, is_scheduler, is_thread, root_with, root_without}
+use Rattle.hls_legal.proofs.Listings.{First, Later, in_cases, none_in}
+use Rattle.hls_walks.specs.Shown.{PostedIn, bare, level_in, seats_in, with_seat}
 use Rattle.hls_walks.specs.Views.{boxed, shown_at}
-use Rattle.hls_walks.specs.TreeOf.{IsReady}
+use Rattle.hls_walks.proofs.Tells.{any_told}
 use Rattle.hls_walks.proofs.Snapshots.{Nodes}
 use Rattle.hls_walks.proofs.Passes.{seats_same}
 use Rattle.hls_tree.specs.Inside.Below.{plain, CanBegin, IsBegun}
@@ -155,9 +155,9 @@ module _ {V : Type 0} {P : V → Type 0} (seen : (x : V) × P x → Seen) (old :
                 → length new.seats.items ≤ length old.seats.items
                 → ((name : List ℕ) → id_of new.names name ≡ id_of old.names name)
                 → new.schedulers.items ≡ old.schedulers.items → new.threads.items ≡ old.threads.items
-                → new.tick ≡ old.tick → new.horizon ≡ old.horizon
+                → new.tick ≡ old.tick → new.horizon ≡ old.horizon → new.changed ≡ None
                 → (h : Hierarchy) → IsTreeOf seen old h → Moves seen old new h id w
-            moves root seats few names schedulers threads tick horizon h t = record {
+            moves root seats few names schedulers threads tick horizon changed h t = record {
               seat = seat;
               below = b.found;
               under = moved_under s old.tick old.horizon old.root stands.h stands.tree.of stands.seated id w left
@@ -190,6 +190,7 @@ module _ {V : Type 0} {P : V → Type 0} (seen : (x : V) × P x → Seen) (old :
                   threads = rw threads t.counts.threads;
                   seats = (let lt = t.counts.seats in omega (arith, few, lt));
                 };
+                told = any_told (shown_at (boxed seen) new.nodes) new.changed changed;
                 ported = ported_effect h id (reseated seat (h.nodes id)) b.found t.ported
                     (ported_by (reseated seat (stands.h.nodes id)) (reseated seat (h.nodes id))
                     (reseated_bare seat (stands.h.nodes id)
@@ -197,7 +198,7 @@ module _ {V : Type 0} {P : V → Type 0} (seen : (x : V) × P x → Seen) (old :
                     ∙ sym (reseated_bare seat (h.nodes id)))
                     (ported_reseated seat w.parent (stands.h.nodes id) stands.is.sort));
               };
-              ready = λ ready. moved_ready s old.tick old.horizon old.root stands.h stands.tree.of stands.seated id w left
-                  stands.is own seat mid late put leaves takes here others found (shown_at (boxed seen) new.nodes) b
+              ready = λ ready. moved_ready s old.tick old.horizon old.root stands.h stands.tree.of stands.seated id w
+                  left stands.is own seat mid late put leaves takes here others found (shown_at (boxed seen) new.nodes) b
                   plain_is h ready;
             }

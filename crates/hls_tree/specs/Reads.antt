@@ -1,5 +1,5 @@
 -- What the read calls answer, each by the hierarchy.
-use Rattle.std.specs.Prelude.{◌≡◌, ◌≢◌, ℕ, ◌≤◌, ◌==◌, List, ◌∷◌, [], ◌++◌, length, Option, Some, None, Bool, false}
+use Rattle.std.specs.Prelude.{◌≡◌, ◌≢◌, ℕ, ◌≤◌, List, ◌∷◌, [], ◌++◌, length, Option, Some, None}
 use Rattle.std.specs.Prelude.{filter, option_map}
 use Rattle.hls_chron.specs.declared.plain.Kind.TheVariants as kinds
 use Rattle.hls_chron.specs.declared.plain.Terms.{Terms}
@@ -7,8 +7,8 @@ use Rattle.hls_chron.specs.Kinds.{kind_of, terms_kind}
 use Rattle.hls_kinds.specs.Faults.{IsAnswer}
 use Rattle.hls_kinds.specs.declared.fault.SeatFault.{SeatFault}
 use Rattle.hls_kinds.specs.declared.fault.SeatFault.TheVariants as faults
-use Rattle.hls_legal.specs.Hierarchy.{Hierarchy, Node, Loaded, Admitted, Scheduler, Seat, SeatHolder, Place, Processor}
-use Rattle.hls_legal.specs.Hierarchy.{At, seat_of, book_of, config_of}
+use Rattle.hls_legal.specs.Hierarchy.{Hierarchy, Node, Loaded, Admitted, Scheduler, Seat, SeatHolder}
+use Rattle.hls_legal.specs.Hierarchy.{seat_of, book_of, config_of}
 use Rattle.hls_legal.specs.Legal.{IsChain, fair_queues}
 use Rattle.hls_tree.specs.Lists.{is_on}
 use Rattle.hls_tree.specs.Offers.{IsNoCycle}

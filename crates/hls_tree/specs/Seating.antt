@@ -1,17 +1,8 @@
 -- Seats that are wanted, and that are taken.
-use Rattle.std.specs.Prelude.{◌≡◌, ◌≢◌, ℕ, ◌-◌, ◌^◌, ◌<◌, ◌≤◌, List, [], ◌∷◌, length, Option, Some, None, slice_get}
+use Rattle.std.specs.Prelude.{◌≡◌, ◌≢◌, ℕ, ◌^◌, ◌<◌, List, length, Option, Some, None, slice_get}
 use Rattle.hls_chron.specs.declared.book.Event.{Event}
-use Rattle.hls_chron.specs.Ranges.{ConfigInRange}
-use Rattle.hls_sched.specs.Seen.{Seen, IsConfigured}
-use Rattle.hls_sched.specs.Seen.{config_of as config_of_seen}
-use Rattle.hls_legal.specs.Derived.{Follows}
-use Rattle.hls_legal.specs.Hierarchy.{Hierarchy, Node, Loaded, Seat, Place, Processor, At, config_of, haves_of}
-use Rattle.hls_legal.specs.Hierarchy.{seats_of}
-use Rattle.hls_legal.specs.Hierarchy.{Scheduler as LoadedScheduler}
-use Rattle.hls_kinds.specs.Room.{IsFree}
-use Rattle.hls_legal.specs.Steps.{seatings, leavings, Load, Admit, Move, after}
-use Rattle.hls_legal.specs.Legal.{IsBelow, scheduler_at}
-use Rattle.hls_legal.specs.Legal.{MaySit as CanSit}
+use Rattle.hls_legal.specs.Hierarchy.{Seat, Place, Processor, At}
+use Rattle.hls_legal.specs.Steps.{seatings}
 use Rattle.hls_walks.specs.Shown.{Shown, What, Bare, SchedulerNode, ThreadNode, bare_in, level_in, seats_in, ready_in}
 use Rattle.hls_walks.specs.Shown.{PostedIn, MaySitOn}
 use Rattle.hls_walks.specs.Shown.{IsFreeIn, on_post, post_seated, post_left, book_in, place_in}

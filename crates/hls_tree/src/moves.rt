@@ -231,6 +231,7 @@ impl Tree {
         forget_all(&mut self.nodes);
         list_last(&mut self.seats, id);
         self.root = root_moved(&left, &taken, id, self.root);
+        self.changed = None;
         self.passed = false;
     }
 }

@@ -1,12 +1,12 @@
 // What is read of the seats of a node and of those on it.
-ghost use Rattle.std.specs.Prelude.{◌≡◌, ◌≢◌, Some, IfOk, is_some, map};
+ghost use Rattle.std.specs.Prelude.{◌≡◌, ◌≢◌, ◌<◌, Some, IfOk, is_some, map, length, slice_get};
 ghost use Rattle.hls_chron.specs.Seats.{terms_at};
 ghost use Rattle.hls_chron.specs.Ticks.{count, one_if};
 ghost use Rattle.hls_legal.specs.Hierarchy.{Hierarchy, book_of, haves_of};
 ghost use Rattle.hls_walks.specs.Shown.{seats_in, book_in};
 ghost use Rattle.hls_walks.specs.Views.{boxed, shown_at, seat_view};
 ghost use Rattle.hls_tree.specs.Reads.{IsLoaded};
-ghost use Rattle.hls_tree.specs.Trees.{IsTreeOf, Stands};
+ghost use Rattle.hls_tree.specs.Trees.{IsTreeOf, Stands, ready_of};
 ghost use Rattle.hls_legal.specs.Hierarchy.{Seat as Taken};
 
 use crate::Tree;
@@ -80,6 +80,34 @@ impl Tree {
         match self.nodes.get(id.key()) {
             Some(node) => kept_of(alloc, &node.seats),
             None => Ok(Vec::new(alloc)),
+        }
+    }
+
+    /// How many ticks have passed.
+    pub fn now(&self) -> u32
+        ensures { (h : Hierarchy) → IsTreeOf seen self.now h → result ≡ h.now }
+    {
+        self.tick
+    }
+
+    /// The thread of a number, in the order of their admissions.
+    pub fn thread(&self, at: u32) -> NodeId
+        requires { Stands seen self.now (λ h. at < length h.threads) }
+        ensures { (h : Hierarchy) → IsTreeOf seen self.now h → slice_get h.threads at ≡ Some result }
+    {
+        self.threads[at as usize]
+    }
+
+    /// Whether a node is a thread that is ready.
+    pub fn is_ready(&self, id: NodeId) -> bool
+        ensures { result ≡ ready_of seen self.now id }
+    {
+        match self.nodes.get(id.key()) {
+            Some(node) => match &node.role {
+                Role::Sched(_) => false,
+                Role::Thread { ready } => *ready,
+            },
+            None => false,
         }
     }
 }

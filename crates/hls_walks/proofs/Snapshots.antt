@@ -10,7 +10,7 @@ use Rattle.hls_legal.specs.Hierarchy.{Seat, Place, Processor, At}
 use Rattle.hls_walks.specs.Shown.{Post, What, Scheduler, Thread, Shown, ToldIn, ToldWhat, bare_in}
 use Rattle.hls_walks.specs.Shown.{bare_what, book_in, book_bare, level_in, seats_in, place_in, mask_in}
 use Rattle.hls_walks.specs.Shown.{Bare, SchedulerNode, ThreadNode, most_bare, most_in}
-use Rattle.hls_walks.specs.Shown.{grant_in, ready_in, PostedIn, on_post}
+use Rattle.hls_walks.specs.Shown.{grant_in, asks_in, ready_in, PostedIn, on_post}
 use Rattle.hls_walks.specs.Shown.{post_revoked, IsPosted}
 use Rattle.hls_walks.specs.TreeOf.{IsAlike, IsLaid, IsRanked, level_at, level_over}
 
@@ -200,6 +200,8 @@ pub record IsRevoked (o : Option Shown) : Type 0 where
   pub node : bare_in (on_post post_revoked o) ≡ bare_in o
   pub ready : ready_in (on_post post_revoked o) ≡ ready_in o
   pub grant : grant_in (on_post post_revoked o) ≡ None
+  pub mask : mask_in (on_post post_revoked o) ≡ mask_in o
+  pub asks : asks_in (on_post post_revoked o) ≡ asks_in o
   pub posted : PostedIn o → PostedIn (on_post post_revoked o)
 
 posted_revoked : (post : Post) → IsPosted post → IsPosted (post_revoked post)
@@ -220,6 +222,8 @@ revoked_what name level seats (Scheduler post) = record {
   node = refl;
   ready = refl;
   grant = refl;
+  mask = refl;
+  asks = refl;
   posted = posted_revoked post;
 }
 revoked_what name level seats (Thread r) = record {
@@ -228,6 +232,8 @@ revoked_what name level seats (Thread r) = record {
   node = refl;
   ready = refl;
   grant = refl;
+  mask = refl;
+  asks = refl;
   posted = λ x. x;
 }
 
@@ -238,6 +244,8 @@ revoked None = record {
   node = refl;
   ready = refl;
   grant = refl;
+  mask = refl;
+  asks = refl;
   posted = λ x. x;
 }
 revoked (Some s) = revoked_what s.name s.level s.seats s.what

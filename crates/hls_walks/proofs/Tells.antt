@@ -1,42 +1,47 @@
 -- Telling what asks, node by node and port by port.
-use Rattle.std.proofs.Common.{◌≡◌, ◌≢◌, ◌⊎◌, inl, inr, ℕ, ◌+◌, ◌<◌, ◌≤◌, Bool, List, [], Option, Some, None}
-use Rattle.std.proofs.Common.{refl, sym, ap, ◌∙◌, subst, arith, slice_get}
+use Rattle.std.proofs.Common.{◌≡◌, ◌≢◌, ◌⊎◌, inl, inr, ℕ, ◌+◌, ◌<◌, ◌≤◌, Bool, true, false, List, []}
+use Rattle.std.proofs.Common.{Option, Some, None, ◌∷◌, ◌++◌, zero, suc}
+use Rattle.std.proofs.Common.{refl, sym, ap, ◌∙◌, subst, arith, slice_get, length}
 use Rattle.std.specs.Prelude.{option_map}
 use Rattle.std.proofs.lemmas.Bool.{cases_eq, cases_lt}
 use Rattle.std.proofs.lemmas.Option.{slice_get_past}
+use Rattle.hls_chron.specs.Seats.{terms_at}
 use Rattle.hls_kinds.specs.Asks.{slot_asks}
 use Rattle.hls_legal.specs.Hierarchy.{Seat, Place, Processor, At}
-use Rattle.hls_walks.specs.Shown.{level_in, seats_in, place_in, mask_in, asks_in, grant_in, PostedIn, on_post}
-use Rattle.hls_walks.specs.Shown.{post_revoked}
+use Rattle.hls_walks.specs.Shown.{What, Scheduler, Thread, Shown, Bare, level_in, seats_in, place_in, mask_in, asks_in}
+use Rattle.hls_walks.specs.Shown.{grant_in, is_sched, is_sched_what, PostedIn, on_post, post_revoked, bare_in}
+use Rattle.hls_walks.specs.Shown.{bare_what}
+use Rattle.hls_walks.specs.Shown.{SchedulerNode, ThreadNode, book_in, most_in, most_bare}
 use Rattle.hls_walks.specs.Views.{told_place}
-use Rattle.hls_walks.specs.TreeOf.{IsAlike, IsLaid, ToldBy, ToldAt, Told, IsTelling}
-use Rattle.hls_walks.proofs.Snapshots.{Nodes, one_of, rise, below_ten, IsChanged, changed, changed_alike, laid_alike}
-use Rattle.hls_walks.proofs.Snapshots.{alike_refl}
-use Rattle.hls_walks.proofs.Snapshots.{alike_places, revoked, revoked_alike}
+use Rattle.hls_walks.specs.TreeOf.{IsAlike, IsLaid, ToldBy, ToldAt, IsTelling, Tells, NoScheduler, IsFrom, IsOn, IsRoll}
+use Rattle.hls_walks.specs.TreeOf.{AllFrom, AllUpTo, Each, IsNew, AreTold}
+use Rattle.hls_walks.proofs.Snapshots.{Nodes, one_of, rise, IsChanged, changed, changed_alike, laid_alike, empty_terms}
+use Rattle.hls_walks.proofs.Snapshots.{alike_refl, alike_then, alike_places, revoked, revoked_alike}
 
 -- on the way through the ports of a node, which asks so
-pub record IsAtPort (s : Nodes) (level key port : ℕ) (asks : Bool) : Type 0 where
-  pub telling : IsTelling s (level + 1) key
-  pub level_is : level_in (s key) ≡ level
+pub record IsAtPort (old s : Nodes) (key port : ℕ) (asks : Bool) : Type 0 where
+  pub laid : IsLaid s
+  pub alike : IsAlike old s
+  pub posted : (k : ℕ) → PostedIn (s k)
+  pub free : (k : ℕ) → grant_in (s k) ≡ grant_in (old k)
   pub asks_so : asks_in (s key) ≡ asks
   pub ports : (q : ℕ) → q < port → ToldAt s key q
+  pub others : (c q : ℕ) → ((p slot : ℕ) → place_in (old key) p ≢ Some (At c slot)) → ToldAt old c q → ToldAt s c q
 
--- and what a further one leaves
-pub record IsNextPort (s new : Nodes) (level key port : ℕ) (asks : Bool) : Type 0 where
-  pub at_port : IsAtPort new level key (port + 1) asks
-  pub alike : IsAlike s new
-
-module _ (s : Nodes) (level key port : ℕ) (asks : Bool) (g : IsAtPort s level key port asks) where
+module _ (old s : Nodes) (key port : ℕ) (asks : Bool) (g : IsAtPort old s key port asks) where
   -- where there is nothing to tell
-  quiet_ports : ((p slot : ℕ) → place_in (s key) port ≢ Some (At p slot)) → IsAtPort s level key (port + 1) asks
+  quiet_ports : ((p slot : ℕ) → place_in (s key) port ≢ Some (At p slot)) → IsAtPort old s key (port + 1) asks
   quiet_ports none = record {
-    telling = g.telling;
-    level_is = g.level_is;
+    laid = g.laid;
+    alike = g.alike;
+    posted = g.posted;
+    free = g.free;
     asks_so = g.asks_so;
     ports = λ q lt p slot e. elim (cases_eq q port) [
       | inl same ↦ absurd (none p slot (ap (place_in (s key)) (sym same) ∙ e))
       | inr ne ↦ g.ports q (omega (arith, lt, ne)) p slot e
     ];
+    others = g.others;
   }
 
   module _ (new : Nodes) (p0 s0 : ℕ) (at : place_in (s key) port ≡ Some (At p0 s0))
@@ -44,15 +49,11 @@ module _ (s : Nodes) (level key port : ℕ) (asks : Bool) (g : IsAtPort s level 
     alike : IsAlike s new
     alike = changed_alike p0 s0 asks s new c0 others
 
-    asks_same : (c : ℕ) → level ≤ level_in (s c) → asks_in (new c) ≡ asks_in (s c)
-    asks_same c high = ap asks_in (others c (λ e.
-        let up : level_in (s p0) < level_in (s key) = rise s g.telling.laid.ranked key port p0 s0 at in
-        let l : level_in (s key) ≡ level = g.level_is in
-        let f : level_in (s c) ≡ level_in (s p0) = ap (λ n. level_in (s n)) e in
-        omega (arith, up, l, f, high)))
+    asks_same : (c : ℕ) → c ≢ p0 → asks_in (new c) ≡ asks_in (s c)
+    asks_same c ne = ap asks_in (others c ne)
 
     -- who told before still has, and so has this one
-    told_still : (c q : ℕ) → level ≤ level_in (s c) → ((c ≡ key) × (q ≡ port)) ⊎ ToldAt s c q → ToldAt new c q
+    told_still : (c q : ℕ) → c ≢ p0 → ((c ≡ key) × (q ≡ port)) ⊎ ToldAt s c q → ToldAt new c q
     told_still c q high or p slot e =
         let e' : place_in (s c) q ≡ Some (At p slot) = sym (alike_places s new alike c q) ∙ e in
         elim (cases_eq p p0) [
@@ -68,7 +69,7 @@ module _ (s : Nodes) (level key port : ℕ) (asks : Bool) (g : IsAtPort s level 
             | inl es ↦
                 let e2 : place_in (s c) q ≡ Some (At p0 s0) = e' ∙ ap (λ n. Some (At n slot)) ep
                 ∙ ap (λ n. Some (At p0 n)) es in
-                let same = g.telling.laid.alone c key q port (At p0 s0) e2 at in
+                let same = g.laid.alone c key q port (At p0 s0) e2 at in
                 ap (λ n. slot_asks (mask_in (new n)) slot) ep ∙ ap (slot_asks (mask_in (new p0))) es ∙ c0.here
                 ∙ sym g.asks_so ∙ ap (λ n. asks_in (s n)) (sym same.0) ∙ sym (asks_same c high)
             | inr ns ↦ elim or [
@@ -83,123 +84,327 @@ module _ (s : Nodes) (level key port : ℕ) (asks : Bool) (g : IsAtPort s level 
           ]
         ]
 
-    telling_next : IsNextPort s new level key port asks
+    -- it does not sit on itself
+    apart : key ≢ p0
+    apart e =
+        let up : level_in (s p0) < level_in (s key) = rise s g.laid.ranked key port p0 s0 at in
+        let f : level_in (s key) ≡ level_in (s p0) = ap (λ n. level_in (s n)) e in
+        omega (arith, up, f)
+
+    telling_next : IsAtPort old new key (port + 1) asks
     telling_next = record {
-      alike = alike;
-      at_port = record {
-        telling = record {
-          laid = laid_alike s new alike g.telling.laid;
-          posted = one_of (λ k. PostedIn (new k)) p0 c0.posted
-              (λ k ne. subst PostedIn (sym (others k ne)) (g.telling.posted k));
-          free = one_of (λ k. grant_in (new k) ≡ None) p0 (c0.grant
-              ∙ g.telling.free p0) (λ k ne. ap grant_in (others k ne) ∙ g.telling.free k);
-          told = record {
-            told = λ c q done before.
-                let d : level + 1 ≤ level_in (s c) + 1 = rw (← alike.levels c) done in
-                told_still c q (omega (arith, d))
-                (inr (g.telling.told.told c q d (λ b. before (ap (λ n. n + 1) (alike.levels c) ∙ b))));
-          };
-        };
-        level_is = alike.levels key ∙ g.level_is;
-        asks_so = asks_same key (let l : level_in (s key) ≡ level = g.level_is in omega (arith, l)) ∙ g.asks_so;
-        ports = λ q lt.
-            let high : level ≤ level_in (s key) = (let l : level_in (s key) ≡ level = g.level_is in omega (arith, l)) in
-            elim (cases_eq q port) [
-              | inl same ↦ told_still key q high (inl (refl, same))
-              | inr ne ↦ told_still key q high (inr (g.ports q (omega (arith, lt, ne))))
-            ];
-      };
+      laid = laid_alike s new alike g.laid;
+      alike = alike_then old s new g.alike alike;
+      posted = one_of (λ k. PostedIn (new k)) p0 c0.posted
+          (λ k ne. subst PostedIn (sym (others k ne)) (g.posted k));
+      free = one_of (λ k. grant_in (new k) ≡ grant_in (old k)) p0 (c0.grant ∙ g.free p0)
+          (λ k ne. ap grant_in (others k ne) ∙ g.free k);
+      asks_so = asks_same key apart ∙ g.asks_so;
+      ports = λ q lt. elim (cases_eq q port) [
+        | inl same ↦ told_still key q apart (inl (refl, same))
+        | inr ne ↦ told_still key q apart (inr (g.ports q (omega (arith, lt, ne))))
+      ];
+      others = λ c q none t. told_still c q
+          (λ e. none port s0 (sym (alike_places old s g.alike key port) ∙ at ∙ ap (λ n. Some (At n s0)) (sym e)))
+          (inr (g.others c q none t));
     }
 
-quiet_next : (s new : Nodes) (level key port : ℕ) (asks : Bool) → IsAtPort s level key port asks
+quiet_next : (old s new : Nodes) (key port : ℕ) (asks : Bool) → IsAtPort old s key port asks
     → ((p slot : ℕ) → place_in (s key) port ≢ Some (At p slot)) → ((k : ℕ) → new k ≡ s k)
-    → IsNextPort s new level key port asks
-quiet_next s new level key port asks g none same =
+    → IsAtPort old new key (port + 1) asks
+quiet_next old s new key port asks g none same =
     let path : s ≡ new = (λ i k. sym (same k) i) in
-    subst (λ f. IsNextPort s f level key port asks) path
-    (record { at_port = quiet_ports s level key port asks g none; alike = alike_refl s })
+    subst (λ f. IsAtPort old f key (port + 1) asks) path (quiet_ports old s key port asks g none)
 
-next_by : (s new : Nodes) (level key port : ℕ) (asks : Bool) (place : Option Place)
-    → IsAtPort s level key port asks → place_in (s key) port ≡ place → ToldBy (told_place place) asks s new
-    → IsNextPort s new level key port asks
-next_by s new level key port asks None g e by = quiet_next s new level key port asks g (λ p slot k. cc) by
-next_by s new level key port asks (Some Processor) g e by = quiet_next s new level key port asks g (λ p slot k. cc) by
-next_by s new level key port asks (Some (At p0 s0)) g e by =
-    telling_next s level key port asks g new p0 s0 e
-    (changed s0 asks (s p0) (new p0) by.0 (g.telling.laid.taken key port p0 s0 e)) by.1
+next_by : (old s new : Nodes) (key port : ℕ) (asks : Bool) (place : Option Place)
+    → IsAtPort old s key port asks → place_in (s key) port ≡ place → ToldBy (told_place place) asks s new
+    → IsAtPort old new key (port + 1) asks
+next_by old s new key port asks None g e by = quiet_next old s new key port asks g (λ p slot k. cc) by
+next_by old s new key port asks (Some Processor) g e by =
+    quiet_next old s new key port asks g (λ p slot k. cc) by
+next_by old s new key port asks (Some (At p0 s0)) g e by =
+    telling_next old s key port asks g new p0 s0 e
+    (changed s0 asks (s p0) (new p0) by.0 (g.laid.taken key port p0 s0 e)) by.1
 
-pub next_port : (s new : Nodes) (level key port : ℕ) (asks : Bool) → IsAtPort s level key port asks
-    → ToldBy (told_place (place_in (s key) port)) asks s new → IsNextPort s new level key port asks
-next_port s new level key port asks g by = next_by s new level key port asks (place_in (s key) port) g refl by
+pub next_port : (old s new : Nodes) (key port : ℕ) (asks : Bool) → IsAtPort old s key port asks
+    → ToldBy (told_place (place_in (s key) port)) asks s new → IsAtPort old new key (port + 1) asks
+next_port old s new key port asks g by = next_by old s new key port asks (place_in (s key) port) g refl by
 
 -- from port to port
-pub ports_start : (s : Nodes) (level key : ℕ) (asks : Bool) → IsTelling s (level + 1) key
-    → level_in (s key) ≡ level → asks ≡ asks_in (s key) → IsAtPort s level key 0 asks
-ports_start s level key asks t l e =
-    record { telling = t; level_is = l; asks_so = sym e; ports = λ q lt. absurd (omega (arith, lt)) }
+pub ports_start : (s : Nodes) (key : ℕ) (asks : Bool) → IsLaid s → ((k : ℕ) → PostedIn (s k))
+    → asks ≡ asks_in (s key) → IsAtPort s s key 0 asks
+ports_start s key asks laid posted e = record {
+  laid = laid;
+  alike = alike_refl s;
+  posted = posted;
+  free = λ k. refl;
+  asks_so = sym e;
+  ports = λ q lt. absurd (omega (arith, lt));
+  others = λ c q none t. t;
+}
 
-pub no_port : (s : Nodes) (key port : ℕ) (place : Place) → IsLaid s → 4 ≤ port → place_in (s key) port ≢ Some place
-no_port s key port place laid le e =
-    let past : slice_get (seats_in (s key)) port ≡ None =
-    slice_get_past (seats_in (s key)) port (let few = laid.ranked.ports key in omega (arith, few, le)) in
+past_ports : (s : Nodes) (key port : ℕ) (place : Place) → length (seats_in (s key)) ≤ port
+    → place_in (s key) port ≢ Some place
+past_ports s key port place le e =
+    let past : slice_get (seats_in (s key)) port ≡ None = slice_get_past (seats_in (s key)) port le in
     let none : place_in (s key) port ≡ None = ap (option_map (λ (seat : Seat). seat.place)) past in
     cc
 
--- from node to node
-with_told : (s : Nodes) (bound key b k : ℕ) → IsTelling s bound key → Told s b k → IsTelling s b k
-with_told s bound key b k t told = record { laid = t.laid; posted = t.posted; free = t.free; told = told }
+pub no_port : (s : Nodes) (key port : ℕ) (place : Place) → IsLaid s → 4 ≤ port → place_in (s key) port ≢ Some place
+no_port s key port place laid le =
+    past_ports s key port place (let few = laid.ranked.ports key in omega (arith, few, le))
 
-pub ports_end : (s : Nodes) (level key port : ℕ) (asks : Bool) → IsAtPort s level key port asks → 4 ≤ port
-    → IsTelling s (level + 1) (key + 1)
-ports_end s level key port asks g le = with_told s (level + 1) key (level + 1) (key + 1) g.telling (record {
-  told = λ c q done before. elim (cases_eq c key) [
-    | inl same ↦ (let here : ToldAt s key q = elim (cases_lt q port) [
-      | inl lt ↦ g.ports q lt
-      | inr ge ↦ λ p slot e. absurd (no_port s key q (At p slot) g.telling.laid (omega (arith, le, ge)) e)
-    ] in subst (λ n. ToldAt s n q) (sym same) here)
-    | inr ne ↦ g.telling.told.told c q done (λ b. let lt : c < key + 1 = before b in omega (arith, lt, ne))
+pub ports_end : (old s : Nodes) (key port : ℕ) (asks : Bool) → IsAtPort old s key port asks
+    → length (seats_in (old key)) ≤ port → Tells key old s
+ports_end old s key port asks g le = record {
+  alike = g.alike;
+  posted = g.posted;
+  free = g.free;
+  told = λ q. elim (cases_lt q port) [
+    | inl lt ↦ g.ports q lt
+    | inr ge ↦ λ p slot e. absurd (past_ports s key q (At p slot)
+        (let same = ap length (g.alike.seats key) in omega (arith, le, ge, same)) e)
   ];
-})
+  others = g.others;
+}
 
-pub other_level : (s : Nodes) (level key : ℕ) → IsTelling s (level + 1) key → level_in (s key) ≢ level
-    → IsTelling s (level + 1) (key + 1)
-other_level s level key t off = with_told s (level + 1) key (level + 1) (key + 1) t (record {
-  told = λ c q done before. t.told.told c q done (λ b. elim (cases_eq c key) [
-    | inl same ↦ absurd (off (let f : level_in (s c) ≡ level_in (s key) = ap (λ n. level_in (s n)) same in omega
-        (arith, b, f)))
-    | inr ne ↦ (let lt : c < key + 1 = before b in omega (arith, lt, ne))
-  ]);
-})
+-- from node to node
+pub tells_step : (old new : Nodes) (key : ℕ) (HasTold Then : ℕ → Type 0) → IsTelling old HasTold → Tells key old new
+    → ((c : ℕ) → Then c → c ≢ key → HasTold c)
+    → ((q c slot : ℕ) → place_in (old key) q ≡ Some (At c slot) → Then c → ⊥) → IsTelling new Then
+tells_step old new key HasTold Then t by before parents = record {
+  laid = laid_alike old new by.alike t.laid;
+  posted = by.posted;
+  free = λ k. by.free k ∙ t.free k;
+  told = λ c port then. elim (cases_eq c key) [
+    | inl e ↦ subst (λ n. ToldAt new n port) (sym e) (by.told port)
+    | inr ne ↦ by.others c port (λ q slot at. parents q c slot at then) (t.told c port (before c then ne))
+  ];
+}
 
--- from level to level
-pub level_end : (s : Nodes) (level key : ℕ) → ((k : ℕ) → key ≤ k → seats_in (s k) ≡ [])
-    → IsTelling s (level + 1) key
-    → IsTelling s level 0
-level_end s level key none t = with_told s (level + 1) key level 0 t (record {
-  told = λ c q done before p slot e. t.told.told c q (elim (cases_lt (level_in (s c)) level) [
-    | inl lt ↦ (let x : level_in (s c) + 1 ≡ level = omega (arith, lt, done) in absurd (omega (arith, before x)))
-    | inr ge ↦ omega (arith, ge)
-  ]) (λ b. elim (cases_lt c key) [
-    | inl lt ↦ lt
-    | inr ge ↦ absurd (let gone : place_in (s c) q ≡ None = ap
-        (λ (seats : List Seat). option_map (λ (seat : Seat). seat.place) (slice_get seats q)) (none c ge) in cc)
-  ]) p slot e;
-})
+pub tells_fewer : (s : Nodes) (HasTold Then : ℕ → Type 0) → IsTelling s HasTold → ((c : ℕ) → Then c → HasTold c)
+    → IsTelling s Then
+tells_fewer s HasTold Then t before =
+    record { laid = t.laid; posted = t.posted; free = t.free; told = λ c port then. t.told c port (before c then) }
 
-pub telling_to : (s : Nodes) (a b : ℕ) → a ≡ b → IsTelling s a 0 → IsTelling s b 0
-telling_to s a b e t = subst (λ n. IsTelling s n 0) e t
+-- one on whom somebody sits is a scheduler
+sched_what : (w : What) (name : List ℕ) (level : ℕ) (seats : List Seat) (slot : ℕ)
+    → terms_at (book_in (Some (record { name = name; level = level; seats = seats; what = w }))) slot ≢ None
+    → is_sched_what w ≡ true
+sched_what (Scheduler post) name level seats slot taken = refl
+sched_what (Thread r) name level seats slot taken = absurd (taken (empty_terms slot))
+
+sched_in : (o : Option Shown) (slot : ℕ) → terms_at (book_in o) slot ≢ None → is_sched o ≡ true
+sched_in None slot taken = absurd (taken (empty_terms slot))
+sched_in (Some s) slot taken = sched_what s.what s.name s.level s.seats slot taken
+
+pub sched_below : (s : Nodes) (c port p slot : ℕ) → IsLaid s → place_in (s c) port ≡ Some (At p slot)
+    → is_sched (s p) ≡ true
+sched_below s c port p slot laid e = sched_in (s p) slot (laid.taken c port p slot e)
+
+-- and is still one
+abbrev pub is_sched_bare : Option Bare → Bool
+is_sched_bare None = false
+is_sched_bare (Some (SchedulerNode s)) = true
+is_sched_bare (Some (ThreadNode name seats)) = false
+
+bare_sched_what : (name : List ℕ) (seats : List Seat) (w : What)
+    → is_sched_what w ≡ is_sched_bare (Some (bare_what name seats w))
+bare_sched_what name seats (Scheduler post) = refl
+bare_sched_what name seats (Thread r) = refl
+
+pub bare_sched : (o : Option Shown) → is_sched o ≡ is_sched_bare (bare_in o)
+bare_sched None = refl
+bare_sched (Some s) = bare_sched_what s.name s.seats s.what
+
+pub sched_same : (o new : Option Shown) → bare_in new ≡ bare_in o → is_sched new ≡ is_sched o
+sched_same o new e = bare_sched new ∙ ap is_sched_bare e ∙ sym (bare_sched o)
+
+pub sched_alike : (old new : Nodes) → IsAlike old new → (c : ℕ) → is_sched (new c) ≡ is_sched (old c)
+sched_alike old new a c = sched_same (old c) (new c) (a.nodes c)
+
+pub roll_alike : (old new : Nodes) (schedulers : List ℕ) → IsAlike old new → IsRoll old schedulers
+    → IsRoll new schedulers
+roll_alike old new schedulers a r =
+    record { all = λ c is. r.all c (sym (sched_alike old new a c) ∙ is); once = r.once }
+
+-- the number of a list's place
+entry_at : (l : List ℕ) (i c key : ℕ) → slice_get l i ≡ Some key → slice_get l i ≡ Some c → c ≡ key
+entry_at l i c key e f = (let same : Some c ≡ Some key = sym f ∙ e in cc)
+
+-- threads that have something new to tell, by a list or all
+
+pub listed_step : (old new : Nodes) (l : List ℕ) (i key : ℕ) → slice_get l i ≡ Some key
+    → IsTelling old (λ c. NoScheduler old c × ¬ IsFrom i l c) → Tells key old new
+    → IsTelling new (λ c. NoScheduler new c × ¬ IsFrom (i + 1) l c)
+listed_step old new l i key at t by = tells_step old new key _ _ t by
+    (λ c then ne. (
+      λ is. then.0 (sched_alike old new by.alike c ∙ is),
+      λ w. elim (cases_eq w.0 i) [
+        | inl e ↦ ne (entry_at l i c key at (ap (slice_get l) (sym e) ∙ w.2))
+        | inr nj ↦ then.1 (w.0, omega (arith, w.1, nj), w.2)
+      ],
+    ))
+    (λ q c slot e then. then.0 (sched_alike old new by.alike c ∙ sched_below old key q c slot t.laid e))
+
+pub listed_start : (s : Nodes) (l : List ℕ) → IsTelling s (λ c. NoScheduler s c × ¬ IsNew (Some l) c)
+    → IsTelling s (λ c. NoScheduler s c × ¬ IsFrom 0 l c)
+listed_start s l t = tells_fewer s _ _ t (λ c then. (then.0, λ on. then.1 (on.0, omega arith, on.1)))
+
+past_end : (l : List ℕ) (i c : ℕ) → length l ≤ i → IsFrom i l c → ⊥
+past_end l i c le w =
+    let past : slice_get l w.0 ≡ None = slice_get_past l w.0 (omega (arith, le, w.1)) in
+    let clash : None ≡ Some c = sym past ∙ w.2 in
+    cc
+
+pub listed_end : (s : Nodes) (l : List ℕ) (i : ℕ) → length l ≤ i
+    → IsTelling s (λ c. NoScheduler s c × ¬ IsFrom i l c) → IsTelling s (NoScheduler s)
+listed_end s l i le t = tells_fewer s _ _ t (λ c then. (then, past_end l i c le))
+
+pub all_start : (s : Nodes) → IsTelling s (λ c. NoScheduler s c × ¬ IsNew None c)
+    → IsTelling s (λ c. NoScheduler s c × (c < 0))
+all_start s t = tells_fewer s _ _ t (λ c then. absurd (omega (arith, then.1)))
+
+pub all_step : (old new : Nodes) (key : ℕ) → IsTelling old (λ c. NoScheduler old c × (c < key)) → Tells key old new
+    → IsTelling new (λ c. NoScheduler new c × (c < key + 1))
+all_step old new key t by = tells_step old new key _ _ t by
+    (λ c then ne. (λ is. then.0 (sched_alike old new by.alike c ∙ is), let lt = then.1 in omega (arith, lt, ne)))
+    (λ q c slot e then. then.0 (sched_alike old new by.alike c ∙ sched_below old key q c slot t.laid e))
+
+pub all_skip : (s : Nodes) (key : ℕ) → is_sched (s key) ≡ true → IsTelling s (λ c. NoScheduler s c × (c < key))
+    → IsTelling s (λ c. NoScheduler s c × (c < key + 1))
+all_skip s key is t = tells_fewer s _ _ t (λ c then. (
+  then.0,
+  elim (cases_eq c key) [
+    | inl e ↦ absurd (then.0 (ap (λ n. is_sched (s n)) e ∙ is))
+    | inr ne ↦ (let lt = then.1 in omega (arith, lt, ne))
+  ],
+))
+
+pub all_end : (s : Nodes) (key : ℕ) → ((k : ℕ) → key ≤ k → seats_in (s k) ≡ [])
+    → IsTelling s (λ c. NoScheduler s c × (c < key)) → IsTelling s (NoScheduler s)
+all_end s key none t = record {
+  laid = t.laid;
+  posted = t.posted;
+  free = t.free;
+  told = λ c port then. elim (cases_lt c key) [
+    | inl lt ↦ t.told c port (then, lt)
+    | inr ge ↦ λ p slot e. absurd (past_ports s c port (At p slot)
+        (let few = ap length (none c ge) in omega (arith, few)) e)
+  ];
+}
+
+-- schedulers, level by level
+most_bare_sched : (b : Option Bare) → is_sched_bare b ≡ true → most_bare b ≤ 8
+most_bare_sched None is = cc
+most_bare_sched (Some (SchedulerNode s)) is = omega arith
+most_bare_sched (Some (ThreadNode name seats)) is = cc
+
+pub levels_start : (s : Nodes) → IsTelling s (NoScheduler s) → IsTelling s (AllFrom s 9)
+levels_start s t = tells_fewer s _ _ t (λ c then is.
+    let few : level_in (s c) ≤ most_in (s c) = t.laid.ranked.few c in
+    let most : most_in (s c) ≤ 8 = most_bare_sched (bare_in (s c)) (sym (bare_sched (s c)) ∙ is) in
+    let far : 9 ≤ level_in (s c) = then is in
+    omega (arith, few, most, far))
+
+pub level_start : (s : Nodes) (level : ℕ) (l : List ℕ) → ((c : ℕ) → is_sched (s c) ≡ true → IsOn l c)
+    → IsTelling s (AllFrom s (level + 1)) → IsTelling s (AllUpTo s level l 0)
+level_start s level l all t = tells_fewer s _ _ t (λ c then is.
+    let both = then is in
+    elim (cases_eq (level_in (s c)) level) [
+      | inl e ↦ absurd (let on = all c is in both.1 e (on.0, omega arith, on.1))
+      | inr ne ↦ (let le : level ≤ level_in (s c) = both.0 in omega (arith, le, ne))
+    ])
+
+pub level_step : (old new : Nodes) (level : ℕ) (l : List ℕ) (i key : ℕ) → slice_get l i ≡ Some key
+    → level_in (old key) ≡ level → IsTelling old (AllUpTo old level l i) → Tells key old new
+    → IsTelling new (AllUpTo new level l (i + 1))
+level_step old new level l i key at here t by = tells_step old new key _ _ t by
+    (λ c then ne is.
+    let both = then (sched_alike old new by.alike c ∙ is) in
+    let same : level_in (new c) ≡ level_in (old c) = by.alike.levels c in
+    let le : level ≤ level_in (new c) = both.0 in (
+      omega (arith, le, same),
+      λ e w. elim (cases_eq w.0 i) [
+        | inl j ↦ ne (entry_at l i c key at (ap (slice_get l) (sym j) ∙ w.2))
+        | inr nj ↦ both.1 (same ∙ e) (w.0, (let le = w.1 in omega (arith, le, nj)), w.2)
+      ],
+    ))
+    (λ q c slot e then.
+    let both = then (sched_alike old new by.alike c ∙ sched_below old key q c slot t.laid e) in
+    let same : level_in (new c) ≡ level_in (old c) = by.alike.levels c in
+    let le : level ≤ level_in (new c) = both.0 in
+    let up : level_in (old c) < level_in (old key) = rise old t.laid.ranked key q c slot e in
+    omega (arith, le, same, up, here))
+
+pub level_skip : (s : Nodes) (level : ℕ) (l : List ℕ) (i key : ℕ) → slice_get l i ≡ Some key
+    → level_in (s key) ≢ level → IsTelling s (AllUpTo s level l i) → IsTelling s (AllUpTo s level l (i + 1))
+level_skip s level l i key at off t = tells_fewer s _ _ t (λ c then is.
+    let both = then is in (
+      both.0,
+      λ e w. elim (cases_eq w.0 i) [
+        | inl j ↦ off (ap (λ n. level_in (s n)) (sym (entry_at l i c key at (ap (slice_get l) (sym j) ∙ w.2))) ∙ e)
+        | inr nj ↦ both.1 e (w.0, (let le = w.1 in omega (arith, le, nj)), w.2)
+      ],
+    ))
+
+pub level_end : (s : Nodes) (level : ℕ) (l : List ℕ) (i : ℕ) → length l ≤ i → IsTelling s (AllUpTo s level l i)
+    → IsTelling s (AllFrom s level)
+level_end s level l i le t = tells_fewer s _ _ t (λ c then is. (then is, λ e. past_end l i c le))
+
+pub levels_end : (s : Nodes) → IsTelling s (AllFrom s 0) → IsTelling s Each
+levels_end s t = tells_fewer s _ _ t (λ c then is. omega arith)
+
+pub level_to : (s : Nodes) (a b : ℕ) → a ≡ b → IsTelling s (AllFrom s a) → IsTelling s (AllFrom s b)
+level_to s a b e t = subst (λ n. IsTelling s (AllFrom s n)) e t
+
+-- what was told, where masks and what asks are the same
+pub told_same : (old new : Nodes) → ((k port : ℕ) → place_in (new k) port ≡ place_in (old k) port)
+    → ((k : ℕ) → mask_in (new k) ≡ mask_in (old k)) → (c port : ℕ) → asks_in (new c) ≡ asks_in (old c)
+    → ToldAt old c port → ToldAt new c port
+told_same old new places masks c port asks t p slot e =
+    ap (λ m. slot_asks m slot) (masks p) ∙ t p slot (sym (places c port) ∙ e) ∙ sym asks
 
 -- where all grants were taken back, the telling can begin
-pub telling_start : (old s : Nodes) → IsLaid old → ((k : ℕ) → PostedIn (old k))
-    → ((k : ℕ) → s k ≡ on_post post_revoked (old k)) → IsTelling s 10 0
-telling_start old s laid posted e =
-    let laid_now : IsLaid s = laid_alike old s (revoked_alike old s e) laid in
+pub telling_start : (old s : Nodes) (new : Option (List ℕ)) → IsLaid old → ((k : ℕ) → PostedIn (old k))
+    → AreTold old new → ((k : ℕ) → s k ≡ on_post post_revoked (old k))
+    → IsTelling s (λ c. NoScheduler s c × ¬ IsNew new c)
+telling_start old s new laid posted told e =
+    let a : IsAlike old s = revoked_alike old s e in
     record {
-      laid = laid_now;
+      laid = laid_alike old s a laid;
       posted = λ k. subst PostedIn (sym (e k)) ((revoked (old k)).posted (posted k));
       free = λ k. ap grant_in (e k) ∙ (revoked (old k)).grant;
-      told = record {
-        told = λ c q done before. (let few : level_in (s c) ≤ 9 = below_ten s laid_now.ranked c in
-            absurd (omega (arith, before (omega (arith, few, done)))));
-      };
+      told = λ c port then. told_same old s (alike_places old s a) (λ k. ap mask_in (e k) ∙ (revoked (old k)).mask)
+          c port (ap asks_in (e c) ∙ (revoked (old c)).asks)
+          (told c port (λ is. then.0 (sched_alike old s a c ∙ is)) then.1);
     }
+
+-- where any node may have something new to tell
+pub any_told : (s : Nodes) (new : Option (List ℕ)) → new ≡ None → AreTold s new
+any_told s new e = subst (AreTold s) (sym e) (λ c port not none. absurd (none tt))
+
+pub told_by : (old new : Nodes) (was now : Option (List ℕ)) → ((k : ℕ) → new k ≡ old k) → now ≡ was → AreTold old was
+    → AreTold new now
+told_by old new was now same e told =
+    let path : old ≡ new = (λ i k. sym (same k) i) in
+    subst (λ f. AreTold f now) path (subst (AreTold old) (sym e) told)
+
+-- one more on a list
+pub on_left : (l more : List ℕ) (i c : ℕ) → slice_get l i ≡ Some c → slice_get (l ++ more) i ≡ Some c
+on_left [] more i c e = cc
+on_left (x ∷ l) more zero c e = e
+on_left (x ∷ l) more (suc i) c e = on_left l more i c e
+
+pub at_end : (l : List ℕ) (id : ℕ) → slice_get (l ++ id ∷ []) (length l) ≡ Some id
+at_end [] id = refl
+at_end (x ∷ l) id = at_end l id
+
+pub on_pushed : (changed : Option (List ℕ)) (l new : List ℕ) (id : ℕ) → changed ≡ Some l → new ≡ l ++ id ∷ [] → (c : ℕ)
+    → IsNew changed c → IsOn new c
+on_pushed changed l new id e is c on =
+    let was : IsOn l c = subst (λ o. IsNew o c) e on in
+    subst (λ x. IsOn x c) (sym is) (was.0, on_left l (id ∷ []) was.0 c was.1)
+
+pub on_last : (l new : List ℕ) (id : ℕ) → new ≡ l ++ id ∷ [] → IsOn new id
+on_last l new id is = subst (λ x. IsOn x id) (sym is) (length l, at_end l id)

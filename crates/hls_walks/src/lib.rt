@@ -2,12 +2,14 @@
 //! processor is granted down, and ticks pass.
 #![tactic(auto)]
 
+mod changed;
 mod id;
 mod node;
 mod route;
 mod station;
 mod walk;
 
+pub use changed::{Changed, note_changed};
 pub use id::NodeId;
 pub use node::{Body, Node, Place, Role, TakenSeat, is_processor, same_place};
 pub use route::Route;

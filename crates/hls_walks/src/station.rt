@@ -11,17 +11,19 @@ ghost use Rattle.hls_walks.specs.Shown.{post_seated, post_left, post_settled, Ma
 ghost use Rattle.hls_kinds.specs.Room.{IsFree, IsFull};
 ghost use Rattle.hls_walks.specs.Views.{post_of};
 
+use crate::NodeId;
 use hls_chron::{Config, Terms};
 use hls_sched::{Scheduler, SeatFault};
 
-/// A box that is set up, its configuration, the slots that it was told to ask, a bit each, and whether
-/// it is granted.
+/// A box that is set up, its configuration, the slots that it was told to ask, a bit each, whether it
+/// is granted, and who was seen last at each of its slots.
 #[derive(Drop)]
 pub struct Station {
     pub unit: Box<dyn Scheduler>,
     pub config: Config,
     pub mask: u32,
     pub granted: bool,
+    pub last_seen: [NodeId; 32],
 }
 
 /// The bit of a slot.
@@ -142,6 +144,25 @@ impl Station {
         self.unit.grant(port);
         self.granted = true;
         slot
+    }
+
+    /// Who was seen last at a slot.
+    pub fn last_at(&self, slot: u32) -> usize {
+        match self.last_seen.get(slot as usize) {
+            Some(id) => id.key(),
+            None => 0,
+        }
+    }
+
+    /// Notes who was seen at a slot.
+    pub fn note(&mut self, slot: u32, id: NodeId)
+        requires posted { IsPosted (post_of seen self.old) }
+        ensures same { post_of seen self.new ≡ post_of seen self.old }
+        ensures choice { choice self.new.unit ≡ choice self.old.unit }
+    {
+        if let Some(last) = self.last_seen.get_mut(slot as usize) {
+            *last = id;
+        }
     }
 
     /// One tick.

@@ -1,15 +1,19 @@
 // Walks over the nodes.
-ghost use Rattle.std.specs.Prelude.{◌≡◌, ◌≢◌, ℕ, ◌+◌, ◌<◌, Option, Some, None, true, IfSome, IsNone};
+ghost use Rattle.std.specs.Prelude.{◌≡◌, ◌≢◌, ℕ, ◌+◌, ◌<◌, ◌≤◌, Option, Some, None, true, IfSome, IsNone};
+ghost use Rattle.std.specs.Prelude.{length};
 ghost use Rattle.slab.specs.Slab.{get};
 ghost use Rattle.hls_chron.specs.Seats.{terms_at};
 ghost use Rattle.hls_legal.specs.Hierarchy.{Processor};
-ghost use Rattle.hls_walks.specs.Shown.{PostedIn, ToldIn, RoomIn, ServesIn, book_in, asks_in, level_in, place_in};
-ghost use Rattle.hls_walks.specs.Shown.{grant_in, is_sched, on_post, post_revoked, post_granted, post_turned, with_ready};
+ghost use Rattle.hls_walks.specs.Shown.{PostedIn, ToldIn, RoomIn, ServesIn};
+ghost use Rattle.hls_walks.specs.Shown.{book_in, asks_in, level_in, place_in, seats_in};
+ghost use Rattle.hls_walks.specs.Shown.{grant_in, is_sched, on_post, post_revoked, post_granted, post_turned};
+ghost use Rattle.hls_walks.specs.Shown.{with_ready};
 ghost use Rattle.hls_walks.specs.Views.{shown_at, choice_at, told_place, is_place, place_view};
 ghost use Rattle.hls_walks.specs.TreeOf.{IsLaid, IsAlike, IsTelling, ToldBy, Sitter, Led, Ran, RootAt, Passed};
+ghost use Rattle.hls_walks.specs.TreeOf.{Tells, NoScheduler, IsNew, IsRoll, AllFrom, AllUpTo, Each, AreTold};
 
 use crate::node::same_place;
-use crate::{Node, NodeId, Place, Role, Route};
+use crate::{Changed, Node, NodeId, Place, Role, Route};
 use slab::Slab;
 
 /// Tells a scheduler whether a seat on it asks.
@@ -89,51 +93,127 @@ fn tell_port(nodes: &mut Slab<Node>, key: usize, port: u8, asks: bool)
     }
 }
 
+/// How many ports a node has.
+fn ports_at(nodes: &Slab<Node>, key: usize) -> u8
+    requires { length (seats_in (shown_at seen nodes.now key)) ≤ 4 }
+    ensures { result ≡ length (seats_in (shown_at seen nodes.now key)) }
+{
+    match nodes.get(key) {
+        Some(node) => node.seats.len() as u8,
+        None => 0,
+    }
+}
+
 /// Tells at each port of a node what it asks.
-fn tell_ports(nodes: &mut Slab<Node>, key: usize, level: u8)
-    requires telling { IsTelling (shown_at seen nodes.old) (level + 1) key }
-    requires level { level_in (shown_at seen nodes.old key) ≡ level }
-    ensures telling { IsTelling (shown_at seen nodes.new) (level + 1) (key + 1) }
-    ensures alike { IsAlike (shown_at seen nodes.old) (shown_at seen nodes.new) }
+fn tell_ports(nodes: &mut Slab<Node>, key: usize)
+    requires laid { IsLaid (shown_at seen nodes.old) }
+    requires posted { (k : ℕ) → PostedIn (shown_at seen nodes.old k) }
+    ensures { Tells key (shown_at seen nodes.old) (shown_at seen nodes.new) }
 {
     let asks = asks_at(nodes, key);
-    for port in 0..4u8 {
+    let ports = ports_at(nodes, key);
+    for port in 0..ports {
         tell_port(nodes, key, port, asks);
     }
 }
 
-/// Tells what a node asks, if it is at the level.
-fn tell_node(nodes: &mut Slab<Node>, key: usize, level: u8)
-    requires telling { IsTelling (shown_at seen nodes.old) (level + 1) key }
-    ensures telling { IsTelling (shown_at seen nodes.new) (level + 1) (key + 1) }
-    ensures alike { IsAlike (shown_at seen nodes.old) (shown_at seen nodes.new) }
+/// Whether a node is a scheduler.
+fn is_sched_at(nodes: &Slab<Node>, key: usize) -> bool
+    ensures { result ≡ is_sched (shown_at seen nodes.now key) }
 {
-    if level_at(nodes, key) != level {
-        return;
+    match nodes.get(key) {
+        Some(node) => !node.role.is_thread(),
+        None => false,
     }
-    tell_ports(nodes, key, level);
 }
 
-/// Tells what the nodes at a level ask.
-fn tell_level(nodes: &mut Slab<Node>, level: u8)
-    requires telling { IsTelling (shown_at seen nodes.old) (level + 1) 0 }
-    ensures telling { IsTelling (shown_at seen nodes.new) level 0 }
+/// Tells what a thread asks.
+fn tell_thread(nodes: &mut Slab<Node>, key: usize)
+    requires telling { IsTelling (shown_at seen nodes.old) (λ c. NoScheduler (shown_at seen nodes.old) c × (c < key)) }
+    ensures telling { IsTelling (shown_at seen nodes.new)
+        (λ c. NoScheduler (shown_at seen nodes.new) c × (c < key + 1)) }
+    ensures alike { IsAlike (shown_at seen nodes.old) (shown_at seen nodes.new) }
+{
+    if is_sched_at(nodes, key) {
+        return;
+    }
+    tell_ports(nodes, key);
+}
+
+/// Tells what each thread asks.
+fn tell_threads(nodes: &mut Slab<Node>)
+    requires telling { IsTelling (shown_at seen nodes.old)
+        (λ c. NoScheduler (shown_at seen nodes.old) c × ¬ IsNew None c) }
+    ensures telling { IsTelling (shown_at seen nodes.new) (NoScheduler (shown_at seen nodes.new)) }
     ensures alike { IsAlike (shown_at seen nodes.old) (shown_at seen nodes.new) }
 {
     let end = nodes.capacity();
     for key in 0..end {
-        tell_node(nodes, key, level);
+        tell_thread(nodes, key);
     }
 }
 
-/// Tells what each node asks, from the deepest level up.
-fn tell_all(nodes: &mut Slab<Node>)
-    requires telling { IsTelling (shown_at seen nodes.old) 10 0 }
-    ensures telling { IsTelling (shown_at seen nodes.new) 0 0 }
+/// Tells what these threads ask.
+fn tell_listed(nodes: &mut Slab<Node>, threads: &[NodeId])
+    requires telling { IsTelling (shown_at seen nodes.old)
+        (λ c. NoScheduler (shown_at seen nodes.old) c × ¬ IsNew (Some threads.now) c) }
+    ensures telling { IsTelling (shown_at seen nodes.new) (NoScheduler (shown_at seen nodes.new)) }
     ensures alike { IsAlike (shown_at seen nodes.old) (shown_at seen nodes.new) }
 {
-    for step in 0..10u8 {
-        tell_level(nodes, 9 - step);
+    for id in threads {
+        tell_ports(nodes, id.key());
+    }
+}
+
+/// Tells what those threads ask that have something new to tell.
+fn tell_changed(nodes: &mut Slab<Node>, changed: &Option<Changed>)
+    requires telling { IsTelling (shown_at seen nodes.old)
+        (λ c. NoScheduler (shown_at seen nodes.old) c × ¬ IsNew changed.now c) }
+    ensures telling { IsTelling (shown_at seen nodes.new) (NoScheduler (shown_at seen nodes.new)) }
+    ensures alike { IsAlike (shown_at seen nodes.old) (shown_at seen nodes.new) }
+{
+    match changed {
+        Some(changed) => tell_listed(nodes, changed.threads()),
+        None => tell_threads(nodes),
+    }
+}
+
+/// Tells what a scheduler asks, if it is at the level.
+fn tell_scheduler(nodes: &mut Slab<Node>, schedulers: &[NodeId], at: usize, level: u8)
+    requires within { at < length schedulers.now }
+    requires telling { IsTelling (shown_at seen nodes.old) (AllUpTo (shown_at seen nodes.old) level schedulers.now at) }
+    ensures telling { IsTelling (shown_at seen nodes.new)
+        (AllUpTo (shown_at seen nodes.new) level schedulers.now (at + 1)) }
+    ensures alike { IsAlike (shown_at seen nodes.old) (shown_at seen nodes.new) }
+{
+    let key = schedulers[at].key();
+    if level_at(nodes, key) != level {
+        return;
+    }
+    tell_ports(nodes, key);
+}
+
+/// Tells what the schedulers at a level ask.
+fn tell_level(nodes: &mut Slab<Node>, schedulers: &[NodeId], level: u8)
+    requires roll { IsRoll (shown_at seen nodes.old) schedulers.now }
+    requires telling { IsTelling (shown_at seen nodes.old) (AllFrom (shown_at seen nodes.old) (level + 1)) }
+    ensures telling { IsTelling (shown_at seen nodes.new) (AllFrom (shown_at seen nodes.new) level) }
+    ensures alike { IsAlike (shown_at seen nodes.old) (shown_at seen nodes.new) }
+{
+    for at in 0..schedulers.len() {
+        tell_scheduler(nodes, schedulers, at, level);
+    }
+}
+
+/// Tells what each scheduler asks, from the deepest level up.
+fn tell_schedulers(nodes: &mut Slab<Node>, schedulers: &[NodeId])
+    requires roll { IsRoll (shown_at seen nodes.old) schedulers.now }
+    requires telling { IsTelling (shown_at seen nodes.old) (NoScheduler (shown_at seen nodes.old)) }
+    ensures telling { IsTelling (shown_at seen nodes.new) Each }
+    ensures alike { IsAlike (shown_at seen nodes.old) (shown_at seen nodes.new) }
+{
+    for step in 0..9u8 {
+        tell_level(nodes, schedulers, 8 - step);
     }
 }
 
@@ -153,13 +233,13 @@ fn revoke_at(nodes: &mut Slab<Node>, key: usize)
 }
 
 /// Takes the processor back from all.
-fn revoke_all(nodes: &mut Slab<Node>)
+fn revoke_all(nodes: &mut Slab<Node>, schedulers: &[NodeId])
+    requires roll { IsRoll (shown_at seen nodes.old) schedulers.now }
     requires posted { (k : ℕ) → PostedIn (shown_at seen nodes.old k) }
     ensures { (k : ℕ) → shown_at seen nodes.new k ≡ on_post post_revoked (shown_at seen nodes.old k) }
 {
-    let end = nodes.capacity();
-    for key in 0..end {
-        revoke_at(nodes, key);
+    for id in schedulers {
+        revoke_at(nodes, id.key());
     }
 }
 
@@ -212,8 +292,8 @@ fn port_at(nodes: &Slab<Node>, key: usize, place: Place) -> Option<u8>
     None
 }
 
-/// Who sits at a place, and by which port.
-fn sitter_at(nodes: &Slab<Node>, place: Place) -> Option<(usize, u8)>
+/// Who sits at a place, and by which port, of all nodes.
+fn find_sitter(nodes: &Slab<Node>, place: Place) -> Option<(usize, u8)>
     ensures some { IfSome result
         (λ who. is_place (place_in (shown_at seen nodes.now who.0) who.1) (place_view place) ≡ true) }
     ensures none { IsNone result → (key port : ℕ) → port < 4 →
@@ -228,9 +308,69 @@ fn sitter_at(nodes: &Slab<Node>, place: Place) -> Option<(usize, u8)>
     None
 }
 
+/// Who sits at a place, and by which port: the one who was seen there last, if it still does.
+fn sitter_at(nodes: &Slab<Node>, place: Place, last: usize) -> Option<(usize, u8)>
+    ensures some { IfSome result
+        (λ who. is_place (place_in (shown_at seen nodes.now who.0) who.1) (place_view place) ≡ true) }
+    ensures none { IsNone result → (key port : ℕ) → port < 4 →
+        is_place (place_in (shown_at seen nodes.now key) port) (place_view place) ≢ true }
+{
+    match port_at(nodes, last, place) {
+        Some(port) => Some((last, port)),
+        None => find_sitter(nodes, place),
+    }
+}
+
+/// Who was seen last at a slot of a scheduler.
+fn last_on(nodes: &Slab<Node>, key: usize, slot: u32) -> usize {
+    match nodes.get(key) {
+        Some(node) => match &node.role {
+            Role::Sched(station) => station.last_at(slot),
+            Role::Thread { .. } => 0,
+        },
+        None => 0,
+    }
+}
+
+/// Who was seen last at a place; at the processor the root.
+fn last_seen(nodes: &Slab<Node>, place: Place, root: usize) -> usize {
+    match place {
+        Place::Processor => root,
+        Place::At { scheduler, slot } => last_on(nodes, scheduler, slot),
+    }
+}
+
+/// Notes who was seen at a slot of a scheduler.
+fn note_on(nodes: &mut Slab<Node>, key: usize, slot: u32, id: NodeId)
+    requires posted { PostedIn (shown_at seen nodes.old key) }
+    ensures here { shown_at seen nodes.new key ≡ shown_at seen nodes.old key }
+    ensures choice { choice_at choice nodes.new key ≡ choice_at choice nodes.old key }
+    ensures others { (k : ℕ) → k ≢ key → get nodes.new k ≡ get nodes.old k }
+{
+    match nodes.get_mut(key) {
+        Some(node) => match &mut node.role {
+            Role::Sched(station) => station.note(slot, id),
+            Role::Thread { .. } => {}
+        },
+        None => {}
+    }
+}
+
+/// Notes who was seen at a place.
+fn note_seen(nodes: &mut Slab<Node>, place: Place, id: NodeId)
+    requires posted { (k : ℕ) → PostedIn (shown_at seen nodes.old k) }
+    ensures same { (k : ℕ) → shown_at seen nodes.new k ≡ shown_at seen nodes.old k }
+    ensures choices { (k : ℕ) → choice_at choice nodes.new k ≡ choice_at choice nodes.old k }
+{
+    match place {
+        Place::Processor => {}
+        Place::At { scheduler, slot } => note_on(nodes, scheduler, slot, id),
+    }
+}
+
 /// Grants along the choices down to a thread, and tells the way.
-fn grant_path(nodes: &mut Slab<Node>) -> Route
-    requires telling { IsTelling (shown_at seen nodes.old) 0 0 }
+fn grant_path(nodes: &mut Slab<Node>, root: NodeId) -> Route
+    requires telling { IsTelling (shown_at seen nodes.old) Each }
     requires root { (sitter : Sitter (shown_at seen nodes.old) Processor) ×
         (asks_in (shown_at seen nodes.old sitter.node) ≡ true) }
     ensures { Led (shown_at seen nodes.old) (shown_at seen nodes.new) (choice_at choice nodes.new) result }
@@ -238,10 +378,13 @@ fn grant_path(nodes: &mut Slab<Node>) -> Route
     let mut route = Route::new();
     let mut place = Place::Processor;
     for step in 0..9u8 {
-        let Some((key, port)) = sitter_at(nodes, place) else {
+        let last = last_seen(nodes, place, root.key());
+        let Some((key, port)) = sitter_at(nodes, place, last) else {
             unreachable!()
         };
-        route.push(NodeId::of(key));
+        let id = NodeId::of(key);
+        note_seen(nodes, place, id);
+        route.push(id);
         match grant_at(nodes, key, port) {
             None => return route,
             Some(slot) => {
@@ -257,7 +400,7 @@ fn grant_path(nodes: &mut Slab<Node>) -> Route
 
 /// Grants from the root down, if it asks.
 fn grant_root(nodes: &mut Slab<Node>, root: Option<NodeId>) -> Option<Route>
-    requires telling { IsTelling (shown_at seen nodes.old) 0 0 }
+    requires telling { IsTelling (shown_at seen nodes.old) Each }
     requires root { RootAt (shown_at seen nodes.old) root }
     ensures { Ran (shown_at seen nodes.old) (shown_at seen nodes.new) (choice_at choice nodes.new) root result }
 {
@@ -265,7 +408,7 @@ fn grant_root(nodes: &mut Slab<Node>, root: Option<NodeId>) -> Option<Route>
         None => None,
         Some(root) => {
             if asks_at(nodes, root.key()) {
-                Some(grant_path(nodes))
+                Some(grant_path(nodes, root))
             } else {
                 None
             }
@@ -273,15 +416,23 @@ fn grant_root(nodes: &mut Slab<Node>, root: Option<NodeId>) -> Option<Route>
     }
 }
 
-/// Tells what asks, and grants along the choices.
-pub fn pass(nodes: &mut Slab<Node>, root: Option<NodeId>) -> Option<Route>
+/// Tells what asks, where it is new, and grants along the choices.
+pub fn pass(
+    nodes: &mut Slab<Node>,
+    schedulers: &[NodeId],
+    changed: &Option<Changed>,
+    root: Option<NodeId>,
+) -> Option<Route>
+    requires roll { IsRoll (shown_at seen nodes.old) schedulers.now }
+    requires told { AreTold (shown_at seen nodes.old) changed.now }
     requires laid { IsLaid (shown_at seen nodes.old) }
     requires posted { (k : ℕ) → PostedIn (shown_at seen nodes.old k) }
     requires root { RootAt (shown_at seen nodes.old) root }
     ensures { Passed (shown_at seen nodes.old) (shown_at seen nodes.new) (choice_at choice nodes.new) root result }
 {
-    revoke_all(nodes);
-    tell_all(nodes);
+    revoke_all(nodes, schedulers);
+    tell_changed(nodes, changed);
+    tell_schedulers(nodes, schedulers);
     grant_root(nodes, root)
 }
 
@@ -302,16 +453,16 @@ fn turn_at(nodes: &mut Slab<Node>, key: usize)
     }
 }
 
-/// One tick of each node.
-pub fn turn_all(nodes: &mut Slab<Node>)
+/// One tick of each scheduler.
+pub fn turn_all(nodes: &mut Slab<Node>, schedulers: &[NodeId])
+    requires roll { IsRoll (shown_at seen nodes.old) schedulers.now }
     requires posted { (k : ℕ) → PostedIn (shown_at seen nodes.old k) }
     requires room { (k : ℕ) → RoomIn 1 (shown_at seen nodes.old k) }
     ensures { (k : ℕ) → shown_at seen nodes.new k ≡
         on_post (post_turned (choice_at choice nodes.old k)) (shown_at seen nodes.old k) }
 {
-    let end = nodes.capacity();
-    for key in 0..end {
-        turn_at(nodes, key);
+    for id in schedulers {
+        turn_at(nodes, id.key());
     }
 }
 

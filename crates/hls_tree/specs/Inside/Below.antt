@@ -1,7 +1,7 @@
 -- A moved node and those below it, while they are found. One that was found has 32 added to its new level.
 use Rattle.std.specs.Prelude.{◌≡◌, ◌≢◌, ℕ, ◌+◌, ◌%◌, ◌<◌, ◌≤◌, Bool, true, false, Option, Some, None, List, slice_get}
 use Rattle.std.specs.Prelude.{option_map}
-use Rattle.hls_legal.specs.Hierarchy.{Hierarchy, Seat, Place, At}
+use Rattle.hls_legal.specs.Hierarchy.{Hierarchy, Seat, At}
 use Rattle.hls_legal.specs.Readings.{IsUnder}
 use Rattle.hls_walks.specs.Shown.{Shown, PostedIn, book_in, is_sched, level_in, seats_in, place_in, on_post}
 use Rattle.hls_walks.specs.Shown.{post_settled}

@@ -2,7 +2,7 @@ use Rattle.std.proofs.Common.{◌≡◌, ◌∙◌, Some, refl, ap, arith, map, 
 use Rattle.std.specs.Prelude.{option_map}
 use Rattle.std.proofs.lemmas.List.{length-map}
 use Rattle.std.proofs.lemmas.Option.{slice_get_read, slice_get-map}
-use Rattle.hls_walks.specs.Views.{shown_at, seat_view}
+use Rattle.hls_walks.specs.Views.{seat_view}
 use Rattle.hls_tree.proofs.Found.{above_start, above_more, above_end}
 use Rattle.hls_tree.proofs.moves.are_below.Goals as goal
 

@@ -1,4 +1,4 @@
-use Rattle.std.proofs.Common.{◌≢◌, ◌∙◌, sym, arith}
+use Rattle.std.proofs.Common.{arith}
 use Rattle.hls_tree.proofs.Found.{posted_at, key_room, pass_by, found_more}
 use Rattle.hls_tree.proofs.moves.begin_node.Goals as goal
 

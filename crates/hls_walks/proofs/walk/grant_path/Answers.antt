@@ -2,7 +2,7 @@ use Rattle.std.proofs.Common.{◌∙◌, [], ◌∷◌, ◌++◌, ap, sym, refl,
 use Rattle.hls_walks.proofs.Walks.{shown_others, choice_others}
 use Rattle.hls_walks.proofs.Snapshots.{one_of}
 use Rattle.hls_walks.proofs.Leads.{going_start, going_at, going_on, going_end, here_small, nobody_there}
-use Rattle.hls_walks.proofs.Leads.{no_further, may_grant}
+use Rattle.hls_walks.proofs.Leads.{no_further, may_grant, seen_same, going_posted}
 use Rattle.hls_walks.proofs.walk.grant_path.Goals as goal
 
 pub loop-step-init : goal.loop-step-init
@@ -12,45 +12,54 @@ pub unreachable-requires : goal.unreachable-requires
 unreachable-requires g c =
     nobody_there _ _ _ _ _ _ c.loop-step.invariant c.requires.telling (c.in_default.ensures.none refl)
 
-pub of-requires : goal.of-requires
-of-requires g c =
-    let here = going_at _ _ _ _ _ _ c.in-Some.key c.in-Some.port c.loop-step.invariant c.requires.telling
+pub of-id-requires : goal.of-id-requires
+of-id-requires g c =
+    let before = going_at _ _ _ _ _ _ c.in-Some.key c.in-Some.port c.loop-step.invariant c.requires.telling
     c.in-Some.ensures.some in
-    here_small _ _ _ _ _ _ _ _ here c.requires.telling
+    here_small _ _ _ _ _ _ _ _ before c.requires.telling
+
+pub note_seen-requires : goal.note_seen-requires
+note_seen-requires g c =
+    let before = going_at _ _ _ _ _ _ c.in-Some.key c.in-Some.port c.loop-step.invariant c.requires.telling
+    c.in-Some.ensures.some in
+    record { posted = going_posted _ _ _ _ _ _ _ _ before c.requires.telling }
 
 pub push-requires : goal.push-requires
 push-requires g c = omega (arith, c.loop-step.invariant.count, c.loop-step-test.true)
 
 pub grant_at-requires : goal.grant_at-requires
 grant_at-requires g c =
-    let here = going_at _ _ _ _ _ _ c.in-Some.key c.in-Some.port c.loop-step.invariant c.requires.telling
+    let before = going_at _ _ _ _ _ _ c.in-Some.key c.in-Some.port c.loop-step.invariant c.requires.telling
     c.in-Some.ensures.some in
+    let here = seen_same _ _ _ _ _ _ _ _ _ _ c.note_seen.ensures.same c.note_seen.ensures.choices before in
     let may = may_grant _ _ _ _ _ _ _ _ here c.requires.telling in
     record { posted = may.posted; asks = may.asks; free = may.free }
 
 pub returns-in-None : goal.returns-in-None
 returns-in-None g c =
-    let here = going_at _ _ _ _ _ _ c.in-Some.key c.in-Some.port c.loop-step.invariant c.requires.telling
+    let before = going_at _ _ _ _ _ _ c.in-Some.key c.in-Some.port c.loop-step.invariant c.requires.telling
     c.in-Some.ensures.some in
+    let here = seen_same _ _ _ _ _ _ _ _ _ _ c.note_seen.ensures.same c.note_seen.ensures.choices before in
     going_end _ _ _ _ _ _ _ _ _ _ here
-    (shown_others _ c.loop-step.nodes c.grant_at.new.nodes c.in-Some.key c.grant_at.ensures.others)
+    (shown_others _ c.note_seen.new.nodes c.grant_at.new.nodes c.in-Some.key c.grant_at.ensures.others)
     c.grant_at.ensures.granted
     (one_of _ c.in-Some.key c.grant_at.ensures.choice
-    (choice_others _ c.loop-step.nodes c.grant_at.new.nodes c.in-Some.key c.grant_at.ensures.others))
+    (choice_others _ c.note_seen.new.nodes c.grant_at.new.nodes c.in-Some.key c.grant_at.ensures.others))
     (λ is. c.in-None.ensures.some is refl) _
-    (c.push.ensures ∙ ap (λ n. c.loop-step.route ++ n ∷ []) c.of.ensures)
+    (c.push.ensures ∙ ap (λ n. c.loop-step.route ++ n ∷ []) c.of-id.ensures)
 
 pub loop-step-preserved : goal.loop-step-preserved
 loop-step-preserved g c =
-    let here = going_at _ _ _ _ _ _ c.in-Some.key c.in-Some.port c.loop-step.invariant c.requires.telling
+    let before = going_at _ _ _ _ _ _ c.in-Some.key c.in-Some.port c.loop-step.invariant c.requires.telling
     c.in-Some.ensures.some in
+    let here = seen_same _ _ _ _ _ _ _ _ _ _ c.note_seen.ensures.same c.note_seen.ensures.choices before in
     going_on _ _ _ _ _ _ _ _ _ _ _ here
-    (shown_others _ c.loop-step.nodes c.grant_at.new.nodes c.in-Some.key c.grant_at.ensures.others)
-    c.grant_at.ensures.granted (choice_others _ c.loop-step.nodes c.grant_at.new.nodes c.in-Some.key
+    (shown_others _ c.note_seen.new.nodes c.grant_at.new.nodes c.in-Some.key c.grant_at.ensures.others)
+    c.grant_at.ensures.granted (choice_others _ c.note_seen.new.nodes c.grant_at.new.nodes c.in-Some.key
     c.grant_at.ensures.others)
     (c.grant_at.ensures.choice ∙ sym c.in-Some-grant_at.ensures.value)
     c.requires.telling c.in-Some-grant_at.ensures.serves _
-    (c.push.ensures ∙ ap (λ n. c.loop-step.route ++ n ∷ []) c.of.ensures)
+    (c.push.ensures ∙ ap (λ n. c.loop-step.route ++ n ∷ []) c.of-id.ensures)
 
 pub unreachable-requires-2 : goal.unreachable-requires-2
 unreachable-requires-2 g c =

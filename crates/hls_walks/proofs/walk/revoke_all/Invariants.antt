@@ -1,9 +1,9 @@
 use Rattle.hls_walks.specs.Shown.{on_post, post_revoked}
 use Rattle.hls_walks.specs.Views.{shown_at}
-use Rattle.hls_walks.proofs.Walks.{IsShown}
+use Rattle.hls_walks.proofs.Walks.{IsChangedOn}
 use Rattle.hls_walks.proofs.walk.revoke_all.Given as goal
 
-abbrev pub invariant-loop-key : goal.invariant-loop-key
-invariant-loop-key g l = IsShown (λ o. o) (λ k. on_post post_revoked)
+abbrev pub invariant-loop-id : goal.invariant-loop-id
+invariant-loop-id g l = IsChangedOn (λ o. o) (λ k. on_post post_revoked)
     (shown_at (λ b. (goal.Scheduler-dyn g (b.vtable, b.value)).seen b.value) l.fn.nodes)
-    (shown_at (λ b. (goal.Scheduler-dyn g (b.vtable, b.value)).seen b.value) l.nodes) l.key
+    (shown_at (λ b. (goal.Scheduler-dyn g (b.vtable, b.value)).seen b.value) l.nodes) l.schedulers l.id-index

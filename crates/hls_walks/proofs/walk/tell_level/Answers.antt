@@ -1,22 +1,17 @@
-use Rattle.std.proofs.Common.{◌∙◌, ap, arith}
-use Rattle.hls_walks.specs.Shown.{seats_in}
+use Rattle.std.proofs.Common.{arith}
 use Rattle.hls_walks.proofs.Snapshots.{alike_refl, alike_then}
-use Rattle.hls_walks.proofs.Tells.{level_end}
-use Rattle.hls_walks.proofs.Walks.{none_at}
+use Rattle.hls_walks.proofs.Tells.{level_start, level_end}
 use Rattle.hls_walks.proofs.walk.tell_level.Goals as goal
 
-pub loop-key-init : goal.loop-key-init
-loop-key-init g c = record { telling = c.requires.telling; alike = alike_refl _ }
+pub loop-at-init : goal.loop-at-init
+loop-at-init g c =
+    record { telling = level_start _ _ _ c.requires.roll.all c.requires.telling; alike = alike_refl _ }
 
-pub loop-key-preserved : goal.loop-key-preserved
-loop-key-preserved g c = record {
-  telling = c.tell_node.ensures.telling;
-  alike = alike_then _ _ _ c.loop-key.invariant.alike c.tell_node.ensures.alike;
+pub loop-at-preserved : goal.loop-at-preserved
+loop-at-preserved g c = record {
+  telling = c.tell_scheduler.ensures.telling;
+  alike = alike_then _ _ _ c.loop-at.invariant.alike c.tell_scheduler.ensures.alike;
 }
 
 pub returns-clause-telling : goal.returns-clause-telling
-returns-clause-telling g c = level_end _ _ _
-    (λ k le. c.loop-key.invariant.alike.seats k
-    ∙ ap seats_in (none_at (λ b. (goal.Scheduler-dyn g (b.vtable, b.value)).seen b.value) c.args.nodes.now k
-    (omega (arith, c.capacity-end.ensures.slots))))
-    c.loop-key.invariant.telling
+returns-clause-telling g c = level_end _ _ _ _ (omega (arith, c.loop-at-test.false)) c.loop-at.invariant.telling

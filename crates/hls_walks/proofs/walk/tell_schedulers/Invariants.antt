@@ -1,11 +1,12 @@
 use Rattle.std.proofs.Common.{◌-◌}
 use Rattle.hls_walks.specs.Views.{shown_at}
-use Rattle.hls_walks.specs.TreeOf.{IsTelling, IsAlike}
-use Rattle.hls_walks.proofs.walk.tell_all.Given as goal
+use Rattle.hls_walks.specs.TreeOf.{IsTelling, IsAlike, AllFrom}
+use Rattle.hls_walks.proofs.walk.tell_schedulers.Given as goal
 
 abbrev pub invariant-loop-step : goal.invariant-loop-step
 invariant-loop-step g l = record {
-  telling : IsTelling (shown_at (λ b. (goal.Scheduler-dyn g (b.vtable, b.value)).seen b.value) l.nodes) (10 - l.step) 0;
+  telling : IsTelling (shown_at (λ b. (goal.Scheduler-dyn g (b.vtable, b.value)).seen b.value) l.nodes)
+      (AllFrom (shown_at (λ b. (goal.Scheduler-dyn g (b.vtable, b.value)).seen b.value) l.nodes) (9 - l.step));
   alike : IsAlike (shown_at (λ b. (goal.Scheduler-dyn g (b.vtable, b.value)).seen b.value) l.fn.nodes)
       (shown_at (λ b. (goal.Scheduler-dyn g (b.vtable, b.value)).seen b.value) l.nodes);
 }
