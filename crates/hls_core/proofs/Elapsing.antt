@@ -23,6 +23,10 @@ use Rattle.hls_walks.specs.TreeOf as walks
 use Rattle.hls_accounts.specs.Tells.{Names}
 use Rattle.hls_tree.specs.Trees.{IsTreeOf, IsReadyOf, Stands, PassesBy, Passes, ready_of}
 use Rattle.hls_tree.specs.declared.tree.Tree.{Tree}
+use Rattle.hls_manager.proofs.Outcomes.{reached_listed}
+use Rattle.hls_stays.specs.Tallies.{AreStays, IsStanding}
+use Rattle.hls_stays.specs.Changes.{Ticks, MayTick}
+use Rattle.hls_stays.specs.declared.stays.Stays.{Stays}
 use Rattle.hls_journal.specs.declared.journal.Journal.{Journal}
 use Rattle.hls_journal.specs.Kept.{IsWayOrIdle}
 use Rattle.hls_journal.specs.Ways.{names_by}
@@ -124,12 +128,12 @@ thread_stays h asking masks path (Some k) e may =
 
 -- V and P are what the checker knows a box by
 module _ {V : Type 0} {P : V → Type 0} (seen : (x : V) × P x → Seen) (choice : (x : V) × P x → Option ℕ) where
-  pub passed_stands : (old new : Tree V P) (bursts : Bursts) (j : Journal)
-      → Stands seen old (MayElapse seen old bursts j)
+  pub passed_stands : (old new : Tree V P) (bursts : Bursts) (stays : Stays) (j : Journal)
+      → Stands seen old (MayElapse seen old bursts stays j)
       → ((h : Hierarchy) → IsTreeOf seen old h → IsTreeOf seen new h)
       → ((h : Hierarchy) → IsTreeOf seen old h → IsReadyOf seen old h → Passes seen choice new h)
       → Stands seen new (λ h. IsRouteOrIdle h j new.route)
-  passed_stands old new bursts j x tree passes =
+  passed_stands old new bursts stays j x tree passes =
       let p = passes x.h x.tree x.is.at_state.ready in record {
         h = x.h;
         tree = tree x.h x.tree;
@@ -139,11 +143,11 @@ module _ {V : Type 0} {P : V → Type 0} (seen : (x : V) × P x → Seen) (choic
             (route_known x.h j p.0 p.1 p.2 x.is.noted p.3.can.1);
       }
 
-  pub turn_stands : (old new : Tree V P) (bursts : Bursts) (j : Journal)
-      → Stands seen old (MayElapse seen old bursts j)
+  pub turn_stands : (old new : Tree V P) (bursts : Bursts) (stays : Stays) (j : Journal)
+      → Stands seen old (MayElapse seen old bursts stays j)
       → ((h : Hierarchy) → IsTreeOf seen old h → IsTreeOf seen new h) → new.horizon ≡ old.horizon
       → Stands seen new (λ h. h.now < new.horizon)
-  turn_stands old new bursts j x tree same = record {
+  turn_stands old new bursts stays j x tree same = record {
     h = x.h;
     tree = tree x.h x.tree;
     seated = x.seated;
@@ -151,8 +155,8 @@ module _ {V : Type 0} {P : V → Type 0} (seen : (x : V) × P x → Seen) (choic
     is = subst (λ n. x.h.now < n) (sym same) x.is.early;
   }
 
-  pub turned_stands : (old passed turned : Tree V P) (bursts : Bursts) (j : Journal) (thread : Option ℕ)
-      → Stands seen old (MayElapse seen old bursts j)
+  pub turned_stands : (old passed turned : Tree V P) (bursts : Bursts) (stays : Stays) (j : Journal) (thread : Option ℕ)
+      → Stands seen old (MayElapse seen old bursts stays j)
       → ((h : Hierarchy) → IsTreeOf seen old h → IsTreeOf seen passed h)
       → ((h : Hierarchy) → IsTreeOf seen old h → IsReadyOf seen old h → Passes seen choice passed h)
       → ((h : Hierarchy) (asking : ℕ → Bool) (slots : ℕ → ℕ) (path : Option steps.Path) → IsTreeOf seen passed h
@@ -160,7 +164,7 @@ module _ {V : Type 0} {P : V → Type 0} (seen : (x : V) × P x → Seen) (choic
       → (passed.route ≡ None → thread ≡ None)
       → ((front : List ℕ) (last : ℕ) → passed.route ≡ Some (front ++ last ∷ []) → thread ≡ Some last)
       → Stands seen turned (λ h. IsThreadOrNone h thread)
-  turned_stands old passed turned bursts j thread x tree passes elapsed none some =
+  turned_stands old passed turned bursts stays j thread x tree passes elapsed none some =
       let p = passes x.h x.tree x.is.at_state.ready in
       let r = x.is.at_state.reached in
       let step : Step = Elapse p.0 p.1 p.2 in
@@ -175,8 +179,46 @@ module _ {V : Type 0} {P : V → Type 0} (seen : (x : V) × P x → Seen) (choic
         is = thread_stays x.h p.0 p.1 p.2 thread (granted p.2 passed.route thread p.3.route_is none some) p.3.can.1;
       }
 
-  pub elapses : (old passed turned new : Tree V P) (bursts later : Bursts) (j : Journal) (thread : Option ℕ)
-      (told : Option Path) (h : Hierarchy) → MayElapse seen old bursts j h
+  -- what a tick of stays asks
+  may_count : (old passed : Tree V P) (bursts : Bursts) (stays : Stays) (j : Journal) (thread : Option ℕ)
+      (h : Hierarchy) → MayElapse seen old bursts stays j h
+      → ((h : Hierarchy) → IsTreeOf seen old h → IsTreeOf seen passed h)
+      → ((k : ℕ) → ready_of seen passed k ≡ ready_of seen old k) → (asking : ℕ → Bool) (masks : ℕ → ℕ)
+      (path : Option steps.Path) → Can h (Elapse asking masks path) → thread ≡ thread_of path
+      → Ticks seen stays passed thread h asking masks path
+  may_count old passed bursts stays j thread h may tree flags asking masks path can is = record {
+    stays = may.stays;
+    standing = may.standing;
+    listed = reached_listed h may.at_state.reached;
+    tree = tree h may.at_state.tree;
+    ready = λ k t there. may.at_state.ready k t there ∙ sym (flags k);
+    can = can;
+    to = sym is;
+    early = may.small;
+  }
+
+  pub count_stands : (old new : Tree V P) (bursts : Bursts) (stays : Stays) (j : Journal) (thread : Option ℕ)
+      → Stands seen old (MayElapse seen old bursts stays j)
+      → ((h : Hierarchy) → IsTreeOf seen old h → IsTreeOf seen new h)
+      → ((h : Hierarchy) → IsTreeOf seen old h → IsReadyOf seen old h → Passes seen choice new h)
+      → ((k : ℕ) → ready_of seen new k ≡ ready_of seen old k) → (new.route ≡ None → thread ≡ None)
+      → ((front : List ℕ) (last : ℕ) → new.route ≡ Some (front ++ last ∷ []) → thread ≡ Some last)
+      → MayTick seen stays new thread
+  count_stands old new bursts stays j thread x tree passes flags none some =
+      let p = passes x.h x.tree x.is.at_state.ready in
+      record {
+        h = x.h;
+        asking = p.0;
+        masks = p.1;
+        path = p.2;
+        ticks = may_count old new bursts stays j thread x.h x.is tree flags p.0 p.1 p.2 p.3.can
+            (granted p.2 new.route thread p.3.route_is none some);
+        seated = x.seated;
+      }
+
+  pub elapses : (old passed turned new : Tree V P) (bursts later : Bursts) (stays counted : Stays)
+      (j : Journal) (thread other : Option ℕ)
+      (told : Option Path) (h : Hierarchy) → MayElapse seen old bursts stays j h
       → ((h : Hierarchy) → IsTreeOf seen old h → IsTreeOf seen passed h)
       → ((h : Hierarchy) → IsTreeOf seen old h → IsReadyOf seen old h → Passes seen choice passed h)
       → ((k : ℕ) → ready_of seen passed k ≡ ready_of seen old k)
@@ -191,9 +233,13 @@ module _ {V : Type 0} {P : V → Type 0} (seen : (x : V) × P x → Seen) (choic
       (cond (is_last (left_in bursts k)) false (ready_of seen turned k)) (ready_of seen turned k))
       → ((k : ℕ) → left_in later k ≡ cond (is_just thread k) (option_map (λ left. left - 1) (left_in bursts k))
       (left_in bursts k))
-      → Elapses seen new later j h told
-  elapses old passed turned new bursts later j thread told h may tree passes flags tells elapsed turns none some
-      served ready left =
+      → ((h : Hierarchy) (asking : ℕ → Bool) (slots : ℕ → ℕ) (path : Option steps.Path)
+      → Ticks seen stays passed other h asking slots path → AreStays counted (after h (Elapse asking slots path)))
+      → (passed.route ≡ None → other ≡ None)
+      → ((front : List ℕ) (last : ℕ) → passed.route ≡ Some (front ++ last ∷ []) → other ≡ Some last)
+      → Elapses seen new later counted j h told
+  elapses old passed turned new bursts later stays counted j thread other told h may tree passes flags
+      tells elapsed turns none some served ready left counts other_none other_some =
       let p = passes h may.at_state.tree may.at_state.ready in
       let there = tree h may.at_state.tree in
       let route : TellsRoute h j (walks.route_of p.2) told =
@@ -231,4 +277,7 @@ module _ {V : Type 0} {P : V → Type 0} (seen : (x : V) × P x → Seen) (choic
             ∙ ap (λ b. cond b (option_map (λ n. n - 1) (left_in bursts k)) (left_in bursts k))
             (ap (λ o. is_just o k) is_thread ∙ off))
             runs;
+        stays = counts h p.0 p.1 p.2
+            (may_count old passed bursts stays j other h may tree flags p.0 p.1 p.2 p.3.can
+            (granted p.2 passed.route other p.3.route_is other_none other_some));
       }

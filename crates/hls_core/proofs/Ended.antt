@@ -26,13 +26,20 @@ use Rattle.hls_tree.specs.Trees.{Stands}
 use Rattle.hls_journal.specs.Told.{answered_by, told, with_totals, IsReportOf}
 use Rattle.hls_journal.specs.Kept.{IsTicked, MayTick}
 use Rattle.hls_journal.proofs.Keeps.{kept_tick, told_tick, may_tick, way_short}
+use Rattle.hls_stays.specs.Tallies.{AreStays}
+use Rattle.hls_stays.specs.declared.stays.Stays.{Stays}
 use Rattle.hls_core.specs.Marks.{HasMarksFor}
 use Rattle.hls_core.specs.Inside.Elapses.{MayElapse, Elapses}
-use Rattle.hls_core.specs.Cores.{AreNoted, NoneDue, IsCoreOf}
+use Rattle.hls_report_text.specs.declared.report.Account.{Account}
+use Rattle.hls_accounts.specs.Accounts.{accounts_of, idle_of}
+use Rattle.hls_accounts.specs.Agrees.{accounts_in, idle_in}
+use Rattle.hls_accounts.proofs.Agreements.{accounts_told, idle_told}
+use Rattle.hls_core.specs.Cores.{AreNoted, NoneDue, IsCoreOf, Runs}
 use Rattle.hls_core.specs.declared.cores.Core.{Core}
 use Rattle.hls_core.proofs.Items.{ahead_next, none_left, all_told}
 use Rattle.hls_core.proofs.Going.{at_next}
 use Rattle.hls_core.proofs.Rooms.{tick_marks}
+use Rattle.hls_core.proofs.Standings.{run_standing}
 use Rattle.hls_core.proofs.Seats.{ticked_name}
 
 -- where a run leads it is the present tick
@@ -69,7 +76,7 @@ module _ {V W : Type 0} {P : V → Type 0} {Q : W → Type 0}
     {X : Mut ((x : W) × Q x) (Guarantee × (Guarantee × Unit {0})) (Option Guarantee)}
     (seen : (x : V) × P x → Seen) where
   pub core_may_elapse : (c : Core V W P Q X) (s : Scenario) (given : ℕ) (boxes : Boxes) → IsCoreOf seen c s given boxes
-      → c.journal.ticks < c.scenario.horizon → Stands seen c.tree (MayElapse seen c.tree c.bursts c.journal)
+      → c.journal.ticks < c.scenario.horizon → Stands seen c.tree (MayElapse seen c.tree c.bursts c.stays c.journal)
   core_may_elapse c s given boxes is lt =
       let now = state_now (told s.items c.depth c.journal) is.steps start
       (answered_by s.items c.journal.answers.items) is.run.tells in
@@ -80,7 +87,14 @@ module _ {V W : Type 0} {P : V → Type 0} {Q : W → Type 0}
         tree = is.at_state.tree;
         seated = run_seated is.steps is.run.legal;
         listed = run_listed is.steps is.run.legal;
-        is = record { at_state = is.at_state; noted = is.noted; early = omega (arith, now, own, horizon, lt) };
+        is = record {
+          at_state = is.at_state;
+          stays = is.stays;
+          standing = run_standing (told s.items c.depth c.journal) is.steps is.run.legal is.run.tells;
+          noted = is.noted;
+          early = omega (arith, now, own, horizon, lt);
+          small = let most = is.within.horizon.1 in omega (arith, now, own, lt, most);
+        };
       }
 
   pub core_few : (c : Core V W P Q X) (s : Scenario) (given : ℕ) (boxes : Boxes) → IsCoreOf seen c s given boxes
@@ -98,19 +112,20 @@ module _ {V W : Type 0} {P : V → Type 0} {Q : W → Type 0}
 
   pub path_short : (c : Core V W P Q X) (s : Scenario) (given : ℕ) (boxes : Boxes)
       (new : Rattle.hls_tree.specs.declared.tree.Tree.Tree V P)
-      (later : Rattle.hls_core.specs.declared.bursts.Bursts.Bursts) (path : Option Path)
+      (later : Rattle.hls_core.specs.declared.bursts.Bursts.Bursts) (counted : Stays) (path : Option Path)
       (is : IsCoreOf seen c s given boxes) → c.journal.ticks < c.scenario.horizon
-      → ((h : Hierarchy) → MayElapse seen c.tree c.bursts c.journal h → Elapses seen new later c.journal h path)
+      → ((h : Hierarchy) → MayElapse seen c.tree c.bursts c.stays c.journal h
+      → Elapses seen new later counted c.journal h path)
       → HasShort path
   unfolding core_may_elapse
-  path_short c s given boxes new later path is lt elapses =
+  path_short c s given boxes new later counted path is lt elapses =
       way_short c.journal path (elapses (state start is.steps) (core_may_elapse c s given boxes is lt).is).way
 
   pub ticks_on : (old new : Core V W P Q X) (s : Scenario) (given : ℕ) (boxes : Boxes) (path : Option Path)
       (is : IsCoreOf seen old s given boxes)
       → NoneDue old.scenario.items old.agenda old.journal.ticks → old.journal.ticks < old.scenario.horizon
-      → ((h : Hierarchy) → MayElapse seen old.tree old.bursts old.journal h
-      → Elapses seen new.tree new.bursts old.journal h path)
+      → ((h : Hierarchy) → MayElapse seen old.tree old.bursts old.stays old.journal h
+      → Elapses seen new.tree new.bursts new.stays old.journal h path)
       → IsTicked path old.journal new.journal → new.agenda ≡ old.agenda → new.scenario ≡ old.scenario
       → new.depth ≡ old.depth → new.kit ≡ old.kit → new.tree.horizon ≡ old.tree.horizon
       → IsCoreOf seen new s given boxes
@@ -145,6 +160,7 @@ module _ {V W : Type 0} {P : V → Type 0} {Q : W → Type 0}
         steps = is.steps ++ step ∷ [];
         run = subst (λ n. IsRun n boxes (told s.items n new.journal) (is.steps ++ step ∷ [])) (sym depth) run;
         at_state = at_next seen new.tree new.bursts is.steps step is.run.legal e.can e.tree e.ready e.left;
+        stays = subst (AreStays new.stays) (sym (state_goes is.steps start step)) e.stays;
         noted =
             subst (λ g. AreNoted g new.journal) (sym (state_goes is.steps start step))
             (λ k name has. subst (λ ns. Rattle.std.specs.List.list_any (Rattle.std.specs.Str.bytes_eq name)
@@ -196,3 +212,25 @@ module _ {V W : Type 0} {P : V → Type 0} {Q : W → Type 0}
       → IsLegalReport s given boxes r)
   all_legal c (Ok r) of ended = λ s given boxes is. ends_legal c s given boxes r of ended is
   all_legal c (Err e) of ended = tt
+
+  -- the accounts that were carried along are those that come of what is told
+  pub core_accounts : (c : Core V W P Q X) (accounts : List Account) (now : ℕ) → Runs seen c → now ≡ c.journal.ticks
+      → ((h : Hierarchy) → AreStays c.stays h → h.now ≡ now → accounts ≡ accounts_in h)
+      → accounts ≡ accounts_of (told c.scenario.items c.depth c.journal)
+  core_accounts c accounts now runs at_now is =
+      let x = runs.is in
+      let content = told runs.s.items c.depth c.journal in
+      let ticks = state_now content x.steps start (answered_by runs.s.items c.journal.answers.items) x.run.tells in
+      is (state start x.steps) x.stays (ticks ∙ sym at_now)
+      ∙ sym (accounts_told content x.steps x.run.legal x.run.tells)
+      ∙ ap (λ (s : Scenario). accounts_of (told s.items c.depth c.journal)) (sym x.scenario)
+
+  pub core_idle : (c : Core V W P Q X) (idle : ℕ) → Runs seen c
+      → ((h : Hierarchy) → AreStays c.stays h → idle ≡ idle_in h)
+      → idle ≡ idle_of (told c.scenario.items c.depth c.journal)
+  core_idle c idle runs is =
+      let x = runs.is in
+      let content = told runs.s.items c.depth c.journal in
+      is (state start x.steps) x.stays
+      ∙ sym (idle_told content x.steps x.run.legal x.run.tells)
+      ∙ ap (λ (s : Scenario). idle_of (told s.items c.depth c.journal)) (sym x.scenario)

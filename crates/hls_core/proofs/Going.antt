@@ -45,7 +45,10 @@ use Rattle.hls_core.specs.declared.bursts.Bursts.{Bursts}
 use Rattle.hls_manager.specs.Outcomes.{HasMarkRoom, boxes_in, moment}
 use Rattle.hls_core.specs.Marks.{HasMarksFor}
 use Rattle.hls_core.specs.Standing.{IsAt}
-use Rattle.hls_core.specs.Inside.Outcomes.{CarriesOut}
+use Rattle.hls_stays.specs.Tallies.{AreStays}
+use Rattle.hls_stays.specs.declared.stays.Stays.{Stays}
+use Rattle.hls_core.specs.Inside.Outcomes.{CarriesOut, MayCarry}
+use Rattle.hls_core.proofs.Standings.{run_standing}
 use Rattle.hls_core.specs.Cores.{AreNoted, IsCoreOf}
 use Rattle.hls_core.specs.declared.cores.Core.{Core}
 use Rattle.hls_core.proofs.Items.{IsDue, is_due, items_command}
@@ -90,19 +93,26 @@ module _ {V : Type 0} {P : V → Type 0} (seen : (x : V) × P x → Seen) where
 module _ {V W : Type 0} {P : V → Type 0} {Q : W → Type 0}
     {X : Mut ((x : W) × Q x) (Guarantee × (Guarantee × Unit {0})) (Option Guarantee)}
     (seen : (x : V) × P x → Seen) where
+  pub core_carries : (c : Core V W P Q X) (s : Scenario) (given : ℕ) (boxes : Boxes) (command : Command)
+      → (is : IsCoreOf seen c s given boxes) → IsDue s.items c.agenda c.journal.ticks command
+      → MayCarry seen c.tree c.bursts c.stays (state start is.steps)
+  core_carries c s given boxes command is due = record {
+    at_state = is.at_state;
+    marks = next_marks (state start is.steps) (length s.items - c.agenda)
+        (let lt = slice_get_within s.items c.agenda due.item due.there in omega (arith, lt)) is.marks;
+    stays = is.stays;
+    standing = run_standing (told s.items c.depth c.journal) is.steps is.run.legal is.run.tells;
+  }
+
   pub core_stands : (c : Core V W P Q X) (s : Scenario) (given : ℕ) (boxes : Boxes) (command : Command)
       → IsCoreOf seen c s given boxes → IsDue s.items c.agenda c.journal.ticks command
-      → Stands seen c.tree (λ h. IsAt seen c.tree c.bursts h × HasMarkRoom h)
+      → Stands seen c.tree (MayCarry seen c.tree c.bursts c.stays)
   core_stands c s given boxes command is due = record {
     h = state start is.steps;
     tree = is.at_state.tree;
     seated = run_seated is.steps is.run.legal;
     listed = run_listed is.steps is.run.legal;
-    is = (
-      is.at_state,
-      next_marks (state start is.steps) (length s.items - c.agenda)
-          (let lt = slice_get_within s.items c.agenda due.item due.there in omega (arith, lt)) is.marks,
-    );
+    is = core_carries c s given boxes command is due;
   }
 
   pub core_may_note : (c : Core V W P Q X) (s : Scenario) (given : ℕ) (boxes : Boxes) (command : Command)
@@ -119,9 +129,11 @@ module _ {V W : Type 0} {P : V → Type 0} {Q : W → Type 0}
       → boxes_in new.kit ≡ boxes_after (boxes_in old.kit) command answer → formed.IsAnswer command answer
       → IsGood (boxed seen) new.kit → IsNoted command answer old.journal new.journal → new.agenda ≡ old.agenda + 1
       → new.scenario ≡ old.scenario → new.depth ≡ old.depth → new.tree.horizon ≡ old.tree.horizon
+      → ((h : Hierarchy) (step : Step) → MayCarry seen old.tree old.bursts old.stays h → Answers h command answer step
+      → Can h step → IsTreeOf seen new.tree (after h step) → AreStays new.stays (after h step))
       → IsCoreOf seen new s given boxes
   carried old new s given boxes commands command answer is due all carries left fits good noted place scenario depth
-      horizon =
+      horizon follows =
       let h = state start is.steps in
       let out = carries.out in
       let item = due.item in
@@ -177,6 +189,9 @@ module _ {V W : Type 0} {P : V → Type 0} {Q : W → Type 0}
         at_state =
             at_next seen new.tree new.bursts is.steps out.step is.run.legal out.can out.tree
             (out.ready is.at_state.ready) carries.left;
+        stays =
+            subst (AreStays new.stays) (sym (state_goes is.steps start out.step))
+            (follows h out.step (core_carries old s given boxes command is due) out.does out.can out.tree);
         noted =
             subst (λ g. AreNoted g new.journal) (sym (state_goes is.steps start out.step))
             (noted_step h command answer out.step old.journal new.journal out.does noted is.noted);
@@ -185,11 +200,12 @@ module _ {V W : Type 0} {P : V → Type 0} {Q : W → Type 0}
       }
 
   -- a core whose command met want of memory
-  pub stayed : (c : Core V W P Q X) (t : Tree V P) (kit : Kit V P) (bursts : Bursts) (s : Scenario) (given : ℕ)
-      (boxes : Boxes) (is : IsCoreOf seen c s given boxes) → IsAt seen t bursts (state start is.steps)
+  pub stayed : (c : Core V W P Q X) (t : Tree V P) (kit : Kit V P) (bursts : Bursts) (stays : Stays) (s : Scenario)
+      (given : ℕ) (boxes : Boxes) (is : IsCoreOf seen c s given boxes) → IsAt seen t bursts (state start is.steps)
       → IsSameKit (boxed seen) c.kit kit → IsGood (boxed seen) kit → t.horizon ≡ c.tree.horizon
-      → IsCoreOf seen (record c { tree = t; kit = kit; bursts = bursts }) s given boxes
-  stayed c t kit bursts s given boxes is here same good horizon = record {
+      → AreStays stays (state start is.steps)
+      → IsCoreOf seen (record c { tree = t; kit = kit; bursts = bursts; stays = stays }) s given boxes
+  stayed c t kit bursts stays s given boxes is here same good horizon counted = record {
     scenario = is.scenario;
     within = is.within;
     depth = is.depth;
@@ -202,6 +218,7 @@ module _ {V W : Type 0} {P : V → Type 0} {Q : W → Type 0}
     steps = is.steps;
     run = is.run;
     at_state = here;
+    stays = counted;
     noted = is.noted;
     marks = is.marks;
     horizon = horizon ∙ is.horizon;

@@ -8,3 +8,5 @@ pub mod Items
 pub mod Going
 pub mod Elapsing
 pub mod Ended
+pub mod Standings
+pub mod Following

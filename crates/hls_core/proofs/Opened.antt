@@ -22,6 +22,7 @@ use Rattle.hls_tree.specs.Trees.{IsTreeOf, IsReadyOf}
 use Rattle.hls_journal.specs.Told.{answered_by, told}
 use Rattle.hls_journal.specs.Kept.{IsNew}
 use Rattle.hls_journal.proofs.Keeps.{kept_new}
+use Rattle.hls_stays.specs.Tallies.{AreStays}
 use Rattle.hls_core.specs.Bursts.{left_in}
 use Rattle.hls_core.specs.Left.{IsLeft}
 use Rattle.hls_manager.specs.Outcomes.{boxes_in}
@@ -57,8 +58,9 @@ module _ {V W : Type 0} {P : V → Type 0} {Q : W → Type 0}
       → c.depth ≡ depth_in_force given s.depth → given ≤ 6 → c.agenda ≡ 0
       → IsNew (length s.items) s.horizon c.journal → IsGood (boxed seen) c.kit → IsTreeOf seen c.tree start
       → IsReadyOf seen c.tree start → ((k : ℕ) → left_in c.bursts k ≡ None) → c.tree.horizon ≡ s.horizon
+      → AreStays c.stays start
       → IsCoreOf seen c s given (boxes_in c.kit)
-  opened c s given same is depth few place new good tree ready none horizon =
+  opened c s given same is depth few place new good tree ready none horizon stays =
       let answered : answered_by s.items c.journal.answers.items ≡ [] =
       ap (answered_by s.items) new.answers ∙ none_answered s.items in
       record {
@@ -79,6 +81,7 @@ module _ {V W : Type 0} {P : V → Type 0} {Q : W → Type 0}
           left = left_none (left_in c.bursts);
           reached = record { past = []; legal = tt; leads = refl };
         };
+        stays = stays;
         noted = λ k name e. absurd (cc);
         marks = λ k other e. absurd (cc);
         horizon = horizon;

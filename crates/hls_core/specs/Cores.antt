@@ -17,6 +17,7 @@ use Rattle.hls_answers.specs.Kit.{boxes_left}
 use Rattle.hls_journal.specs.declared.journal.Journal.{Journal}
 use Rattle.hls_journal.specs.Told.{answered_by, told}
 use Rattle.hls_journal.specs.Kept.{IsKept, has_name}
+use Rattle.hls_stays.specs.Tallies.{AreStays}
 use Rattle.hls_manager.specs.Outcomes.{boxes_in}
 use Rattle.hls_core.specs.Marks.{HasMarksFor}
 use Rattle.hls_core.specs.Standing.{IsAt}
@@ -38,8 +39,8 @@ NoneDue items place now = (item : Item) → slice_get items place ≡ Some item 
 module _ {V W : Type 0} {P : V → Type 0} {Q : W → Type 0}
     {X : Mut ((x : W) × Q x) (Guarantee × (Guarantee × Unit {0})) (Option Guarantee)} where
   -- What was carried out so far is a legal run that the journal tells, with the defined answers, and the tree is of
-  -- the hierarchy where it leads. Its books have room for the commands that are still to come. The scenario, the
-  -- depth that was given and the boxes that the kit had are these.
+  -- the hierarchy where it leads, as are the stays. Its books have room for the commands that are still to come. The
+  -- scenario, the depth that was given and the boxes that the kit had are these.
   pub record IsCoreOf (seen : (x : V) × P x → Seen) (c : Core V W P Q X) (s : Scenario) (given : ℕ) (boxes : Boxes)
       : Type 0 where
     pub scenario : c.scenario ≡ s
@@ -54,6 +55,7 @@ module _ {V W : Type 0} {P : V → Type 0} {Q : W → Type 0}
     pub steps : List Step
     pub run : IsRun c.depth boxes (told s.items c.depth c.journal) steps
     pub at_state : IsAt seen c.tree c.bursts (state start steps)
+    pub stays : AreStays c.stays (state start steps)
     pub noted : AreNoted (state start steps) c.journal
     pub marks : HasMarksFor (length s.items - c.agenda) (state start steps)
     pub horizon : c.tree.horizon ≡ s.horizon

@@ -1,19 +1,25 @@
 // Commands.
 ghost use Rattle.std.specs.Prelude.{◌≡◌, ◌≤◌, ℕ, [], IfOk, OnErr};
 ghost use Rattle.hls_scenario.specs.Grammar.{IsCommand};
+ghost use Rattle.hls_scenario.specs.declared.scenario.Command.{Command as CommandSeen};
 ghost use Rattle.hls_scenario.specs.declared.scenario.Command.TheVariants.{Wake, Block};
 ghost use Rattle.hls_report_text.specs.declared.report.Answer.TheVariants.{Done};
 ghost use Rattle.hls_report_text.specs.WellFormed.{IsAnswer as IsWellFormed};
 ghost use Rattle.hls_sched.specs.GoodKit.{IsGood};
 ghost use Rattle.hls_legal.specs.Hierarchy.{Hierarchy};
+ghost use Rattle.hls_legal.specs.Steps.{Step, after};
+ghost use Rattle.hls_legal.specs.Legal.{Can};
+ghost use Rattle.hls_accounts.specs.Tells.{Answers};
 ghost use Rattle.hls_answers.specs.Moment.{Moment};
 ghost use Rattle.hls_answers.specs.Kit.{boxes_after};
 ghost use Rattle.hls_walks.specs.Views.{boxed};
 ghost use Rattle.hls_tree.specs.Kits.{IsSameKit};
-ghost use Rattle.hls_tree.specs.Trees.{Stands};
+ghost use Rattle.hls_tree.specs.Trees.{IsTreeOf, Stands};
+ghost use Rattle.hls_stays.specs.Tallies.{AreStays, HasRoom};
+ghost use Rattle.hls_stays.specs.Turnovers.{stays_begun};
 ghost use Rattle.hls_manager.specs.Outcomes.{HasMarkRoom, boxes_in, moment};
 ghost use Rattle.hls_core.specs.Standing.{IsAt};
-ghost use Rattle.hls_core.specs.Inside.Outcomes.{CarriesOut};
+ghost use Rattle.hls_core.specs.Inside.Outcomes.{CarriesOut, MayCarry, Follows, MayFollow};
 
 use crate::bursts::Bursts;
 use hls_chron::{List, Name};
@@ -22,6 +28,7 @@ use hls_report_text::Answer;
 use hls_rules::RuleBook;
 use hls_scenario::Command;
 use hls_sched::{Kit, Scheduler};
+use hls_stays::{Stays, Turnover};
 use hls_tree::Tree;
 use std::alloc::{AllocError, Global};
 
@@ -78,10 +85,7 @@ fn block(alloc: Global, tree: &mut Tree, bursts: &Bursts, name: &Name) -> Answer
 }
 
 /// Carries a command out, in a scenario of so many, and answers it.
-///
-/// # Errors
-/// Returns `AllocError` for want of memory, and then nothing has changed.
-pub fn carry_out(
+fn carry_out(
     alloc: Global,
     tree: &mut Tree,
     kit: &mut Kit,
@@ -115,4 +119,58 @@ pub fn carry_out(
         Command::Wake { name, burst } => wake(alloc, tree, bursts, name, *burst),
         Command::Block { name } => Ok(block(alloc, tree, bursts, name)),
     }
+}
+
+/// Ends and begins stays, where a command was done.
+fn follow(tree: &Tree, stays: &mut Stays, turnover: Turnover, answer: &Answer)
+    requires may { MayFollow seen stays.old tree.now turnover answer.now }
+    requires room { HasRoom stays.old (stays_begun turnover) }
+    ensures { (h : Hierarchy) (command : CommandSeen) (step : Step) →
+        Follows seen stays.old tree.now turnover answer.now h command step → AreStays stays.new (after h step) }
+{
+    match answer {
+        Answer::Done(_) => stays.follow(tree, turnover),
+        Answer::Refused(_) => {}
+    }
+}
+
+/// Carries a command out, in a scenario of so many, and answers it. The stays of threads are carried along.
+///
+/// # Errors
+/// Returns `AllocError` for want of memory, and then nothing has changed.
+pub fn carry_along(
+    alloc: Global,
+    tree: &mut Tree,
+    kit: &mut Kit,
+    bursts: &mut Bursts,
+    stays: &mut Stays,
+    rules: &RuleBook,
+    depth: u8,
+    commands: u32,
+    command: &Command,
+) -> Result<Answer, AllocError>
+    requires command { IsCommand command.now }
+    requires depth { depth ≤ 6 }
+    requires kit { IsGood (boxed seen) kit.old }
+    requires commands { commands ≤ 65536 }
+    requires stands { Stands seen tree.old (λ h. MayCarry seen tree.old bursts.old stays.old h) }
+    ensures carried { IfOk result (λ answer. (h : Hierarchy) → IsAt seen tree.old bursts.old h →
+        CarriesOut seen tree.old tree.new bursts.new (moment h kit.old depth) commands command.now answer) }
+    ensures stays { IfOk result (λ answer. (h : Hierarchy) (step : Step) →
+        MayCarry seen tree.old bursts.old stays.old h → Answers h command.now answer step → Can h step →
+        IsTreeOf seen tree.new (after h step) → AreStays stays.new (after h step)) }
+    ensures boxes { IfOk result (λ answer. boxes_in kit.new ≡ boxes_after (boxes_in kit.old) command.now answer) }
+    ensures formed { IfOk result (λ answer. IsWellFormed command.now answer) }
+    ensures unchanged { OnErr result ((h : Hierarchy) → IsAt seen tree.old bursts.old h →
+        IsAt seen tree.new bursts.new h) }
+    ensures kept_stays { OnErr result ((h : Hierarchy) → AreStays stays.old h → AreStays stays.new h) }
+    ensures same_kit { OnErr result (IsSameKit (boxed seen) kit.old kit.new) }
+    ensures good { IsGood (boxed seen) kit.new }
+    ensures horizon { tree.new.horizon ≡ tree.old.horizon }
+{
+    let turnover = Turnover::of(alloc, tree, command)?;
+    stays.reserve(&turnover)?;
+    let answer = carry_out(alloc, tree, kit, bursts, rules, depth, commands, command)?;
+    follow(tree, stays, turnover, &answer);
+    Ok(answer)
 }

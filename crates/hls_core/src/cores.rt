@@ -9,7 +9,7 @@ ghost use Rattle.hls_answers.specs.Moment.{Boxes};
 ghost use Rattle.hls_legal_report.specs.Legal.{depth_in_force, IsLegalReport};
 
 use crate::bursts::Bursts;
-use crate::commands::carry_out;
+use crate::commands::carry_along;
 use crate::ticks::elapse;
 use crate::ways::way_of;
 use hls_clock::Agenda;
@@ -18,6 +18,7 @@ use hls_report_text::{Answer, Report};
 use hls_rules::RuleBook;
 use hls_scenario::Scenario;
 use hls_sched::{Kit, Scheduler};
+use hls_stays::Stays;
 use hls_tree::Tree;
 use std::alloc::{AllocError, Global};
 
@@ -33,6 +34,7 @@ pub struct Core {
     pub(crate) agenda: Agenda,
     pub(crate) journal: Journal,
     pub(crate) bursts: Bursts,
+    pub(crate) stays: Stays,
 }
 
 /// The depth in force: the scenario's own, or else the one that is given.
@@ -79,6 +81,7 @@ impl Core {
             agenda: Agenda::new(),
             journal,
             bursts: Bursts::new(alloc),
+            stays: Stays::new(alloc),
         })
     }
 
@@ -120,11 +123,12 @@ impl Core {
         let Some(command) = self.agenda.due(&self.scenario, now) else {
             return Ok(false);
         };
-        let answer = carry_out(
+        let answer = carry_along(
             self.alloc,
             &mut self.tree,
             &mut self.kit,
             &mut self.bursts,
+            &mut self.stays,
             &self.rules,
             self.depth,
             commands,
@@ -146,7 +150,12 @@ impl Core {
         ensures scenario { self.new.scenario ≡ self.old.scenario }
         ensures agenda { self.new.agenda ≡ self.old.agenda }
     {
-        let path = elapse(&mut self.tree, &mut self.bursts, &self.journal);
+        let path = elapse(
+            &mut self.tree,
+            &mut self.bursts,
+            &mut self.stays,
+            &self.journal,
+        );
         self.journal.tick(path);
     }
 
@@ -170,7 +179,9 @@ impl Core {
             agenda: _,
             journal,
             bursts: _,
+            stays,
         } = self;
-        journal.finish(alloc, scenario, depth)
+        let accounts = stays.accounts(alloc, journal.ticks())?;
+        journal.finish(alloc, scenario, depth, accounts, stays.idle())
     }
 }

@@ -9,6 +9,7 @@ use crate::bursts::Bursts;
 use crate::ways::way_of;
 use hls_journal::Journal;
 use hls_report_text::Path;
+use hls_stays::Stays;
 use hls_tree::{NodeId, Tree};
 
 /// Uses up one tick of the burst of the thread that was served, which is not ready any more after the last.
@@ -29,15 +30,21 @@ fn serve(tree: &mut Tree, bursts: &mut Bursts, thread: Option<NodeId>)
 }
 
 /// Lets one tick pass, and tells the path of its grant.
-pub fn elapse(tree: &mut Tree, bursts: &mut Bursts, journal: &Journal) -> Option<Path>
-    requires stands { Stands seen tree.old (MayElapse seen tree.old bursts.old journal.now) }
+pub fn elapse(
+    tree: &mut Tree,
+    bursts: &mut Bursts,
+    stays: &mut Stays,
+    journal: &Journal,
+) -> Option<Path>
+    requires stands { Stands seen tree.old (MayElapse seen tree.old bursts.old stays.old journal.now) }
     requires few { length journal.now.names.keys ≤ 65536 }
-    ensures elapses { (h : Hierarchy) → MayElapse seen tree.old bursts.old journal.now h →
-        Elapses seen tree.new bursts.new journal.now h result }
+    ensures elapses { (h : Hierarchy) → MayElapse seen tree.old bursts.old stays.old journal.now h →
+        Elapses seen tree.new bursts.new stays.new journal.now h result }
     ensures horizon { tree.new.horizon ≡ tree.old.horizon }
 {
     tree.pass();
     let path = way_of(tree, journal);
+    stays.tick(tree, tree.current());
     let thread = tree.current();
     tree.turn();
     serve(tree, bursts, thread);

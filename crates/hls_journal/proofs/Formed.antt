@@ -13,12 +13,14 @@ use Rattle.hls_scenario.specs.declared.scenario.Scenario.{Scenario}
 use Rattle.hls_scenario.specs.Grammar.{AreItems, IsScenario}
 use Rattle.hls_report_text.specs.declared.report.Answer.{Answer}
 use Rattle.hls_report_text.specs.declared.report.Run.{Run}
+use Rattle.hls_report_text.specs.declared.report.Account.{Account}
 use Rattle.hls_report_text.specs.declared.report.Report.{Report}
 use Rattle.hls_report_text.specs.Content.{content_of}
 use Rattle.hls_report_text.specs.WellFormed.{AreAnswered, IsAnswer, HasShort, IsContent}
 use Rattle.hls_accounts.specs.Schedule.{path_at}
+use Rattle.hls_accounts.specs.Accounts.{accounts_of, idle_of}
 use Rattle.hls_journal.specs.declared.journal.Journal.{Journal}
-use Rattle.hls_journal.specs.Told.{answered_as, answered_by, stretches_of, told, with_totals, IsUntotalled, IsReportOf}
+use Rattle.hls_journal.specs.Told.{answered_as, answered_by, stretches_of, told, with_totals, IsTotalled, IsReportOf}
 use Rattle.hls_journal.specs.Kept.{AreWithin, IsWayOrIdle, IsKept}
 use Rattle.hls_journal.proofs.Keeps.{within_of, way_short}
 use Rattle.hls_journal.proofs.Totals.{accounts_formed}
@@ -65,15 +67,19 @@ content_formed s depth j is kept deep whole =
       idle = let upper = horizon.1 in omega (arith, most, upper);
     }
 
-pub report_formed : (s : Scenario) (depth : ℕ) (j : Journal) (bare r : Report) → IsScenario s → IsKept s j
-    → depth ≤ 6 → j.ticks ≡ s.horizon → IsUntotalled s.items depth j bare
-    → content_of r ≡ with_totals (content_of bare) → r.runs ≡ bare.runs → IsReportOf (told s.items depth j) r
-report_formed s depth j bare r is kept deep whole untotalled content runs =
-    let same : content_of r ≡ with_totals (told s.items depth j) = content ∙ ap with_totals untotalled.content in
+report_formed : (s : Scenario) (depth : ℕ) (j : Journal) (accounts : List Account) (idle : ℕ) (r : Report)
+    → IsScenario s → IsKept s j → depth ≤ 6 → j.ticks ≡ s.horizon → accounts ≡ accounts_of (told s.items depth j)
+    → idle ≡ idle_of (told s.items depth j) → IsTotalled s.items depth j accounts idle r
+    → IsReportOf (told s.items depth j) r
+report_formed s depth j accounts idle r is kept deep whole all none totalled =
+    let bare = told s.items depth j in
+    let same : content_of r ≡ with_totals bare =
+    totalled.content ∙ ap (λ (l : List Account). record bare { accounts = l; idle = idle }) all
+    ∙ ap (λ (n : ℕ). record bare { accounts = accounts_of bare; idle = n }) none in
     record {
       formed = record {
         paths =
-            subst (AllByRecursion (λ (run : Run). HasShort run.path)) (sym (runs ∙ untotalled.runs))
+            subst (AllByRecursion (λ (run : Run). HasShort run.path)) (sym totalled.runs)
             (recursion_from_All (λ (run : Run). HasShort run.path) j.runs.items
             (All-weaker (λ (run : Run). IsWayOrIdle j run.path) (λ (run : Run). HasShort run.path)
             (λ run way. way_short j run.path way) j.runs.items kept.ways));
@@ -82,10 +88,10 @@ report_formed s depth j bare r is kept deep whole untotalled content runs =
       content = same;
     }
 
-pub result_formed : {E : Type 0} (s : Scenario) (depth : ℕ) (j : Journal) (bare : Report) (result : Result Report E)
-    → IsScenario s → IsKept s j → depth ≤ 6 → j.ticks ≡ s.horizon → IsUntotalled s.items depth j bare
-    → IfOk result (λ r. content_of r ≡ with_totals (content_of bare)) → IfOk result (λ r. r.runs ≡ bare.runs)
-    → IfOk result (IsReportOf (told s.items depth j))
-result_formed s depth j bare (Ok r) is kept deep whole untotalled content runs =
-    report_formed s depth j bare r is kept deep whole untotalled content runs
-result_formed s depth j bare (Err e) is kept deep whole untotalled content runs = tt
+pub result_formed : {E : Type 0} (s : Scenario) (depth : ℕ) (j : Journal) (accounts : List Account) (idle : ℕ)
+    (result : Result Report E) → IsScenario s → IsKept s j → depth ≤ 6 → j.ticks ≡ s.horizon
+    → accounts ≡ accounts_of (told s.items depth j) → idle ≡ idle_of (told s.items depth j)
+    → IfOk result (IsTotalled s.items depth j accounts idle) → IfOk result (IsReportOf (told s.items depth j))
+result_formed s depth j accounts idle (Ok r) is kept deep whole all none totalled =
+    report_formed s depth j accounts idle r is kept deep whole all none totalled
+result_formed s depth j accounts idle (Err e) is kept deep whole all none totalled = tt

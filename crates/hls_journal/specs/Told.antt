@@ -3,6 +3,7 @@ use Rattle.std.specs.Prelude.{◌≡◌, ℕ, List, [], map, zip}
 use Rattle.hls_scenario.specs.declared.scenario.Item.{Item}
 use Rattle.hls_report_text.specs.declared.report.Answer.{Answer}
 use Rattle.hls_report_text.specs.declared.report.Answered.{Answered}
+use Rattle.hls_report_text.specs.declared.report.Account.{Account}
 use Rattle.hls_report_text.specs.declared.report.Report.{Report}
 use Rattle.hls_report_text.specs.declared.stretch.Stretch.{Stretch}
 use Rattle.hls_report_text.specs.Content.{Content, stretch_of, content_of}
@@ -35,9 +36,10 @@ told items depth j = record {
 abbrev pub with_totals : Content → Content
 with_totals c = record c { accounts = accounts_of c; idle = idle_of c }
 
--- the report tells this without them
-pub record IsUntotalled (items : List Item) (depth : ℕ) (j : Journal) (r : Report) : Type 0 where
-  pub content : content_of r ≡ told items depth j
+-- the report tells this with these accounts and idle ticks
+pub record IsTotalled (items : List Item) (depth : ℕ) (j : Journal) (accounts : List Account) (idle : ℕ) (r : Report)
+    : Type 0 where
+  pub content : content_of r ≡ record (told items depth j) { accounts = accounts; idle = idle }
   pub runs : r.runs ≡ j.runs.items
 
 -- the report has a text, and tells this with what comes of it

@@ -1,14 +1,13 @@
 // The report that a journal makes in the end.
-ghost use Rattle.std.specs.Prelude.{◌≡◌, ◌≤◌, [], IfOk, length};
-ghost use Rattle.hls_report_text.specs.Content.{content_of};
+ghost use Rattle.std.specs.Prelude.{◌≡◌, ◌≤◌, IfOk};
+ghost use Rattle.hls_accounts.specs.Accounts.{accounts_of, idle_of};
 ghost use Rattle.hls_scenario.specs.Grammar.{IsScenario};
-ghost use Rattle.hls_journal.specs.Told.{answered_by, told, with_totals, IsReportOf, IsUntotalled};
+ghost use Rattle.hls_journal.specs.Told.{answered_by, told, IsReportOf, IsTotalled};
 ghost use Rattle.hls_journal.specs.Kept.{IsKept};
 
 use crate::journal::Journal;
-use hls_accounts::{accounts_of, idle_of};
 use hls_chron::{List, Name};
-use hls_report_text::{Answer, Answered, Report};
+use hls_report_text::{Account, Answer, Answered, Report};
 use hls_scenario::{Item, Scenario};
 use indexmap::IndexSet;
 use std::alloc::{AllocError, Global};
@@ -41,15 +40,17 @@ fn names_of(alloc: Global, names: &IndexSet<Name>) -> Result<Vec<Name>, AllocErr
     Ok(all)
 }
 
-/// What a journal tells, without accounts.
-fn untotalled(
+/// What a journal tells, with these accounts and idle ticks.
+fn totalled(
     alloc: Global,
     journal: Journal,
     scenario: Scenario,
     depth: u8,
+    accounts: Vec<Account>,
+    idle: u32,
 ) -> Result<Report, AllocError>
     requires { journal.ticks ≡ scenario.horizon }
-    ensures { IfOk result (IsUntotalled scenario.items depth journal) }
+    ensures { IfOk result (IsTotalled scenario.items depth journal accounts.items idle) }
 {
     let Journal {
         ticks: _,
@@ -65,37 +66,33 @@ fn untotalled(
         answered: List::of(answered),
         names: List::of(names),
         runs: List::of(runs),
-        accounts: List::of(Vec::new(alloc)),
-        idle: 0,
+        accounts: List::of(accounts),
+        idle,
     })
 }
 
-/// The report with the accounts and the idle ticks that come of it.
-fn total(alloc: Global, report: Report) -> Result<Report, AllocError>
-    ensures content { IfOk result (λ r. content_of r ≡ with_totals (content_of report)) }
-    ensures runs { IfOk result (λ r. r.runs ≡ report.runs) }
-{
-    let accounts = accounts_of(alloc, &report)?;
-    let idle = idle_of(&report);
-    let mut report = report;
-    report.accounts = List::of(accounts);
-    report.idle = idle;
-    Ok(report)
-}
-
 impl Journal {
-    /// The report of a scenario that was carried out to its end.
+    /// The report of a scenario that was carried out to its end, with the accounts and the idle ticks that come
+    /// of it.
     ///
     /// # Errors
     /// Returns `AllocError` for want of memory.
-    pub fn finish(self, alloc: Global, scenario: Scenario, depth: u8) -> Result<Report, AllocError>
+    pub fn finish(
+        self,
+        alloc: Global,
+        scenario: Scenario,
+        depth: u8,
+        accounts: Vec<Account>,
+        idle: u32,
+    ) -> Result<Report, AllocError>
         requires scenario { IsScenario scenario }
         requires kept { IsKept scenario self }
         requires depth { depth ≤ 6 }
         requires whole { self.ticks ≡ scenario.horizon }
+        requires accounts { accounts.items ≡ accounts_of (told scenario.items depth self) }
+        requires idle { idle ≡ idle_of (told scenario.items depth self) }
         ensures { IfOk result (IsReportOf (told scenario.items depth self)) }
     {
-        let report = untotalled(alloc, self, scenario, depth)?;
-        total(alloc, report)
+        totalled(alloc, self, scenario, depth, accounts, idle)
     }
 }

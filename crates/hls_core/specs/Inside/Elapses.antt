@@ -1,5 +1,5 @@
 -- What a tick comes to.
-use Rattle.std.specs.Prelude.{ℕ, ◌<◌, Option, Some, None, Bool}
+use Rattle.std.specs.Prelude.{ℕ, ◌<◌, ◌+◌, ◌^◌, Option, Some, None, Bool}
 use Rattle.hls_report_text.specs.declared.report.Path.{Path}
 use Rattle.hls_sched.specs.Seen.{Seen}
 use Rattle.hls_legal.specs.Hierarchy.{Hierarchy}
@@ -9,6 +9,8 @@ use Rattle.hls_legal.specs.Legal.{Can, IsThread}
 use Rattle.hls_accounts.specs.Tells.{Names}
 use Rattle.hls_tree.specs.Trees.{IsTreeOf, IsReadyOf}
 use Rattle.hls_tree.specs.declared.tree.Tree.{Tree}
+use Rattle.hls_stays.specs.Tallies.{AreStays, IsStanding}
+use Rattle.hls_stays.specs.declared.stays.Stays.{Stays}
 use Rattle.hls_journal.specs.declared.journal.Journal.{Journal}
 use Rattle.hls_journal.specs.Kept.{IsWayOrIdle}
 use Rattle.hls_journal.specs.Ways.{names_by}
@@ -25,15 +27,18 @@ IsThreadOrNone h (Some k) = IsThread (h.nodes k)
 -- V and P are what the checker knows a box by
 module _ {V : Type 0} {P : V → Type 0} where
   -- it is of the hierarchy, whose names were noted, and there is a tick left
-  pub record MayElapse (seen : (x : V) × P x → Seen) (t : Tree V P) (bursts : Bursts) (j : Journal) (h : Hierarchy)
-      : Type 0 where
+  pub record MayElapse (seen : (x : V) × P x → Seen) (t : Tree V P) (bursts : Bursts) (tallies : Stays) (j : Journal)
+      (h : Hierarchy) : Type 0 where
     pub at_state : IsAt seen t bursts h
+    pub stays : AreStays tallies h
+    pub standing : IsStanding h
     pub noted : AreNoted h j
     pub early : h.now < t.horizon
+    pub small : h.now + 1 < 2 ^ 32
 
   -- a tick elapses by a path that this one tells
-  pub record Elapses (seen : (x : V) × P x → Seen) (new : Tree V P) (bursts : Bursts) (j : Journal) (h : Hierarchy)
-      (told : Option Path) : Type 0 where
+  pub record Elapses (seen : (x : V) × P x → Seen) (new : Tree V P) (bursts : Bursts) (tallies : Stays) (j : Journal)
+      (h : Hierarchy) (told : Option Path) : Type 0 where
     pub asking : ℕ → Bool
     pub masks : ℕ → ℕ
     pub path : Option steps.Path
@@ -43,3 +48,4 @@ module _ {V : Type 0} {P : V → Type 0} where
     pub tree : IsTreeOf seen new (after h (Elapse asking masks path))
     pub ready : IsReadyOf seen new (after h (Elapse asking masks path))
     pub left : IsLeft (left_in bursts) (after h (Elapse asking masks path))
+    pub stays : AreStays tallies (after h (Elapse asking masks path))

@@ -3,10 +3,19 @@ use Rattle.std.specs.Prelude.{ℕ}
 use Rattle.hls_scenario.specs.declared.scenario.Command.{Command}
 use Rattle.hls_report_text.specs.declared.report.Answer.{Answer}
 use Rattle.hls_sched.specs.Seen.{Seen}
-use Rattle.hls_legal.specs.Steps.{after}
+use Rattle.hls_legal.specs.Hierarchy.{Hierarchy}
+use Rattle.hls_legal.specs.Steps.{Step, after}
+use Rattle.hls_legal.specs.Legal.{Can}
+use Rattle.hls_accounts.specs.Tells.{Answers}
 use Rattle.hls_answers.specs.Moment.{Moment}
+use Rattle.hls_tree.specs.Trees.{IsTreeOf}
 use Rattle.hls_tree.specs.declared.tree.Tree.{Tree}
+use Rattle.hls_stays.specs.Tallies.{AreStays, IsStanding}
+use Rattle.hls_stays.specs.Turnovers.{IsTurnover}
+use Rattle.hls_stays.specs.declared.stays.Stays.{Stays}
+use Rattle.hls_stays.specs.declared.turnover.Turnover.{Turnover}
 use Rattle.hls_manager.specs.Outcomes as manager
+use Rattle.hls_core.specs.Standing.{IsAt}
 use Rattle.hls_core.specs.Left.{IsLeft}
 use Rattle.hls_core.specs.Bursts.{left_in}
 use Rattle.hls_core.specs.declared.bursts.Bursts.{Bursts}
@@ -18,3 +27,29 @@ module _ {V : Type 0} {P : V → Type 0} where
       (commands : ℕ) (command : Command) (answer : Answer) : Type 0 where
     pub out : manager.CarriesOut seen old new m commands command answer
     pub left : IsLeft (left_in bursts) (after m.hierarchy out.step)
+
+  -- a command may be carried out in the hierarchy where a legal run leads, whose stays these are
+  pub record MayCarry (seen : (x : V) × P x → Seen) (t : Tree V P) (bursts : Bursts) (tallies : Stays) (h : Hierarchy)
+      : Type 0 where
+    pub at_state : IsAt seen t bursts h
+    pub marks : manager.HasMarkRoom h
+    pub stays : AreStays tallies h
+    pub standing : IsStanding h
+
+  -- a command was answered by a step, after which the tree is, and this is what it ends and begins
+  pub record Follows (seen : (x : V) × P x → Seen) (tallies : Stays) (t : Tree V P) (turnover : Turnover)
+      (answer : Answer) (h : Hierarchy) (command : Command) (step : Step) : Type 0 where
+    pub stays : AreStays tallies h
+    pub standing : IsStanding h
+    pub reached : manager.IsReached h
+    pub of : IsTurnover h command turnover
+    pub answers : Answers h command answer step
+    pub can : Can h step
+    pub tree : IsTreeOf seen t (after h step)
+
+  pub record MayFollow (seen : (x : V) × P x → Seen) (tallies : Stays) (t : Tree V P) (turnover : Turnover)
+      (answer : Answer) : Type 0 where
+    pub h : Hierarchy
+    pub command : Command
+    pub step : Step
+    pub follows : Follows seen tallies t turnover answer h command step

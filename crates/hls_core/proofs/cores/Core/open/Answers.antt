@@ -9,4 +9,4 @@ returns g c =
     c.depth_in_force-depth.ensures c.requires.depth c.new.ensures
     (subst (λ items. IsNew (length items) c.args.scenario.horizon c.in_ok-journal.journal) c.items.ensures
     c.in_ok-journal.ensures) c.requires.kit c.new-tree.ensures.tree c.new-tree.ensures.ready c.new-2.ensures
-    c.new-tree.ensures.horizon
+    c.new-tree.ensures.horizon c.new-3.ensures

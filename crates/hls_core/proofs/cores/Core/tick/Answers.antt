@@ -18,7 +18,7 @@ tick-requires-clause-may g c =
 
 pub tick-requires-clause-short : goal.tick-requires-clause-short
 tick-requires-clause-short g c =
-    path_short _ c.args.self.now c.requires.runs.s c.requires.runs.given c.requires.runs.boxes _ _
+    path_short _ c.args.self.now c.requires.runs.s c.requires.runs.given c.requires.runs.boxes _ _ _
     c.elapse-path.result c.requires.runs.is c.requires.early c.elapse-path.ensures.elapses
 
 pub returns-clause-is : goal.returns-clause-is

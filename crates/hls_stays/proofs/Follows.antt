@@ -1,0 +1,331 @@
+-- What the steps of commands leave of stays.
+use Rattle.std.proofs.Common.{◌≡◌, ◌≢◌, ℕ, suc, List, [], ◌∷◌, ◌++◌}
+use Rattle.std.proofs.Common.{Bool, true, false, cond, ◌||◌, ◌==◌, refl, sym, ap, ◌∙◌, subst}
+use Rattle.std.proofs.Common.{map, filter}
+use Rattle.std.specs.Prelude.{Option, Some, None, slice_get, if◌then◌else◌}
+use Rattle.std.proofs.lemmas.Bool.{ne_eqb, eq-eqb, eqb-true}
+use Rattle.std.proofs.lemmas.List.{append-nil}
+use Rattle.hls_legal.specs.Hierarchy.{Hierarchy, Stay, Node, Loaded, Admitted, Wake, Seat}
+use Rattle.hls_legal.specs.Steps.{closed, stay_of, opened, is_thread, listed, effect, nobody, nodes_after, with_wake}
+use Rattle.hls_legal.specs.Steps.{admitted, reseated, after}
+use Rattle.hls_legal.specs.Legal.{IsBelow, IsThread}
+use Rattle.hls_legal.specs.Lists.{IsListed, open_stay}
+use Rattle.hls_accounts.proofs.Orders.{opened_without, opened_push, listed_same}
+use Rattle.hls_stays.specs.Tallies.{AreTallies, AreStays, IsStanding}
+use Rattle.hls_stays.specs.Turnovers.{Tells}
+use Rattle.hls_stays.specs.Inside.Steps.{HasOpen, HasNone, without}
+use Rattle.hls_stays.specs.Inside.Renewals.{IsApart, AreRenewable, renewed_all}
+use Rattle.hls_stays.specs.declared.stays.Stays.{Stays}
+use Rattle.hls_stays.proofs.Lists.{map_same, is_in, place_of, contains_at, apart_pairs}
+use Rattle.hls_stays.proofs.Ends.{closed_not}
+use Rattle.std.proofs.lemmas.List.Kept.{AllPairs-filter}
+use Rattle.hls_chron.specs.declared.book.Event.{Event}
+use Rattle.hls_scenario.specs.declared.scenario.Command.{Command}
+use Rattle.hls_scenario.specs.declared.scenario.Command.TheVariants as said
+use Rattle.hls_legal.specs.Hierarchy.{Asleep, seats_of}
+use Rattle.hls_legal.specs.Steps.{Step, Load, Admit, End, Unload, Move}
+use Rattle.hls_legal.specs.Steps.{Rouse, Block, marked, renewed, leavings, seatings}
+use Rattle.hls_legal.specs.Steps.{loaded, wake_by}
+use Rattle.hls_legal.specs.Legal.{Can}
+use Rattle.hls_legal.proofs.Kept.{at_same}
+use Rattle.hls_legal.proofs.Listings.{filter_had}
+use Rattle.hls_accounts.specs.Tells.{Does}
+use Rattle.hls_stays.specs.Turnovers.{IsTurnover}
+use Rattle.hls_stays.specs.declared.turnover.Turnover.{Turnover}
+use Rattle.hls_stays.specs.declared.turnover.Turnover.TheVariants.{Nothing, Begins, Ends, Renews}
+use Rattle.hls_stays.proofs.Renewed.{renewed_is, opened_filter, in_filter, closed_alike, shut_on}
+
+-- what is thought of tallies goes by ticks and stays alone
+pub at_effect : (s : Stays) (h : Hierarchy) (k : ℕ) (node : Option Node) (below : ℕ → Bool) (stays : List Stay)
+    → AreTallies s h stays → AreTallies s (effect h k node below) stays
+at_effect s h k node below stays are =
+    record { tallies = are.tallies; found = are.found; since = are.since; idle = are.idle }
+
+pub at_wake : (s : Stays) (h : Hierarchy) (k : ℕ) (how : Wake) → AreStays s h → AreStays s (with_wake h k how)
+at_wake s h k how are =
+    record { tallies = are.tallies; found = are.found; since = are.since; idle = are.idle }
+
+pub thread_is : (node : Option Node) → is_thread node ≡ true → IsThread node
+thread_is None is = absurd (cc)
+thread_is (Some (Loaded s)) is = absurd (cc)
+thread_is (Some (Admitted t)) is = record { thread = t; there = refl }
+
+-- a thread has an open stay
+pub has_open : (h : Hierarchy) (k : ℕ) → IsListed h → IsThread (h.nodes k) → HasOpen h.stays k
+has_open h k listed thread =
+    let at = place_of h.stays (open_stay k thread.thread) (listed.stays k thread.thread thread.there) in
+    record { at = at.0; stay = open_stay k thread.thread; there = at.1; thread = refl; is_open = refl }
+
+-- what is no thread has none
+pub has_none : (h : Hierarchy) (k : ℕ) → IsStanding h → is_thread (h.nodes k) ≡ false → HasNone h.stays k
+has_none h k standing off at stay e none is =
+    let yes = standing.there at stay e none in
+    let clash : true ≡ false = sym yes ∙ ap (λ n. is_thread (h.nodes n)) is ∙ off in absurd (cc)
+
+same_map : (f : Stay → Stay) (stays : List Stay) → ((i : ℕ) (x : Stay) → slice_get stays i ≡ Some x → f x ≡ x)
+    → map f stays ≡ stays
+same_map f [] same = refl
+same_map f (x ∷ stays) same =
+    ap (λ y. y ∷ map f stays) (same 0 x refl) ∙ ap (λ l. x ∷ l) (same_map f stays (λ i y e. same (suc i) y e))
+
+-- where a node is no thread none of its stays ends
+pub none_ends : (h : Hierarchy) (k : ℕ) → IsStanding h → is_thread (h.nodes k) ≡ false
+    → without h.now k h.stays ≡ h.stays
+none_ends h k standing off = same_map (λ (x : Stay). closed (x.thread == k) h.now x) h.stays
+    (λ i x e. closed_not x (x.thread == k) h.now
+    (λ none. ne_eqb x.thread k (λ is. has_none h k standing off i x e none is)))
+
+pub opened_nothing : (now : ℕ) (nodes : ℕ → Option Node) (begins : ℕ → Bool) (ks : List ℕ)
+    → ((i c : ℕ) → slice_get ks i ≡ Some c → begins c ≡ false) → opened now nodes begins ks ≡ []
+opened_nothing now nodes begins [] off = refl
+opened_nothing now nodes begins (k ∷ ks) off =
+    ap (λ (b : Bool). (if b then stay_of now k (nodes k) else []) ++ opened now nodes begins ks) (off 0 k refl)
+    ∙ opened_nothing now nodes begins ks (λ i c e. off (suc i) c e)
+
+-- a node that is no thread is not on the list of threads
+not_listed : (h : Hierarchy) (k : ℕ) → IsListed h → is_thread (h.nodes k) ≡ false → (i c : ℕ)
+    → slice_get h.threads i ≡ Some c → (c == k) ≡ false
+not_listed h k listed_is off i c e = ne_eqb c k (λ is.
+    (let yes = listed_is.threads.only c (contains_at h.threads i c e) in
+    let clash : true ≡ false = sym yes ∙ ap (λ n. is_thread (h.nodes n)) is ∙ off in absurd (cc)))
+
+-- a scheduler comes or goes
+pub quiet : (h : Hierarchy) (k : ℕ) (node : Option Node) → IsStanding h → IsListed h
+    → is_thread (h.nodes k) ≡ false → is_thread node ≡ false → (effect h k node nobody).stays ≡ h.stays
+quiet h k node standing listed_is was is =
+    let nodes = nodes_after h k node nobody in
+    let begins : ℕ → Bool = λ c. nobody c || c == k in
+    ap (λ l. l ++ opened h.now nodes begins (listed (is_thread (h.nodes k)) (is_thread node) k h.threads))
+    (none_ends h k standing was)
+    ∙ ap (λ l. h.stays ++ opened h.now nodes begins l)
+    (listed_same (is_thread (h.nodes k)) (is_thread node) false k h.threads was is)
+    ∙ ap (λ l. h.stays ++ l)
+    (opened_nothing h.now nodes begins h.threads (λ i c e. not_listed h k listed_is was i c e))
+    ∙ append-nil h.stays
+
+pub quiet_tallies : (s : Stays) (h : Hierarchy) (k : ℕ) (node : Option Node) → IsStanding h → IsListed h
+    → is_thread (h.nodes k) ≡ false → is_thread node ≡ false → AreStays s h → AreStays s (effect h k node nobody)
+quiet_tallies s h k node standing listed_is was is are =
+    subst (AreTallies s (effect h k node nobody)) (sym (quiet h k node standing listed_is was is))
+    (at_effect s h k node nobody h.stays are)
+
+-- a thread comes
+pub admitted_threads : (h : Hierarchy) (k : ℕ) (name : List ℕ) (seat : Seat) → h.nodes k ≡ None
+    → (effect h k (Some (Admitted (admitted h.now name seat))) nobody).threads ≡ h.threads ++ k ∷ []
+admitted_threads h k name seat none = ap (λ n. listed (is_thread n) true k h.threads) none
+
+pub admitted_stays : (h : Hierarchy) (k : ℕ) (name : List ℕ) (seat : Seat) → IsStanding h → IsListed h
+    → h.nodes k ≡ None
+    → (effect h k (Some (Admitted (admitted h.now name seat))) nobody).stays
+    ≡ h.stays
+    ++ stay_of h.now k ((effect h k (Some (Admitted (admitted h.now name seat))) nobody).nodes k)
+admitted_stays h k name seat standing listed_is none =
+    let node : Option Node = Some (Admitted (admitted h.now name seat)) in
+    let nodes = nodes_after h k node nobody in
+    let begins : ℕ → Bool = λ c. nobody c || c == k in
+    let was : is_thread (h.nodes k) ≡ false = ap is_thread none in
+    ap (λ l. l ++ opened h.now nodes begins (listed (is_thread (h.nodes k)) true k h.threads))
+    (none_ends h k standing was)
+    ∙ ap (λ l. h.stays ++ opened h.now nodes begins l) (admitted_threads h k name seat none)
+    ∙ ap (λ l. h.stays ++ l)
+    (opened_push h.now nodes begins h.threads k
+    (opened_nothing h.now nodes begins h.threads (λ i c e. not_listed h k listed_is was i c e))
+    (eq-eqb k k refl))
+
+-- a thread goes
+pub ended_stays : (h : Hierarchy) (k : ℕ) → is_thread (h.nodes k) ≡ true
+    → (effect h k None nobody).stays ≡ without h.now k h.stays
+ended_stays h k is =
+    let nodes = nodes_after h k None nobody in
+    let begins : ℕ → Bool = λ c. nobody c || c == k in
+    ap (λ b. without h.now k h.stays ++ opened h.now nodes begins (listed b false k h.threads)) is
+    ∙ ap (λ l. without h.now k h.stays ++ l) (opened_without h.now nodes k h.threads)
+    ∙ append-nil (without h.now k h.stays)
+
+-- ---- moves
+
+is_thread-reseated : (seat : Seat) (node : Option Node) → is_thread (reseated seat node) ≡ is_thread node
+is_thread-reseated seat None = refl
+is_thread-reseated seat (Some (Loaded s)) = refl
+is_thread-reseated seat (Some (Admitted t)) = refl
+
+or_itself : (below : ℕ → Bool) (k c : ℕ) → below k ≡ true → (below c || c == k) ≡ below c
+or_itself below k c on = by (below c) refl
+  where
+    by : (b : Bool) → below c ≡ b → (b || c == k) ≡ b
+    by true e = refl
+    by false e = ne_eqb c k (λ is. (let clash : true ≡ false = sym on ∙ ap below (sym is) ∙ e in absurd (cc)))
+
+opened_alike : (now : ℕ) (nodes : ℕ → Option Node) (one other : ℕ → Bool) (ks : List ℕ)
+    → ((c : ℕ) → one c ≡ other c) → opened now nodes one ks ≡ opened now nodes other ks
+opened_alike now nodes one other [] same = refl
+opened_alike now nodes one other (k ∷ ks) same =
+    ap (λ (b : Bool). (if b then stay_of now k (nodes k) else []) ++ opened now nodes one ks) (same k)
+    ∙ ap (λ l. (if other k then stay_of now k (nodes k) else []) ++ l) (opened_alike now nodes one other ks same)
+
+pub moved_threads : (h : Hierarchy) (k : ℕ) (seat : Seat) (below : ℕ → Bool)
+    → (effect h k (reseated seat (h.nodes k)) below).threads ≡ h.threads
+moved_threads h k seat below =
+    listed_same (is_thread (h.nodes k)) (is_thread (reseated seat (h.nodes k))) (is_thread (h.nodes k)) k h.threads
+    refl (is_thread-reseated seat (h.nodes k))
+
+pub moved_stays : (h : Hierarchy) (k : ℕ) (seat : Seat) (below : ℕ → Bool) → IsStanding h → IsListed h
+    → below k ≡ true → IsApart (filter below h.threads)
+    → renewed_all (effect h k (reseated seat (h.nodes k)) below) h.stays (filter below h.threads)
+    ≡ (effect h k (reseated seat (h.nodes k)) below).stays
+moved_stays h k seat below standing listed_is on apart =
+    let made = effect h k (reseated seat (h.nodes k)) below in
+    let ks = filter below h.threads in
+    let begins : ℕ → Bool = λ c. below c || c == k in
+    renewed_is made h.stays ks apart
+    ∙ ap (λ l. l ++ opened h.now made.nodes (λ c. true) ks)
+    (map_same (λ (x : Stay). closed (begins x.thread) h.now x) (shut_on h.now ks) h.stays
+    (λ i x e. closed_alike x (is_in ks x.thread) (begins x.thread) h.now
+    (λ none. in_filter below h.threads x.thread
+    (listed_is.threads.all x.thread (standing.there i x e none))
+    ∙ sym (or_itself below k x.thread on))))
+    ∙ ap (λ l. map (λ (x : Stay). closed (begins x.thread) h.now x) h.stays ++ l)
+    (opened_filter h.now made.nodes below h.threads
+    ∙ opened_alike h.now made.nodes below begins h.threads (λ c. sym (or_itself below k c on))
+    ∙ ap (opened h.now made.nodes begins) (sym (moved_threads h k seat below)))
+
+-- ---- what each turnover comes to
+
+pub follow_nothing : (s : Stays) (h : Hierarchy) (command : Command) (step : Step) → IsTurnover h command Nothing
+    → Does h command step → Can h step → IsStanding h → IsListed h → AreStays s h → AreStays s (after h step)
+follow_nothing s h (said.Load name config perches) (Load k new set ticks marks seats) of does can standing lists are =
+    quiet_tallies s h k (Some (Loaded (loaded h.now new set ticks marks seats))) standing lists
+    (ap is_thread can.0.new.unused) refl are
+follow_nothing s h (said.Load name config perches) _ of does can standing lists are = absurd does
+follow_nothing s h (said.Thread name perch) _ of does can standing lists are = absurd of
+follow_nothing s h (said.End name) (End k) of does can standing lists are = absurd (of k does)
+follow_nothing s h (said.End name) _ of does can standing lists are = absurd does
+follow_nothing s h (said.Unload name) (Unload k) of does can standing lists are =
+    quiet_tallies s h k None standing lists (ap is_thread can.there) refl are
+follow_nothing s h (said.Unload name) _ of does can standing lists are = absurd does
+follow_nothing s h (said.Move name perch) (Move k seat below) of does can standing lists are = absurd (of k does.0)
+follow_nothing s h (said.Move name perch) _ of does can standing lists are = absurd does
+follow_nothing s h (said.Wake name burst) (Rouse k ticks) of does can standing lists are =
+    at_wake s h k (wake_by ticks h.now) are
+follow_nothing s h (said.Wake name burst) _ of does can standing lists are = absurd does
+follow_nothing s h (said.Block name) (Block k) of does can standing lists are = at_wake s h k Asleep are
+follow_nothing s h (said.Block name) _ of does can standing lists are = absurd does
+
+-- a thread has begun its first stay
+pub record HasBegun (s : Stays) (h later : Hierarchy) : Type 0 where
+  pub k : ℕ
+  pub front : List ℕ
+  pub threads : later.threads ≡ front ++ k ∷ []
+  pub thread : IsThread (later.nodes k)
+  pub none : HasNone h.stays k
+  pub stays : later.stays ≡ h.stays ++ stay_of later.now k (later.nodes k)
+  pub are : AreTallies s later h.stays
+
+pub follow_begins : (s : Stays) (h : Hierarchy) (command : Command) (step : Step) → IsTurnover h command Begins
+    → Does h command step → Can h step → IsStanding h → IsListed h → AreStays s h → HasBegun s h (after h step)
+follow_begins s h (said.Thread name perch) (Admit k new seat) of does can standing lists are = record {
+  k = k;
+  front = h.threads;
+  threads = admitted_threads h k new seat can.new.unused;
+  thread = record {
+    thread = admitted h.now new seat;
+    there = at_same k k (Some (Admitted (admitted h.now new seat)))
+        (marked (leavings (seats_of (h.nodes k)) k ++ seatings (seat ∷ []) k) (h.nodes k)) refl;
+  };
+  none = has_none h k standing (ap is_thread can.new.unused);
+  stays = admitted_stays h k new seat standing lists can.new.unused;
+  are = at_effect s h k (Some (Admitted (admitted h.now new seat))) nobody h.stays are;
+}
+follow_begins s h (said.Thread name perch) _ of does can standing lists are = absurd does
+follow_begins s h _ _ of does can standing lists are = absurd of
+
+-- the stay of a thread has ended
+pub record HasEnded (s : Stays) (h later : Hierarchy) (k : ℕ) : Type 0 where
+  pub has : HasOpen h.stays k
+  pub stays : later.stays ≡ without later.now k h.stays
+  pub are : AreTallies s later h.stays
+
+ended_there : (node : Option Node) → IsThread node → is_thread node ≡ true
+ended_there node thread = ap is_thread thread.there
+
+pub follow_ends : (s : Stays) (h : Hierarchy) (id : ℕ) (command : Command) (step : Step)
+    → IsTurnover h command (Ends id) → Does h command step → Can h step → IsStanding h → IsListed h → AreStays s h
+    → HasEnded s h (after h step) id
+follow_ends s h id (said.End name) (End k) of does can standing lists are =
+    subst (HasEnded s h (effect h k None nobody)) (sym (lists.names id k name of does)) (record {
+      has = has_open h k lists can;
+      stays = ended_stays h k (ended_there (h.nodes k) can);
+      are = at_effect s h k None nobody h.stays are;
+    })
+follow_ends s h id (said.End name) _ of does can standing lists are = absurd does
+follow_ends s h id _ _ of does can standing lists are = absurd of
+
+-- the stays of these threads have ended, and others begun
+pub record HaveRenewed (s : Stays) (h later : Hierarchy) (ids : List ℕ) : Type 0 where
+  pub may : AreRenewable s later h.stays ids
+  pub stays : renewed_all later h.stays ids ≡ later.stays
+
+is_thread-marked : (es : List Event) (node : Option Node) → is_thread (marked es node) ≡ is_thread node
+is_thread-marked es None = refl
+is_thread-marked es (Some (Loaded s)) = refl
+is_thread-marked es (Some (Admitted t)) = refl
+
+is_thread-renewed : (b : Bool) (now : ℕ) (node : Option Node) → is_thread (renewed b now node) ≡ is_thread node
+is_thread-renewed false now any = refl
+is_thread-renewed true now None = refl
+is_thread-renewed true now (Some (Loaded s)) = refl
+is_thread-renewed true now (Some (Admitted t)) = refl
+
+moved_thread : (h : Hierarchy) (k c : ℕ) (seat : Seat) (below : ℕ → Bool)
+    → is_thread (nodes_after h k (reseated seat (h.nodes k)) below c) ≡ is_thread (h.nodes c)
+moved_thread h k c seat below =
+    is_thread-renewed (below c) h.now (cond (c == k) (reseated seat (h.nodes k)) (marked es (h.nodes c)))
+    ∙ by (c == k) refl
+  where
+    es : List Event
+    es = leavings (seats_of (h.nodes k)) c ++ seatings (seats_of (reseated seat (h.nodes k))) c
+
+    by : (b : Bool) → (c == k) ≡ b
+        → is_thread (cond b (reseated seat (h.nodes k)) (marked es (h.nodes c))) ≡ is_thread (h.nodes c)
+    by true on =
+        is_thread-reseated seat (h.nodes k) ∙ ap (λ n. is_thread (h.nodes n)) (sym (eqb-true c k on))
+    by false off = is_thread-marked es (h.nodes c)
+
+moved_renewed : (s : Stays) (h : Hierarchy) (k : ℕ) (seat : Seat) (below : ℕ → Bool) → IsStanding h → IsListed h
+    → below k ≡ true → AreStays s h
+    → HaveRenewed s h (effect h k (reseated seat (h.nodes k)) below) (filter below h.threads)
+moved_renewed s h k seat below standing lists on are =
+    let apart = apart_pairs (filter below h.threads)
+    (AllPairs-filter (λ (k c : ℕ). k ≢ c) below h.threads lists.threads.once) in
+    record {
+      may = record {
+        are = at_effect s h k (reseated seat (h.nodes k)) below h.stays are;
+        apart = apart;
+        there = λ i c e. thread_is (nodes_after h k (reseated seat (h.nodes k)) below c)
+            (moved_thread h k c seat below ∙ was i c e);
+        each = λ i c e. has_open h c lists (thread_is (h.nodes c) (was i c e));
+      };
+      stays = moved_stays h k seat below standing lists on apart;
+    }
+  where
+    was : (i c : ℕ) → slice_get (filter below h.threads) i ≡ Some c → is_thread (h.nodes c) ≡ true
+    was i c e =
+        lists.threads.only c (filter_had below h.threads c (contains_at (filter below h.threads) i c e))
+
+abbrev pub RenewsThese : Turnover → List ℕ → Type 0
+RenewsThese (Renews threads) ids = threads.items ≡ ids
+RenewsThese _ ids = ⊥
+
+pub follow_renews : (s : Stays) (h : Hierarchy) (ids : List ℕ) (turnover : Turnover) (command : Command)
+    (step : Step) → IsTurnover h command turnover → RenewsThese turnover ids → Does h command step → Can h step
+    → ((k : ℕ) (below : ℕ → Bool) → IsBelow h k below → Tells h k below) → IsStanding h → IsListed h
+    → AreStays s h → HaveRenewed s h (after h step) ids
+follow_renews s h ids (Renews threads) (said.Move name perch) (Move k seat below) of same does can tells standing lists
+    are =
+    let id_is : of.0 ≡ k = lists.names of.0 k name of.1 does.0 in
+    let told : Tells h of.0 below = subst (λ n. Tells h n below) (sym id_is) (tells k below can.0.under) in
+    subst (HaveRenewed s h (effect h k (reseated seat (h.nodes k)) below)) (sym (sym same ∙ of.2 below told))
+    (moved_renewed s h k seat below standing lists can.0.under.itself are)
+follow_renews s h ids (Renews threads) (said.Move name perch) _ of same does can tells standing lists are = absurd does
+follow_renews s h ids (Renews threads) _ _ of same does can tells standing lists are = absurd of
+follow_renews s h ids _ _ _ of same does can tells standing lists are = absurd same

@@ -1,0 +1,9 @@
+pub mod Lists
+pub mod Ends
+pub mod Counted
+pub mod Renewed
+pub mod Follows
+pub mod Told
+pub mod Under
+pub mod Begins
+pub mod Turned

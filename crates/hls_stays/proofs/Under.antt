@@ -1,0 +1,62 @@
+-- The threads that are a node or below it.
+use Rattle.std.proofs.Common.{◌≡◌, ◌≢◌, ℕ, ◌+◌, List, [], ◌∷◌, ◌++◌, Bool, true, false, cond, length, sym, ap, ◌∙◌}
+use Rattle.std.proofs.Common.{filter, take, ◌≤◌, inl, inr}
+use Rattle.std.specs.Prelude.{Option, Some, None, slice_get}
+use Rattle.std.proofs.lemmas.Bool.{cases_Bool}
+use Rattle.std.proofs.lemmas.List.{append-nil}
+use Rattle.std.proofs.lemmas.List.Elements.{filter-append}
+use Rattle.hls_sched.specs.Seen.{Seen}
+use Rattle.hls_legal.specs.Hierarchy.{Hierarchy, Node}
+use Rattle.hls_legal.specs.Steps.{is_thread}
+use Rattle.hls_legal.specs.Readings.{IsUnder}
+use Rattle.hls_tree.specs.Trees.{Stands}
+use Rattle.hls_tree.specs.declared.tree.Tree.{Tree}
+use Rattle.hls_stays.specs.Turnovers.{Tells}
+use Rattle.hls_stays.proofs.Lists.{take_next, take_all, contains_at}
+
+there_is : (node : Option Node) → is_thread node ≡ true → node ≢ None
+there_is node is none = (let clash : true ≡ false = sym is ∙ ap is_thread none in absurd (cc))
+
+-- V and P are what the checker knows a box by
+pub under_stands : {V : Type 0} {P : V → Type 0} (seen : (x : V) × P x → Seen) (t : Tree V P) (id at k : ℕ)
+    (x : Stands seen t (λ h. h.nodes id ≢ None)) → slice_get x.h.threads at ≡ Some k
+    → Stands seen t (λ h. (h.nodes id ≢ None) × (h.nodes k ≢ None))
+under_stands seen t id at k x e = record {
+  h = x.h;
+  tree = x.tree;
+  seated = x.seated;
+  listed = x.listed;
+  is = (x.is, there_is (x.h.nodes k) (x.listed.threads.only k (contains_at x.h.threads at k e)));
+}
+
+filter_one : (below : ℕ → Bool) (k : ℕ) (b : Bool) → below k ≡ b → filter below (k ∷ []) ≡ cond b (k ∷ []) []
+filter_one below k b e = ap (λ x. cond x (k ∷ []) []) e
+
+next_under : (below : ℕ → Bool) (ks : List ℕ) (at k : ℕ) (b : Bool) → slice_get ks at ≡ Some k → below k ≡ b
+    → filter below (take (at + 1) ks) ≡ filter below (take at ks) ++ cond b (k ∷ []) []
+next_under below ks at k b e is =
+    ap (filter below) (take_next ks at k e) ∙ filter-append below (take at ks) (k ∷ [])
+    ∙ ap (λ l. filter below (take at ks) ++ l) (filter_one below k b is)
+
+pub under_next : (h : Hierarchy) (below : ℕ → Bool) (id at k : ℕ) (kept new : List ℕ) → Tells h id below
+    → slice_get h.threads at ≡ Some k → IsUnder h id k → kept ≡ filter below (take at h.threads)
+    → new ≡ kept ++ k ∷ [] → new ≡ filter below (take (at + 1) h.threads)
+under_next h below id at k kept new tells e under are push =
+    push ∙ ap (λ l. l ++ k ∷ []) are ∙ sym (next_under below h.threads at k true e ((tells k).1 under))
+
+not_told : (h : Hierarchy) (below : ℕ → Bool) (id k : ℕ) → Tells h id below → ¬ IsUnder h id k → below k ≡ false
+not_told h below id k tells not = elim (cases_Bool (below k)) [
+  | inl on ↦ absurd (not ((tells k).0 on))
+  | inr off ↦ off
+]
+
+pub under_skip : (h : Hierarchy) (below : ℕ → Bool) (id at k : ℕ) (kept : List ℕ) → Tells h id below
+    → slice_get h.threads at ≡ Some k → ¬ IsUnder h id k → kept ≡ filter below (take at h.threads)
+    → kept ≡ filter below (take (at + 1) h.threads)
+under_skip h below id at k kept tells e not are =
+    are ∙ sym (append-nil (filter below (take at h.threads)))
+    ∙ sym (next_under below h.threads at k false e (not_told h below id k tells not))
+
+pub under_all : (h : Hierarchy) (below : ℕ → Bool) (at : ℕ) (kept : List ℕ) → length h.threads ≤ at
+    → kept ≡ filter below (take at h.threads) → kept ≡ filter below h.threads
+under_all h below at kept le are = are ∙ ap (filter below) (take_all h.threads at le)

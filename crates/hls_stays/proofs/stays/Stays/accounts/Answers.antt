@@ -1,0 +1,6 @@
+use Rattle.hls_stays.proofs.Told.{accounts_result}
+use Rattle.hls_stays.proofs.stays.Stays.accounts.Goals as goal
+
+pub returns : goal.returns
+returns c = accounts_result c.args.self.now c.args.now c.accounts_of.result
+    (rw c.deref.ensures.value at c.accounts_of.ensures)

@@ -1,0 +1,9 @@
+use Rattle.std.proofs.Common.{sym}
+use Rattle.hls_stays.specs.Inside.Steps.{without}
+use Rattle.hls_stays.proofs.Ends.{ended_none}
+use Rattle.hls_stays.proofs.stays.Stays.renew.Goals as goal
+
+pub returns-clause-renewed : goal.returns-clause-renewed
+returns-clause-renewed g c = λ h stays tree thread are has.
+    c.open.ensures.opened h (without h.now c.args.id stays) tree thread
+    (c.close.ensures.closed h stays (sym (c.now.ensures h tree)) are has) (ended_none h stays c.args.id)

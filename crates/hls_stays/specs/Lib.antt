@@ -1,0 +1,5 @@
+pub mod Places
+pub mod Tallies
+pub mod Turnovers
+pub mod Inside
+pub mod Changes

@@ -1,0 +1,37 @@
+-- Which stays a command ends and begins.
+use Rattle.std.specs.Prelude.{◌≡◌, ℕ, Bool, true, ◌↔◌, filter, length}
+use Rattle.hls_text.specs.Lines.{Text}
+use Rattle.hls_scenario.specs.declared.scenario.Command.{Command}
+use Rattle.hls_scenario.specs.declared.scenario.Command.TheVariants as said
+use Rattle.hls_legal.specs.Hierarchy.{Hierarchy}
+use Rattle.hls_legal.specs.Readings.{IsUnder}
+use Rattle.hls_accounts.specs.Tells.{HasName}
+use Rattle.hls_stays.specs.declared.turnover.Turnover.{Turnover}
+use Rattle.hls_stays.specs.declared.turnover.Turnover.TheVariants.{Nothing, Begins, Ends, Renews}
+
+-- the test tells what is a node or below it
+abbrev pub Tells : Hierarchy → (k : ℕ) → (below : ℕ → Bool) → Type 0
+Tells h k below = (c : ℕ) → (below c ≡ true) ↔ IsUnder h k c
+
+abbrev pub IsNameless : Hierarchy → Text → Type 0
+IsNameless h name = (k : ℕ) → ¬ HasName h k name
+
+-- a command that is carried out will end and begin these stays
+abbrev pub IsTurnover : Hierarchy → Command → Turnover → Type 0
+IsTurnover h (said.Load name config perches) Nothing = Unit {0}
+IsTurnover h (said.Thread name perch) Begins = Unit {0}
+IsTurnover h (said.End name) Nothing = IsNameless h name
+IsTurnover h (said.End name) (Ends k) = HasName h k name
+IsTurnover h (said.Unload name) Nothing = Unit {0}
+IsTurnover h (said.Move name perch) Nothing = IsNameless h name
+IsTurnover h (said.Move name perch) (Renews threads) = (k : ℕ) × HasName h k name
+    × ((below : ℕ → Bool) → Tells h k below → threads.items ≡ filter below h.threads)
+IsTurnover h (said.Wake name burst) Nothing = Unit {0}
+IsTurnover h (said.Block name) Nothing = Unit {0}
+IsTurnover h _ _ = ⊥
+
+abbrev pub stays_begun : Turnover → ℕ
+stays_begun Nothing = 0
+stays_begun Begins = 1
+stays_begun (Ends k) = 0
+stays_begun (Renews threads) = length threads.items

@@ -1,0 +1,11 @@
+//! The stays of threads, counted as they come.
+#![tactic(auto)]
+
+mod accounts;
+mod places;
+mod stays;
+mod tally;
+mod turnover;
+
+pub use stays::Stays;
+pub use turnover::Turnover;

@@ -1,0 +1,76 @@
+// Which stays a command ends and begins.
+ghost use Rattle.std.specs.Prelude.{◌≡◌, ◌≢◌, ◌<◌, ◌^◌, ℕ, IfOk, Bool, filter, length};
+ghost use Rattle.hls_legal.specs.Hierarchy.{Hierarchy};
+ghost use Rattle.hls_tree.specs.Trees.{IsTreeOf, Stands, Any};
+ghost use Rattle.hls_stays.specs.Turnovers.{Tells, IsTurnover, stays_begun};
+
+use hls_scenario::Command;
+use hls_tree::{NodeId, Tree};
+use std::alloc::{AllocError, Global};
+
+/// Which stays a command ends and begins, once it is carried out.
+#[derive(Debug, Drop)]
+pub enum Turnover {
+    /// None.
+    Nothing,
+    /// The thread that is admitted begins a stay.
+    Begins,
+    /// The stay of a thread ends.
+    Ends(NodeId),
+    /// The stays of these threads end, and others of theirs begin.
+    Renews(Vec<NodeId>),
+}
+
+/// The threads that are a node or below it, in the order of their admissions.
+fn threads_under(alloc: Global, tree: &Tree, id: NodeId) -> Result<Vec<NodeId>, AllocError>
+    requires { Stands seen tree.now (λ h. h.nodes id ≢ None) }
+    ensures { IfOk result (λ threads. (h : Hierarchy) (below : ℕ → Bool) → IsTreeOf seen tree.now h →
+        Tells h id below → threads.items ≡ filter below h.threads) }
+{
+    let mut threads = Vec::new(alloc);
+    for at in 0..tree.threads() {
+        let thread = tree.thread(at);
+        if !tree.below(id, thread) {
+            continue;
+        }
+        threads.push(thread)?;
+    }
+    Ok(threads)
+}
+
+impl Turnover {
+    /// Which stays a command will end and begin, before it is carried out.
+    ///
+    /// # Errors
+    /// Returns `AllocError` for want of memory.
+    pub fn of(alloc: Global, tree: &Tree, command: &Command) -> Result<Turnover, AllocError>
+        requires { Stands seen tree.now Any }
+        ensures { IfOk result (λ turnover. (h : Hierarchy) → IsTreeOf seen tree.now h →
+            IsTurnover h command.now turnover) }
+    {
+        match command {
+            Command::Thread { .. } => Ok(Turnover::Begins),
+            Command::End { name } => match tree.find(name) {
+                Some(id) => Ok(Turnover::Ends(id)),
+                None => Ok(Turnover::Nothing),
+            },
+            Command::Move { name, .. } => match tree.find(name) {
+                Some(id) => Ok(Turnover::Renews(threads_under(alloc, tree, id)?)),
+                None => Ok(Turnover::Nothing),
+            },
+            _ => Ok(Turnover::Nothing),
+        }
+    }
+
+    /// How many stays begin.
+    pub(crate) fn begun(&self) -> usize
+        ensures { result ≡ stays_begun self.now }
+    {
+        match self {
+            Turnover::Nothing => 0,
+            Turnover::Begins => 1,
+            Turnover::Ends(_) => 0,
+            Turnover::Renews(threads) => threads.len(),
+        }
+    }
+}
