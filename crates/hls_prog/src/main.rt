@@ -2,10 +2,8 @@
 //! standard output.
 #![tactic(auto)]
 
-mod starting;
-
-use crate::starting::start;
 use hls_io::{Status, StdSink, StdSource};
+use hls_start::start;
 use std::process::ExitCode;
 use std::{env, io};
 
@@ -43,3 +41,5 @@ fn main(rt: HostRuntime) -> ExitCode {
 
 #[cfg(test)]
 mod tests;
+#[cfg(test)]
+mod word_tests;

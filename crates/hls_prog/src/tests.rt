@@ -1,10 +1,10 @@
 // What a run comes to, over sources and sinks in memory.
-use super::starting::start;
 use hls_io::{MemSink, MemSource, Status};
+use hls_start::start;
 use std::alloc::{AllocError, Global};
 use std::test::Fail;
 
-const USAGE: &[u8] = b"usage: hls run [--depth K] | check | gen N | trial N\n";
+pub const USAGE: &[u8] = b"usage: hls run [--depth K] | check | gen N | trial N\n";
 
 const TWO: &[u8] = b"hls 1\n\
     horizon 20\n\
@@ -14,7 +14,7 @@ const TWO: &[u8] = b"hls 1\n\
     at 0 wake a\n\
     at 0 wake b\n";
 
-const TWO_REPORT: &[u8] = b"hls-report 1\n\
+pub const TWO_REPORT: &[u8] = b"hls-report 1\n\
     horizon 20\n\
     depth 3\n\
     at 0 load root edf on cpu as ALL\n\
@@ -67,7 +67,7 @@ const DEEP_REPORT: &[u8] = b"hls-report 1\n\
     end\n";
 
 /// How a run at these words ends.
-fn run_at(
+pub fn run_at(
     alloc: Global,
     words: &[&str],
     source: &mut MemSource,
@@ -83,11 +83,18 @@ fn run_at(
 #[test]
 fn answers_words_and_texts(rt: HostRuntime) -> Result<(), Fail> {
     let alloc = rt.alloc();
-    let cases: [(&[&str], &[u8], Status, &[u8]); 10] = [
+    let cases: [(&[&str], &[u8], Status, &[u8]); 20] = [
         (&[], TWO, Status::Usage, USAGE),
         (&["run", "x"], TWO, Status::Usage, USAGE),
+        (&["run", "--depth"], TWO, Status::Usage, USAGE),
         (&["run", "--depth", "7"], TWO, Status::Usage, USAGE),
+        (&["run", "--depth", "03"], TWO, Status::Usage, USAGE),
+        (&["run", "--depth=7"], TWO, Status::Usage, USAGE),
         (&["run", "--"], TWO, Status::Usage, USAGE),
+        (&["--depth", "2", "run"], TWO, Status::Usage, USAGE),
+        (&["gen"], TWO, Status::Usage, USAGE),
+        (&["gen", "-1"], TWO, Status::Usage, USAGE),
+        (&["check", "--depth", "2"], TWO, Status::Usage, USAGE),
         (
             &["run"],
             b"",
@@ -99,6 +106,24 @@ fn answers_words_and_texts(rt: HostRuntime) -> Result<(), Fail> {
             b"hls 1",
             Status::RefusedText,
             b"refused line 2 Horizon\n",
+        ),
+        (
+            &["run"],
+            b"hls 1\nhorizon 5\nat 0 loa",
+            Status::RefusedText,
+            b"refused line 3 Word\n",
+        ),
+        (
+            &["run"],
+            b"hls 1\nhorizon 5\nat 0 wake\n",
+            Status::RefusedText,
+            b"refused line 3 Short\n",
+        ),
+        (
+            &["run"],
+            b"hls 1\nhorizon 5\nat 3 wake a\nat 2 wake a\n",
+            Status::RefusedText,
+            b"refused line 4 Order\n",
         ),
         (
             &["run"],
@@ -120,22 +145,44 @@ fn answers_words_and_texts(rt: HostRuntime) -> Result<(), Fail> {
     Ok(())
 }
 
+/// How many calls it takes to read all of `TWO`, 16 bytes each, and to find its end.
+const READS: u32 = 12;
+
+/// How many calls it takes to write all of `TWO_REPORT`, 16 bytes each.
+const WRITES: usize = 31;
+
 #[test]
-fn stops_at_the_first_fault(rt: HostRuntime) -> Result<(), Fail> {
+fn stops_where_a_read_fails(rt: HostRuntime) -> Result<(), Fail> {
     let alloc = rt.alloc();
-    let cases: [(u32, u32, Status, &[u8]); 3] = [
-        (0, 9, Status::ReadFault, b""),
-        (1, 0, Status::ReadFault, b""),
-        (9, 1, Status::WriteFault, b"hls-report 1\nhor"),
-    ];
-    for (case, (read, write, status, written)) in cases.iter().enumerate() {
-        let read_fails = [*read].to_vec(alloc)?;
-        let write_fails = [*write].to_vec(alloc)?;
-        let mut source = MemSource::new(TWO.to_vec(alloc)?, 100, read_fails);
-        let mut sink = MemSink::new(alloc, 4096, 16, write_fails)?;
+    for call in 0..=READS {
+        let mut source = MemSource::new(TWO.to_vec(alloc)?, 16, [call].to_vec(alloc)?);
+        let mut sink = MemSink::new(alloc, 4096, 16, Vec::new(alloc))?;
         let ended = run_at(alloc, &["run"], &mut source, &mut sink)?;
-        assert_eq!(rt; ended, *status, "case {case}");
-        assert_eq!(rt; sink.bytes(), *written, "case {case}");
+        if call < READS {
+            assert_eq!(rt; ended, Status::ReadFault, "call {call}");
+            assert!(rt; sink.bytes().is_empty(), "call {call}");
+        } else {
+            assert_eq!(rt; ended, Status::Done, "call {call}");
+            assert_eq!(rt; sink.bytes(), TWO_REPORT, "call {call}");
+        }
+    }
+    Ok(())
+}
+
+#[test]
+fn stops_where_a_write_fails(rt: HostRuntime) -> Result<(), Fail> {
+    let alloc = rt.alloc();
+    for call in 0..=WRITES {
+        let written = (16 * call).min(TWO_REPORT.len());
+        let mut source = MemSource::new(TWO.to_vec(alloc)?, 4096, Vec::new(alloc));
+        let mut sink = MemSink::new(alloc, 4096, 16, [call as u32].to_vec(alloc)?)?;
+        let ended = run_at(alloc, &["run"], &mut source, &mut sink)?;
+        if call < WRITES {
+            assert_eq!(rt; ended, Status::WriteFault, "call {call}");
+        } else {
+            assert_eq!(rt; ended, Status::Done, "call {call}");
+        }
+        assert_eq!(rt; sink.bytes(), &TWO_REPORT[..written], "call {call}");
     }
     Ok(())
 }

@@ -1,3 +1,6 @@
 pub mod Promised
 pub mod Cores
 pub mod Outcomes
+pub mod Answering
+pub mod Readings
+pub mod Audited

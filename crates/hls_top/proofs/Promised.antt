@@ -35,7 +35,8 @@ use Rattle.hls_answers.specs.Kit.{boxes_left, boxes_after}
 use Rattle.hls_legal_report.specs.Legal.{IsLegalContent, IsLegalReport}
 use Rattle.hls_legal_report.proofs.Keeping.{report_kept}
 use Rattle.hls_legal_report.proofs.Removal.{removed}
-use Rattle.hls_top.specs.Ends.{IsReportOf}
+use Rattle.hls_clauses.proofs.Kept.{report_kept as never_fails}
+use Rattle.hls_top.specs.Outputs.{IsReportOf}
 use Rattle.hls_top.specs.Promises.{IsRefusal, HasRoom, IsAnswerIn, AnswersEach, KeepsPromises}
 
 -- ---- one thread at most
@@ -177,6 +178,7 @@ promises_kept s given boxes c legal = record {
       (supply.stays_kept legal.steps legal.run.legal));
   answers = answers_each boxes c legal.steps legal.run.legal legal.run.answers;
   refusals = λ at a r there refused. removed s given boxes c at a r legal there refused;
+  kept = λ clause t. never_fails s given boxes c legal clause t;
 }
 
 -- the text of a legal report is as promised

@@ -1,128 +1,91 @@
 -- How a run ends: each status with its cause, and what was written.
-use Rattle.std.specs.Prelude.{◌≡◌, ℕ, ◌⊎◌, ◌+◌, ◌≤◌, ◌<◌, length, Some, IfSome}
+use Rattle.std.specs.Prelude.{◌≡◌, ℕ, ◌+◌, ◌<◌, length, Option, Some, None, IfSome}
 use Rattle.std.specs.Io.KnownBytes.{Appends}
-use Rattle.hls_io.specs.Bytes.{IsWhole, TakesFirst, AppendsPart}
+use Rattle.hls_io.specs.Bytes.{TakesFirst, AppendsPart}
 use Rattle.hls_io.specs.Faults.{Rose}
+use Rattle.hls_io.specs.declared.source.ReadError.{ReadError}
+use Rattle.hls_io.specs.declared.source.ReadError.TheVariants as errors
 use Rattle.hls_io.specs.declared.status.Status.{Status}
 use Rattle.hls_io.specs.declared.status.Status.TheVariants.{Done, Broken, Usage, RefusedText}
 use Rattle.hls_io.specs.declared.status.Status.TheVariants.{ReadFault, WriteFault, Memory, TooLong}
 use Rattle.hls_text.specs.Lines.{Text}
 use Rattle.hls_words.specs.Table.{IsJob, IsNoJob}
-use Rattle.hls_words.specs.declared.jobs.Job.TheVariants.{Run}
-use Rattle.hls_scenario.specs.declared.scenario.Scenario.{Scenario}
-use Rattle.hls_scenario.specs.Grammar.{IsScenarioText}
-use Rattle.hls_report_text.specs.declared.report.Report.{Report}
-use Rattle.hls_report_text.specs.Content.{content_of}
-use Rattle.hls_report_text.specs.ReportText.{report_text}
-use Rattle.hls_answers.specs.Moment.{Boxes}
-use Rattle.hls_legal_report.specs.Legal.{IsLegalReport}
-use Rattle.hls_top.specs.Exchange.{Exchange, limit, IsFaultless}
-use Rattle.hls_top.specs.Promises.{KeepsPromises}
-use Rattle.hls_top.specs.Refusing.{IsNoScenarioText, IsRefusalOf}
-use Rattle.hls_top.specs.Words.{AskForRun, usage_line}
+use Rattle.hls_words.specs.declared.jobs.Job.{Job}
+use Rattle.hls_top.specs.Exchange.{Drawn, Shown, Exchange, limit}
+use Rattle.hls_top.specs.Outputs.{IsOutput}
+use Rattle.hls_top.specs.Words.{usage_line}
 
--- the output is the text of a legal report of the scenario whose text the bytes are, where this depth is given and
--- the kit has these boxes; and what such a report promises
-pub record IsReportOf (depth : ℕ) (boxes : Boxes) (bytes output : Text) : Type 0 where
-  pub scenario : Scenario
-  pub report : Report
-  pub read : IsScenarioText bytes scenario
-  pub legal : IsLegalReport scenario depth boxes report
-  pub promises : KeepsPromises scenario depth boxes (content_of report)
-  pub spelled : output ≡ report_text report
-
--- what is to be written about the bytes of a text, and at which status
-abbrev pub IsAnswer : (depth : ℕ) → Boxes → (bytes : Text) → Status → (output : Text) → Type 0
-IsAnswer depth boxes bytes Done output = IsReportOf depth boxes bytes output
-IsAnswer depth boxes bytes RefusedText output = IsRefusalOf bytes output
-IsAnswer depth boxes bytes _ output = ⊥
-
--- these are all the bytes that came, and they are within the limit
-pub record Reads (x : Exchange) (bytes : Text) : Type 0 where
-  pub whole : IsWhole x.left x.left_after bytes
-  pub within : length bytes ≤ limit
-
--- the words ask for a run, and this is to be written about the bytes that were read
-pub record IsOfRun (x : Exchange) (status : Status) (output : Text) : Type 0 where
-  pub depth : ℕ
-  pub words : IsJob x.words (Run depth)
-  pub bytes : Text
-  pub reads : Reads x bytes
-  pub answer : IsAnswer depth x.boxes bytes status output
+-- the words ask for a job, and this is its output
+pub record IsOfJob (x : Exchange) (status : Status) (output : Text) : Type 0 where
+  pub job : Job
+  pub words : IsJob x.words job
+  pub is : IsOutput x.boxes job x.source status output
 
 -- the words ask for nothing, nothing was read, and this tells how the program is used
 pub record IsOfUsage (x : Exchange) (output : Text) : Type 0 where
   pub words : IsNoJob x.words
-  pub unread : x.left_after ≡ x.left
+  pub unread : x.source.left_after ≡ x.source.left
   pub usage : output ≡ usage_line
 
 -- what is to be written at a status
-abbrev pub IsOutput : Exchange → Status → Text → Type 0
-IsOutput x Usage output = IsOfUsage x output
-IsOutput x status output = IsOfRun x status output
+abbrev pub IsDue : Exchange → Status → Text → Type 0
+IsDue x Usage output = IsOfUsage x output
+IsDue x status output = IsOfJob x status output
 
 -- the output was written whole, and nothing failed
 pub record Writes (x : Exchange) (status : Status) : Type 0 where
   pub output : Text
-  pub due : IsOutput x status output
-  pub written : Appends x.written x.written_after output
-  pub no_write_failed : x.write_faults_after ≡ x.write_faults
-  pub no_read_failed : x.read_faults_after ≡ x.read_faults
+  pub due : IsDue x status output
+  pub written : Appends x.sink.written x.sink.written_after output
+  pub no_write_failed : x.sink.faults_after ≡ x.sink.faults
+  pub no_read_failed : x.source.faults_after ≡ x.source.faults
 
 -- a write failed, and of the output that was due at another status a part was written that is not the whole
 pub record Stops (x : Exchange) : Type 0 where
   pub status : Status
   pub output : Text
-  pub due : IsOutput x status output
-  pub written : AppendsPart x.written x.written_after output
-  pub write_failed : Rose x.write_faults x.write_faults_after
-  pub no_read_failed : x.read_faults_after ≡ x.read_faults
+  pub due : IsDue x status output
+  pub written : AppendsPart x.sink.written x.sink.written_after output
+  pub write_failed : Rose x.sink.faults x.sink.faults_after
+  pub no_read_failed : x.source.faults_after ≡ x.source.faults
 
 -- nothing was written
-pub record IsSilent (x : Exchange) : Type 0 where
-  pub written : x.written_after ≡ x.written
-  pub no_write_failed : x.write_faults_after ≡ x.write_faults
-
--- a read failed
-pub record FailsToRead (x : Exchange) : Type 0 where
-  pub run : AskForRun x.words
-  pub read_failed : Rose x.read_faults x.read_faults_after
-  pub silent : IsSilent x
+pub record IsSilent (s : Shown) : Type 0 where
+  pub written : s.written_after ≡ s.written
+  pub no_write_failed : s.faults_after ≡ s.faults
 
 -- more bytes came than the limit, and of these one was read
-pub record IsTooLong (x : Exchange) : Type 0 where
-  pub run : AskForRun x.words
-  pub longer : IfSome x.left (λ bytes. limit < length bytes)
-  pub past : TakesFirst (limit + 1) x.left x.left_after
-  pub no_read_failed : x.read_faults_after ≡ x.read_faults
-  pub silent : IsSilent x
+pub record IsTooLong (most : ℕ) (d : Drawn) : Type 0 where
+  pub longer : IfSome d.left (λ bytes. most < length bytes)
+  pub past : TakesFirst (most + 1) d.left d.left_after
+  pub no_read_failed : d.faults_after ≡ d.faults
+
+-- why there is no output, where a text of at most so many bytes was to be read, or none
+abbrev pub Lacks : ReadError → (limit : Option ℕ) → Drawn → Type 0
+Lacks errors.Memory most d = d.faults_after ≡ d.faults
+Lacks errors.Fault (Some most) d = Rose d.faults d.faults_after
+Lacks errors.Fault None d = ⊥
+Lacks errors.TooLong (Some most) d = IsTooLong most d
+Lacks errors.TooLong None d = ⊥
+
+-- the words ask for a job that reads, nothing was written, and this is why
+pub record IsCutShort (x : Exchange) (error : ReadError) : Type 0 where
+  pub job : Job
+  pub words : IsJob x.words job
+  pub lacks : Lacks error (limit job) x.source
+  pub silent : IsSilent x.sink
 
 -- there was no memory
 pub record LacksMemory (x : Exchange) : Type 0 where
-  pub no_read_failed : x.read_faults_after ≡ x.read_faults
-  pub silent : IsSilent x
+  pub no_read_failed : x.source.faults_after ≡ x.source.faults
+  pub silent : IsSilent x.sink
 
 abbrev pub Ends : Exchange → Status → Type 0
 Ends x Done = Writes x Done
-Ends x Broken = ⊥
+Ends x Broken = Writes x Broken
 Ends x Usage = Writes x Usage
 Ends x RefusedText = Writes x RefusedText
-Ends x ReadFault = FailsToRead x
+Ends x ReadFault = IsCutShort x errors.Fault
 Ends x WriteFault = Stops x
 Ends x Memory = LacksMemory x
-Ends x TooLong = IsTooLong x
-
--- the answers that must come, unless memory is wanting, where no fault is counted
-pub record MustAnswer (x : Exchange) (status : Status) : Type 0 where
-  -- a scenario's text within the limit is answered with its report
-  pub reports : AskForRun x.words → (bytes : Text) (scenario : Scenario) → x.left ≡ Some bytes
-      → IsScenarioText bytes scenario
-      → length bytes ≤ limit → IsFaultless x → (status ≡ Done) ⊎ (status ≡ Memory)
-  -- any other text within the limit is refused
-  pub refuses_text : AskForRun x.words → (bytes : Text) → x.left ≡ Some bytes → IsNoScenarioText bytes
-      → length bytes ≤ limit → IsFaultless x → (status ≡ RefusedText) ⊎ (status ≡ Memory)
-  -- a longer text is refused for its length
-  pub refuses_length : AskForRun x.words → (bytes : Text) → x.left ≡ Some bytes
-      → limit < length bytes → IsFaultless x → (status ≡ TooLong) ⊎ (status ≡ Memory)
-  -- words that ask for nothing are refused
-  pub refuses_words : IsNoJob x.words → IsFaultless x → (status ≡ Usage) ⊎ (status ≡ Memory)
+Ends x TooLong = IsCutShort x errors.TooLong

@@ -2,5 +2,8 @@ pub mod Words
 pub mod Exchange
 pub mod Refusing
 pub mod Promises
+pub mod Summaries
+pub mod Outputs
 pub mod Ends
+pub mod Musts
 pub mod Says

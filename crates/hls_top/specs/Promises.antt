@@ -18,6 +18,7 @@ use Rattle.hls_legal_report.specs.Legal.{IsLegalContent}
 use Rattle.hls_legal_report.specs.Kept.{KeepsAccount}
 use Rattle.hls_legal_report.specs.Without.{scenario_without, content_without}
 use Rattle.hls_manager.specs.Outcomes.{IsReached}
+use Rattle.hls_clauses.specs.Kept.{IsKept}
 
 -- each tick runs at most one thread, which is ready
 pub record RunsReady (c : Content) : Type 0 where
@@ -67,3 +68,5 @@ pub record KeepsPromises (s : Scenario) (given : ℕ) (boxes : Boxes) (c : Conte
   pub stays : All (KeepsAccount c) c.accounts
   pub answers : AnswersEach boxes c
   pub refusals : RefusesIdly s given boxes c
+  -- no clause of the audit fails at any tick: `check` finds the report kept
+  pub kept : IsKept c

@@ -3,6 +3,8 @@ use Rattle.std.specs.Prelude.{◌≡◌, ℕ, [], ◌∷◌, ◌++◌, codes, de
 use Rattle.hls_text.specs.Lines.{Text, lines_of}
 use Rattle.hls_scenario.specs.declared.scenario.Scenario.{Scenario}
 use Rattle.hls_scenario.specs.Grammar.{IsScenarioText, IsFirstBad}
+use Rattle.hls_report_text.specs.declared.report.Report.{Report}
+use Rattle.hls_report_text.specs.WellFormed as reports
 use Rattle.hls_lang.specs.declared.fault.Cause.{Cause}
 use Rattle.hls_lang.specs.declared.fault.Cause.TheVariants as causes
 use Rattle.hls_lang.specs.ReadingLines.{scenario_of}
@@ -20,18 +22,30 @@ cause_text causes.Name = codes "Name"
 cause_text causes.Order = codes "Order"
 cause_text causes.Late = codes "Late"
 
-abbrev pub refusal_line : (line : ℕ) → Cause → Text
-refusal_line line cause = codes "refused line " ++ (decimal line ++ (codes " " ++ (cause_text cause ++ 10 ∷ [])))
+-- the line and a word for what is wrong with it
+abbrev pub refusal_line : (line : ℕ) → (cause : Text) → Text
+refusal_line line cause = codes "refused line " ++ (decimal line ++ (codes " " ++ (cause ++ 10 ∷ [])))
 
 -- the bytes are the text of no scenario
 abbrev pub IsNoScenarioText : Text → Type 0
 IsNoScenarioText bytes = (scenario : Scenario) → ¬ IsScenarioText bytes scenario
 
+-- they are the text of no report
+abbrev pub IsNoReportText : Text → Type 0
+IsNoReportText bytes = (report : Report) → ¬ reports.IsReportText bytes report
+
 -- the output names the first line with which no scenario's text begins, and the cause that reading finds there
-pub record IsRefusalOf (bytes output : Text) : Type 0 where
+pub record RefusesScenario (bytes output : Text) : Type 0 where
   pub line : ℕ
   pub cause : Cause
   pub none : IsNoScenarioText bytes
   pub first : IsFirstBad (lines_of bytes) line
   pub exact : scenario_of bytes ≡ Err (record { line = line; cause = cause })
-  pub spelled : output ≡ refusal_line line cause
+  pub spelled : output ≡ refusal_line line (cause_text cause)
+
+-- the output names the first line with which no report's text begins
+pub record RefusesReport (bytes output : Text) : Type 0 where
+  pub line : ℕ
+  pub none : IsNoReportText bytes
+  pub first : reports.IsFirstBad bytes line
+  pub spelled : output ≡ refusal_line line (codes "Form")

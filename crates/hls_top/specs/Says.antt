@@ -1,28 +1,18 @@
--- What writing an output comes to.
-use Rattle.std.specs.Prelude.{◌≡◌, ◌⊎◌, ℕ, ◌≤◌, Option}
+-- What reading a text and writing an output come to.
+use Rattle.std.specs.Prelude.{◌≡◌, ◌⊎◌, ◌≤◌, ℕ, Option}
 use Rattle.std.specs.Io.KnownBytes.{Appends}
 use Rattle.hls_io.specs.Bytes.{TellsAlike, AppendsPart}
 use Rattle.hls_io.specs.Faults.{Rose}
 use Rattle.hls_io.specs.declared.status.Status.{Status}
-use Rattle.hls_io.specs.declared.status.Status.TheVariants.{WriteFault, Memory}
+use Rattle.hls_io.specs.declared.status.Status.TheVariants.{WriteFault}
 use Rattle.hls_text.specs.Lines.{Text}
-use Rattle.hls_answers.specs.Moment.{Boxes}
-use Rattle.hls_top.specs.Ends.{IsAnswer}
+use Rattle.hls_top.specs.Exchange.{Drawn, Shown, Takes}
 
--- what a sink shows before a call and after it
-pub record Shown : Type 0 where
-  pub written : Option Text
-  pub written_after : Option Text
-  pub faults : ℕ
-  pub faults_after : ℕ
-
-abbrev pub shown : {K : Type 0} → (K → Option Text) → (K → ℕ) → K → K → Shown
-shown written faults sink sink' = record {
-  written = written sink;
-  written_after = written sink';
-  faults = faults sink;
-  faults_after = faults sink';
-}
+-- a text of at most so many bytes was read, or none: whether bytes are told stays as it was, and no more was taken
+pub record IsRead (limit : Option ℕ) (d : Drawn) : Type 0 where
+  pub told : TellsAlike d.left d.left_after
+  pub counted : d.faults ≤ d.faults_after
+  pub taken : Takes limit d
 
 -- the output was written whole, and the result is the status
 pub record SaysAll (s : Shown) (output : Text) (status result : Status) : Type 0 where
@@ -43,16 +33,3 @@ pub record IsSteady (s : Shown) : Type 0 where
 
 abbrev pub Says : Shown → Text → Status → Status → Type 0
 Says s output status result = SaysAll s output status result ⊎ SaysPart s output result
-
--- nothing was written for want of memory
-pub record SaysNothing (s : Shown) (result : Status) : Type 0 where
-  pub result_is : result ≡ Memory
-  pub written : s.written_after ≡ s.written
-  pub same_faults : s.faults_after ≡ s.faults
-
--- an output about the bytes of a text was written
-pub record SaysAnswer (s : Shown) (depth : ℕ) (boxes : Boxes) (bytes : Text) (result : Status) : Type 0 where
-  pub status : Status
-  pub output : Text
-  pub due : IsAnswer depth boxes bytes status output
-  pub said : Says s output status result

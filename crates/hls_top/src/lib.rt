@@ -1,9 +1,17 @@
-//! All that the program does: a scenario is read, carried out and reported.
+//! All that the program does: a scenario is read, carried out and reported, a report is read and audited, and
+//! scenarios are made from numbers and tried out.
 #![tactic(auto)]
 
 mod carrying;
+mod checking;
+mod generating;
+pub mod laws;
 mod outputs;
+mod reading;
 mod refusing;
 mod run;
+mod running;
+mod trying;
+mod verdicts;
 
 pub use run::hls_run;

@@ -1,20 +1,29 @@
-// What is to be written about a text.
-ghost use Rattle.std.specs.Prelude.{◌≤◌, IfOk, length};
+// What is to be written at words that ask for a job.
+ghost use Rattle.std.specs.Prelude.{◌≡◌, ◌≤◌, ℕ, IfOk, IfErr, OnOk};
 ghost use Rattle.hls_sched.specs.GoodKit.{IsGood};
 ghost use Rattle.hls_walks.specs.Views.{boxed};
 ghost use Rattle.hls_manager.specs.Outcomes.{boxes_in};
-ghost use Rattle.hls_scenario.specs.Grammar.{IsScenarioText};
-ghost use Rattle.hls_top.specs.Exchange.{limit};
-ghost use Rattle.hls_top.specs.Ends.{IsAnswer, IsReportOf};
+ghost use Rattle.hls_top.specs.Exchange.{drawn, limit};
+ghost use Rattle.hls_top.specs.Outputs.{IsOutput};
+ghost use Rattle.hls_top.specs.Ends.{Lacks};
+ghost use Rattle.hls_top.specs.Says.{IsRead};
 
-use crate::carrying::carry_out;
-use crate::refusing::refusal_line;
-use hls_io::Status;
-use hls_lang::{Scenario, ScenarioFault, read_scenario};
-use hls_report_text::write_report;
+use crate::checking::verdict_on_text;
+use crate::generating::scenario_of;
+use crate::reading::text_from;
+use crate::running::report_on_text;
+use crate::trying::trial_of;
+use hls_io::{ReadError, Source, Status};
 use hls_rules::RuleBook;
 use hls_sched::{Kit, Scheduler};
-use std::alloc::{AllocError, Global};
+use hls_words::Job;
+use std::alloc::Global;
+
+/// The most bytes that are taken for the text of a scenario.
+const SCENARIO_LIMIT: usize = 4_194_304;
+
+/// The most bytes that are taken for the text of a report.
+const REPORT_LIMIT: usize = 268_435_456;
 
 /// What is to be written, and the status that goes with it.
 #[derive(Drop)]
@@ -23,49 +32,32 @@ pub struct Output {
     pub bytes: Vec<u8>,
 }
 
-/// The text of the report of a scenario.
-fn report_on(
+/// Does what is asked for, up to its output. A text is read first, where one is asked for.
+pub fn output_of<S: Source>(
     alloc: Global,
-    scenario: Scenario,
-    depth: u8,
+    job: Job,
+    source: &mut S,
     kit: Kit,
     rules: RuleBook,
-    text: &[u8],
-) -> Result<Vec<u8>, AllocError>
-    requires read { IsScenarioText text.now scenario }
-    requires depth { depth ≤ 6 }
+) -> Result<Output, ReadError>
+    requires depth { (depth : ℕ) → job ≡ Job.Run depth → depth ≤ 6 }
     requires good { IsGood (boxed seen) kit }
-    ensures { IfOk result (λ bytes. IsReportOf depth (boxes_in kit) text.now bytes.items) }
+    ensures is { IfOk result (λ output. IsOutput (boxes_in kit) job
+        (drawn S.left S.faults source.old source.new) output.status output.bytes.items) }
+    ensures quiet { OnOk result (S.faults source.new ≡ S.faults source.old) }
+    ensures lacks { IfErr result (λ error. Lacks error (limit job) (drawn S.left S.faults source.old source.new)) }
+    ensures orderly { IsRead (limit job) (drawn S.left S.faults source.old source.new) }
 {
-    let report = carry_out(alloc, scenario, depth, kit, rules)?;
-    write_report(alloc, &report)
-}
-
-/// The report on a text, or the line that refuses it.
-///
-/// # Errors
-/// Returns `AllocError` for want of memory.
-pub fn output_on(
-    alloc: Global,
-    text: &[u8],
-    depth: u8,
-    kit: Kit,
-    rules: RuleBook,
-) -> Result<Output, AllocError>
-    requires within { length text.now ≤ limit }
-    requires depth { depth ≤ 6 }
-    requires good { IsGood (boxed seen) kit }
-    ensures { IfOk result (λ output. IsAnswer depth (boxes_in kit) text.now output.status output.bytes.items) }
-{
-    match read_scenario(alloc, text) {
-        Ok(scenario) => Ok(Output {
-            status: Status::Done,
-            bytes: report_on(alloc, scenario, depth, kit, rules, text)?,
-        }),
-        Err(ScenarioFault::At { line, cause }) => Ok(Output {
-            status: Status::RefusedText,
-            bytes: refusal_line(alloc, line, cause)?,
-        }),
-        Err(ScenarioFault::Memory(error)) => Err(error),
+    match job {
+        Job::Run { depth } => {
+            let text = text_from(alloc, source, SCENARIO_LIMIT)?;
+            Ok(report_on_text(alloc, &text, depth, kit, rules)?)
+        }
+        Job::Check => {
+            let text = text_from(alloc, source, REPORT_LIMIT)?;
+            Ok(verdict_on_text(alloc, &text)?)
+        }
+        Job::Gen { number } => Ok(scenario_of(alloc, number)?),
+        Job::Trial { number } => Ok(trial_of(alloc, number, kit, rules)?),
     }
 }

@@ -7,7 +7,7 @@ use hls_text::{put, put_number};
 use std::alloc::{AllocError, Global};
 
 /// The name of a cause.
-fn cause_word(cause: Cause) -> &'static [u8]
+pub fn cause_word(cause: Cause) -> &'static [u8]
     ensures { result.now ≡ cause_text cause }
 {
     match cause {
@@ -29,14 +29,14 @@ fn cause_word(cause: Cause) -> &'static [u8]
 ///
 /// # Errors
 /// Returns `AllocError` for want of memory.
-pub fn refusal_line(alloc: Global, line: u32, cause: Cause) -> Result<Vec<u8>, AllocError>
-    ensures { IfOk result (λ bytes. bytes.items ≡ refusal_line line cause) }
+pub fn refusal_line(alloc: Global, line: u32, cause: &[u8]) -> Result<Vec<u8>, AllocError>
+    ensures { IfOk result (λ bytes. bytes.items ≡ refusal_line line cause.now) }
 {
     let mut bytes = Vec::new(alloc);
     put(&mut bytes, b"refused line ")?;
     put_number(&mut bytes, u128::from(line))?;
     put(&mut bytes, b" ")?;
-    put(&mut bytes, cause_word(cause))?;
+    put(&mut bytes, cause)?;
     put(&mut bytes, b"\n")?;
     Ok(bytes)
 }

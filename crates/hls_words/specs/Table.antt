@@ -1,8 +1,8 @@
 -- The words that the program knows, and what they ask for.
-use Rattle.std.specs.Prelude.{◌≡◌, ℕ, ◌≤◌, ◌⊎◌, List, [], ◌∷◌, ◌++◌, codes, decimal, Option, None, Some}
+use Rattle.std.specs.Prelude.{◌≡◌, ℕ, ◌≤◌, ◌<◌, ◌^◌, ◌⊎◌, List, [], ◌∷◌, ◌++◌, codes, decimal}
 use Rattle.hls_text.specs.Lines.{Text}
 use Rattle.hls_words.specs.declared.jobs.Job.{Job}
-use Rattle.hls_words.specs.declared.jobs.Job.TheVariants.{Run}
+use Rattle.hls_words.specs.declared.jobs.Job.TheVariants.{Run, Check, Gen, Trial}
 
 -- the depth where the words state none
 abbrev pub usual_depth : ℕ
@@ -17,9 +17,16 @@ StatesDepth words depth =
 abbrev pub HasDepth : List Text → ℕ → Type 0
 HasDepth words depth = ((words ≡ []) × (depth ≡ usual_depth)) ⊎ ((depth ≤ 6) × StatesDepth words depth)
 
+-- the words after `gen` or `trial` are a number of 32 bits
+abbrev pub HasNumber : List Text → ℕ → Type 0
+HasNumber words number = (number < 2 ^ 32) × (words ≡ decimal number ∷ [])
+
 -- the words ask for this
 abbrev pub IsJob : List Text → Job → Type 0
 IsJob words (Run depth) = (options : List Text) × (words ≡ codes "run" ∷ options) × HasDepth options depth
+IsJob words Check = words ≡ codes "check" ∷ []
+IsJob words (Gen number) = (options : List Text) × (words ≡ codes "gen" ∷ options) × HasNumber options number
+IsJob words (Trial number) = (options : List Text) × (words ≡ codes "trial" ∷ options) × HasNumber options number
 
 -- they ask for none
 abbrev pub IsNoJob : List Text → Type 0

@@ -2,6 +2,7 @@
 #![tactic(auto)]
 
 mod jobs;
+pub mod laws;
 mod parsing;
 mod table;
 

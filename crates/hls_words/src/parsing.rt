@@ -3,7 +3,7 @@ ghost use Rattle.std.specs.Prelude.{◌≡◌, IfOk, IfErr, map, string_bytes, f
 ghost use Rattle.clap.specs.declared.builder.command.Command.TheViews.{out-Command};
 ghost use Rattle.clap.specs.Words.{kind_of, app_of};
 ghost use Rattle.hls_words.specs.Table.{IsJob, IsNoJob};
-ghost use Rattle.hls_words.specs.Inside.Commands.{run, bare, hls};
+ghost use Rattle.hls_words.specs.Inside.Commands.{run, check, numbered, bare, hls};
 
 use crate::Job;
 use crate::table::listed;
@@ -22,6 +22,25 @@ fn run_command<'a>(alloc: Global) -> Result<Command<'a>, AllocError>
     bare.arg(depth)
 }
 
+fn check_command<'a>(alloc: Global) -> Command<'a>
+    ensures app { app_of result ≡ check }
+    ensures local { (out-Command result).has_globals ≡ false }
+{
+    Command::new(alloc, "check").disable_help_flag(true)
+}
+
+/// A word that takes a number.
+fn numbered_command<'a>(alloc: Global, name: &'a str) -> Result<Command<'a>, AllocError>
+    ensures app { IfOk result (λ c. app_of c ≡ numbered name.entry.now) }
+    ensures local { IfOk result (λ c. (out-Command c).has_globals ≡ false) }
+{
+    let number = Arg::new(alloc, "number")
+        .required(true)
+        .action(ArgAction::Set);
+    let bare = Command::new(alloc, name).disable_help_flag(true);
+    bare.arg(number)
+}
+
 fn bare_command<'a>(alloc: Global) -> Command<'a>
     ensures app { app_of result ≡ bare }
     ensures local { (out-Command result).has_globals ≡ false }
@@ -36,7 +55,11 @@ fn bare_command<'a>(alloc: Global) -> Command<'a>
 fn hls_command<'a>(alloc: Global) -> Result<Command<'a>, AllocError>
     ensures { IfOk result (λ c. app_of c ≡ hls) }
 {
-    bare_command(alloc).subcommand(run_command(alloc)?)
+    bare_command(alloc)
+        .subcommand(run_command(alloc)?)?
+        .subcommand(check_command(alloc))?
+        .subcommand(numbered_command(alloc, "gen")?)?
+        .subcommand(numbered_command(alloc, "trial")?)
 }
 
 /// What clap makes of the words. It refuses none of the table but for want of memory.

@@ -7,11 +7,21 @@ use Rattle.clap.specs.declared.builder.ArgAction.TheVariants.{Set}
 abbrev pub depth : Rule
 depth = record (new_rule (codes "depth")) { long = Some (codes "depth"); action = Some Set }
 
+abbrev pub number : Rule
+number = record (new_rule (codes "number")) { action = Some Set; required = true }
+
 abbrev pub leaf : Text → App
 leaf name = on_top (λ s. record s { disable_help_flag = true }) (new_app name)
 
 abbrev pub run : App
 run = with_rule (leaf (codes "run")) depth
+
+abbrev pub check : App
+check = leaf (codes "check")
+
+-- a word that takes a number
+abbrev pub numbered : Text → App
+numbered name = with_rule (leaf name) number
 
 abbrev pub bare : App
 bare = on_top (λ s. record s {
@@ -22,4 +32,5 @@ bare = on_top (λ s. record s {
 }) (new_app (codes "hls"))
 
 abbrev pub hls : App
-hls = with_subcommand bare run.top
+hls = with_subcommand (with_subcommand (with_subcommand (with_subcommand bare run.top) check.top)
+    (numbered (codes "gen")).top) (numbered (codes "trial")).top

@@ -1,27 +1,23 @@
 use Rattle.std.proofs.Common.{refl, map, string_bytes}
 use Rattle.hls_io.specs.declared.status.Status.TheVariants.{Usage}
-use Rattle.hls_words.specs.declared.jobs.Job.TheVariants.{Run}
 use Rattle.hls_manager.specs.Outcomes.{boxes_in}
 use Rattle.hls_top.specs.Exchange.{Exchange, exchange}
 use Rattle.hls_top.specs.Ends.{Ends}
 use Rattle.hls_top.specs.Words.{usage_line}
-use Rattle.hls_top.proofs.Outcomes.{said, must_answer}
+use Rattle.hls_top.proofs.Outcomes.{said}
+use Rattle.hls_top.proofs.Answering.{must_answer}
 use Rattle.hls_top.proofs.run.hls_run.Goals as goal
 
 pub returns-in-Ok-Some-clause-ends : goal.returns-in-Ok-Some-clause-ends
-returns-in-Ok-Some-clause-ends g c =
-    let is = rw c.in-Ok-Some.field-0-is at c.in-Ok-Some.ensures in
-    c.run.ensures.ends _ (rw c.depth_of.ensures at is)
+returns-in-Ok-Some-clause-ends g c = c.answer.ensures.ends _ (rw c.in-Ok-Some.field-0-is at c.in-Ok-Some.ensures)
 
 pub returns-in-Ok-Some-clause-orderly : goal.returns-in-Ok-Some-clause-orderly
 returns-in-Ok-Some-clause-orderly g c =
-    let is = rw c.in-Ok-Some.field-0-is at c.in-Ok-Some.ensures in
-    c.run.ensures.orderly _ (rw c.depth_of.ensures at is)
+    c.answer.ensures.orderly _ (rw c.in-Ok-Some.field-0-is at c.in-Ok-Some.ensures)
 
 pub returns-in-Ok-Some-clause-answers : goal.returns-in-Ok-Some-clause-answers
 returns-in-Ok-Some-clause-answers g c =
-    let is = rw c.in-Ok-Some.field-0-is at c.in-Ok-Some.ensures in
-    must_answer _ _ (c.run.ensures.ends _ (rw c.depth_of.ensures at is))
+    must_answer _ _ (c.answer.ensures.ends _ (rw c.in-Ok-Some.field-0-is at c.in-Ok-Some.ensures))
 
 pub returns-in-Ok-None-clause-ends : goal.returns-in-Ok-None-clause-ends
 returns-in-Ok-None-clause-ends g c =

@@ -1,5 +1,5 @@
 use Rattle.hls_top.proofs.Promised.{report_if_ok}
-use Rattle.hls_top.proofs.outputs.report_on.Goals as goal
+use Rattle.hls_top.proofs.running.report_on.Goals as goal
 
 pub returns : goal.returns
 returns g c =

@@ -1,6 +1,6 @@
 use Rattle.std.proofs.Common.{arith}
-use Rattle.hls_prog.proofs.Nine.{once}
-use Rattle.hls_prog.proofs.starting.run_with_rules.Goals as goal
+use Rattle.hls_start.proofs.Nine.{once}
+use Rattle.hls_start.proofs.starting.run_with_rules.Goals as goal
 
 pub new-requires-2 : goal.new-requires-2
 new-requires-2 g c =

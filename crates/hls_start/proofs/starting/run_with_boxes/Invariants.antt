@@ -1,7 +1,7 @@
 use Rattle.hls_sched.specs.GoodKit.{IsGood}
 use Rattle.hls_sched.specs.contracts.kit.Kit.put as made
-use Rattle.hls_prog.proofs.starting.run_with_boxes.OwnLists as own
-use Rattle.hls_prog.proofs.starting.run_with_boxes.Given as goal
+use Rattle.hls_start.proofs.starting.run_with_boxes.OwnLists as own
+use Rattle.hls_start.proofs.starting.run_with_boxes.Given as goal
 
 -- the kit is good all the while it is filled
 abbrev pub invariant-loop : goal.invariant-loop

@@ -1,0 +1,8 @@
+//! All that the program does, with boxes of all kinds and the nine rules.
+#![tactic(auto)]
+
+mod reporting;
+mod starting;
+
+pub use reporting::report_on;
+pub use starting::start;

@@ -1,0 +1,23 @@
+// The scenario of a number.
+ghost use Rattle.std.specs.Prelude.{IfOk};
+ghost use Rattle.hls_top.specs.Outputs.{IsOfGen};
+
+use crate::outputs::Output;
+use hls_gen::generate;
+use hls_io::Status;
+use hls_scenario::print_scenario;
+use std::alloc::{AllocError, Global};
+
+/// The text of the scenario that is made from a number.
+///
+/// # Errors
+/// Returns `AllocError` for want of memory.
+pub fn scenario_of(alloc: Global, number: u32) -> Result<Output, AllocError>
+    ensures { IfOk result (λ output. IsOfGen number output.status output.bytes.items) }
+{
+    let scenario = generate(alloc, number)?;
+    Ok(Output {
+        status: Status::Done,
+        bytes: print_scenario(alloc, &scenario)?,
+    })
+}

@@ -1,0 +1,65 @@
+// The report on the text of a scenario.
+ghost use Rattle.std.specs.Prelude.{◌≤◌, IfOk, length};
+ghost use Rattle.hls_sched.specs.GoodKit.{IsGood};
+ghost use Rattle.hls_walks.specs.Views.{boxed};
+ghost use Rattle.hls_manager.specs.Outcomes.{boxes_in};
+ghost use Rattle.hls_scenario.specs.Grammar.{IsScenarioText};
+ghost use Rattle.hls_top.specs.Exchange.{scenario_limit};
+ghost use Rattle.hls_top.specs.Outputs.{IsReportOf, IsOfRun};
+
+use crate::carrying::carry_out;
+use crate::outputs::Output;
+use crate::refusing::{cause_word, refusal_line};
+use hls_io::Status;
+use hls_lang::{Scenario, ScenarioFault, read_scenario};
+use hls_report_text::write_report;
+use hls_rules::RuleBook;
+use hls_sched::{Kit, Scheduler};
+use std::alloc::{AllocError, Global};
+
+/// The text of the report of a scenario.
+fn report_on(
+    alloc: Global,
+    scenario: Scenario,
+    depth: u8,
+    kit: Kit,
+    rules: RuleBook,
+    text: &[u8],
+) -> Result<Vec<u8>, AllocError>
+    requires read { IsScenarioText text.now scenario }
+    requires depth { depth ≤ 6 }
+    requires good { IsGood (boxed seen) kit }
+    ensures { IfOk result (λ bytes. IsReportOf depth (boxes_in kit) text.now bytes.items) }
+{
+    let report = carry_out(alloc, scenario, depth, kit, rules)?;
+    write_report(alloc, &report)
+}
+
+/// The report on a text, or the line that refuses it.
+///
+/// # Errors
+/// Returns `AllocError` for want of memory.
+pub fn report_on_text(
+    alloc: Global,
+    text: &[u8],
+    depth: u8,
+    kit: Kit,
+    rules: RuleBook,
+) -> Result<Output, AllocError>
+    requires within { length text.now ≤ scenario_limit }
+    requires depth { depth ≤ 6 }
+    requires good { IsGood (boxed seen) kit }
+    ensures { IfOk result (λ output. IsOfRun depth (boxes_in kit) text.now output.status output.bytes.items) }
+{
+    match read_scenario(alloc, text) {
+        Ok(scenario) => Ok(Output {
+            status: Status::Done,
+            bytes: report_on(alloc, scenario, depth, kit, rules, text)?,
+        }),
+        Err(ScenarioFault::At { line, cause }) => Ok(Output {
+            status: Status::RefusedText,
+            bytes: refusal_line(alloc, line, cause_word(cause))?,
+        }),
+        Err(ScenarioFault::Memory(error)) => Err(error),
+    }
+}
