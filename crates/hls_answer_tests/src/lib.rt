@@ -21,4 +21,4 @@ pub use effects::carry_out;
 pub use plain::{Hierarchy, Scheduler, Seat};
 pub use ranges::config_in_range;
 pub use refusing::{Moment, refusal_of};
-pub use ticks::pass;
+pub use ticks::{asks, mask_of, name_at, pass, path_at};

@@ -10,7 +10,8 @@ ghost use Rattle.hls_answers.specs.Refusals.{seats_taken as taken_in};
 ghost use Rattle.hls_answer_tests.specs.Taking.{HasPriorityBelow};
 
 use hls_chron::{Book, Config, Terms};
-use hls_kinds::{SeatFault, occupant, room_asked, room_total, room_used, terms_at};
+use hls_kinds::{SeatFault, room_asked, room_total, terms_at};
+use hls_plain_kinds::{occupant, room_used};
 
 /// How many seats a scheduler has.
 pub fn most_seats(config: &Config) -> u32

@@ -1,14 +1,14 @@
 // The ticks between commands, by the runs of a report.
 use crate::ranges::config_in_range;
 use crate::{Hierarchy, Scheduler};
-use hls_accounts::is_ready;
 use hls_chron::{Book, Name, TickRow};
-use hls_kinds::asks_at;
+use hls_plain_accounts::is_ready;
+use hls_plain_kinds::asks_at;
 use hls_report_text::{Path, Report};
 use std::alloc::{AllocError, Global};
 
 /// The path of a tick.
-fn path_at(report: &Report, tick: u32) -> Option<Path> {
+pub fn path_at(report: &Report, tick: u32) -> Option<Path> {
     for run in report.runs.items() {
         if run.from <= tick && tick <= run.to {
             return run.path;
@@ -18,7 +18,7 @@ fn path_at(report: &Report, tick: u32) -> Option<Path> {
 }
 
 /// The name at a place of a path, the root's being at 0.
-fn name_at(report: &Report, path: &Path, place: usize) -> Option<Name> {
+pub fn name_at(report: &Report, path: &Path, place: usize) -> Option<Name> {
     if place >= usize::from(path.len) {
         return None;
     }
@@ -28,7 +28,13 @@ fn name_at(report: &Report, path: &Path, place: usize) -> Option<Name> {
 
 /// Which slots of a scheduler ask in a tick, a bit each, as far as so many steps down tell.
 #[cycle(asking)]
-fn mask_of(hierarchy: &Hierarchy, report: &Report, tick: u32, steps: usize, sched: &Name) -> u32 {
+pub fn mask_of(
+    hierarchy: &Hierarchy,
+    report: &Report,
+    tick: u32,
+    steps: usize,
+    sched: &Name,
+) -> u32 {
     let mut mask = 0;
     if steps == 0 {
         return mask;
@@ -45,7 +51,7 @@ fn mask_of(hierarchy: &Hierarchy, report: &Report, tick: u32, steps: usize, sche
 
 /// Whether a scheduler or a thread asks in a tick.
 #[cycle(asking)]
-fn asks(hierarchy: &Hierarchy, report: &Report, tick: u32, steps: usize, name: &Name) -> bool {
+pub fn asks(hierarchy: &Hierarchy, report: &Report, tick: u32, steps: usize, name: &Name) -> bool {
     match hierarchy.scheduler(name) {
         Some(sched) => {
             let mask = mask_of(hierarchy, report, tick, steps, name);

@@ -1,5 +1,5 @@
 // Where windows begin, and who is ready and served.
-use hls_accounts::{is_ready, is_served, stays_of, window_start};
+use hls_plain_accounts::{is_ready, is_served, stays_of, window_start};
 use hls_report::read_report;
 use std::test::Fail;
 

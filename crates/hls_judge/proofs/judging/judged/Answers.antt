@@ -1,5 +1,5 @@
-use Rattle.hls_rows.proofs.Named.{each_once}
-use Rattle.hls_rows.proofs.main.Goals as goal
+use Rattle.hls_judge.proofs.Named.{each_once}
+use Rattle.hls_judge.proofs.judging.judged.Goals as goal
 
 pub new-book-requires : goal.new-book-requires
 new-book-requires c =

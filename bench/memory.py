@@ -1,0 +1,112 @@
+#!/usr/bin/env python3
+"""Refuses each allocation of a run in turn, and says how the runs end.
+
+Usage: bench/memory.py [--program PROGRAM] SCENARIO ..
+
+PROGRAM is crates/hls_prog/out/hls_prog, which ./hls builds, if no other is given. A run in which an allocation was
+refused has to end with status 6 and nothing written, or with the report that is written where none is. The last line
+of each scenario counts them; the status is 1 where one run ended otherwise. It needs a C compiler and glibc.
+"""
+import argparse
+import collections
+import os
+import subprocess
+import sys
+import tempfile
+
+TOP = os.path.dirname(os.path.dirname(os.path.abspath(__file__)))
+
+MEMORY = 6
+
+# Counts the calls that take memory, and answers one of them as if there were none.
+REFUSING = r"""
+#include <errno.h>
+#include <stdio.h>
+#include <stdlib.h>
+extern void *__libc_malloc(size_t), *__libc_calloc(size_t, size_t), *__libc_realloc(void *, size_t);
+static long calls, refused = -1;
+static int is_refused(void) {
+    if (refused < 0) { char *at = getenv("REFUSED"); refused = at ? atol(at) : 0; }
+    if (++calls != refused) return 0;
+    errno = ENOMEM;
+    return 1;
+}
+void *malloc(size_t size) { return is_refused() ? NULL : __libc_malloc(size); }
+void *calloc(size_t count, size_t size) { return is_refused() ? NULL : __libc_calloc(count, size); }
+void *realloc(void *old, size_t size) { return is_refused() ? NULL : __libc_realloc(old, size); }
+__attribute__((destructor)) static void tell(void) {
+    char *path = getenv("CALLS");
+    long counted = calls;
+    FILE *file = path ? fopen(path, "w") : NULL;
+    if (file) { fprintf(file, "%ld\n", counted); fclose(file); }
+}
+"""
+
+
+def build(folder):
+    """The library that refuses."""
+    source, library = os.path.join(folder, "refusing.c"), os.path.join(folder, "refusing.so")
+    with open(source, "w") as file:
+        file.write(REFUSING)
+    subprocess.run(["cc", "-O1", "-fno-builtin", "-shared", "-fPIC", "-o", library, source], check=True)
+    return library
+
+
+class Runs:
+    """Runs of a program on a scenario."""
+
+    def __init__(self, program, text, library, folder):
+        self.program, self.text, self.library = program, text, library
+        self.told = os.path.join(folder, "calls")
+
+    def run(self, refused):
+        """Status and output where the call of this number, from 1, is refused; 0 for none."""
+        here = dict(os.environ, LD_PRELOAD=self.library, REFUSED=str(refused), CALLS=self.told)
+        done = subprocess.run([self.program, "run"], input=self.text, capture_output=True, env=here)
+        return done.returncode, done.stdout
+
+    def calls(self):
+        """How many calls the last run made."""
+        with open(self.told) as file:
+            return int(file.read())
+
+
+def try_each(runs):
+    """How the runs end, and which of them as they should not."""
+    whole = runs.run(0)
+    calls = runs.calls()
+    ends, others = collections.Counter(), []
+    for refused in range(1, calls + 1):
+        end = runs.run(refused)
+        if end == (MEMORY, b""):
+            ends["out of memory"] += 1
+        elif end == whole:
+            ends["the same report"] += 1
+        else:
+            ends["otherwise"] += 1
+            others.append((refused, end[0], len(end[1])))
+    return whole[0], calls, ends, others
+
+
+def main():
+    words = argparse.ArgumentParser()
+    words.add_argument("--program", default=os.path.join(TOP, "crates", "hls_prog", "out", "hls_prog"))
+    words.add_argument("scenarios", nargs="+")
+    args = words.parse_args()
+    bad = False
+    with tempfile.TemporaryDirectory() as folder:
+        library = build(folder)
+        for path in args.scenarios:
+            with open(path, "rb") as file:
+                runs = Runs(args.program, file.read(), library, folder)
+            status, calls, ends, others = try_each(runs)
+            for refused, end, written in others:
+                print(f"{path}: call {refused} refused: status {end}, {written} bytes written")
+            counts = ", ".join(f"{count} {how}" for how, count in sorted(ends.items()))
+            print(f"{path}: status {status}, {calls} calls, each refused in turn: {counts}")
+            bad = bad or bool(others) or calls == 0
+    return 1 if bad else 0
+
+
+if __name__ == "__main__":
+    sys.exit(main())
