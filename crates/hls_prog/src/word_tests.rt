@@ -205,3 +205,27 @@ fn makes_up_to_the_first_fault(rt: HostRuntime) -> Result<(), Fail> {
     }
     Ok(())
 }
+
+#[test]
+fn tries_numbers(rt: HostRuntime) -> Result<(), Fail> {
+    let alloc = rt.alloc();
+    let cases: [(&str, &[u8]); 2] = [
+        (
+            "0",
+            b"trial 0\ncommands 2039 done 2030 refused 9\nticks 20000 idle 10244\naudit kept\n",
+        ),
+        (
+            "1",
+            b"trial 1\ncommands 2039 done 2030 refused 9\nticks 20000 idle 10917\naudit kept\n",
+        ),
+    ];
+    for (number, written) in cases {
+        // The source would fail at its first call, so that none was made.
+        let mut source = MemSource::new(Vec::new(alloc), 16, [0].to_vec(alloc)?);
+        let mut sink = MemSink::new(alloc, 128, 16, Vec::new(alloc))?;
+        let ended = run_at(alloc, &["trial", number], &mut source, &mut sink)?;
+        assert_eq!(rt; ended, Status::Done, "trial {number}");
+        assert_eq!(rt; sink.bytes(), written, "trial {number}");
+    }
+    Ok(())
+}
