@@ -1,11 +1,12 @@
 #!/usr/bin/env python3
 """Refuses each allocation of a run in turn, and says how the runs end.
 
-Usage: bench/memory.py [--program PROGRAM] SCENARIO ..
+Usage: bench/memory.py [--program PROGRAM] [--word WORD] TEXT ..
 
-PROGRAM is crates/hls_prog/out/hls_prog, which ./hls builds, if no other is given. A run in which an allocation was
-refused has to end with status 6 and nothing written, or with the report that is written where none is. The last line
-of each scenario counts them; the status is 1 where one run ended otherwise. It needs a C compiler and glibc.
+PROGRAM is crates/hls_prog/out/hls_prog, which ./hls builds, if no other is given. WORD is run,
+for scenarios, or check, for reports. A run in which an allocation was refused has to end with status 6 and nothing
+written, or with the output that is written where none is. The last line of each text counts them; the status is 1
+where one run ended otherwise. It needs a C compiler and glibc.
 """
 import argparse
 import collections
@@ -55,14 +56,14 @@ def build(folder):
 class Runs:
     """Runs of a program on a scenario."""
 
-    def __init__(self, program, text, library, folder):
-        self.program, self.text, self.library = program, text, library
+    def __init__(self, program, word, text, library, folder):
+        self.program, self.word, self.text, self.library = program, word, text, library
         self.told = os.path.join(folder, "calls")
 
     def run(self, refused):
         """Status and output where the call of this number, from 1, is refused; 0 for none."""
         here = dict(os.environ, LD_PRELOAD=self.library, REFUSED=str(refused), CALLS=self.told)
-        done = subprocess.run([self.program, "run"], input=self.text, capture_output=True, env=here)
+        done = subprocess.run([self.program, self.word], input=self.text, capture_output=True, env=here)
         return done.returncode, done.stdout
 
     def calls(self):
@@ -81,7 +82,7 @@ def try_each(runs):
         if end == (MEMORY, b""):
             ends["out of memory"] += 1
         elif end == whole:
-            ends["the same report"] += 1
+            ends["the same output"] += 1
         else:
             ends["otherwise"] += 1
             others.append((refused, end[0], len(end[1])))
@@ -91,14 +92,15 @@ def try_each(runs):
 def main():
     words = argparse.ArgumentParser()
     words.add_argument("--program", default=os.path.join(TOP, "crates", "hls_prog", "out", "hls_prog"))
-    words.add_argument("scenarios", nargs="+")
+    words.add_argument("--word", choices=["run", "check"], default="run")
+    words.add_argument("texts", nargs="+")
     args = words.parse_args()
     bad = False
     with tempfile.TemporaryDirectory() as folder:
         library = build(folder)
-        for path in args.scenarios:
+        for path in args.texts:
             with open(path, "rb") as file:
-                runs = Runs(args.program, file.read(), library, folder)
+                runs = Runs(args.program, args.word, file.read(), library, folder)
             status, calls, ends, others = try_each(runs)
             for refused, end, written in others:
                 print(f"{path}: call {refused} refused: status {end}, {written} bytes written")
