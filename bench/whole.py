@@ -1,11 +1,12 @@
 #!/usr/bin/env python3
-"""Times programs that do the job of `hls run` on the same scenarios, by turns.
+"""Times programs that do the job of `hls run` and `hls check` on the same texts, by turns.
 
 Usage: bench/whole.py [--ticks N] [--reps N] [--cases a,b] [NAME=PROGRAM ..]
 (default: proved=crates/hls_prog/out/hls_prog, which ./hls builds; 20000 ticks; 3 repetitions)
 
-Of each program the least processor time, the time a tick and the most memory are told, and the ratio to the first
-program. Where two programs answer, their reports are compared; the derivations of `by` lines may differ.
+Of each program the least processor time, the time a tick and a command, and the most memory are told, and the ratios to
+the first program; then the same of `check`, given the first program's report. Where two programs answer, their outputs
+are compared; the derivations of `by` lines may differ.
 """
 import argparse
 import os
@@ -13,8 +14,12 @@ import random
 import resource
 import subprocess
 import sys
+import tempfile
 
 TOP = os.path.dirname(os.path.dirname(os.path.abspath(__file__)))
+
+# The most seconds of processor time of a run.
+LIMIT = 20
 
 
 def scenario(horizon, items):
@@ -67,19 +72,105 @@ def churn(ticks):
     return scenario(ticks, items)
 
 
-CASES = {"one thread": one_thread, "desktop": desktop, "farm": farm, "churn": churn}
+def wakes(ticks, threads=1000, others=60000):
+    """Threads that are asked for on one scheduler, of which 32 find a priority, and wakes and blocks of their names."""
+    draw = random.Random("wakes")
+    items = [(0, "load r fp on cpu as ALL")]
+    for i in range(threads):
+        priority = i if i < 32 else draw.randrange(32)
+        items.append((0, f"thread n{i} on r prio {priority} as {'NULL' if priority else 'ALL'}"))
+    for t in sorted(draw.randrange(ticks) for _ in range(others)):
+        who = draw.randrange(32) if draw.random() < 0.9 else draw.randrange(threads)
+        items.append((t, f"{draw.choice(['wake', 'block'])} n{who}"))
+    return scenario(ticks, items)
 
 
-def measure(program, text):
-    before = resource.getrusage(resource.RUSAGE_CHILDREN)
-    done = subprocess.run([program, "run"], input=text, capture_output=True)
-    after = resource.getrusage(resource.RUSAGE_CHILDREN)
-    took = after.ru_utime + after.ru_stime - before.ru_utime - before.ru_stime
-    return done.returncode, done.stdout, took, after.ru_maxrss / 1024
+def admissions(ticks):
+    return wakes(ticks, 60000, 500)
+
+
+def reservations(ticks):
+    """32 hard reservations, all awake."""
+    items = [(0, "load e edf on cpu as ALL")]
+    for i in range(32):
+        y = 33 + 2 * i
+        items += [(0, f"thread t{i} on e res 1 {y} hard as RESBH 1 {y}"), (0, f"wake t{i}")]
+    return scenario(ticks, items)
+
+
+def moves(ticks, count=4000, at_once=False):
+    """Moves of a scheduler above 256 threads."""
+    items = [(0, "load root rr 1 on cpu as ALL"), (0, "load top rr 1 on root turn as NULL")]
+    for s in range(8):
+        items.append((0, f"load s{s} rr 1 on top turn as NULL"))
+        items += [(0, f"thread t{s}_{i} on s{s} turn as NULL") for i in range(32)]
+    items += [(0, f"wake t{s}_{i}") for s in range(8) for i in range(32)]
+    step = max((ticks - 8) // count, 1)
+    times = [7 if at_once else min(7 + i * step, ticks - 1) for i in range(count)]
+    return scenario(ticks, items + [(t, "move top to root turn as NULL") for t in times])
+
+
+def moves_at_once(ticks):
+    return moves(ticks, 20000, True)
+
+
+def requests(ticks, count=20000):
+    """Requests that take conversions, on fair queueing schedulers above each other."""
+    draw = random.Random("requests")
+    items = [(0, c) for c in (
+        "load a fp on cpu as ALL", "load b edf on a prio 0 as ALL", "load c sfq 4 2 on b res 20 40 hard as PSBE 1/2 20",
+        "load d fp on c weight 3 as PSBE 3/8 16", "load e sfq 5 2 on d prio 0 as PSBE 3/10 20", "thread x on b res 1 10 hard as NULL")]
+    places = ["e weight 1", "b res 1 20 hard", "b res 2 21 soft", "c weight 1"]
+    for i in range(count):
+        y = draw.randint(20, 400)
+        want = draw.choice(["NULL", f"RESBS 1 {y}", f"RESCS 1 {y}", f"PSBE 1/{y} {draw.randint(1, 90)}"])
+        items.append((i * (ticks - 1) // count, f"move x to {draw.choice(places)} as {want}"))
+    return scenario(ticks, items)
+
+
+CASES = {
+    "one thread": one_thread, "desktop": desktop, "reservations": reservations, "farm": farm, "churn": churn,
+    "wakes": wakes, "admissions": admissions, "moves": moves, "moves at once": moves_at_once, "requests": requests,
+}
+
+
+def limited():
+    resource.setrlimit(resource.RLIMIT_CPU, (LIMIT, LIMIT))
+
+
+def measure(program, word, text):
+    """Status, output, processor time and the most MiB of one run."""
+    with tempfile.TemporaryFile() as given, tempfile.TemporaryFile() as said:
+        given.write(text)
+        given.seek(0)
+        child = subprocess.Popen([program, word], stdin=given, stdout=said, preexec_fn=limited)
+        _, status, usage = os.wait4(child.pid, 0)
+        child.returncode = os.waitstatus_to_exitcode(status)
+        said.seek(0)
+        return child.returncode, said.read(), usage.ru_utime + usage.ru_stime, usage.ru_maxrss / 1024
 
 
 def without_derivations(report):
     return [line for line in report.split(b"\n") if not line.startswith(b"by ")]
+
+
+def compare(title, word, text, programs, args):
+    """Measures each program on a text, and gives the first one's output."""
+    first, output = None, None
+    commands = text.count(b"\nat ")
+    for name, program in programs:
+        runs = [measure(program, word, text) for _ in range(args.reps)]
+        status, said, _, most = runs[0]
+        if status < 0:
+            print(f"{title:22} {name:8} takes more than {LIMIT} s")
+            continue
+        took = min(run[2] for run in runs)
+        same = "" if output is None else (
+            ", same output" if without_derivations(said) == without_derivations(output) else ", ANOTHER OUTPUT")
+        first, output = first or took, output if output is not None else said
+        print(f"{title:22} {name:8} status {status} {took:8.3f} s {1e6 * took / args.ticks:8.2f} us a tick "
+              f"{1e6 * took / max(commands, 1):9.2f} us a command {most:7.1f} MiB, {took / max(first, 1e-9):6.1f} times{same}")
+    return output
 
 
 def main():
@@ -93,16 +184,9 @@ def main():
     programs = programs or [["proved", os.path.join(TOP, "crates", "hls_prog", "out", "hls_prog")]]
     print(f"load of the machine: {os.getloadavg()[0]:.2f}")
     for case in args.cases.split(","):
-        text, first, report = CASES[case](args.ticks), None, None
-        for name, program in programs:
-            runs = [measure(program, text) for _ in range(args.reps)]
-            status, output, _, most = runs[0]
-            took = min(run[2] for run in runs)
-            first = first or took
-            same = "" if report is None else (", same report" if without_derivations(output) == report else ", ANOTHER REPORT")
-            report = report if report is not None else without_derivations(output)
-            print(f"{case:12} {name:10} status {status} {took:8.3f} s {1e6 * took / args.ticks:8.2f} us a tick "
-                  f"{most:7.1f} MiB, {took / max(first, 1e-9):6.1f} times{same}")
+        report = compare(case, "run", CASES[case](args.ticks), programs, args)
+        if report:
+            compare("check of " + case, "check", report, programs, args)
 
 
 if __name__ == "__main__":
