@@ -168,15 +168,15 @@ def requests(count):
 
 # The name of a case, what it is, how many ticks it has, and its text.
 SCENARIOS = {
-    "a1": ("1,000 threads asked for, 64,535 wakes and blocks", HORIZON, lambda: early(1000, 64535)),
-    "a2": ("65,000 threads asked for, 535 wakes and blocks", HORIZON, lambda: early(65000, 535)),
+    "a1": ("1,000 admissions, 64,535 wakes and blocks", HORIZON, lambda: early(1000, 64535)),
+    "a2": ("65,000 admissions, 535 wakes and blocks", HORIZON, lambda: early(65000, 535)),
     "b": ("a desktop", HORIZON, desktop),
     "b2": ("32 hard reservations", HORIZON, reservations),
     "c": ("256 threads on 9 round robins", HORIZON, lambda: scenario(farm())),
     "d": ("one thread", HORIZON, one_thread),
     "e": ("65,536 commands of all kinds", HORIZON, mixed),
     "f1": ("4,000 moves above 256 threads", HORIZON, lambda: moves(4000)),
-    "f2": ("20,000 such moves in one tick", 100, lambda: moves_at_once(20000)),
+    "f2": ("20,000 of them in one tick", 100, lambda: moves_at_once(20000)),
     "g": ("20,000 requests at depth 6", HORIZON, lambda: requests(20000)),
 }
 

@@ -104,19 +104,20 @@ def columns(result, first, case, args):
         told.insert(1, ("us/tick", number(taken and 1e6 * taken / case.ticks, ".2f")))
         told.insert(2, ("us/command", number(taken and 1e6 * taken / case.commands, ".2f")))
         told.insert(3, ("time x", ratio(taken, first.seconds)))
-        told += [("memory x", ratio(result.mebibytes, first.mebibytes)), ("output", result.same(first))]
+        told.append(("memory x", ratio(result.mebibytes, first.mebibytes)))
     if args.instructions:
         told.append(("instr/tick", number(result.instructions and result.instructions / case.ticks, ",.0f")))
     if args.instructions and result is not first:
         told.append(("instr x", ratio(result.instructions, first.instructions)))
-    return told
+    return told + ([("output", result.same(first))] if result is not first else [])
 
 
 def row(case, results, args):
-    """Headings and numbers of a case."""
+    """Headings and numbers of a case; the first heading of a program bears its name."""
     told = [("Case", f"{case.name}: {case.title}")]
     for result in results:
-        told += [(f"{result.name} {head}", value) for head, value in columns(result, results[0], case, args)]
+        (head, value), *others = columns(result, results[0], case, args)
+        told += [(f"{result.name} {head}", value)] + others
     return told
 
 
