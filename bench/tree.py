@@ -1,13 +1,13 @@
 #!/usr/bin/env python3
 """Times ticks and commands of the whole program on large hierarchies.
 
-Usage: bench/tree.py [--prog NAME=COMMAND].. [--instructions]
+Usage: bench/tree.py [--prog NAME=COMMAND].. [--instructions] [--markdown]
 (default: proved=crates/hls_prog/out/hls_prog, which ./hls builds)
 
 Each case is run with few and with many ticks or commands, several times each, and what is printed are the microseconds
 of processor time that one more tick or command takes: the least time of the greater less that of the smaller, by how
-many more there are. --instructions counts them too, by valgrind. A move and the move back are two commands, and so are
-a load and an unload.
+many more there are. --instructions counts instructions too, by valgrind. A move and the move back are two commands, and
+so are a load and an unload. --markdown writes a table of docs/SPEED.md.
 """
 import argparse
 import os
@@ -102,9 +102,9 @@ def measure(command, text, counting):
 def of_one(command, few, many, more, counting):
     """The microseconds and the instructions of one more tick or command, of so many."""
     few, many = measure(command, few, counting), measure(command, many, counting)
-    told = f"{(many[0] - few[0]) / more * 1e6:>10.1f} us"
-    if counting and None not in (few[1], many[1]):
-        told += f"{(many[1] - few[1]) / more:>12,.0f} instructions"
+    told = [f"{(many[0] - few[0]) / more * 1e6:.1f}"]
+    if counting:
+        told.append("" if None in (few[1], many[1]) else f"{(many[1] - few[1]) / more:,.0f}")
     return told
 
 
@@ -119,25 +119,43 @@ def commands(items, more):
 
 
 CASES = {
-    "a tick, 64 schedulers, 256 threads": lambda: ticks(wide()),
-    "a tick, joins down to level 7": lambda: ticks(joined()),
-    "a move above 256 threads": lambda: commands(tall(), to_and_fro("m", "two turn", "one turn", 50)),
-    "a move above joins": lambda: commands(joined(), to_and_fro("x", "root turn", "root turn", 500)),
-    "a move below joins, to level 8": lambda: commands(joined(), to_and_fro("y", "j7 sole", "root turn", 500)),
-    "a load below joins, at level 8": lambda: commands(joined(), loads(50)),
-    "a wake, 256 threads": lambda: commands(wide(), at_first("wake t0", "block t0") * 15000),
+    "tick, 64 schedulers, 256 threads": lambda: ticks(wide()),
+    "tick, joins down to level 7": lambda: ticks(joined()),
+    "move above 256 threads": lambda: commands(tall(), to_and_fro("m", "two turn", "one turn", 50)),
+    "move above joins": lambda: commands(joined(), to_and_fro("x", "root turn", "root turn", 500)),
+    "move below joins, to level 8": lambda: commands(joined(), to_and_fro("y", "j7 sole", "root turn", 500)),
+    "load below joins, at level 8": lambda: commands(joined(), loads(50)),
+    "wake, 256 threads": lambda: commands(wide(), at_first("wake t0", "block t0") * 15000),
 }
 
 
-def main():
+def row(cells, is_marked):
+    """A line of the table."""
+    if is_marked:
+        return "| " + " | ".join(cells) + " |"
+    return f"{cells[0]:<36}" + "".join(f"{cell:>20}" for cell in cells[1:])
+
+
+def read_words():
     words = argparse.ArgumentParser(description=__doc__, formatter_class=argparse.RawDescriptionHelpFormatter)
     words.add_argument("--prog", action="append", type=program, metavar="NAME=COMMAND")
     words.add_argument("--instructions", action="store_true")
+    words.add_argument("--markdown", action="store_true")
     args = words.parse_args()
+    args.prog = args.prog or [("proved", [PROVED])]
+    return args
+
+
+def main():
+    args = read_words()
+    heads = ["us", "instructions"] if args.instructions else ["us"]
+    heads = ["One more"] + [f"{name} {head}" for name, _ in args.prog for head in heads]
+    print(row(heads, args.markdown))
+    if args.markdown:
+        print("|---" * len(heads) + "|")
     for title, make in CASES.items():
-        for name, command in args.prog or [("proved", [PROVED])]:
-            told = of_one(command + ["run"], *make(), args.instructions)
-            print(f"{title:<36} {name:>8} {told}", flush=True)
+        told = [of_one(command + ["run"], *make(), args.instructions) for _, command in args.prog]
+        print(row([title] + [cell for cells in told for cell in cells], args.markdown), flush=True)
 
 
 if __name__ == "__main__":
