@@ -122,10 +122,10 @@ def build(folder):
 
 def main():
     with tempfile.TemporaryDirectory() as folder:
-        run = subprocess.run(["rt", "try"], cwd=build(folder), capture_output=True, text=True)
+        run = subprocess.run(["rt", "try", "--seconds", "1200"], cwd=build(folder), capture_output=True, text=True)
     times = {}
     for line in run.stdout.splitlines():
-        words = line.split()
+        words = line.removeprefix("| ").split()
         if len(words) == 4 and words[2] in CALLS:
             times[words[0], words[2], words[1]] = int(words[3])
     if not times:
