@@ -131,10 +131,10 @@ def main():
     if not times:
         sys.exit(run.stdout[-3000:] + run.stderr[-3000:])
     kinds = [name[4:] for name in BOXES]
-    print(" " * 16 + "".join(f"{kind:>16}" for kind in kinds))
+    print(" " * 16 + "".join(f"{kind:>22}" for kind in kinds))
     for call in CALLS:
         pairs = [f"{times.get((kind, call, '1000'), '-')} / {times.get((kind, call, '100000'), '-')}" for kind in kinds]
-        print(f"{call:<16}" + "".join(f"{pair:>16}" for pair in pairs))
+        print(f"{call:<16}" + "".join(f"{pair:>22}" for pair in pairs))
 
 
 main()
