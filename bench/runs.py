@@ -4,6 +4,7 @@ import hashlib
 import os
 import re
 import shlex
+import signal
 import statistics
 import subprocess
 import tempfile
@@ -14,9 +15,12 @@ TOP = os.path.dirname(os.path.dirname(os.path.abspath(__file__)))
 PROVED = os.path.join(TOP, "crates", "hls_prog", "out", "hls_prog")
 
 # The most memory of a process begins with what its parent held when it was made. So a shell, which is small, makes the
-# program's and goes, and this process, which is not small, becomes the one that waits for it.
+# program's process and goes, and this process, which is not small, becomes the one that waits for it.
 STARTER = 'ulimit -t "$1"; from=$2; to=$3; shift 3; "$@" <"$from" >"$to" 2>/dev/null &'
 PR_SET_CHILD_SUBREAPER = 36
+
+# What ends a run that is past its limit.
+LATE = (-signal.SIGXCPU, -signal.SIGKILL)
 
 # Valgrind takes about so many times the time.
 COUNTING = 60
@@ -30,7 +34,7 @@ def run(command, source, sink, limit):
     subprocess.run(["sh", "-c", STARTER, "sh", str(limit), source, sink] + command, check=True)
     _, status, usage = os.wait4(-1, 0)
     status = os.waitstatus_to_exitcode(status)
-    return None if status < 0 else (status, usage.ru_utime + usage.ru_stime, usage.ru_maxrss / 1024)
+    return None if status in LATE else (status, usage.ru_utime + usage.ru_stime, usage.ru_maxrss / 1024)
 
 
 def program(text):
