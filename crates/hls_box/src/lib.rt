@@ -6,6 +6,6 @@ mod least;
 mod slots;
 mod state;
 
-pub use least::least_slot;
-pub use slots::has_slot;
+pub use least::{SlotKey, better, least_slot};
+pub use slots::{has_slot, none_from};
 pub use state::BoxState;

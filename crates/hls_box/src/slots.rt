@@ -1,5 +1,5 @@
 // The slots that ask, a bit each, and the row of a tick.
-ghost use Rattle.std.specs.Prelude.{◌≡◌, ◌^◌, ◌<◌, true, IfSome};
+ghost use Rattle.std.specs.Prelude.{◌≡◌, ℕ, ◌^◌, ◌<◌, ◌≤◌, true, false, IfSome};
 ghost use Rattle.hls_kinds.specs.Asks.{slot_asks};
 ghost use Rattle.hls_sched.specs.Seen.{tick_row};
 
@@ -19,6 +19,14 @@ pub fn has_slot(mask: u32, slot: u32) -> bool
     ensures within { result ≡ true → slot < 32 }
 {
     slot < 32 && (mask >> slot) & 1 == 1
+}
+
+/// Whether neither this slot nor any after it is among those that ask.
+pub fn none_from(mask: u32, slot: u32) -> bool
+    requires { slot < 32 }
+    ensures { result ≡ true → (other : ℕ) → slot ≤ other → slot_asks mask other ≡ false }
+{
+    mask >> slot == 0
 }
 
 /// The row of a tick.

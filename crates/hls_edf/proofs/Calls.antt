@@ -1,5 +1,5 @@
 -- What each call leaves of the servers of a box, and what they answer.
-use Rattle.std.proofs.Common.{◌≡◌, ◌≢◌, ℕ, zero, suc, ◌-◌, ◌<◌, ◌≤◌, List, [], length, refl, sym, arith, inl, inr}
+use Rattle.std.proofs.Common.{◌≡◌, ◌≢◌, ℕ, zero, suc, ◌+◌, ◌-◌, ◌<◌, ◌≤◌, List, [], length, refl, sym, arith, inl, inr}
 use Rattle.std.proofs.Common.{ap, ◌∙◌, Bool, Option, Some, None, subst, get_or, get_or-set_same}
 use Rattle.std.proofs.Common.{get_or-set_other}
 use Rattle.std.specs.Prelude.{slice_set, replicate, is_some, IfSome, IsNone, ◌↔◌}
@@ -49,6 +49,13 @@ pub servers_new : (b : Ledger) → b.marks ≡ [] → HasServers b (replicate 32
 servers_new b marks = record {
   matches = λ slot lt. none_at 32 slot vacant ∙ sym (server_at-unmarked b slot marks);
 }
+
+-- the entries behind one that is set stay
+pub rest_same : {X : Type 0} (xs ys : List X) (n : ℕ) (x none : X)
+    → ((k : ℕ) → n ≤ k → get_or xs k none ≡ get_or ys k none) → (k : ℕ) → n + 1 ≤ k
+    → get_or (slice_set xs n x) k none ≡ get_or ys k none
+rest_same xs ys n x none same k past =
+    get_or-set_other xs n k x none (omega (arith, past)) ∙ same k (omega (arith, past))
 
 -- one element of a list is set
 set_table : {X : Type 0} (xs : List X) (n k : ℕ) (x none : X) (now before : X) → n < length xs

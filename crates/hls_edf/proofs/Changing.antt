@@ -25,7 +25,7 @@ use Rattle.hls_edf_laws.proofs.RowSteps.{server_now, HasTenants, IsAsking}
 use Rattle.hls_edf_laws.proofs.MarkSteps.{server_at-mark, seated_server}
 use Rattle.hls_edf.specs.Changes.{next_of, settled_of}
 
-held_none : (t : ℕ) → held vacant t ≡ vacant
+pub held_none : (t : ℕ) → held vacant t ≡ vacant
 unfolding held
 held_none t = let none : nat_lt t 0 ≡ false = grind (arith, nat_tests) in rw none refl
 

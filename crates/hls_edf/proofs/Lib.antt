@@ -1,3 +1,5 @@
 pub mod Changing
 pub mod Serving
 pub mod Calls
+pub mod Candidates
+pub mod Unused

@@ -35,6 +35,7 @@ use Rattle.hls_sched.specs.Seen.{Seen, IsConfigured, config_of}
 use Rattle.hls_box.specs.Keys.{has_key, key_at, least_of}
 use Rattle.hls_box.specs.Inside.Sound.{IsSound}
 use Rattle.hls_box.proofs.Choosing.{IsRight}
+use Rattle.hls_box.proofs.LeastLaws.{least_within}
 use Rattle.hls_box.proofs.Keyed.{FirstIs, first_agree, first_of_keys, keyed_if, key_if}
 use Rattle.hls_edf.specs.declared.servers.Need.{Need}
 use Rattle.hls_edf.specs.declared.servers.Need.TheVariants.{Budget, Soft}
@@ -194,3 +195,15 @@ choice_right s servers choice sound held configured is =
     let right = right_of (config_of s) s.book s.mask servers (sound.configured configured) (sound.made configured)
     held sound.seated in
     rw is (record { asks = right.0; serves = right.1 })
+
+-- only slots of the 32 are chosen
+within_two : (first other : Option ℕ) → IfSome first (λ slot. slot < 32) → IfSome other (λ slot. slot < 32)
+    → IfSome (first_or first other) (λ slot. slot < 32)
+within_two (Some slot) other within _ = within
+within_two None other _ within = within
+
+pub choice_within : (servers : List Server) (b : Ledger) (mask : ℕ)
+    → IfSome (choice_of servers b mask) (λ slot. slot < 32)
+choice_within servers b mask =
+    within_two (least_of (deadline_asking Budget servers b mask)) (least_of (deadline_asking Soft servers b mask))
+    (least_within (deadline_asking Budget servers b mask)) (least_within (deadline_asking Soft servers b mask))

@@ -1,23 +1,22 @@
 // A box of reservations.
-ghost use Rattle.std.specs.Prelude.{◌≡◌, ℕ, ◌+◌, ◌<◌, Some, IfSome, is_some};
+ghost use Rattle.std.specs.Prelude.{◌≡◌, ℕ, ◌+◌, ◌≤◌, ◌<◌, Some, IfSome};
 ghost use Rattle.hls_chron.specs.declared.plain.Kind.{Kind};
-ghost use Rattle.hls_chron.specs.Ledger.{now_of};
-ghost use Rattle.hls_chron.specs.Seats.{terms_at, is_slot, served as served_at};
+ghost use Rattle.hls_chron.specs.Seats.{served as served_at};
 ghost use Rattle.hls_kinds.specs.declared.reservations.Reservation.{Reservation};
 ghost use Rattle.hls_kinds.specs.Reservations.{deadline_after, budget_after};
 ghost use Rattle.hls_edf_laws.specs.Books.{IsGiven, ReachesDeadline};
-ghost use Rattle.hls_kinds.specs.Asks.{slot_asks};
 ghost use Rattle.hls_sched.specs.Seen.{IsBlank, IsConfigured};
-ghost use Rattle.hls_box.specs.Keys.{keys_in, least_of};
 ghost use Rattle.hls_box.specs.Inside.Sound.{IsSound};
 ghost use Rattle.hls_box.proofs.Props.{sound_prop};
 ghost use Rattle.hls_box.proofs.Choosing.{lawful};
-ghost use Rattle.hls_edf.specs.Choice.{server_in, deadline_asking, choice_of, HasServers};
-ghost use Rattle.hls_edf.specs.Changes.{next_of, settled_of};
+ghost use Rattle.hls_edf.specs.Choice.{choice_of, HasServers};
+ghost use Rattle.hls_edf.specs.Inside.Unused.{IsUnusedFrom};
 
-use crate::server::{fresh, held, offered, replenished, vacant};
-use crate::servers::{Need, SLOTS, Servers, deadline_where, first_free, next, parts_used, settled};
-use hls_box::{BoxState, has_slot, least_slot};
+use crate::changes::{pass_tick, settle_all};
+use crate::choosing::best_of;
+use crate::server::{fresh, held, offered, vacant};
+use crate::servers::{Servers, first_free, parts_used};
+use hls_box::BoxState;
 use hls_chron::{Book, Config, Kind, Terms};
 use hls_sched::{Scheduler, SeatFault};
 use std::alloc::{AllocError, Global};
@@ -28,8 +27,13 @@ use std::alloc::{AllocError, Global};
 pub struct Edf {
     state: BoxState,
     servers: Servers,
+    used: u32,
+    best: Option<u32>,
     ghost sound: { IsSound Kind.Edf state } by { sound_prop Kind.Edf state },
     ghost held: { HasServers state.book servers },
+    ghost few: { used ≤ 32 },
+    ghost unused: { IsUnusedFrom used servers state.book },
+    ghost chosen: { best ≡ choice_of servers state.book state.mask },
 }
 
 impl Edf {
@@ -37,9 +41,14 @@ impl Edf {
     pub fn blank(alloc: Global) -> Edf
         ensures { IsBlank Kind.Edf (⟦<Edf as Scheduler>⟧.seen result) }
     {
+        let state = BoxState::blank(alloc, Kind::Edf);
+        let servers = [vacant(); 32];
+        let best = best_of(&servers, &state);
         Edf {
-            state: BoxState::blank(alloc, Kind::Edf),
-            servers: [vacant(); 32],
+            state,
+            servers,
+            used: 0,
+            best,
         }
     }
 
@@ -54,75 +63,13 @@ impl Edf {
         let _ = self.state.book();
     }
 
-    /// The deadline of each slot that asks and may be served by this.
-    fn deadlines(&self, need: Need) -> [Option<u128>; 32]
-        ensures { (slot : ℕ) → slot < 32 → keys_in result slot
-            ≡ deadline_asking need self.now.servers self.now.state.book self.now.state.mask slot }
-    {
-        let now = self.state.book().now();
-        let mask = self.state.mask();
-        let mut deadlines = [None; 32];
-        for slot in 0..SLOTS {
-            let server = replenished(self.servers[slot as usize], has_slot(mask, slot), now);
-            deadlines[slot as usize] = deadline_where(server, self.state.seat_at(slot), need);
-        }
-        deadlines
-    }
-
-    /// The slot of earliest deadline, of those that ask and may be served by this.
-    fn first(&self, need: Need) -> Option<u32>
-        ensures value { result
-            ≡ least_of (deadline_asking need self.now.servers self.now.state.book self.now.state.mask) }
-        ensures within { IfSome result (λ slot. slot < 32) }
-    {
-        least_slot(&self.deadlines(need))
-    }
-
     /// The slot to serve: of the asking seats with budget, or where there is none of the asking soft seats.
     fn choose(&self) -> Option<u32>
         ensures value { result ≡ choice_of self.now.servers self.now.state.book self.now.state.mask }
         ensures within { IfSome result (λ slot. slot < 32) }
     {
-        match self.first(Need::Budget) {
-            None => self.first(Need::Soft),
-            Some(slot) => Some(slot),
-        }
-    }
-
-    /// The servers after a tick that serves this slot, or none.
-    fn after_tick(&self, served: Option<u32>) -> Servers
-        ensures { (slot : ℕ) → slot < 32 → server_in result slot ≡ next_of (server_in self.now.servers slot)
-            (is_some (terms_at self.now.state.book slot)) (slot_asks self.now.state.mask slot) (is_slot served slot)
-            (now_of self.now.state.book) }
-    {
-        let now = self.state.book().now();
-        let mask = self.state.mask();
-        let mut after = self.servers;
-        for slot in 0..SLOTS {
-            let taken = self.state.seat_at(slot).is_some();
-            after[slot as usize] = next(
-                self.servers[slot as usize],
-                taken,
-                has_slot(mask, slot),
-                served == Some(slot),
-                now,
-            );
-        }
-        after
-    }
-
-    /// The servers after a settling.
-    fn after_settle(&self) -> Servers
-        ensures { (slot : ℕ) → slot < 32 → server_in result slot ≡ settled_of (server_in self.now.servers slot)
-            (is_some (terms_at self.now.state.book slot)) (now_of self.now.state.book) }
-    {
-        let now = self.state.book().now();
-        let mut after = self.servers;
-        for slot in 0..SLOTS {
-            let taken = self.state.seat_at(slot).is_some();
-            after[slot as usize] = settled(self.servers[slot as usize], taken, now);
-        }
-        after
+        let _ = &self.state;
+        self.best
     }
 }
 
@@ -150,6 +97,8 @@ impl Scheduler for Edf {
     ) -> Result<(), AllocError> {
         self.state.setup(config, now, horizon, commands)?;
         self.servers = [vacant(); 32];
+        self.used = 0;
+        self.best = best_of(&self.servers, &self.state);
         Ok(())
     }
 
@@ -168,20 +117,25 @@ impl Scheduler for Edf {
         let now = self.state.book().now();
         self.state.seat(slot, terms);
         self.servers[slot as usize] = fresh(offered(x, y), now);
+        self.used = self.used.max(slot + 1);
+        self.best = best_of(&self.servers, &self.state);
     }
 
     fn leave(&mut self, slot: u32) {
         let now = self.state.book().now();
         self.state.leave(slot);
         self.servers[slot as usize] = held(self.servers[slot as usize], u64::from(now));
+        self.best = best_of(&self.servers, &self.state);
     }
 
     fn request(&mut self, slot: u32) {
         self.state.request(slot);
+        self.best = best_of(&self.servers, &self.state);
     }
 
     fn release(&mut self, slot: u32) {
         self.state.release(slot);
+        self.best = best_of(&self.servers, &self.state);
     }
 
     fn asks(&self) -> bool {
@@ -202,13 +156,16 @@ impl Scheduler for Edf {
 
     fn turn(&mut self) {
         let choice = self.choose();
-        self.servers = self.after_tick(self.state.served(choice));
+        let served = self.state.served(choice);
+        pass_tick(&mut self.servers, &self.state, self.used, served);
         self.state.turn(choice);
+        self.best = best_of(&self.servers, &self.state);
     }
 
     fn settle(&mut self) {
-        self.servers = self.after_settle();
+        settle_all(&mut self.servers, &self.state, self.used);
         self.state.settle();
+        self.best = best_of(&self.servers, &self.state);
     }
 
     fn parts_used(&self) -> u128 {

@@ -4,7 +4,7 @@ ghost use Rattle.hls_kinds.specs.Slots.{sum_below};
 ghost use Rattle.hls_edf.specs.Choice.{server_in, soft_in, may_use, deadline_if, IsFirstFree, AllPaid};
 ghost use Rattle.hls_edf.specs.Changes.{next_of, settled_of};
 
-use crate::server::{charged, fresh, held, replenished, vacant};
+use crate::server::{charge, fresh, held, replenish, vacant};
 use hls_chron::Terms;
 use hls_edf_laws::Server;
 
@@ -44,11 +44,11 @@ fn may_go(server: Server, seat: Option<Terms>, need: Need) -> bool
 }
 
 /// The deadline of a slot that may be served by this.
-pub fn deadline_where(server: Server, seat: Option<Terms>, need: Need) -> Option<u128>
+pub fn deadline_where(server: Server, seat: Option<Terms>, need: Need) -> Option<u64>
     ensures { result ≡ deadline_if need server seat }
 {
     if may_go(server, seat, need) {
-        Some(u128::from(server.deadline))
+        Some(server.deadline)
     } else {
         None
     }
@@ -81,15 +81,18 @@ pub fn parts_used(servers: &[Server]) -> u128
     used
 }
 
-/// The server of a slot after a tick.
-pub fn next(server: Server, taken: bool, asks: bool, served: bool, now: u32) -> Server
-    ensures { result ≡ next_of server taken asks served now }
+/// Lets a tick pass over the server of a slot.
+pub fn pass(server: &mut Server, taken: bool, asks: bool, served: bool, now: u32)
+    ensures { server.new ≡ next_of server.old taken asks served now }
 {
     if !taken {
-        return held(server, u64::from(now) + 1);
+        *server = held(*server, u64::from(now) + 1);
+        return;
     }
-    let within = replenished(server, asks, now);
-    if served { charged(within) } else { within }
+    replenish(server, asks, now);
+    if served {
+        charge(server);
+    }
 }
 
 /// The server of a slot after a settling.

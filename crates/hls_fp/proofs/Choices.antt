@@ -3,24 +3,28 @@ use Rattle.std.proofs.Common.{◌≡◌, ◌≢◌, ℕ, ◌<◌, ◌^◌, Some,
 use Rattle.std.specs.Prelude.{Option, is_some, IfSome}
 use Rattle.std.specs.Int.{bit_at}
 use Rattle.std.proofs.lemmas.Bool.{eqb-true, eq-eqb}
+use Rattle.std.proofs.lemmas.Nat.Bits.{bit_at-zero}
 use Rattle.hls_chron.specs.declared.plain.Kind.TheVariants as kinds
 use Rattle.hls_chron.specs.declared.plain.Config.{Config}
 use Rattle.hls_chron.specs.declared.plain.Config.TheVariants.{Cpu, Fp, Edf, Sfq, Rr, Wheel, Join}
 use Rattle.hls_chron.specs.declared.plain.Terms.{Terms}
 use Rattle.hls_chron.specs.declared.plain.Terms.TheVariants as terms
 use Rattle.hls_chron.specs.Kinds.{kind_of, terms_kind}
-use Rattle.hls_chron.specs.Ledger.{Ledger}
+use Rattle.hls_chron.specs.declared.book.Event.TheVariants.{Settle}
+use Rattle.hls_chron.specs.Ledger.{Ledger, with_row, with_mark}
+use Rattle.hls_chron.proofs.BookLaws.{terms_at-mark, terms_at-row}
 use Rattle.hls_chron.specs.Seats.{SlotAsks, terms_at, priority_in, priority_at}
 use Rattle.hls_kinds.specs.Asks.{asks, slot_asks, some_slot_asks}
 use Rattle.hls_kinds.specs.Slots.{IsFirst}
 use Rattle.hls_kinds.specs.Discipline.{Serves, HasLeastPriority}
 use Rattle.hls_kinds.specs.Made.{IsMade}
 use Rattle.hls_made.proofs.Books.{admission_made}
-use Rattle.hls_sched.specs.Seen.{Seen, IsConfigured, config_of}
+use Rattle.hls_sched.specs.Seen.{Seen, IsConfigured, config_of, settled, turned, tick_row}
 use Rattle.hls_sched.proofs.Masks.{within_width}
 use Rattle.hls_box.specs.Keys.{key_or, has_key, key_at}
 use Rattle.hls_box.specs.Inside.Sound.{IsSound}
 use Rattle.hls_box.proofs.Choosing.{IsRight}
+use Rattle.hls_box.proofs.LeastLaws.{least_same, least_none}
 use Rattle.hls_box.proofs.Keyed.{least_asks, least_serves}
 use Rattle.hls_fp.specs.Choice.{priority_if, priority_asking, choice_of}
 
@@ -103,3 +107,30 @@ choice_right s choice sound configured is =
     let right = right_of (config_of s) s.book s.mask (sound.configured configured) sound.width
     (sound.made configured) sound.seated in
     rw is (record { asks = right.0; serves = right.1 })
+
+-- nobody asks, so nobody is chosen
+pub unasked : (b : Ledger) (mask slot : ℕ) → slot_asks mask slot ≡ false → priority_asking b mask slot ≡ None
+unasked b mask slot off = rw off refl
+
+silent_slot : (slot : ℕ) → slot_asks 0 slot ≡ false
+silent_slot slot = rw (bit_at-zero slot) refl
+
+pub none_silent : (b : Ledger) (mask : ℕ) → mask ≡ 0 → choice_of b mask ≡ None
+none_silent b mask silent =
+    rw silent (least_none (priority_asking b 0) (λ slot. unasked b 0 slot (silent_slot slot)))
+
+-- the choice goes by the seats and by who asks alone
+same_seats : (a b : Ledger) (mask : ℕ) → ((slot : ℕ) → terms_at a slot ≡ terms_at b slot)
+    → choice_of a mask ≡ choice_of b mask
+same_seats a b mask same =
+    least_same (priority_asking a mask) (priority_asking b mask)
+    (λ slot lt. ap (priority_if (slot_asks mask slot)) (same slot))
+
+pub choice_settled : (s t : Seen) → t ≡ settled s → choice_of s.book s.mask ≡ choice_of t.book t.mask
+choice_settled s t is = rw is (same_seats s.book (with_mark s.book Settle) s.mask
+    (λ slot. sym (terms_at-mark s.book Settle slot)))
+
+pub choice_turned : (choice : Option ℕ) (s t : Seen) → t ≡ turned choice s
+    → choice_of s.book s.mask ≡ choice_of t.book t.mask
+choice_turned choice s t is = rw is (same_seats s.book (with_row s.book (tick_row s.mask s.grant choice)) s.mask
+    (λ slot. sym (terms_at-row s.book (tick_row s.mask s.grant choice) slot)))

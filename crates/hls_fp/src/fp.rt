@@ -1,24 +1,26 @@
 // A box of fixed priority.
-ghost use Rattle.std.specs.Prelude.{◌≡◌, ℕ, ◌<◌, IfSome};
+ghost use Rattle.std.specs.Prelude.{◌≡◌, ◌<◌, IfSome};
 ghost use Rattle.hls_chron.specs.declared.plain.Kind.{Kind};
 ghost use Rattle.hls_sched.specs.Seen.{IsBlank};
-ghost use Rattle.hls_box.specs.Keys.{keys_in};
 ghost use Rattle.hls_box.specs.Inside.Sound.{IsSound};
 ghost use Rattle.hls_box.proofs.Props.{sound_prop};
 ghost use Rattle.hls_box.proofs.Choosing.{lawful};
-ghost use Rattle.hls_fp.specs.Choice.{priority_asking, priority_if, choice_of};
+ghost use Rattle.hls_fp.specs.Choice.{priority_if, choice_of};
 
-use hls_box::{BoxState, has_slot, least_slot};
+use hls_box::{BoxState, SlotKey, better, has_slot, none_from};
 use hls_chron::{Book, Config, Kind, Terms};
 use hls_sched::{Scheduler, SeatFault};
 use std::alloc::{AllocError, Global};
 
 /// A scheduler of fixed priority (after Regehr 2001): of the seats that ask, the one of least
-/// priority number is served.
+/// priority number is served. Which one that is changes only with the seats and with who asks, so it is
+/// kept in between.
 #[derive(Drop)]
 pub struct Fp {
     state: BoxState,
+    best: Option<u32>,
     ghost sound: { IsSound Kind.Fp state } by { sound_prop Kind.Fp state },
+    ghost chosen: { best ≡ choice_of state.book state.mask },
 }
 
 /// The priority number of a seat, where it asks.
@@ -31,6 +33,22 @@ fn priority_where(asks: bool, terms: Option<Terms>) -> Option<u128>
     }
 }
 
+/// The asking slot of least priority number.
+fn best_asking(state: &BoxState) -> Option<u32>
+    ensures { result ≡ choice_of state.now.book state.now.mask }
+{
+    let mask = state.mask();
+    let mut best: Option<SlotKey> = None;
+    for slot in 0..32 {
+        if none_from(mask, slot) {
+            break;
+        }
+        let priority = priority_where(has_slot(mask, slot), state.seat_at(slot));
+        best = better(best, slot, priority);
+    }
+    best.map(|best| best.slot)
+}
+
 impl Fp {
     /// A box that is not set up yet. Takes no memory.
     pub fn blank(alloc: Global) -> Fp
@@ -38,31 +56,16 @@ impl Fp {
     {
         Fp {
             state: BoxState::blank(alloc, Kind::Fp),
+            best: None,
         }
     }
 
-    /// The priority number of each slot that asks.
-    fn priorities(&self) -> [Option<u128>; 32]
-        ensures { (slot : ℕ) → slot < 32
-            → keys_in result slot ≡ priority_asking self.now.state.book self.now.state.mask slot }
-    {
-        let mask = self.state.mask();
-        let mut priorities = [None; 32];
-        for slot in 0..32 {
-            priorities[slot as usize] = priority_where(
-                has_slot(mask, slot),
-                self.state.seat_at(slot),
-            );
-        }
-        priorities
-    }
-
-    /// The asking slot of least priority number.
+    /// The asking slot of least priority number, as it is kept.
     fn best(&self) -> Option<u32>
         ensures value { result ≡ choice_of self.now.state.book self.now.state.mask }
         ensures within { IfSome result (λ slot. slot < 32) }
     {
-        least_slot(&self.priorities())
+        self.best
     }
 }
 
@@ -88,7 +91,9 @@ impl Scheduler for Fp {
         horizon: u32,
         commands: u32,
     ) -> Result<(), AllocError> {
-        self.state.setup(config, now, horizon, commands)
+        self.state.setup(config, now, horizon, commands)?;
+        self.best = None;
+        Ok(())
     }
 
     fn fits(&self, terms: &Terms) -> Option<SeatFault> {
@@ -101,18 +106,22 @@ impl Scheduler for Fp {
 
     fn seat(&mut self, slot: u32, terms: &Terms) {
         self.state.seat(slot, terms);
+        self.best = best_asking(&self.state);
     }
 
     fn leave(&mut self, slot: u32) {
         self.state.leave(slot);
+        self.best = best_asking(&self.state);
     }
 
     fn request(&mut self, slot: u32) {
         self.state.request(slot);
+        self.best = best_asking(&self.state);
     }
 
     fn release(&mut self, slot: u32) {
         self.state.release(slot);
+        self.best = best_asking(&self.state);
     }
 
     fn asks(&self) -> bool {

@@ -123,7 +123,7 @@ impl Scheduler for Rr {
     }
 
     fn asks(&self) -> bool {
-        self.next().is_some()
+        self.state.mask() != 0
     }
 
     fn grant(&mut self, port: u8) {

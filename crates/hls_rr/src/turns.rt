@@ -13,6 +13,9 @@ pub fn next_asking(mask: u32, slot: u32) -> Option<u32>
     ensures value { result ≡ next_of mask slot 32 }
     ensures within { IfSome result (λ next. next < 32) }
 {
+    if mask == 0 {
+        return None;
+    }
     let mut next = slot;
     for _ in 0..SLOTS {
         next = (next + 1) % SLOTS;

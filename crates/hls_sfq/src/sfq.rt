@@ -9,21 +9,26 @@ ghost use Rattle.hls_sfq.specs.Choice.{choice_of};
 ghost use Rattle.hls_sfq.specs.Tags.{KeepsTags};
 ghost use Rattle.hls_sfq.specs.Weights.{IsSmall};
 
-use crate::shares::{Seats, after_settle, after_tick, fresh, serve, tags, weight_used};
-use hls_box::{BoxState, least_slot};
+use crate::shares::{
+    Seats, after_settle, after_tick, first_after, first_asking, fresh, serve, weight_used,
+};
+use hls_box::BoxState;
 use hls_chron::{Book, Config, Kind, Terms};
 use hls_sched::{Scheduler, SeatFault};
 use std::alloc::{AllocError, Global};
 
 /// A scheduler of fair queueing (after Goyal, Guo and Vin 1996): of the seats that ask, the one
-/// of least start tag is served.
+/// of least start tag is served. Which one that is changes only with the seats, with who asks and where a
+/// tick is granted, so it is kept in between.
 #[derive(Drop)]
 pub struct Sfq {
     state: BoxState,
     time: u128,
     seats: Seats,
+    first: Option<u32>,
     ghost sound: { IsSound Kind.Sfq state } by { sound_prop Kind.Sfq state },
     ghost held: { KeepsTags state.book time seats },
+    ghost chosen: { first ≡ choice_of time seats state.mask },
 }
 
 impl Sfq {
@@ -35,15 +40,16 @@ impl Sfq {
             state: BoxState::blank(alloc, Kind::Sfq),
             time: 0,
             seats: [None; 32],
+            first: None,
         }
     }
 
-    /// The asking slot of least start tag.
+    /// The asking slot of least start tag, as it is kept.
     fn first(&self) -> Option<u32>
         ensures value { result ≡ choice_of self.now.time self.now.seats self.now.state.mask }
         ensures within { IfSome result (λ slot. slot < 32) }
     {
-        least_slot(&tags(self.time, &self.seats, self.state.mask()))
+        self.first
     }
 
     /// Tells that tags are far below what their numbers can hold, and does nothing.
@@ -80,6 +86,7 @@ impl Scheduler for Sfq {
         self.state.setup(config, now, horizon, commands)?;
         self.time = 0;
         self.seats = [None; 32];
+        self.first = None;
         Ok(())
     }
 
@@ -98,19 +105,23 @@ impl Scheduler for Sfq {
         self.bound_tags();
         self.state.seat(slot, terms);
         self.seats[slot as usize] = Some(fresh(self.time, weight));
+        self.first = first_asking(self.time, &self.seats, self.state.mask());
     }
 
     fn leave(&mut self, slot: u32) {
         self.state.leave(slot);
         self.seats[slot as usize] = None;
+        self.first = first_asking(self.time, &self.seats, self.state.mask());
     }
 
     fn request(&mut self, slot: u32) {
         self.state.request(slot);
+        self.first = first_asking(self.time, &self.seats, self.state.mask());
     }
 
     fn release(&mut self, slot: u32) {
         self.state.release(slot);
+        self.first = first_asking(self.time, &self.seats, self.state.mask());
     }
 
     fn asks(&self) -> bool {
@@ -137,12 +148,14 @@ impl Scheduler for Sfq {
         serve(self.time, &mut self.seats, slot);
         self.time = time;
         self.state.turn(choice);
+        self.first = first_after(choice, slot, time, &self.seats, self.state.mask());
     }
 
     fn settle(&mut self) {
         self.bound_tags();
         self.state.settle();
         self.seats = after_settle(self.time, self.seats);
+        self.first = first_asking(self.time, &self.seats, self.state.mask());
     }
 
     fn parts_used(&self) -> u128 {

@@ -3,12 +3,11 @@ ghost use Rattle.std.specs.Prelude.{◌≡◌, ℕ, ◌+◌, ◌^◌, ◌<◌, l
 ghost use Rattle.std.specs.Prelude.{Some, None, IfSome};
 ghost use Rattle.hls_kinds.specs.Slots.{sum_below};
 ghost use Rattle.hls_kinds.specs.Tags.{tag_step};
-ghost use Rattle.hls_box.specs.Keys.{keys_in};
-ghost use Rattle.hls_sfq.specs.Choice.{tag_of, tag_asking};
+ghost use Rattle.hls_sfq.specs.Choice.{tag_of, tag_asking, choice_of};
 ghost use Rattle.hls_sfq.specs.Changes.{fresh_seat, time_after, seats_after};
 ghost use Rattle.hls_sfq.specs.Weights.{weight_of, IsSmall};
 
-use hls_box::has_slot;
+use hls_box::{SlotKey, better, has_slot, none_from};
 
 /// How many slots there are.
 pub const SLOTS: u32 = 32;
@@ -72,16 +71,19 @@ fn tag_where(time: u128, seats: &[Option<FairSeat>], mask: u32, slot: u32) -> Op
     }
 }
 
-/// The start tag of each slot that asks.
-pub fn tags(time: u128, seats: &[Option<FairSeat>], mask: u32) -> [Option<u128>; 32]
+/// The asking slot of least start tag.
+pub fn first_asking(time: u128, seats: &[Option<FairSeat>], mask: u32) -> Option<u32>
     requires { length seats.now ≡ 32 }
-    ensures { (slot : ℕ) → slot < 32 → keys_in result slot ≡ tag_asking time seats.now mask slot }
+    ensures { result ≡ choice_of time seats.now mask }
 {
-    let mut tags = [None; 32];
+    let mut first: Option<SlotKey> = None;
     for slot in 0..SLOTS {
-        tags[slot as usize] = tag_where(time, seats, mask, slot);
+        if none_from(mask, slot) {
+            break;
+        }
+        first = better(first, slot, tag_where(time, seats, mask, slot));
     }
-    tags
+    first.map(|first| first.slot)
 }
 
 /// The weight of a seat, or 0.
@@ -155,5 +157,23 @@ pub fn serve(time: u128, seats: &mut [Option<FairSeat>; 32], slot: Option<u32>)
         if let Some(seat) = seats[at] {
             seats[at] = Some(fresh(time.max(seat.finish), seat.weight));
         }
+    }
+}
+
+/// The asking slot of least start tag after a tick that served this slot, or none, from the one before.
+pub fn first_after(
+    first: Option<u32>,
+    served: Option<u32>,
+    time: u128,
+    seats: &[Option<FairSeat>],
+    mask: u32,
+) -> Option<u32>
+    requires seats { length seats.now ≡ 32 }
+    requires first { served ≡ None → first ≡ choice_of time seats.now mask }
+    ensures { result ≡ choice_of time seats.now mask }
+{
+    match served {
+        None => first,
+        Some(_) => first_asking(time, seats, mask),
     }
 }

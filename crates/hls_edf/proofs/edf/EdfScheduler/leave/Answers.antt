@@ -5,6 +5,7 @@ use Rattle.hls_edf_laws.specs.Books.{held}
 use Rattle.hls_chron.specs.Ledger.{now_of}
 use Rattle.hls_edf.specs.Choice.{server_in}
 use Rattle.hls_edf.proofs.Calls as calls
+use Rattle.hls_edf.proofs.Unused.{unused_leave}
 use Rattle.hls_edf.proofs.edf.EdfScheduler.leave.Goals as goal
 
 pub bounds-self-slot : goal.bounds-self-slot
@@ -23,6 +24,9 @@ invariant_of-self c =
       sound = after_leave _ _ _ _ c.leave.ensures c.args.self.now.sound c.requires.configured c.requires.taken;
       held = calls.after_leave _ _ c.args.self.now.sound c.args.self.now.held c.requires.configured _ _ _ lt len
           c.leave.ensures c.requires.taken its;
+      few = c.args.self.now.few;
+      unused = unused_leave _ _ _ c.args.self.now.unused _ _ _ lt c.requires.taken c.leave.ensures;
+      chosen = c.best_of-self.ensures;
     }
 
 pub bounds-self-slot-2 : goal.bounds-self-slot-2

@@ -1,0 +1,29 @@
+use Rattle.std.proofs.Common.{◌≡◌, rules, sym, ap, ◌∙◌}
+use Rattle.hls_box.specs.Keys.{least_of}
+use Rattle.hls_box.proofs.LeastLaws.{best_below-suc, best_below-zero, slot_below, slot_below-all, slot_below-past}
+use Rattle.hls_fp.specs.Choice.{priority_asking, choice_of}
+use Rattle.hls_fp.proofs.Choices.{unasked}
+use Rattle.hls_fp.proofs.fp.best_asking.Goals.{else-loop-slot-test, then-loop-slot-test+then-none_from}
+use Rattle.hls_fp.proofs.fp.best_asking.Goals as goal
+
+pub loop-slot-init : goal.loop-slot-init
+loop-slot-init c = sym (best_below-zero (priority_asking c.args.state.now.book c.mask-mask.result))
+
+pub loop-slot-preserved : goal.loop-slot-preserved
+loop-slot-preserved c =
+    let more = best_below-suc (priority_asking c.args.state.now.book c.mask-mask.result) c.loop-slot.slot in
+    cc
+
+pub returns : goal.returns
+returns c =
+    let b = c.args.state.now.book in
+    let mask = c.mask-mask.result in
+    let keys = priority_asking b mask in
+    let so_far : c.map.result ≡ slot_below keys c.loop-slot.slot = search rules in
+    let all : slot_below keys c.loop-slot.slot ≡ least_of keys = elim c.loop-slot-test.branch [
+      | else-loop-slot-test w ↦ slot_below-all keys c.loop-slot.slot (search rules)
+      | then-loop-slot-test+then-none_from w ↦
+          slot_below-past keys c.loop-slot.slot (search rules)
+          (λ slot le. unasked b mask slot (w.none_from.ensures w.if-none_from.true slot le))
+    ] in
+    so_far ∙ all ∙ ap (choice_of b) c.mask-mask.ensures
