@@ -4,6 +4,7 @@ use Rattle.std.proofs.Common.{Option, Some, None, if◌then◌else◌, ◌==◌,
 use Rattle.std.specs.Prelude.{option_map}
 use Rattle.std.proofs.lemmas.Bool.{cases_eq, eq-eqb, ne_eqb}
 use Rattle.hls_chron.specs.Seats.{terms_at}
+use Rattle.hls_kinds.specs.Asks.{slot_asks}
 use Rattle.hls_sched.specs.Seen.{Seen, config_of}
 use Rattle.hls_legal.specs.Hierarchy.{Hierarchy, Node, Loaded, Admitted, Thread as AdmittedThread, Seat, Place}
 use Rattle.hls_legal.specs.Hierarchy.{Processor, At}
@@ -16,14 +17,13 @@ use Rattle.hls_legal.proofs.Kept.{at_same, at_other}
 use Rattle.hls_walks.specs.Shown.{What, Scheduler, Thread, Shown, bare, bare_in, bare_what}
 use Rattle.hls_walks.specs.Shown.{level_in, seats_in, place_in, book_in, ready_in, PostedIn, RoomBare, most_bare}
 use Rattle.hls_walks.specs.Shown.{most_in}
-use Rattle.hls_walks.specs.Shown.{name_bare, name_in, is_thread_what}
+use Rattle.hls_walks.specs.Shown.{name_bare, name_in, is_thread_what, mask_in, is_sched}
 use Rattle.std.specs.declared.dyn_box.DynBox.{DynBox}
 use Rattle.std.specs.declared.alloc.Global.{Global}
 use Rattle.slab.specs.Slab.{Slab, get, Updates}
 use Rattle.hls_walks.specs.declared.node.Node.{Node as StoredNode}
 use Rattle.hls_walks.specs.Views.{boxed, shown, shown_opt, shown_at, IsBody}
-use Rattle.hls_walks.specs.TreeOf.{IsOf, IsLaid, IsReady, StandsAt, level_over}
-use Rattle.hls_walks.proofs.Tells.{any_told}
+use Rattle.hls_walks.specs.TreeOf.{IsOf, IsLaid, IsReady, StandsAt, AreTold, level_over}
 use Rattle.hls_walks.proofs.Snapshots.{Nodes, one_of, rise, level_over_same}
 use Rattle.hls_walks.proofs.Passes.{laid_from, seats_same, book_same}
 use Rattle.hls_walks.proofs.Leads.{sat}
@@ -34,7 +34,9 @@ use Rattle.hls_tree.specs.Trees.{IsTreeOf, IsReadyOf, Stands, IsBodyOf}
 use Rattle.hls_walks.specs.declared.node.Body.{Body}
 use Rattle.hls_walks.specs.declared.node.Body.TheVariants as bodies
 use Rattle.hls_tree.specs.declared.tree.Tree.{Tree}
+use Rattle.hls_tree.specs.Inside.Told.{AreElsewhere, AskAsBefore}
 use Rattle.hls_tree.proofs.Marks.{bare_marked, room_marked, most_marked, same_name_marked}
+use Rattle.hls_tree.proofs.Told.{marked_sched, still_told}
 use Rattle.hls_tree.proofs.Loads.{thread_marked, stands_at, tree_to}
 use Rattle.hls_tree.specs.Lists.{holder_view}
 use Rattle.hls_tree.proofs.Listed.{sched_same, sched_not, listed_less, filter_less}
@@ -173,6 +175,26 @@ module _ (old mid new : Nodes) (id : ℕ) (seats : List Seat) (own : seats_in (o
       (sym (at_other k id None _ ne) ∙ e))
       ∙ sym (m.ready k ∙ ap ready_in (r.others k ne)))
 
+  -- who has told still has
+  pub detach_told : IsLaid old → ((slot : ℕ) → terms_at (book_in (old id)) slot ≡ None) → AskAsBefore seats mid new
+      → (changed : Option (List ℕ)) → AreTold old changed → AreTold new changed
+  detach_told laid empty asks changed told c port not none p slot e =
+      let nobody : place_in (new id) port ≡ None =
+      ap (λ (l : List Seat). option_map (λ (s : Seat). s.place) (slice_get l port)) no_seats in
+      let ne : c ≢ id = (λ same. let clash : None ≡ Some (At p slot) = sym nobody
+      ∙ ap (λ n. place_in (new n) port) (sym same) ∙ e in cc) in
+      let was : place_in (old c) port ≡ Some (At p slot) = old_place c port (At p slot) e in
+      let apart : p ≢ id = (λ same. laid.taken c port p slot was (ap (λ n. terms_at (book_in (old n)) slot) same
+      ∙ empty slot)) in
+      let off : AreElsewhere seats p slot = (λ i seat at is. ne (laid.alone c id port i (At p slot) was
+      (ap (λ (l : List Seat). option_map (λ (s : Seat). s.place) (slice_get l i)) own
+      ∙ place_by seats i seat (At p slot) at is)).0) in
+      let mask : slot_asks (mask_in (new p)) slot ≡ slot_asks (mask_in (old p)) slot =
+      asks p slot (laid.ranked.within c port p slot was) off ∙ ap (λ o. slot_asks (mask_in o) slot) (r.others p apart) in
+      let sched = marked_sched (leavings seats c) (mid c) (new c) (m.nodes c) ∙ ap is_sched (r.others c ne) in
+      still_told old new changed told c port p slot not (λ is. not (sched ∙ is)) none was mask
+      (m.ready c ∙ ap ready_in (r.others c ne))
+
 -- where the hierarchy lets a node go, so does the tree
 pub room_to_leave : (s : Nodes) (h : Hierarchy) → ((k : ℕ) → bare (h.nodes k) ≡ bare_in (s k)) → (id : ℕ) → MayGo h id
     → HasRoomToLeave s id
@@ -258,9 +280,10 @@ module _ {V : Type 0} {P : V → Type 0} (seen : (x : V) × P x → Seen) where
           → map holder_view new.seats.items ≡ filter (λ (s : SeatHolder). not (s.node == id))
           (map holder_view old.seats.items)
           → new.root ≡ root_without x.seats old.root → new.tick ≡ old.tick → new.horizon ≡ old.horizon
-          → new.changed ≡ None
+          → AskAsBefore x.seats (shown_at (boxed seen) mid) (shown_at (boxed seen) new.nodes)
+          → new.changed ≡ old.changed
           → (h : Hierarchy) → IsTreeOf seen old h → IsTreeOf seen new (effect h id None nobody)
-      detached none others schedulers threads seats root tick horizon changed h t =
+      detached none others schedulers threads seats root tick horizon asks changed h t =
           let is : bare (h.nodes id) ≡ bare_in (Some x) =
           t.of.nodes id ∙ ap bare_in (ap (shown_at (boxed seen) old.nodes) (sym key_is) ∙ own) in
           record {
@@ -301,7 +324,13 @@ module _ {V : Type 0} {P : V → Type 0} (seen : (x : V) × P x → Seen) where
                     t.counts.seats,
                   ));
             };
-            told = any_told (shown_at (boxed seen) new.nodes) new.changed changed;
+            told = subst (AreTold (shown_at (boxed seen) new.nodes)) (sym changed)
+                (detach_told (shown_at (boxed seen) old.nodes) (shown_at (boxed seen) mid)
+                (shown_at (boxed seen) new.nodes) key x.seats (ap seats_in own) r m
+                (laid_from (shown_at (boxed seen) old.nodes) old.tick old.horizon old.root
+                (stands_at seen old (λ h. MayGo h id) stands))
+                (empty_there (shown_at (boxed seen) old.nodes) stands.h stands.tree.of.nodes key go) asks
+                old.changed t.told);
             ported = ported_effect h id None nobody t.ported tt;
           }
 

@@ -6,6 +6,7 @@ use Rattle.std.specs.Prelude.{option_map}
 use Rattle.std.proofs.lemmas.Bool.{cases_eq, eq-eqb, ne_eqb}
 use Rattle.hls_chron.specs.declared.book.Event.{Event}
 use Rattle.hls_chron.specs.Seats.{terms_at}
+use Rattle.hls_kinds.specs.Asks.{slot_asks}
 use Rattle.hls_kinds.specs.Room.{IsFree}
 use Rattle.hls_legal.specs.Hierarchy.{Hierarchy, Node, Loaded, Admitted, Thread as AdmittedThread}
 use Rattle.hls_legal.specs.Hierarchy.{Seat, Place, Processor}
@@ -20,7 +21,8 @@ use Rattle.hls_legal.specs.Seated.{IsSeated}
 use Rattle.hls_walks.specs.Shown.{Shown, What, Scheduler, Thread, Bare, SchedulerNode, ThreadNode, PostedIn, RoomBare}
 use Rattle.hls_walks.specs.Shown.{bare, bare_in, book_bare, book_in, level_in, seats_in, place_in, ready_in, is_sched}
 use Rattle.hls_walks.specs.Shown.{IsFreeIn, IsFreeWhat, most_in, most_bare, name_in, name_bare, with_seat}
-use Rattle.hls_walks.specs.TreeOf.{IsOf, IsLaid, IsReady, IsRanked, level_at, level_over}
+use Rattle.hls_walks.specs.Shown.{mask_in}
+use Rattle.hls_walks.specs.TreeOf.{IsOf, IsLaid, IsReady, IsRanked, IsNew, AreTold, level_at, level_over}
 use Rattle.hls_walks.proofs.Snapshots.{Nodes, one_of, empty_terms, rise, below_ten, level_over_same}
 use Rattle.hls_walks.proofs.Passes.{laid_from, seats_same, book_same, place_there}
 use Rattle.hls_walks.proofs.Leads.{sat}
@@ -31,6 +33,7 @@ use Rattle.hls_tree.specs.Seating.{IsAtFree}
 use Rattle.hls_tree.specs.Seating.{Takes as TakesSeat}
 use Rattle.hls_tree.specs.declared.seat.Seat.{Seat as Wanted}
 use Rattle.hls_tree.proofs.Marks.{bare_marked, room_marked, most_marked, same_name_marked, marked_none}
+use Rattle.hls_tree.proofs.Told.{mask_put, mask_level, mask_begun, left_asks, marked_sched, still_told}
 use Rattle.hls_tree.proofs.Attaches.{free_there, within_in}
 use Rattle.hls_tree.proofs.Levels.{IsTop, top_of, chain_snoc}
 use Rattle.hls_tree.proofs.Found.{settling, IsLeft, begun_left, level_left, decide, over_within, places_of, same_seats}
@@ -432,6 +435,34 @@ module _ (s : Nodes) (tick horizon : ℕ) (root : Option ℕ) (h : Hierarchy) (t
               ])))
               ∙ ap (level_over new) (sym (seats_new c ∙ r.seats c ne))
         ]
+
+        put_mask : (c : ℕ) → mask_in (s0 c) ≡ mask_in (late c)
+        put_mask = one_of (λ c. mask_in (s0 c) ≡ mask_in (late c)) k
+            (ap mask_in here ∙ mask_put seat (level_in (late k)) (late k)) (λ c ne. ap mask_in (others c ne))
+
+        mask_new : (c : ℕ) → mask_in (new c) ≡ mask_in (mid c)
+        mask_new c =
+            ap mask_in (plain_is c) ∙ mask_level _ (s1 c) ∙ ap mask_in (b.nodes c)
+            ∙ mask_begun (b.found c) (b.levels c) (s0 c) ∙ put_mask c ∙ t.masks c
+
+        sched_same : (c : ℕ) → c ≢ k → is_sched (new c) ≡ is_sched (s c)
+        sched_same c ne =
+            marked_sched (settling (b.found c)) (s0 c) (new c) (node_new c)
+            ∙ marked_sched (leavings (left ∷ []) c ++ seatings (seat ∷ []) c) (s c) (s0 c) (r.nodes c ne)
+
+        -- who has told still has, but for the node itself
+        pub moved_told : (was now : Option (List ℕ)) → ((c : ℕ) → IsNew was c → IsNew now c) → IsNew now k
+            → AreTold s was → AreTold new now
+        moved_told was now more noted told c port not none p slot e =
+            let ne : c ≢ k = (λ same. none (subst (IsNew now) (sym same) noted)) in
+            let there : place_in (s c) port ≡ Some (At p slot) = sym (place_new c port ∙ old_place c port ne) ∙ e in
+            let off : left.place ≢ At p slot = (λ is. ne (laid.alone c k port 0 (At p slot) there
+            (own_place ∙ ap (λ (x : Place). Some x) is)).0) in
+            let mask : slot_asks (mask_in (new p)) slot ≡ slot_asks (mask_in (s p)) slot =
+            ap (λ m. slot_asks m slot) (mask_new p)
+            ∙ left_asks left.place s mid can_leave leaves p slot (laid.ranked.within c port p slot there) off in
+            still_told s new was told c port p slot not (λ on. not (sched_same c ne ∙ on)) (λ w. none (more c w)) there
+            mask (ready_new c)
 
         most_new : (c : ℕ) → most_in (new c) ≡ most_in (s c)
         most_new c =

@@ -11,7 +11,7 @@ use Rattle.hls_legal.specs.Steps.{reseated, listed, is_scheduler, is_thread, roo
 use Rattle.hls_legal.proofs.Listings.{First, Later, in_cases, none_in}
 use Rattle.hls_walks.specs.Shown.{PostedIn, bare, level_in, seats_in, with_seat}
 use Rattle.hls_walks.specs.Views.{boxed, shown_at}
-use Rattle.hls_walks.proofs.Tells.{any_told}
+use Rattle.hls_walks.specs.TreeOf.{IsNew}
 use Rattle.hls_walks.proofs.Snapshots.{Nodes}
 use Rattle.hls_walks.proofs.Passes.{seats_same}
 use Rattle.hls_tree.specs.Inside.Below.{plain, CanBegin, IsBegun}
@@ -30,7 +30,7 @@ use Rattle.hls_tree.proofs.Named.{named_alike}
 use Rattle.hls_tree.proofs.Ported.{ported_effect, ported_reseated, mover_seat}
 use Rattle.hls_tree.proofs.Reseats.{bare_reseated, reseated_bare}
 use Rattle.hls_tree.proofs.Moved.{can_leave, can_take, left_posted, can_begin, moved_under, moved_taken, moved_tree}
-use Rattle.hls_tree.proofs.Moved.{moved_ready, moved_name, late_own, reseated_seats}
+use Rattle.hls_tree.proofs.Moved.{moved_ready, moved_told, moved_name, late_own, reseated_seats}
 
 -- one that is struck off makes a list shorter
 pub shorter : {A : Type 0} (p : A → Bool) (xs : List A) (x : A) → Contains xs x → p x ≡ false
@@ -155,9 +155,10 @@ module _ {V : Type 0} {P : V → Type 0} (seen : (x : V) × P x → Seen) (old :
                 → length new.seats.items ≤ length old.seats.items
                 → ((name : List ℕ) → id_of new.names name ≡ id_of old.names name)
                 → new.schedulers.items ≡ old.schedulers.items → new.threads.items ≡ old.threads.items
-                → new.tick ≡ old.tick → new.horizon ≡ old.horizon → new.changed ≡ None
+                → new.tick ≡ old.tick → new.horizon ≡ old.horizon
+                → ((c : ℕ) → IsNew old.changed c → IsNew new.changed c) → IsNew new.changed id
                 → (h : Hierarchy) → IsTreeOf seen old h → Moves seen old new h id w
-            moves root seats few names schedulers threads tick horizon changed h t = record {
+            moves root seats few names schedulers threads tick horizon kept noted h t = record {
               seat = seat;
               below = b.found;
               under = moved_under s old.tick old.horizon old.root stands.h stands.tree.of stands.seated id w left
@@ -190,7 +191,9 @@ module _ {V : Type 0} {P : V → Type 0} (seen : (x : V) × P x → Seen) (old :
                   threads = rw threads t.counts.threads;
                   seats = (let lt = t.counts.seats in omega (arith, few, lt));
                 };
-                told = any_told (shown_at (boxed seen) new.nodes) new.changed changed;
+                told = moved_told s old.tick old.horizon old.root stands.h stands.tree.of stands.seated id w left
+                    stands.is own seat mid late put leaves takes here others found (shown_at (boxed seen) new.nodes) b
+                    plain_is old.changed new.changed kept noted t.told;
                 ported = ported_effect h id (reseated seat (h.nodes id)) b.found t.ported
                     (ported_by (reseated seat (stands.h.nodes id)) (reseated seat (h.nodes id))
                     (reseated_bare seat (stands.h.nodes id)

@@ -13,7 +13,7 @@ use crate::order::list_last;
 use crate::seating::{leave_seat, take_seat};
 use crate::{Seat, Tree};
 use hls_sched::Scheduler;
-use hls_walks::{Node, NodeId, Place, Role, TakenSeat, is_processor, level_at};
+use hls_walks::{Node, NodeId, Place, Role, TakenSeat, is_processor, level_at, note_changed};
 use slab::Slab;
 
 /// What is added to the level of a node that was found below the moved one, until all are found.
@@ -231,7 +231,7 @@ impl Tree {
         forget_all(&mut self.nodes);
         list_last(&mut self.seats, id);
         self.root = root_moved(&left, &taken, id, self.root);
-        self.changed = None;
+        note_changed(&mut self.changed, id);
         self.passed = false;
     }
 }

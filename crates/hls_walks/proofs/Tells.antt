@@ -15,7 +15,7 @@ use Rattle.hls_walks.specs.Shown.{SchedulerNode, ThreadNode, book_in, most_in, m
 use Rattle.hls_walks.specs.Views.{told_place}
 use Rattle.hls_walks.specs.TreeOf.{IsAlike, IsLaid, ToldBy, ToldAt, IsTelling, Tells, NoScheduler, IsFrom, IsOn, IsRoll}
 use Rattle.hls_walks.specs.TreeOf.{AllFrom, AllUpTo, Each, IsNew, AreTold}
-use Rattle.hls_walks.proofs.Snapshots.{Nodes, one_of, rise, IsChanged, changed, changed_alike, laid_alike, empty_terms}
+use Rattle.hls_walks.proofs.Snapshots.{Nodes, one_of, rise, raised, IsChanged, changed, changed_alike, laid_alike, empty_terms}
 use Rattle.hls_walks.proofs.Snapshots.{alike_refl, alike_then, alike_places, revoked, revoked_alike}
 
 -- on the way through the ports of a node, which asks so
@@ -294,18 +294,40 @@ all_end s key none t = record {
   ];
 }
 
--- schedulers, level by level
-most_bare_sched : (b : Option Bare) → is_sched_bare b ≡ true → most_bare b ≤ 8
-most_bare_sched None is = cc
-most_bare_sched (Some (SchedulerNode s)) is = omega arith
-most_bare_sched (Some (ThreadNode name seats)) is = cc
+-- the greatest level of those before a place of a list
+pub record IsMost (s : Nodes) (l : List ℕ) (i deep : ℕ) : Type 0 where
+  pub each : (j c : ℕ) → j < i → slice_get l j ≡ Some c → level_in (s c) ≤ deep
 
-pub levels_start : (s : Nodes) → IsTelling s (NoScheduler s) → IsTelling s (AllFrom s 9)
-levels_start s t = tells_fewer s _ _ t (λ c then is.
-    let few : level_in (s c) ≤ most_in (s c) = t.laid.ranked.few c in
-    let most : most_in (s c) ≤ 8 = most_bare_sched (bare_in (s c)) (sym (bare_sched (s c)) ∙ is) in
-    let far : 9 ≤ level_in (s c) = then is in
-    omega (arith, few, most, far))
+pub most_start : (s : Nodes) (l : List ℕ) (deep : ℕ) → IsMost s l 0 deep
+most_start s l deep = record { each = λ j c lt e. absurd (omega (arith, lt)) }
+
+pub most_step : (s : Nodes) (l : List ℕ) (i key deep new : ℕ) → slice_get l i ≡ Some key → IsMost s l i deep
+    → deep ≤ new → level_in (s key) ≤ new → IsMost s l (i + 1) new
+most_step s l i key deep new at so le here = record {
+  each = λ j c lt e. elim (cases_eq j i) [
+    | inl same ↦
+        let is : c ≡ key = entry_at l i c key at (ap (slice_get l) (sym same) ∙ e) in
+        let level : level_in (s c) ≡ level_in (s key) = ap (λ n. level_in (s n)) is in
+        omega (arith, level, here)
+    | inr ne ↦
+        let was : level_in (s c) ≤ deep = so.each j c (omega (arith, lt, ne)) e in
+        omega (arith, was, le)
+  ];
+}
+
+pub most_end : (s : Nodes) (l : List ℕ) (i deep : ℕ) → length l ≤ i → IsMost s l i deep
+    → (c : ℕ) → IsOn l c → level_in (s c) ≤ deep
+most_end s l i deep le so c on = so.each on.0 c
+    (elim (cases_lt on.0 i) [ inl lt ↦ lt | inr ge ↦ absurd (past_end l i c le (on.0, ge, on.1)) ]) on.1
+
+-- schedulers, level by level
+pub levels_start : (s : Nodes) (l : List ℕ) (deep : ℕ) → ((c : ℕ) → is_sched (s c) ≡ true → IsOn l c)
+    → ((c : ℕ) → IsOn l c → level_in (s c) ≤ deep) → IsTelling s (NoScheduler s)
+    → IsTelling s (AllFrom s (deep + 1))
+levels_start s l deep all most t = tells_fewer s _ _ t (λ c then is.
+    let far : deep + 1 ≤ level_in (s c) = then is in
+    let le : level_in (s c) ≤ deep = most c (all c is) in
+    omega (arith, far, le))
 
 pub level_start : (s : Nodes) (level : ℕ) (l : List ℕ) → ((c : ℕ) → is_sched (s c) ≡ true → IsOn l c)
     → IsTelling s (AllFrom s (level + 1)) → IsTelling s (AllUpTo s level l 0)
@@ -352,8 +374,28 @@ pub level_end : (s : Nodes) (level : ℕ) (l : List ℕ) (i : ℕ) → length l 
     → IsTelling s (AllFrom s level)
 level_end s level l i le t = tells_fewer s _ _ t (λ c then is. (then is, λ e. past_end l i c le))
 
-pub levels_end : (s : Nodes) → IsTelling s (AllFrom s 0) → IsTelling s Each
-levels_end s t = tells_fewer s _ _ t (λ c then is. omega arith)
+most_sched : (b : Option Bare) → is_sched_bare b ≡ true → 0 < most_bare b
+most_sched None is = cc
+most_sched (Some (SchedulerNode s)) is = omega arith
+most_sched (Some (ThreadNode name seats)) is = cc
+
+-- whoever sits on a scheduler is at level 2 at least
+second : (s : Nodes) (c port p slot : ℕ) → IsLaid s → place_in (s c) port ≡ Some (At p slot) → 2 ≤ level_in (s c)
+second s c port p slot laid e =
+    let is : is_sched (s p) ≡ true = sched_below s c port p slot laid e in
+    let low : 0 < level_in (s p) = raised s laid.ranked p (most_sched (bare_in (s p)) (sym (bare_sched (s p)) ∙ is)) in
+    let up : level_in (s p) < level_in (s c) = rise s laid.ranked c port p slot e in
+    omega (arith, low, up)
+
+pub levels_end : (s : Nodes) (level : ℕ) → level ≤ 2 → IsTelling s (AllFrom s level) → IsTelling s Each
+levels_end s level le t = record {
+  laid = t.laid;
+  posted = t.posted;
+  free = t.free;
+  told = λ c port then p slot e.
+      let up : 2 ≤ level_in (s c) = second s c port p slot t.laid e in
+      t.told c port (λ is. omega (arith, le, up)) p slot e;
+}
 
 pub level_to : (s : Nodes) (a b : ℕ) → a ≡ b → IsTelling s (AllFrom s a) → IsTelling s (AllFrom s b)
 level_to s a b e t = subst (λ n. IsTelling s (AllFrom s n)) e t

@@ -1,5 +1,5 @@
 // Threads that have something new to tell.
-ghost use Rattle.std.specs.Prelude.{◌≡◌, ◌<◌, ◌++◌, ◌∷◌, [], ℕ, length, true};
+ghost use Rattle.std.specs.Prelude.{◌≡◌, ◌<◌, ◌++◌, ◌∷◌, [], ℕ, length, true, Some};
 ghost use Rattle.hls_walks.specs.TreeOf.{IsNew};
 
 use crate::NodeId;
@@ -50,6 +50,13 @@ impl Changed {
         self.len += 1;
     }
 
+    /// Forgets them all.
+    pub fn clear(&mut self)
+        ensures { self.new ≡ [] }
+    {
+        self.len = 0;
+    }
+
     /// The threads.
     pub fn threads(&self) -> &[NodeId]
         ensures { result.now ≡ self.now }
@@ -66,5 +73,15 @@ pub fn note_changed(changed: &mut Option<Changed>, id: NodeId)
     match changed {
         Some(list) if list.has_room() => list.push(id),
         _ => *changed = None,
+    }
+}
+
+/// Notes that nothing is new to tell.
+pub fn note_told(changed: &mut Option<Changed>)
+    ensures { changed.new ≡ Some [] }
+{
+    match changed {
+        Some(list) => list.clear(),
+        None => *changed = Some(Changed::new()),
     }
 }

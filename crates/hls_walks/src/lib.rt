@@ -9,7 +9,7 @@ mod route;
 mod station;
 mod walk;
 
-pub use changed::{Changed, note_changed};
+pub use changed::{Changed, note_changed, note_told};
 pub use id::NodeId;
 pub use node::{Body, Node, Place, Role, TakenSeat, is_processor, same_place};
 pub use route::Route;

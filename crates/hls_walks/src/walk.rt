@@ -1,19 +1,19 @@
 // Walks over the nodes.
 ghost use Rattle.std.specs.Prelude.{◌≡◌, ◌≢◌, ℕ, ◌+◌, ◌<◌, ◌≤◌, Option, Some, None, true, IfSome, IsNone};
-ghost use Rattle.std.specs.Prelude.{length};
+ghost use Rattle.std.specs.Prelude.{length, map, option_map, slice_get};
 ghost use Rattle.slab.specs.Slab.{get};
 ghost use Rattle.hls_chron.specs.Seats.{terms_at};
-ghost use Rattle.hls_legal.specs.Hierarchy.{Processor};
+ghost use Rattle.hls_legal.specs.Hierarchy.{Processor, Seat};
 ghost use Rattle.hls_walks.specs.Shown.{PostedIn, ToldIn, RoomIn, ServesIn};
 ghost use Rattle.hls_walks.specs.Shown.{book_in, asks_in, level_in, place_in, seats_in};
 ghost use Rattle.hls_walks.specs.Shown.{grant_in, is_sched, on_post, post_revoked, post_granted, post_turned};
 ghost use Rattle.hls_walks.specs.Shown.{with_ready};
-ghost use Rattle.hls_walks.specs.Views.{shown_at, choice_at, told_place, is_place, place_view};
+ghost use Rattle.hls_walks.specs.Views.{shown_at, choice_at, told_place, is_place, place_view, seat_view};
 ghost use Rattle.hls_walks.specs.TreeOf.{IsLaid, IsAlike, IsTelling, ToldBy, Sitter, Led, Ran, RootAt, Passed};
-ghost use Rattle.hls_walks.specs.TreeOf.{Tells, NoScheduler, IsNew, IsRoll, AllFrom, AllUpTo, Each, AreTold};
+ghost use Rattle.hls_walks.specs.TreeOf.{Tells, NoScheduler, IsNew, IsOn, IsRoll, AllFrom, AllUpTo, Each, AreTold};
 
 use crate::node::same_place;
-use crate::{Changed, Node, NodeId, Place, Role, Route};
+use crate::{Changed, Node, NodeId, Place, Role, Route, TakenSeat};
 use slab::Slab;
 
 /// Tells a scheduler whether a seat on it asks.
@@ -39,10 +39,7 @@ fn asks_at(nodes: &Slab<Node>, key: usize) -> bool
     ensures { result ≡ asks_in (shown_at seen nodes.now key) }
 {
     match nodes.get(key) {
-        Some(node) => match &node.role {
-            Role::Sched(station) => station.asks(),
-            Role::Thread { ready } => *ready,
-        },
+        Some(node) => node.role.asks(),
         None => false,
     }
 }
@@ -93,14 +90,16 @@ fn tell_port(nodes: &mut Slab<Node>, key: usize, port: u8, asks: bool)
     }
 }
 
-/// How many ports a node has.
-fn ports_at(nodes: &Slab<Node>, key: usize) -> u8
-    requires { length (seats_in (shown_at seen nodes.now key)) ≤ 4 }
-    ensures { result ≡ length (seats_in (shown_at seen nodes.now key)) }
+/// Whether a node asks, and how many ports it has.
+fn voice_at(nodes: &Slab<Node>, key: usize) -> (bool, u8)
+    requires posted { PostedIn (shown_at seen nodes.now key) }
+    requires few { length (seats_in (shown_at seen nodes.now key)) ≤ 4 }
+    ensures asks { result.0 ≡ asks_in (shown_at seen nodes.now key) }
+    ensures ports { result.1 ≡ length (seats_in (shown_at seen nodes.now key)) }
 {
     match nodes.get(key) {
-        Some(node) => node.seats.len() as u8,
-        None => 0,
+        Some(node) => (node.role.asks(), node.seats.len() as u8),
+        None => (false, 0),
     }
 }
 
@@ -110,8 +109,7 @@ fn tell_ports(nodes: &mut Slab<Node>, key: usize)
     requires posted { (k : ℕ) → PostedIn (shown_at seen nodes.old k) }
     ensures { Tells key (shown_at seen nodes.old) (shown_at seen nodes.new) }
 {
-    let asks = asks_at(nodes, key);
-    let ports = ports_at(nodes, key);
+    let (asks, ports) = voice_at(nodes, key);
     for port in 0..ports {
         tell_port(nodes, key, port, asks);
     }
@@ -205,15 +203,27 @@ fn tell_level(nodes: &mut Slab<Node>, schedulers: &[NodeId], level: u8)
     }
 }
 
-/// Tells what each scheduler asks, from the deepest level up.
+/// The deepest level of these nodes.
+fn deepest(nodes: &Slab<Node>, keys: &[NodeId]) -> u8
+    ensures { (c : ℕ) → IsOn keys.now c → level_in (shown_at seen nodes.now c) ≤ result }
+{
+    let mut deep = 0u8;
+    for id in keys {
+        deep = deep.max(level_at(nodes, id.key()));
+    }
+    deep
+}
+
+/// Tells what each scheduler asks, from the deepest level up. Those at level 1 sit at the processor alone.
 fn tell_schedulers(nodes: &mut Slab<Node>, schedulers: &[NodeId])
     requires roll { IsRoll (shown_at seen nodes.old) schedulers.now }
     requires telling { IsTelling (shown_at seen nodes.old) (NoScheduler (shown_at seen nodes.old)) }
     ensures telling { IsTelling (shown_at seen nodes.new) Each }
     ensures alike { IsAlike (shown_at seen nodes.old) (shown_at seen nodes.new) }
 {
-    for step in 0..9u8 {
-        tell_level(nodes, schedulers, 8 - step);
+    let deep = deepest(nodes, schedulers);
+    for step in 1..deep {
+        tell_level(nodes, schedulers, deep - step + 1);
     }
 }
 
@@ -264,17 +274,30 @@ fn grant_at(nodes: &mut Slab<Node>, key: usize, port: u8) -> Option<u32>
     }
 }
 
-/// Whether a port sits at a place.
-fn sits_at(nodes: &Slab<Node>, key: usize, port: u8, place: Place) -> bool
-    ensures { result ≡ is_place (place_in (shown_at seen nodes.now key) port) (place_view place) }
+/// Whether the seat of a port is at a place.
+fn sits_at(seats: &[TakenSeat], port: u8, place: Place) -> bool
+    ensures { result ≡ is_place (option_map (λ (s : Seat). s.place) (slice_get (map seat_view seats.now) port))
+        (place_view place) }
 {
-    match nodes.get(key) {
-        Some(node) => match node.seats.get(port as usize) {
-            Some(seat) => same_place(seat.place, place),
-            None => false,
-        },
+    match seats.get(port as usize) {
+        Some(seat) => same_place(seat.place, place),
         None => false,
     }
+}
+
+/// The port of these seats that is at a place.
+fn port_on(seats: &[TakenSeat], place: Place) -> Option<u8>
+    ensures some { IfSome result (λ port. is_place
+        (option_map (λ (s : Seat). s.place) (slice_get (map seat_view seats.now) port)) (place_view place) ≡ true) }
+    ensures none { IsNone result → (port : ℕ) → port < 4 → is_place
+        (option_map (λ (s : Seat). s.place) (slice_get (map seat_view seats.now) port)) (place_view place) ≢ true }
+{
+    for port in 0..4u8 {
+        if sits_at(seats, port, place) {
+            return Some(port);
+        }
+    }
+    None
 }
 
 /// The port of a node that sits at a place.
@@ -284,12 +307,10 @@ fn port_at(nodes: &Slab<Node>, key: usize, place: Place) -> Option<u8>
     ensures none { IsNone result → (port : ℕ) → port < 4 →
         is_place (place_in (shown_at seen nodes.now key) port) (place_view place) ≢ true }
 {
-    for port in 0..4u8 {
-        if sits_at(nodes, key, port, place) {
-            return Some(port);
-        }
+    match nodes.get(key) {
+        Some(node) => port_on(&node.seats, place),
+        None => None,
     }
-    None
 }
 
 /// Who sits at a place, and by which port, of all nodes.
@@ -356,12 +377,15 @@ fn note_on(nodes: &mut Slab<Node>, key: usize, slot: u32, id: NodeId)
     }
 }
 
-/// Notes who was seen at a place.
-fn note_seen(nodes: &mut Slab<Node>, place: Place, id: NodeId)
+/// Notes who was seen at a place, if it is another one than the last.
+fn note_seen(nodes: &mut Slab<Node>, place: Place, last: usize, id: NodeId)
     requires posted { (k : ℕ) → PostedIn (shown_at seen nodes.old k) }
     ensures same { (k : ℕ) → shown_at seen nodes.new k ≡ shown_at seen nodes.old k }
     ensures choices { (k : ℕ) → choice_at choice nodes.new k ≡ choice_at choice nodes.old k }
 {
+    if id.key() == last {
+        return;
+    }
     match place {
         Place::Processor => {}
         Place::At { scheduler, slot } => note_on(nodes, scheduler, slot, id),
@@ -383,7 +407,7 @@ fn grant_path(nodes: &mut Slab<Node>, root: NodeId) -> Route
             unreachable!()
         };
         let id = NodeId::of(key);
-        note_seen(nodes, place, id);
+        note_seen(nodes, place, last, id);
         route.push(id);
         match grant_at(nodes, key, port) {
             None => return route,

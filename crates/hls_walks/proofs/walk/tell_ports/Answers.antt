@@ -2,11 +2,12 @@ use Rattle.std.proofs.Common.{arith}
 use Rattle.hls_walks.proofs.Tells.{next_port, ports_start, ports_end}
 use Rattle.hls_walks.proofs.walk.tell_ports.Goals as goal
 
-pub ports_at-ports-requires : goal.ports_at-ports-requires
-ports_at-ports-requires g c = c.requires.laid.ranked.ports c.args.key
+pub voice_at-asks-requires : goal.voice_at-asks-requires
+voice_at-asks-requires g c =
+    record { posted = c.requires.posted c.args.key; few = c.requires.laid.ranked.ports c.args.key }
 
 pub loop-port-init : goal.loop-port-init
-loop-port-init g c = ports_start _ _ _ c.requires.laid c.requires.posted c.asks_at-asks.ensures
+loop-port-init g c = ports_start _ _ _ c.requires.laid c.requires.posted c.voice_at-asks.ensures.asks
 
 pub tell_port-requires : goal.tell_port-requires
 tell_port-requires g c = record { laid = c.loop-port.invariant.laid; posted = c.loop-port.invariant.posted }
@@ -16,4 +17,4 @@ loop-port-preserved g c = next_port _ _ _ _ _ _ c.loop-port.invariant c.tell_por
 
 pub returns : goal.returns
 returns g c = ports_end _ _ _ _ _ c.loop-port.invariant
-    (omega (arith, c.loop-port-test.false, c.ports_at-ports.ensures))
+    (omega (arith, c.loop-port-test.false, c.voice_at-asks.ensures.ports))

@@ -4,7 +4,11 @@ use Rattle.hls_walks.proofs.Tells.{levels_start, level_to, levels_end, roll_alik
 use Rattle.hls_walks.proofs.walk.tell_schedulers.Goals as goal
 
 pub loop-step-init : goal.loop-step-init
-loop-step-init g c = record { telling = levels_start _ c.requires.telling; alike = alike_refl _ }
+loop-step-init g c = record {
+  telling = level_to _ _ _ (omega arith) (levels_start _ _ _ c.requires.roll.all c.deepest-deep.ensures
+      c.requires.telling);
+  alike = alike_refl _;
+}
 
 pub tell_level-requires : goal.tell_level-requires
 tell_level-requires g c = record {
@@ -20,4 +24,4 @@ loop-step-preserved g c = record {
 
 pub returns-clause-telling : goal.returns-clause-telling
 returns-clause-telling g c =
-    levels_end _ (level_to _ _ _ (omega (arith, c.loop-step-test.false)) c.loop-step.invariant.telling)
+    levels_end _ _ (omega (arith, c.loop-step-test.false)) c.loop-step.invariant.telling

@@ -62,4 +62,4 @@ returns-clause-moved g c =
     c.take_seat-taken.ensures.taken _ here others _
     (c.begin_all.ensures c.requires.h _ c.args.id (first_found c.requires.h _ _ c.args.id can first rest)) _
     c.forget_all.ensures c.root_moved-self.ensures c.list_last.ensures.seats c.list_last.ensures.fewer
-    (λ name. refl) refl refl refl refl refl
+    (λ name. refl) refl refl refl refl c.note_changed.ensures.kept c.note_changed.ensures.noted
