@@ -1,11 +1,9 @@
 -- Names and their places.
-use Rattle.std.proofs.Common.{◌≡◌, ◌≢◌, ℕ, suc, ◌<◌, true, false, List, [], ◌∷◌, length}
+use Rattle.std.proofs.Common.{◌≡◌, ◌≢◌, ℕ, suc, ◌<◌, false, List, [], ◌∷◌, length}
 use Rattle.std.proofs.Common.{get_or, refl, sym, ap, ◌∙◌, arith, map}
-use Rattle.std.specs.Prelude.{not, Option, Some, None, IfSome, IsNone, is_some, position}
+use Rattle.std.specs.Prelude.{Option, Some, None, IfSome, IsNone, is_some, position}
 use Rattle.std.specs.List.{list_any}
 use Rattle.std.specs.Str.{bytes_eq}
-use Rattle.std.proofs.lemmas.Bool.{false≢true}
-use Rattle.std.proofs.lemmas.Slice.Eq.{bytes_eq-Decides}
 use Rattle.std.proofs.lemmas.List.Quantifiers.{position-Some}
 use Rattle.std.proofs.lemmas.List.{get_or-map, length-map}
 use Rattle.hls_text.specs.Lines.{Text}
@@ -46,6 +44,3 @@ pub not_there : (name : Text) (known : List Text) (at : Option ℕ)
     → is_some at ≡ list_any (eq-value.it name) known → IsNone at → list_any (bytes_eq name) known ≡ false
 not_there name known None e none = sym (any_is name known) ∙ sym e
 not_there name known (Some place) e none = cc
-
-pub other_text : (a b : Text) → true ≡ not (bytes_eq a b) → a ≢ b
-other_text a b e same = let yes = (bytes_eq-Decides a b).1 same in false≢true (sym (e ∙ ap not yes))

@@ -1,6 +1,9 @@
 // A journal.
 ghost use Rattle.std.specs.Prelude.{◌≡◌, ◌↔◌, ◌+◌, ◌-◌, ◌^◌, ◌<◌, ◌≤◌, [], ◌∷◌, ◌++◌, List, Some, true, All};
-ghost use Rattle.std.specs.Prelude.{IfOk, IsTrue, length, slice_get, option_copied, vec_capacity};
+ghost use Rattle.std.specs.Prelude.{IfOk, IfSome, IsNone, IsTrue, false, get_or, length, slice_get};
+ghost use Rattle.std.specs.Prelude.{option_copied, vec_capacity};
+ghost use Rattle.std.specs.List.{list_any};
+ghost use Rattle.std.specs.Str.{bytes_eq};
 ghost use Rattle.indexmap.specs.IndexSet.{spare};
 ghost use Rattle.hls_report_text.specs.declared.report.Run.{Run};
 ghost use Rattle.hls_report_text.specs.Content.{path_names};
@@ -8,8 +11,9 @@ ghost use Rattle.hls_report_text.specs.WellFormed.{HasShort};
 ghost use Rattle.hls_accounts.specs.Commands.{is_done};
 ghost use Rattle.hls_answers.specs.Moment.{new_name};
 
-use crate::runs::put_tick;
-use crate::ways::{insert, place_of, push};
+use crate::guesses::Guesses;
+use crate::runs::{last_place, put_tick};
+use crate::ways::{insert, is_at, place_of, push};
 use hls_chron::Name;
 use hls_report_text::{Answer, Path, Run};
 use hls_scenario::Command;
@@ -23,6 +27,7 @@ pub struct Journal {
     pub(crate) ticks: u32,
     pub(crate) answers: Vec<Answer>,
     pub(crate) names: IndexSet<Name>,
+    pub(crate) guesses: Guesses,
     pub(crate) runs: Vec<Run>,
 }
 
@@ -62,6 +67,7 @@ impl Journal {
             ticks: 0,
             answers: Vec::with_capacity(alloc, commands)?,
             names: IndexSet::with_capacity(alloc, commands)?,
+            guesses: Guesses::new(alloc)?,
             runs: Vec::with_capacity(alloc, horizon as usize)?,
         })
     }
@@ -87,10 +93,25 @@ impl Journal {
     {
         if is_done(&answer) {
             if let Some(name) = new_name(command) {
-                insert(&mut self.names, name);
+                let place = insert(&mut self.names, name);
+                self.guesses.note(&name, place);
             }
         }
         self.answers.push_reserved(answer);
+    }
+
+    /// The place of a name, if it is there, which is to stand at this position of a path.
+    fn place_at(&self, at: u8, name: &Name) -> Option<usize>
+        requires { at < 9 }
+        ensures found { IfSome result (λ place. (place < length self.now.names.keys)
+            × (get_or self.now.names.keys place [] ≡ name.now)) }
+        ensures none { IsNone result → list_any (bytes_eq name.now) self.now.names.keys ≡ false }
+    {
+        let last = last_place(&self.runs, at);
+        if is_at(&self.names, last, name) {
+            return Some(last);
+        }
+        place_of(&self.names, self.guesses.at(name), name)
     }
 
     /// Goes on along a path to a node with a name that was noted.
@@ -104,7 +125,7 @@ impl Journal {
         ensures within { AreWithin (length self.now.names.keys) (Some path.old) →
             AreWithin (length self.now.names.keys) (Some path.new) }
     {
-        match place_of(&self.names, name) {
+        match self.place_at(path.len, name) {
             Some(place) => push(path, place as u16),
             None => unreachable!(),
         }

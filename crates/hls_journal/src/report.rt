@@ -56,6 +56,7 @@ fn totalled(
         ticks: _,
         answers,
         names,
+        guesses: _,
         runs,
     } = journal;
     let answered = answered(alloc, scenario.items, answers)?;

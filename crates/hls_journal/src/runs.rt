@@ -20,6 +20,21 @@ fn lengthen(runs: &mut Vec<Run>, tick: u32)
     }
 }
 
+/// The place that the path of the last run has at a position. A path is likely to have it there again.
+pub fn last_place(runs: &[Run], at: u8) -> usize
+    requires { at < 9 }
+{
+    match runs.last() {
+        Some(
+            Run {
+                path: Some(path),
+                ..
+            },
+        ) => usize::from(path.names[usize::from(at)]),
+        _ => 0,
+    }
+}
+
 /// Whether the last run has the same path.
 fn goes_on(names: &IndexSet<Name>, runs: &[Run], path: &Option<Path>) -> bool
     requires path { HasShort path.now }

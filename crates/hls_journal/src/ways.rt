@@ -22,35 +22,52 @@ pub fn push(path: &mut Path, place: u16)
     path.len += 1;
 }
 
-/// The place of a name, if it is there.
-pub fn place_of(names: &IndexSet<Name>, name: &Name) -> Option<usize>
+/// Whether a name stands at a place.
+pub fn is_at(names: &IndexSet<Name>, place: usize, name: &Name) -> bool
+    ensures { IsTrue result → (place < length names.now.keys) × (get_or names.now.keys place [] ≡ name.now) }
+{
+    place < names.len() && name_at(names, place) == name.bytes()
+}
+
+/// The place of a name, if it is there. It is looked for where it is guessed to be, and only then among all.
+pub fn place_of(names: &IndexSet<Name>, guess: usize, name: &Name) -> Option<usize>
     ensures found { IfSome result (λ place. (place < length names.now.keys)
         × (get_or names.now.keys place [] ≡ name.now)) }
     ensures none { IsNone result → list_any (bytes_eq name.now) names.now.keys ≡ false }
 {
+    if is_at(names, guess, name) {
+        return Some(guess);
+    }
     names.get_index_of(name)
 }
 
-/// Puts a name behind others where it is new, into room that is there.
-pub fn insert(names: &mut IndexSet<Name>, name: Name)
+/// Puts a name behind others where it is new, into room that is there, and tells its place.
+pub fn insert(names: &mut IndexSet<Name>, name: Name) -> usize
     requires { 0 < spare names.old }
     ensures names { names.new.keys ≡ with_name names.old.keys name }
     ensures room { spare names.old ≤ spare names.new + 1 }
 {
-    match names.insert(name) {
-        Ok(_) => {}
+    match names.insert_full(name) {
+        Ok((place, _)) => place,
         Err(_) => unreachable!(),
     }
 }
 
 /// The name at a place, and nothing where there is none.
-fn name_at(names: &IndexSet<Name>, place: u16) -> &[u8]
+fn name_at(names: &IndexSet<Name>, place: usize) -> &[u8]
     ensures { result.now ≡ get_or names.now.keys place [] }
 {
-    match names.get_index(usize::from(place)) {
+    match names.get_index(place) {
         Some(name) => name.bytes(),
         None => b"",
     }
+}
+
+/// Whether two places have the same name.
+fn same_place(names: &IndexSet<Name>, one: u16, other: u16) -> bool
+    ensures { IsTrue result ↔ (get_or names.now.keys one [] ≡ get_or names.now.keys other []) }
+{
+    one == other || name_at(names, usize::from(one)) == name_at(names, usize::from(other))
 }
 
 /// Whether places in their order have the same names.
@@ -62,7 +79,7 @@ fn same_places(names: &IndexSet<Name>, one: &[u16], other: &[u16]) -> bool
         return false;
     }
     for i in 0..one.len() {
-        if name_at(names, one[i]) != name_at(names, other[i]) {
+        if !same_place(names, one[i], other[i]) {
             return false;
         }
     }
