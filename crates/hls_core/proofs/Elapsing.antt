@@ -24,13 +24,14 @@ use Rattle.hls_accounts.specs.Tells.{Names}
 use Rattle.hls_tree.specs.Trees.{IsTreeOf, IsReadyOf, Stands, PassesBy, Passes, ready_of}
 use Rattle.hls_tree.specs.declared.tree.Tree.{Tree}
 use Rattle.hls_manager.proofs.Outcomes.{reached_listed}
-use Rattle.hls_stays.specs.Tallies.{AreStays, IsStanding}
+use Rattle.hls_stays.specs.Tallies.{AreStays}
 use Rattle.hls_stays.specs.Changes.{Ticks, MayTick}
 use Rattle.hls_stays.specs.declared.stays.Stays.{Stays}
 use Rattle.hls_journal.specs.declared.journal.Journal.{Journal}
 use Rattle.hls_journal.specs.Kept.{IsWayOrIdle}
 use Rattle.hls_journal.specs.Ways.{names_by}
 use Rattle.hls_core.specs.Bursts.{left_in, is_last}
+use Rattle.hls_core.specs.Left.{IsLeft}
 use Rattle.hls_core.specs.Inside.Ways.{IsKnown, IsRouteOrIdle, TellsRoute}
 use Rattle.hls_core.specs.Cores.{AreNoted}
 use Rattle.hls_core.specs.Inside.Elapses.{IsThreadOrNone, MayElapse, Elapses}
@@ -180,40 +181,124 @@ module _ {V : Type 0} {P : V → Type 0} (seen : (x : V) × P x → Seen) (choic
       }
 
   -- what a tick of stays asks
-  may_count : (old passed : Tree V P) (bursts : Bursts) (stays : Stays) (j : Journal) (thread : Option ℕ)
-      (h : Hierarchy) → MayElapse seen old bursts stays j h
-      → ((h : Hierarchy) → IsTreeOf seen old h → IsTreeOf seen passed h)
-      → ((k : ℕ) → ready_of seen passed k ≡ ready_of seen old k) → (asking : ℕ → Bool) (masks : ℕ → ℕ)
+  may_count : (old passed turned new : Tree V P) (bursts later : Bursts) (stays : Stays) (j : Journal)
+      (thread : Option ℕ) (h : Hierarchy) → MayElapse seen old bursts stays j h
+      → ((k : ℕ) → ready_of seen passed k ≡ ready_of seen old k)
+      → ((k : ℕ) → ready_of seen turned k ≡ ready_of seen passed k)
+      → ((k : ℕ) → ready_of seen new k ≡ cond (is_just thread k)
+      (cond (is_last (left_in bursts k)) false (ready_of seen turned k)) (ready_of seen turned k))
+      → (asking : ℕ → Bool) (masks : ℕ → ℕ)
       (path : Option steps.Path) → Can h (Elapse asking masks path) → thread ≡ thread_of path
-      → Ticks seen stays passed thread h asking masks path
-  may_count old passed bursts stays j thread h may tree flags asking masks path can is = record {
-    stays = may.stays;
-    standing = may.standing;
-    listed = reached_listed h may.at_state.reached;
-    tree = tree h may.at_state.tree;
-    ready = λ k t there. may.at_state.ready k t there ∙ sym (flags k);
-    can = can;
-    to = sym is;
-    early = may.small;
-  }
+      → IsTreeOf seen new (after h (Elapse asking masks path))
+      → IsReadyOf seen new (after h (Elapse asking masks path))
+      → Ticks seen stays new thread h asking masks path
+  may_count old passed turned new bursts later stays j thread h may flags turns ready asking masks path can is tree
+      says = record {
+        stays = may.stays;
+        standing = may.standing;
+        listed = reached_listed h may.at_state.reached;
+        can = can;
+        to = sym is;
+        comes = λ k e.
+            (let on : is_just (thread_of path) k ≡ true =
+            ap (λ o. is_just o k) (sym is ∙ e) ∙ Rattle.std.proofs.lemmas.Bool.eq-eqb k k refl in
+            let comes = runs_thread h asking masks path k can.1 on in
+            record { thread = comes.thread; there = comes.there });
+        tree = tree;
+        ready = says;
+        others = λ k t off there.
+            may.at_state.ready k t there
+            ∙ sym (ready k
+            ∙ ap (λ b. cond b (cond (is_last (left_in bursts k)) false (ready_of seen turned k))
+            (ready_of seen turned k)) off ∙ turns k ∙ flags k);
+        early = may.small;
+      }
 
-  pub count_stands : (old new : Tree V P) (bursts : Bursts) (stays : Stays) (j : Journal) (thread : Option ℕ)
-      → Stands seen old (MayElapse seen old bursts stays j)
-      → ((h : Hierarchy) → IsTreeOf seen old h → IsTreeOf seen new h)
-      → ((h : Hierarchy) → IsTreeOf seen old h → IsReadyOf seen old h → Passes seen choice new h)
-      → ((k : ℕ) → ready_of seen new k ≡ ready_of seen old k) → (new.route ≡ None → thread ≡ None)
-      → ((front : List ℕ) (last : ℕ) → new.route ≡ Some (front ++ last ∷ []) → thread ≡ Some last)
-      → MayTick seen stays new thread
-  count_stands old new bursts stays j thread x tree passes flags none some =
+  -- what serving leaves
+  record Served (new : Tree V P) (later : Bursts) (h : Hierarchy) (asking : ℕ → Bool) (masks : ℕ → ℕ)
+      (path : Option steps.Path) : Type 0 where
+    tree : IsTreeOf seen new (after h (Elapse asking masks path))
+    ready : IsReadyOf seen new (after h (Elapse asking masks path))
+    left : IsLeft (left_in later) (after h (Elapse asking masks path))
+
+  served_by : (old passed turned new : Tree V P) (bursts later : Bursts) (stays : Stays) (j : Journal)
+      (thread : Option ℕ) (h : Hierarchy) → MayElapse seen old bursts stays j h → IsTreeOf seen passed h
+      → ((k : ℕ) → ready_of seen passed k ≡ ready_of seen old k)
+      → ((h : Hierarchy) (asking : ℕ → Bool) (slots : ℕ → ℕ) (path : Option steps.Path) → IsTreeOf seen passed h
+      → PassesBy seen choice passed h asking slots path → IsTreeOf seen turned (after h (Elapse asking slots path)))
+      → ((k : ℕ) → ready_of seen turned k ≡ ready_of seen passed k)
+      → ((h : Hierarchy) → IsTreeOf seen turned h → IsTreeOf seen new h)
+      → ((k : ℕ) → ready_of seen new k ≡ cond (is_just thread k)
+      (cond (is_last (left_in bursts k)) false (ready_of seen turned k)) (ready_of seen turned k))
+      → ((k : ℕ) → left_in later k ≡ cond (is_just thread k) (option_map (λ left. left - 1) (left_in bursts k))
+      (left_in bursts k))
+      → (asking : ℕ → Bool) (slots : ℕ → ℕ) (path : Option steps.Path)
+      → PassesBy seen choice passed h asking slots path → thread ≡ thread_of path
+      → Served new later h asking slots path
+  served_by old passed turned new bursts later stays j thread h may there flags elapsed turns served ready left asking
+      slots path by is_thread =
+      let runs = ran h asking slots path by.can.1 in
+      record {
+        tree = served (after h (Elapse asking slots path)) (elapsed h asking slots path there by);
+        ready =
+            ready_ticked h asking slots path (left_in bursts) (ready_of seen old) (ready_of seen new) may.at_state.left
+            may.at_state.ready
+            (λ k on. ready k
+            ∙ ap (λ b. cond b (cond (is_last (left_in bursts k)) false (ready_of seen turned k))
+            (ready_of seen turned k))
+            (ap (λ o. is_just o k) is_thread ∙ on)
+            ∙ ap (λ b. cond (is_last (left_in bursts k)) false b) (turns k ∙ flags k))
+            (λ k off. ready k
+            ∙ ap (λ b. cond b (cond (is_last (left_in bursts k)) false (ready_of seen turned k))
+            (ready_of seen turned k))
+            (ap (λ o. is_just o k) is_thread ∙ off)
+            ∙ turns k ∙ flags k)
+            runs;
+        left =
+            left_ticked h asking slots path (left_in bursts) (left_in later) may.at_state.left
+            (λ k on. left k
+            ∙ ap (λ b. cond b (option_map (λ n. n - 1) (left_in bursts k)) (left_in bursts k))
+            (ap (λ o. is_just o k) is_thread ∙ on))
+            (λ k off. left k
+            ∙ ap (λ b. cond b (option_map (λ n. n - 1) (left_in bursts k)) (left_in bursts k))
+            (ap (λ o. is_just o k) is_thread ∙ off))
+            runs;
+      }
+
+  pub count_stands : (old passed turned new : Tree V P) (bursts later : Bursts) (stays : Stays) (j : Journal)
+      (thread other : Option ℕ) → Stands seen old (MayElapse seen old bursts stays j)
+      → ((h : Hierarchy) → IsTreeOf seen old h → IsTreeOf seen passed h)
+      → ((h : Hierarchy) → IsTreeOf seen old h → IsReadyOf seen old h → Passes seen choice passed h)
+      → ((k : ℕ) → ready_of seen passed k ≡ ready_of seen old k)
+      → ((h : Hierarchy) (asking : ℕ → Bool) (slots : ℕ → ℕ) (path : Option steps.Path) → IsTreeOf seen passed h
+      → PassesBy seen choice passed h asking slots path → IsTreeOf seen turned (after h (Elapse asking slots path)))
+      → ((k : ℕ) → ready_of seen turned k ≡ ready_of seen passed k)
+      → (passed.route ≡ None → thread ≡ None)
+      → ((front : List ℕ) (last : ℕ) → passed.route ≡ Some (front ++ last ∷ []) → thread ≡ Some last)
+      → ((h : Hierarchy) → IsTreeOf seen turned h → IsTreeOf seen new h)
+      → ((k : ℕ) → ready_of seen new k ≡ cond (is_just thread k)
+      (cond (is_last (left_in bursts k)) false (ready_of seen turned k)) (ready_of seen turned k))
+      → ((k : ℕ) → left_in later k ≡ cond (is_just thread k) (option_map (λ left. left - 1) (left_in bursts k))
+      (left_in bursts k))
+      → (passed.route ≡ None → other ≡ None)
+      → ((front : List ℕ) (last : ℕ) → passed.route ≡ Some (front ++ last ∷ []) → other ≡ Some last)
+      → MayTick seen stays new other
+  count_stands old passed turned new bursts later stays j thread other x tree passes flags elapsed turns none some
+      served ready left other_none other_some =
       let p = passes x.h x.tree x.is.at_state.ready in
+      let is_thread : thread ≡ thread_of p.2 = granted p.2 passed.route thread p.3.route_is none some in
+      let by = served_by old passed turned new bursts later stays j thread x.h x.is (tree x.h x.tree) flags elapsed
+      turns served ready left p.0 p.1 p.2 p.3 is_thread in
       record {
         h = x.h;
         asking = p.0;
         masks = p.1;
         path = p.2;
-        ticks = may_count old new bursts stays j thread x.h x.is tree flags p.0 p.1 p.2 p.3.can
-            (granted p.2 new.route thread p.3.route_is none some);
-        seated = x.seated;
+        ticks =
+            subst (λ o. Ticks seen stays new o x.h p.0 p.1 p.2)
+            (is_thread ∙ sym (granted p.2 passed.route other p.3.route_is other_none other_some))
+            (may_count old passed turned new bursts later stays j thread x.h x.is flags turns ready p.0 p.1 p.2
+            p.3.can is_thread by.tree by.ready);
       }
 
   pub elapses : (old passed turned new : Tree V P) (bursts later : Bursts) (stays counted : Stays)
@@ -234,7 +319,7 @@ module _ {V : Type 0} {P : V → Type 0} (seen : (x : V) × P x → Seen) (choic
       → ((k : ℕ) → left_in later k ≡ cond (is_just thread k) (option_map (λ left. left - 1) (left_in bursts k))
       (left_in bursts k))
       → ((h : Hierarchy) (asking : ℕ → Bool) (slots : ℕ → ℕ) (path : Option steps.Path)
-      → Ticks seen stays passed other h asking slots path → AreStays counted (after h (Elapse asking slots path)))
+      → Ticks seen stays new other h asking slots path → AreStays counted (after h (Elapse asking slots path)))
       → (passed.route ≡ None → other ≡ None)
       → ((front : List ℕ) (last : ℕ) → passed.route ≡ Some (front ++ last ∷ []) → other ≡ Some last)
       → Elapses seen new later counted j h told
@@ -245,7 +330,8 @@ module _ {V : Type 0} {P : V → Type 0} (seen : (x : V) × P x → Seen) (choic
       let route : TellsRoute h j (walks.route_of p.2) told =
       subst (λ r. TellsRoute h j r told) p.3.route_is (tells h there) in
       let is_thread : thread ≡ thread_of p.2 = granted p.2 passed.route thread p.3.route_is none some in
-      let runs = ran h p.0 p.1 p.2 p.3.can.1 in
+      let by = served_by old passed turned new bursts later stays j thread h may there flags elapsed
+      turns served ready left p.0 p.1 p.2 p.3 is_thread in
       record {
         asking = p.0;
         masks = p.1;
@@ -253,31 +339,12 @@ module _ {V : Type 0} {P : V → Type 0} (seen : (x : V) × P x → Seen) (choic
         can = p.3.can;
         names = names_of h j p.2 told route;
         way = way_of h j p.2 told route;
-        tree = served (after h (Elapse p.0 p.1 p.2)) (elapsed h p.0 p.1 p.2 there p.3);
-        ready =
-            ready_ticked h p.0 p.1 p.2 (left_in bursts) (ready_of seen old) (ready_of seen new) may.at_state.left
-            may.at_state.ready
-            (λ k on. ready k
-            ∙ ap (λ b. cond b (cond (is_last (left_in bursts k)) false (ready_of seen turned k))
-            (ready_of seen turned k))
-            (ap (λ o. is_just o k) is_thread ∙ on)
-            ∙ ap (λ b. cond (is_last (left_in bursts k)) false b) (turns k ∙ flags k))
-            (λ k off. ready k
-            ∙ ap (λ b. cond b (cond (is_last (left_in bursts k)) false (ready_of seen turned k))
-            (ready_of seen turned k))
-            (ap (λ o. is_just o k) is_thread ∙ off)
-            ∙ turns k ∙ flags k)
-            runs;
-        left =
-            left_ticked h p.0 p.1 p.2 (left_in bursts) (left_in later) may.at_state.left
-            (λ k on. left k
-            ∙ ap (λ b. cond b (option_map (λ n. n - 1) (left_in bursts k)) (left_in bursts k))
-            (ap (λ o. is_just o k) is_thread ∙ on))
-            (λ k off. left k
-            ∙ ap (λ b. cond b (option_map (λ n. n - 1) (left_in bursts k)) (left_in bursts k))
-            (ap (λ o. is_just o k) is_thread ∙ off))
-            runs;
+        tree = by.tree;
+        ready = by.ready;
+        left = by.left;
         stays = counts h p.0 p.1 p.2
-            (may_count old passed bursts stays j other h may tree flags p.0 p.1 p.2 p.3.can
-            (granted p.2 passed.route other p.3.route_is other_none other_some));
+            (subst (λ o. Ticks seen stays new o h p.0 p.1 p.2)
+            (is_thread ∙ sym (granted p.2 passed.route other p.3.route_is other_none other_some))
+            (may_count old passed turned new bursts later stays j thread h may flags turns ready p.0 p.1 p.2 p.3.can
+            is_thread by.tree by.ready));
       }

@@ -13,7 +13,6 @@ use Rattle.hls_report_text.specs.WellFormed.{HasShort}
 use Rattle.hls_sched.specs.Seen.{Seen}
 use Rattle.hls_legal.specs.Hierarchy.{Hierarchy, start}
 use Rattle.hls_legal.specs.Steps.{Step, Elapse, after, state, hop_at, hops_of}
-use Rattle.hls_legal.specs.Steps as steps
 use Rattle.hls_legal.proofs.Goes.{state_goes}
 use Rattle.hls_legal.proofs.Lists.{run_listed}
 use Rattle.hls_legal.proofs.Seated.{run_seated}

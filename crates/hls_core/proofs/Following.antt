@@ -1,6 +1,5 @@
 -- Stays after a command that was answered.
-use Rattle.std.proofs.Common.{◌≡◌, ℕ, suc, true, refl, sym, ap, ◌∙◌, subst, arith, ◌∷◌, [], ◌++◌, List, Bool}
-use Rattle.std.specs.Prelude.{Result, Ok, Err, IfOk}
+use Rattle.std.proofs.Common.{◌≡◌, ℕ, suc, sym, ap, ◌∙◌, subst, arith, ◌∷◌, [], ◌++◌, List, Bool}
 use Rattle.hls_scenario.specs.declared.scenario.Command.{Command}
 use Rattle.hls_report_text.specs.declared.refusal.Refusal.{Refusal}
 use Rattle.hls_report_text.specs.declared.report.Seated.{Seated}
@@ -11,15 +10,13 @@ use Rattle.hls_sched.specs.declared.kit.Kit.{Kit}
 use Rattle.hls_legal.specs.Hierarchy.{Hierarchy, start}
 use Rattle.hls_legal.specs.Steps.{Step, Refuse, after, state}
 use Rattle.hls_legal.specs.Legal.{Can, IsLegal, IsBelow}
-use Rattle.hls_legal.specs.Lists.{IsListed}
 use Rattle.hls_legal.specs.Seated.{IsSeated}
 use Rattle.hls_legal.proofs.Goes.{state_goes, legal_goes}
-use Rattle.hls_legal.proofs.Lists.{run_listed}
 use Rattle.hls_legal.proofs.Seated.{run_seated}
 use Rattle.hls_legal.proofs.Readings.{under_below, below_rank}
 use Rattle.hls_legal.proofs.Runs.{run_keeps, start_kept}
 use Rattle.hls_accounts.specs.Tells.{Answers}
-use Rattle.hls_tree.specs.Trees.{IsTreeOf, Stands, Any}
+use Rattle.hls_tree.specs.Trees.{IsTreeOf, IsReadyOf, Stands, Any}
 use Rattle.hls_tree.specs.declared.tree.Tree.{Tree}
 use Rattle.hls_manager.specs.Outcomes.{IsReached, HasMarkRoom, moment}
 use Rattle.hls_manager.proofs.Outcomes.{reached_listed}
@@ -70,6 +67,7 @@ module _ {V : Type 0} {P : V → Type 0} (seen : (x : V) × P x → Seen) where
     can = x.can;
     tells = reached_tells h x.reached;
     tree = x.tree;
+    ready = x.ready;
   }
 
   pub follow_may : (stays : Stays) (t : Tree V P) (turnover : Turnover) (answer : Answer) (seats : List Seated)
@@ -110,8 +108,9 @@ module _ {V : Type 0} {P : V → Type 0} (seen : (x : V) × P x → Seen) where
   pub follows : (old new : Tree V P) (bursts : Bursts) (stays room : Stays) (turnover : Turnover)
       (command : Command) (answer : Answer) (h : Hierarchy) (step : Step) → MayCarry seen old bursts stays h
       → AreStays room h → IsTurnover h command turnover → Answers h command answer step → Can h step
-      → IsTreeOf seen new (after h step) → Follows seen room new turnover answer h command step
-  follows old new bursts stays room turnover command answer h step may are of answers can tree = record {
+      → IsTreeOf seen new (after h step) → IsReadyOf seen new (after h step)
+      → Follows seen room new turnover answer h command step
+  follows old new bursts stays room turnover command answer h step may are of answers can tree ready = record {
     stays = are;
     standing = may.standing;
     reached = may.at_state.reached;
@@ -119,6 +118,7 @@ module _ {V : Type 0} {P : V → Type 0} (seen : (x : V) × P x → Seen) where
     answers = answers;
     can = can;
     tree = tree;
+    ready = ready;
   }
 
   pub may_follow : (old new : Tree V P) (bursts later : Bursts) (stays room : Stays) (kit : Kit V P)
@@ -136,5 +136,5 @@ module _ {V : Type 0} {P : V → Type 0} (seen : (x : V) × P x → Seen) where
         command = command;
         step = out.step;
         follows = follows old new bursts stays room turnover command answer x.h out.step x.is (same x.h x.is.stays)
-            (of x.h x.tree) out.does out.can out.tree;
+            (of x.h x.tree) out.does out.can out.tree (out.ready x.is.at_state.ready);
       }

@@ -42,7 +42,7 @@ use Rattle.hls_journal.specs.Kept.{IsNoted, MayNote, has_name, named_by}
 use Rattle.hls_journal.proofs.Keeps.{kept_note, told_note, noted_grows, may_note, answered_push}
 use Rattle.hls_core.specs.Bursts.{left_in}
 use Rattle.hls_core.specs.declared.bursts.Bursts.{Bursts}
-use Rattle.hls_manager.specs.Outcomes.{HasMarkRoom, boxes_in, moment}
+use Rattle.hls_manager.specs.Outcomes.{boxes_in, moment}
 use Rattle.hls_core.specs.Marks.{HasMarksFor}
 use Rattle.hls_core.specs.Standing.{IsAt}
 use Rattle.hls_stays.specs.Tallies.{AreStays}
@@ -130,7 +130,8 @@ module _ {V W : Type 0} {P : V → Type 0} {Q : W → Type 0}
       → IsGood (boxed seen) new.kit → IsNoted command answer old.journal new.journal → new.agenda ≡ old.agenda + 1
       → new.scenario ≡ old.scenario → new.depth ≡ old.depth → new.tree.horizon ≡ old.tree.horizon
       → ((h : Hierarchy) (step : Step) → MayCarry seen old.tree old.bursts old.stays h → Answers h command answer step
-      → Can h step → IsTreeOf seen new.tree (after h step) → AreStays new.stays (after h step))
+      → Can h step → IsTreeOf seen new.tree (after h step) → IsReadyOf seen new.tree (after h step)
+      → AreStays new.stays (after h step))
       → IsCoreOf seen new s given boxes
   carried old new s given boxes commands command answer is due all carries left fits good noted place scenario depth
       horizon follows =
@@ -191,7 +192,8 @@ module _ {V W : Type 0} {P : V → Type 0} {Q : W → Type 0}
             (out.ready is.at_state.ready) carries.left;
         stays =
             subst (AreStays new.stays) (sym (state_goes is.steps start out.step))
-            (follows h out.step (core_carries old s given boxes command is due) out.does out.can out.tree);
+            (follows h out.step (core_carries old s given boxes command is due) out.does out.can out.tree
+            (out.ready is.at_state.ready));
         noted =
             subst (λ g. AreNoted g new.journal) (sym (state_goes is.steps start out.step))
             (noted_step h command answer out.step old.journal new.journal out.does noted is.noted);

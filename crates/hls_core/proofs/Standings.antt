@@ -1,7 +1,6 @@
 -- The stays of a legal run that is told.
-use Rattle.std.proofs.Common.{◌≡◌, ℕ, zero, suc, List, [], ◌∷◌, true, refl, sym, ap, ◌∙◌, subst, arith}
-use Rattle.std.specs.Prelude.{Option, Some, None, slice_get}
-use Rattle.std.specs.List.{AllByRecursion}
+use Rattle.std.proofs.Common.{◌≡◌, ℕ, zero, suc, List, [], ◌∷◌, subst}
+use Rattle.std.specs.Prelude.{Some, slice_get}
 use Rattle.hls_report_text.specs.Content.{Content}
 use Rattle.hls_legal.specs.Hierarchy.{Hierarchy, Stay, start}
 use Rattle.hls_legal.specs.Steps.{Step, state}

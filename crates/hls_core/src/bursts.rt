@@ -1,16 +1,28 @@
 // What is left of bursts.
-ghost use Rattle.std.specs.Prelude.{◌≡◌, ◌≢◌, ℕ, ◌-◌, Option, Some, None, Bool, OnOk, OnErr, option_map};
+ghost use Rattle.std.specs.Prelude.{◌≡◌, ◌≢◌, ◌<◌, ◌^◌, ℕ, ◌-◌, Option, Some, None, Bool, OnOk, OnErr, option_map};
+ghost use Rattle.std.specs.Prelude.{get_or, vec_len};
 ghost use Rattle.hls_core.specs.Bursts.{left_in, is_last};
 
 use hls_tree::NodeId;
-use indexmap::IndexMap;
 use std::alloc::{AllocError, Global};
 
-/// How many ticks of their bursts threads have left, by their numbers. Of a thread that is not ready it
+/// How many ticks of their bursts threads have left, at their numbers. Of a thread that is not ready it
 /// may hold anything.
 #[derive(Drop)]
 pub struct Bursts {
-    left: IndexMap<u32, u32>,
+    left: Vec<Option<u32>>,
+}
+
+/// Makes room for a number, at which there is no burst.
+fn reach(left: &mut Vec<Option<u32>>, key: usize) -> Result<(), AllocError>
+    requires { key < 2 ^ 32 }
+    ensures left { (k : ℕ) → get_or left.new.items k None ≡ get_or left.old.items k None }
+    ensures room { OnOk result (key < vec_len left.new) }
+{
+    if left.len() <= key {
+        left.resize(key + 1, None)?;
+    }
+    Ok(())
 }
 
 impl Bursts {
@@ -19,7 +31,7 @@ impl Bursts {
         ensures { (k : ℕ) → left_in result k ≡ None }
     {
         Bursts {
-            left: IndexMap::new(alloc),
+            left: Vec::new(alloc),
         }
     }
 
@@ -32,14 +44,11 @@ impl Bursts {
         ensures others { (k : ℕ) → k ≢ id → left_in self.new k ≡ left_in self.old k }
         ensures unchanged { OnErr result (left_in self.new id ≡ left_in self.old id) }
     {
-        let key = id.key() as u32;
-        match burst {
-            Some(ticks) => {
-                self.left.insert(key, ticks)?;
-            }
-            None => {
-                let _ = self.left.swap_remove(&key);
-            }
+        if burst.is_some() {
+            reach(&mut self.left, id.key())?;
+        }
+        if id.key() < self.left.len() {
+            self.left[id.key()] = burst;
         }
         Ok(())
     }
@@ -50,14 +59,14 @@ impl Bursts {
         ensures others { (k : ℕ) → k ≢ id → left_in self.new k ≡ left_in self.old k }
         ensures last { result ≡ is_last (left_in self.old id) }
     {
-        let key = id.key() as u32;
-        let Some(left) = self.left.get(&key).copied() else {
+        let key = id.key();
+        if self.left.len() <= key {
+            return false;
+        }
+        let Some(left) = self.left[key] else {
             return false;
         };
-        match self.left.insert(key, left.saturating_sub(1)) {
-            Ok(_) => {}
-            Err(_) => unreachable!(),
-        }
+        self.left[key] = Some(left.saturating_sub(1));
         left <= 1
     }
 }

@@ -14,7 +14,7 @@ ghost use Rattle.hls_answers.specs.Moment.{Moment};
 ghost use Rattle.hls_answers.specs.Kit.{boxes_after};
 ghost use Rattle.hls_walks.specs.Views.{boxed};
 ghost use Rattle.hls_tree.specs.Kits.{IsSameKit};
-ghost use Rattle.hls_tree.specs.Trees.{IsTreeOf, Stands};
+ghost use Rattle.hls_tree.specs.Trees.{IsTreeOf, IsReadyOf, Stands};
 ghost use Rattle.hls_stays.specs.Tallies.{AreStays, HasRoom};
 ghost use Rattle.hls_stays.specs.Turnovers.{stays_begun};
 ghost use Rattle.hls_manager.specs.Outcomes.{HasMarkRoom, boxes_in, moment};
@@ -158,7 +158,8 @@ pub fn carry_along(
         CarriesOut seen tree.old tree.new bursts.new (moment h kit.old depth) commands command.now answer) }
     ensures stays { IfOk result (λ answer. (h : Hierarchy) (step : Step) →
         MayCarry seen tree.old bursts.old stays.old h → Answers h command.now answer step → Can h step →
-        IsTreeOf seen tree.new (after h step) → AreStays stays.new (after h step)) }
+        IsTreeOf seen tree.new (after h step) → IsReadyOf seen tree.new (after h step) →
+        AreStays stays.new (after h step)) }
     ensures boxes { IfOk result (λ answer. boxes_in kit.new ≡ boxes_after (boxes_in kit.old) command.now answer) }
     ensures formed { IfOk result (λ answer. IsWellFormed command.now answer) }
     ensures unchanged { OnErr result ((h : Hierarchy) → IsAt seen tree.old bursts.old h →

@@ -44,9 +44,10 @@ pub fn elapse(
 {
     tree.pass();
     let path = way_of(tree, journal);
-    stays.tick(tree, tree.current());
     let thread = tree.current();
+    let served = tree.current();
     tree.turn();
     serve(tree, bursts, thread);
+    stays.tick(tree, served);
     path
 }

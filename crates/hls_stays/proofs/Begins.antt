@@ -1,14 +1,14 @@
 -- The thread that was admitted last.
 use Rattle.std.proofs.Common.{◌≡◌, ℕ, ◌-◌, List, [], ◌∷◌, ◌++◌, length, sym, ap, ◌∙◌, subst, arith}
-use Rattle.std.specs.Prelude.{Some, slice_get}
+use Rattle.std.specs.Prelude.{Bool, true, Some, slice_get}
 use Rattle.std.proofs.lemmas.List.{length-append}
 use Rattle.hls_sched.specs.Seen.{Seen}
 use Rattle.hls_legal.specs.Hierarchy.{Hierarchy, Stay}
 use Rattle.hls_legal.specs.Legal.{IsThread}
 use Rattle.hls_legal.specs.Steps.{stay_of}
-use Rattle.hls_tree.specs.Trees.{Stands}
+use Rattle.hls_tree.specs.Trees.{IsTreeOf, IsReadyOf, Stands, ready_of}
 use Rattle.hls_tree.specs.declared.tree.Tree.{Tree}
-use Rattle.hls_stays.specs.Tallies.{AreTallies}
+use Rattle.hls_stays.specs.Tallies.{AreTallies, IsNoted}
 use Rattle.hls_stays.specs.Inside.Steps.{HasNone}
 use Rattle.hls_stays.specs.declared.stays.Stays.{Stays}
 use Rattle.hls_stays.proofs.Lists.{get_seam, contains_at}
@@ -43,3 +43,14 @@ begin_at new h stays c k same =
     subst (λ n. (IsThread (h.nodes c) → HasNone stays c → AreTallies new h (stays ++ stay_of h.now c (h.nodes c)))
     → IsThread (h.nodes n) → HasNone stays n → AreTallies new h (stays ++ stay_of h.now n (h.nodes n))) same
     (λ opened thread none. opened thread none)
+
+-- a thread whose flag is set is ready from now on
+pub noted_ready : {V : Type 0} {P : V → Type 0} (seen : (x : V) × P x → Seen) (t : Tree V P) (id now : ℕ)
+    (flag : Bool) → flag ≡ ready_of seen t id → flag ≡ true → ((h : Hierarchy) → IsTreeOf seen t h → now ≡ h.now)
+    → (h : Hierarchy) → IsTreeOf seen t h → IsReadyOf seen t h → IsNoted h id (Some now)
+noted_ready seen t id now flag is on at_now h tree ready = record {
+  is = λ x there. sym (ready id x there ∙ sym is ∙ on);
+  early = λ tick e.
+      (let same = same_some now tick e in
+      let here = at_now h tree in omega (arith, same, here));
+}

@@ -1,13 +1,12 @@
 -- A stay that ends, and one that begins.
-use Rattle.std.proofs.Common.{◌≡◌, ◌≢◌, ℕ, zero, suc, ◌-◌, ◌<◌, ◌≤◌, List, [], ◌∷◌, ◌++◌, Bool, true, false, ◌==◌}
-use Rattle.std.proofs.Common.{length, refl, sym, ap, ◌∙◌, subst, arith, map}
-use Rattle.std.specs.Prelude.{Option, Some, None, slice_get, slice_set}
+use Rattle.std.proofs.Common.{◌≡◌, ℕ, zero, suc, ◌+◌, ◌-◌, ◌<◌, ◌≤◌, List, [], ◌∷◌, ◌++◌}
+use Rattle.std.proofs.Common.{Bool, true, false, ◌==◌, length, refl, sym, ap, ◌∙◌, subst, arith}
+use Rattle.std.specs.Prelude.{Option, Some, None, slice_get, slice_set, option_map}
 use Rattle.std.proofs.lemmas.Bool.{eq-eqb, ne_eqb}
-use Rattle.std.proofs.lemmas.List.{length-map}
+use Rattle.std.proofs.lemmas.List.{length-map, length-append}
 use Rattle.std.proofs.lemmas.Option.{slice_get_within}
 use Rattle.hls_chron.specs.Ticks.{count}
 use Rattle.hls_chron.proofs.CountLaws.{count-none}
-use Rattle.std.specs.Prelude.{option_map}
 use Rattle.hls_text.specs.Lines.{Text}
 use Rattle.hls_guarantee.specs.declared.Guarantee.{Guarantee}
 use Rattle.hls_legal.specs.Hierarchy.{Hierarchy, Stay, Thread, Node, Admitted, Seat, had_asked, was_served, name_of}
@@ -15,16 +14,13 @@ use Rattle.hls_legal.specs.Hierarchy.{seat_of}
 use Rattle.hls_legal.specs.Legal.{IsThread}
 use Rattle.hls_legal.specs.Steps.{closed, ended, stay_of}
 use Rattle.hls_legal.specs.Supplied.{end_of}
-use Rattle.hls_stays.specs.Places.{place_in}
-use Rattle.hls_stays.specs.Tallies.{AreTallies, tally_of}
+use Rattle.hls_stays.specs.Tallies.{AreTallies, AreSingle, IsTally, IsNoted, waited, open_by, opened_at}
 use Rattle.hls_stays.specs.Inside.Steps.{HasOpen, HasNone, MayClose, without, closed_tally}
 use Rattle.hls_stays.specs.declared.stays.Stays.{Stays}
 use Rattle.hls_stays.specs.declared.tally.Tally.{Tally}
-use Rattle.hls_stays.proofs.Lists.{map_set, map_map, map_append, get_map, image_of, of_either, IsOf}
-use Rattle.hls_stays.proofs.Lists.{Front, Back}
-
-some_inner : {A : Type 0} (x y : A) → Some x ≡ Some y → x ≡ y
-some_inner x y e = cc
+use Rattle.hls_stays.proofs.Opened.{open_on, open_off}
+use Rattle.hls_stays.proofs.Lists.{inner, beside, of_ends, AreBeside, Before, Last, of_set, IsSet, Here, There}
+use Rattle.hls_stays.proofs.Lists.{length-set, image_of, of_either, IsOf, Front, Back}
 
 was_open : (b : Bool) (now : ℕ) (until : Option ℕ) → ended b now until ≡ None → until ≡ None
 was_open b now None e = refl
@@ -39,90 +35,138 @@ ended_not false now (Some t) off = refl
 pub closed_not : (stay : Stay) (b : Bool) (now : ℕ) → (stay.until ≡ None → b ≡ false) → closed b now stay ≡ stay
 closed_not stay b now off = ap (λ (u : Option ℕ). record stay { until = u }) (ended_not b now stay.until off)
 
-closed_open : (h : Hierarchy) (stay : Stay) (k : ℕ) → stay.thread ≡ k → stay.until ≡ None
-    → tally_of h (closed (stay.thread == k) h.now stay) ≡ closed_tally h.now (tally_of h stay)
-closed_open h stay k same none =
-    ap (λ b. tally_of h (closed b h.now stay)) (eq-eqb stay.thread k same)
-    ∙ ap (λ (u : Option ℕ). tally_of h (record stay { until = ended true h.now u })) none
-    ∙ ap (λ (u : Option ℕ). ending u) (sym none)
-  where
-    ending : Option ℕ → Tally
-    ending u = record {
-      name = stay.name;
-      kept = stay.kept;
-      since = stay.since;
-      until = Some h.now;
-      ready = count (had_asked h.past stay.thread) stay.since (end_of h.now u - stay.since);
-      served = count (was_served h.past stay.thread) stay.since (end_of h.now u - stay.since);
-    }
+-- ---- the place of an open stay
 
--- of a thread at most one stay is open
-only_one : (s : Stays) (h : Hierarchy) (stays : List Stay) → AreTallies s h stays → (i j : ℕ) (one other : Stay)
-    → slice_get stays i ≡ Some one → slice_get stays j ≡ Some other → one.until ≡ None → other.until ≡ None
-    → one.thread ≡ other.thread → i ≡ j
-only_one s h stays are i j one other e f p q same =
-    some_inner i j (sym (are.found i one e p) ∙ ap (place_in s.places) same ∙ are.found j other f q)
+-- what is found for a thread is an open stay of it, if there is one
+abbrev pub Finds : Stays → (k place : ℕ) → Type 0
+Finds s k place = (at : ℕ) → opened_at s.tallies.items at k ≡ true → opened_at s.tallies.items place k ≡ true
 
-pub place_is : (s : Stays) (h : Hierarchy) (stays : List Stay) (k place : ℕ) → AreTallies s h stays
-    → (has : HasOpen stays k) → place_in s.places k ≡ Some place → place ≡ has.at
-place_is s h stays k place are has e =
-    some_inner place has.at
-    (sym e ∙ ap (place_in s.places) (sym has.thread) ∙ are.found has.at has.stay has.there has.is_open)
-
-pub no_place : (s : Stays) (h : Hierarchy) (stays : List Stay) (k : ℕ) → AreTallies s h stays
-    → HasOpen stays k → place_in s.places k ≡ None → ⊥
-no_place s h stays k are has e =
-    let place = ap (place_in s.places) (sym has.thread) ∙ are.found has.at has.stay has.there has.is_open in
-    let clash : None ≡ Some has.at = sym e ∙ place in absurd (cc)
+-- the tally of an open stay
+pub record HasTally (s : Stays) (h : Hierarchy) (at : ℕ) (stay : Stay) : Type 0 where
+  pub tally : Tally
+  pub there : slice_get s.tallies.items at ≡ Some tally
+  pub is : IsTally h stay tally
+  pub within : at < length s.tallies.items
 
 pub tally_at : (s : Stays) (h : Hierarchy) (stays : List Stay) (k : ℕ) → AreTallies s h stays
-    → (has : HasOpen stays k) → slice_get s.tallies.items has.at ≡ Some (tally_of h has.stay)
+    → (has : HasOpen stays k) → HasTally s h has.at has.stay
 tally_at s h stays k are has =
-    ap (λ l. slice_get l has.at) are.tallies ∙ get_map (tally_of h) stays has.at has.stay has.there
+    let t = beside stays s.tallies.items (sym are.many) has.at has.stay has.there in
+    record {
+      tally = t.0;
+      there = t.1;
+      is = are.each has.at has.stay t.0 has.there t.1;
+      within = slice_get_within s.tallies.items has.at t.0 t.1;
+    }
 
-pub within : (s : Stays) (h : Hierarchy) (stays : List Stay) (k : ℕ) → AreTallies s h stays
-    → (has : HasOpen stays k) → has.at < length s.tallies.items
-within s h stays k are has =
-    slice_get_within s.tallies.items has.at (tally_of h has.stay) (tally_at s h stays k are has)
+pub place_is : (s : Stays) (h : Hierarchy) (stays : List Stay) (k place : ℕ) → AreTallies s h stays
+    → (has : HasOpen stays k) → Finds s k place → place ≡ has.at
+place_is s h stays k place are has finds =
+    let t = tally_at s h stays k are has in
+    let on : opened_at s.tallies.items has.at k ≡ true =
+    ap (λ o. open_by o k) t.there ∙ open_on t.tally k (t.is.until ∙ has.is_open) (t.is.thread ∙ has.thread) in
+    let x = open_off (slice_get s.tallies.items place) k (finds has.at on) in
+    let stay = beside s.tallies.items stays are.many place x.tally x.there in
+    let is = are.each place stay.0 x.tally stay.1 x.there in
+    are.single place has.at stay.0 has.stay stay.1 has.there (sym is.until ∙ x.until) has.is_open
+    (sym is.thread ∙ x.thread ∙ sym has.thread)
 
-closed_tallies : (s : Stays) (new : List Tally) (h : Hierarchy) (stays : List Stay) (k now : ℕ)
-    → AreTallies s h stays → (has : HasOpen stays k) → h.now ≡ now
-    → ((tally : Tally) → slice_get s.tallies.items has.at ≡ Some tally
-    → new ≡ slice_set s.tallies.items has.at (closed_tally now tally))
-    → new ≡ map (tally_of h) (without h.now k stays)
-closed_tallies s new h stays k now are has same set =
-    let end = λ (stay : Stay). tally_of h (closed (stay.thread == k) h.now stay) in
-    set (tally_of h has.stay) (tally_at s h stays k are has)
-    ∙ ap (λ l. slice_set l has.at (closed_tally now (tally_of h has.stay))) are.tallies
-    ∙ ap (λ n. slice_set (map (tally_of h) stays) has.at (closed_tally n (tally_of h has.stay))) (sym same)
-    ∙ ap (λ t. slice_set (map (tally_of h) stays) has.at t) (sym (closed_open h has.stay k has.thread has.is_open))
-    ∙ sym (map_set (tally_of h) end stays has.at has.stay has.there
-    (λ j stay e ne. ap (tally_of h) (closed_not stay (stay.thread == k) h.now (λ none. ne_eqb stay.thread k
-    (λ is. ne (only_one s h stays are j has.at stay has.stay e has.there none has.is_open (is ∙ sym has.thread)))))))
-    ∙ sym (map_map (tally_of h) (λ (stay : Stay). closed (stay.thread == k) h.now stay) stays)
+-- the tally there, by the place that was found
+pub tally_found : (s : Stays) (h : Hierarchy) (stays : List Stay) (k place : ℕ) → AreTallies s h stays
+    → (has : HasOpen stays k) → Finds s k place → HasTally s h place has.stay
+tally_found s h stays k place are has finds =
+    subst (λ n. HasTally s h n has.stay) (sym (place_is s h stays k place are has finds))
+    (tally_at s h stays k are has)
+
+pub found_within : (s : Stays) (k place : ℕ) → MayClose s k → Finds s k place → place < length s.tallies.items
+found_within s k place may finds =
+    (tally_found s may.h may.stays k place may.are may.has finds).within
+
+-- ---- a stay that ends
+
+closed_is : (h : Hierarchy) (stay : Stay) (tally : Tally) (k now : ℕ) → IsTally h stay tally → stay.thread ≡ k
+    → stay.until ≡ None → h.now ≡ now
+    → IsTally h (closed (stay.thread == k) h.now stay) (closed_tally now tally)
+closed_is h stay tally k now is same none at_now = record {
+  thread = is.thread;
+  name = is.name;
+  kept = is.kept;
+  since = is.since;
+  until = ap (λ n. Some n) (sym at_now) ∙ sym ended_is;
+  ready =
+      ap (λ n. tally.ready + waited n tally.ready_since) (sym at_now ∙ ap (end_of h.now) (sym none ∙ sym is.until))
+      ∙ is.ready
+      ∙ ap (λ u. count (had_asked h.past stay.thread) stay.since (end_of h.now u - stay.since)) none
+      ∙ ap (λ u. count (had_asked h.past stay.thread) stay.since (end_of h.now u - stay.since)) (sym ended_is);
+  served =
+      is.served
+      ∙ ap (λ u. count (was_served h.past stay.thread) stay.since (end_of h.now u - stay.since)) none
+      ∙ ap (λ u. count (was_served h.past stay.thread) stay.since (end_of h.now u - stay.since)) (sym ended_is);
+  noted = λ e. (let clash : Some h.now ≡ None = sym ended_is ∙ e in absurd (cc));
+  early = is.early;
+  past = (let same_end : end_of h.now (ended (stay.thread == k) h.now stay.until) ≡ h.now =
+      ap (end_of h.now) ended_is in
+      let le : h.now ≤ h.now = omega arith in subst (λ n. n ≤ h.now) (sym same_end) le);
+}
+  where
+    ended_is : ended (stay.thread == k) h.now stay.until ≡ Some h.now
+    ended_is = ap (λ b. ended b h.now stay.until) (eq-eqb stay.thread k same) ∙ ap (ended true h.now) none
+
+single_closed : (stays : List Stay) (now k : ℕ) → AreSingle stays → AreSingle (without now k stays)
+single_closed stays now k single i j one other e f p q same =
+    let x = image_of (λ (s : Stay). closed (s.thread == k) now s) stays i one e in
+    let y = image_of (λ (s : Stay). closed (s.thread == k) now s) stays j other f in
+    single i j x.x y.x x.there y.there
+    (was_open (x.x.thread == k) now x.x.until (ap (λ (s : Stay). s.until) x.is ∙ p))
+    (was_open (y.x.thread == k) now y.x.until (ap (λ (s : Stay). s.until) y.is ∙ q))
+    (ap (λ (s : Stay). s.thread) x.is ∙ same ∙ sym (ap (λ (s : Stay). s.thread) y.is))
 
 pub close_one : (s new : Stays) (h : Hierarchy) (stays : List Stay) (k place now : ℕ) → AreTallies s h stays
-    → HasOpen stays k → h.now ≡ now → place_in s.places k ≡ Some place
+    → HasOpen stays k → h.now ≡ now → Finds s k place
     → ((tally : Tally) → slice_get s.tallies.items place ≡ Some tally
     → new.tallies.items ≡ slice_set s.tallies.items place (closed_tally now tally))
-    → new.places ≡ s.places → new.idle ≡ s.idle → AreTallies new h (without h.now k stays)
-close_one s new h stays k place now are has same found set places idle = record {
-  tallies = closed_tallies s new.tallies.items h stays k now are has same
-      (subst (λ n. (tally : Tally) → slice_get s.tallies.items n ≡ Some tally
-      → new.tallies.items ≡ slice_set s.tallies.items n (closed_tally now tally))
-      (place_is s h stays k place are has found) set);
-  found = λ at stay e none.
-      (let was = image_of (λ (x : Stay). closed (x.thread == k) h.now x) stays at stay e in
-      let open_then = was_open (was.x.thread == k) h.now was.x.until
-      (ap (λ (x : Stay). x.until) was.is ∙ none) in
-      ap (λ p. place_in p stay.thread) places
-      ∙ ap (place_in s.places) (sym (ap (λ (x : Stay). x.thread) was.is))
-      ∙ are.found at was.x was.there open_then);
-  since = λ at stay e.
-      (let was = image_of (λ (x : Stay). closed (x.thread == k) h.now x) stays at stay e in
-      subst (λ n. n ≤ h.now) (ap (λ (x : Stay). x.since) was.is) (are.since at was.x was.there));
+    → new.idle ≡ s.idle → AreTallies new h (without h.now k stays)
+close_one s new h stays k place now are has at_now finds set idle = record {
+  many = ap length is ∙ length-set s.tallies.items place (closed_tally now t.tally) ∙ are.many
+      ∙ sym (length-map stays (λ (x : Stay). closed (x.thread == k) h.now x));
+  each = λ i stay tally e f.
+      (let was = image_of (λ (x : Stay). closed (x.thread == k) h.now x) stays i stay e in
+      subst (λ (x : Stay). IsTally h x tally) was.is (of was.x i tally was.there
+      (of_set s.tallies.items place (closed_tally now t.tally) i tally (ap (λ l. slice_get l i) (sym is) ∙ f))));
+  single = single_closed stays h.now k are.single;
   idle = idle ∙ are.idle;
 }
+  where
+    at_place : place ≡ has.at
+    at_place = place_is s h stays k place are has finds
+
+    t : HasTally s h place has.stay
+    t = tally_found s h stays k place are has finds
+
+    is : new.tallies.items ≡ slice_set s.tallies.items place (closed_tally now t.tally)
+    is = set t.tally t.there
+
+    of : (x : Stay) (i : ℕ) (tally : Tally) → slice_get stays i ≡ Some x
+        → IsSet s.tallies.items place (closed_tally now t.tally) i tally
+        → IsTally h (closed (x.thread == k) h.now x) tally
+    of x i tally there (Here at same) =
+        let mine : has.stay ≡ x =
+        inner has.stay x (sym has.there ∙ ap (slice_get stays) (sym at_place ∙ sym at) ∙ there) in
+        subst (λ (y : Tally). IsTally h (closed (x.thread == k) h.now x) y) same
+        (subst (λ (y : Stay). IsTally h (closed (y.thread == k) h.now y) (closed_tally now t.tally)) mine
+        (closed_is h has.stay t.tally k now t.is has.thread has.is_open at_now))
+    of x i tally there (There ne e) =
+        subst (λ (y : Stay). IsTally h y tally)
+        (sym (closed_not x (x.thread == k) h.now (λ none. ne_eqb x.thread k (λ same. ne
+        (are.single i has.at x has.stay there has.there none has.is_open (same ∙ sym has.thread) ∙ sym at_place)))))
+        (are.each i x tally there e)
+
+pub close_count : (s : Stays) (new : List Tally) (k place now : ℕ) → MayClose s k → Finds s k place
+    → ((tally : Tally) → slice_get s.tallies.items place ≡ Some tally
+    → new ≡ slice_set s.tallies.items place (closed_tally now tally)) → length new ≡ length s.tallies.items
+close_count s new k place now may finds set =
+    let t = tally_found s may.h may.stays k place may.are may.has finds in
+    ap length (set t.tally t.there) ∙ length-set s.tallies.items place (closed_tally now t.tally)
 
 -- where the stay of a thread has ended it has no other
 pub ended_none : (h : Hierarchy) (stays : List Stay) (k : ℕ) → HasNone (without h.now k stays) k
@@ -135,109 +179,128 @@ ended_none h stays k at stay e none is =
     ap (λ b. ended b h.now None) (sym on) ∙ ap (ended (was.x.thread == k) h.now) (sym open_then) ∙ until in
     absurd (cc)
 
+-- ---- a stay that begins
+
 abbrev pub begun : (now k : ℕ) → Thread → Stay
 begun now k t = record { thread = k; name = t.name; kept = t.seat.kept; since = now; until = None }
 
-pub new_tally : (h : Hierarchy) (k : ℕ) (t : Thread) (tally : Tally) → tally.name ≡ t.name
-    → tally.kept ≡ t.seat.kept → tally.since ≡ h.now → tally.until ≡ None → tally.ready ≡ 0 → tally.served ≡ 0
-    → tally ≡ tally_of h (begun h.now k t)
-new_tally h k t tally name kept since until ready served =
+-- the tally of a stay that begins
+pub record IsNew (h : Hierarchy) (k : ℕ) (t : Thread) (tally : Tally) : Type 0 where
+  pub thread : tally.thread ≡ k
+  pub name : tally.name ≡ t.name
+  pub kept : tally.kept ≡ t.seat.kept
+  pub since : tally.since ≡ h.now
+  pub until : tally.until ≡ None
+  pub ready : tally.ready ≡ 0
+  pub waited_none : waited h.now tally.ready_since ≡ 0
+  pub served : tally.served ≡ 0
+  pub noted : IsNoted h k tally.ready_since
+
+new_is : (h : Hierarchy) (k : ℕ) (t : Thread) (tally : Tally) → IsNew h k t tally
+    → IsTally h (begun h.now k t) tally
+new_is h k t tally new =
     let none : h.now - h.now ≡ 0 = omega arith in
     let asked : count (had_asked h.past k) h.now (h.now - h.now) ≡ 0 =
     ap (count (had_asked h.past k) h.now) none ∙ count-none (had_asked h.past k) h.now in
     let ran : count (was_served h.past k) h.now (h.now - h.now) ≡ 0 =
     ap (count (was_served h.past k) h.now) none ∙ count-none (was_served h.past k) h.now in
-    λ i. record {
-      name = name i;
-      kept = kept i;
-      since = since i;
-      until = until i;
-      ready = (ready ∙ sym asked) i;
-      served = (served ∙ sym ran) i;
+    let ready = new.ready in
+    let waits : waited (end_of h.now tally.until) tally.ready_since ≡ 0 =
+    ap (λ u. waited (end_of h.now u) tally.ready_since) new.until ∙ new.waited_none in
+    record {
+      thread = new.thread;
+      name = new.name;
+      kept = new.kept;
+      since = new.since;
+      until = new.until;
+      ready = (let no : tally.ready + waited (end_of h.now tally.until) tally.ready_since ≡ 0 =
+          omega (arith, ready, waits) in no ∙ sym asked);
+      served = new.served ∙ sym ran;
+      noted = λ e. new.noted;
+      early = (let le : h.now ≤ h.now = omega arith in le);
+      past = (let le : h.now ≤ h.now = omega arith in le);
     }
 
-one_only : {A : Type 0} (x y : A) (i : ℕ) → slice_get (x ∷ []) i ≡ Some y → (i ≡ 0) × (x ≡ y)
-one_only x y zero e = (refl, some_inner x y e)
-one_only x y (suc i) e = absurd (cc)
+single_begun : (stays : List Stay) (now k : ℕ) (t : Thread) → AreSingle stays → HasNone stays k
+    → AreSingle (stays ++ begun now k t ∷ [])
+single_begun stays now k t single none i j one other e f p q same =
+    by (of_either stays (begun now k t ∷ []) i one e) (of_either stays (begun now k t ∷ []) j other f)
+  where
+    newest : (x : Stay) (n : ℕ) → slice_get (begun now k t ∷ []) n ≡ Some x → (n ≡ 0) × (x.thread ≡ k)
+    newest x zero at = (refl, sym (ap (λ (y : Stay). y.thread) (inner (begun now k t) x at)))
+    newest x (suc n) at = absurd (cc)
+
+    by : IsOf stays (begun now k t ∷ []) i one → IsOf stays (begun now k t ∷ []) j other → i ≡ j
+    by (Front at) (Front there) = single i j one other at there p q same
+    by (Front at) (Back n place there) = absurd (none i one at p (same ∙ (newest other n there).1))
+    by (Back n place at) (Front there) = absurd (none j other there q (sym same ∙ (newest one n at).1))
+    by (Back n place at) (Back m spot there) =
+        let zero_n = (newest one n at).0 in
+        let zero_m = (newest other m there).0 in omega (arith, place, spot, zero_n, zero_m)
 
 pub open_one : (s new : Stays) (h : Hierarchy) (stays : List Stay) (k : ℕ) (t : Thread) (tally : Tally)
-    → AreTallies s h stays → HasNone stays k → h.nodes k ≡ Some (Admitted t)
-    → tally ≡ tally_of h (begun h.now k t) → new.tallies.items ≡ s.tallies.items ++ tally ∷ []
-    → place_in new.places k ≡ Some (length s.tallies.items)
-    → ((c : ℕ) → c ≢ k → place_in new.places c ≡ place_in s.places c) → new.idle ≡ s.idle
+    → AreTallies s h stays → HasNone stays k → h.nodes k ≡ Some (Admitted t) → IsNew h k t tally
+    → new.tallies.items ≡ s.tallies.items ++ tally ∷ [] → new.idle ≡ s.idle
     → AreTallies new h (stays ++ stay_of h.now k (h.nodes k))
-open_one s new h stays k t tally are none there is push here others idle =
+open_one s new h stays k t tally are none there is push idle =
     subst (λ (n : Option Node). AreTallies new h (stays ++ stay_of h.now k n)) (sym there) (record {
-      tallies =
-          push ∙ ap (λ l. l ++ tally ∷ []) are.tallies ∙ ap (λ x. map (tally_of h) stays ++ x ∷ []) is
-          ∙ sym (map_append (tally_of h) stays (begun h.now k t ∷ []));
-      found = λ at stay e is_open. found at stay is_open (of_either stays (begun h.now k t ∷ []) at stay e);
-      since = λ at stay e. since at stay (of_either stays (begun h.now k t ∷ []) at stay e);
+      many =
+          ap length push ∙ ends s.tallies.items stays tally (begun h.now k t) are.many;
+      each = λ i stay other e f. of i stay other
+          (of_ends stays (begun h.now k t) s.tallies.items tally (sym are.many) i stay other e
+          (ap (λ l. slice_get l i) (sym push) ∙ f));
+      single = single_begun stays h.now k t are.single none;
       idle = idle ∙ are.idle;
     })
   where
-    long : length s.tallies.items ≡ length stays
-    long = ap length are.tallies ∙ length-map stays (tally_of h)
+    ends : (xs : List Tally) (ys : List Stay) (x : Tally) (y : Stay) → length xs ≡ length ys
+        → length (xs ++ x ∷ []) ≡ length (ys ++ y ∷ [])
+    ends xs ys x y same =
+        length-append xs (x ∷ []) ∙ ap (λ n. n + 1) same
+        ∙ sym (length-append ys (y ∷ []))
 
-    found : (at : ℕ) (stay : Stay) → stay.until ≡ None → IsOf stays (begun h.now k t ∷ []) at stay
-        → place_in new.places stay.thread ≡ Some at
-    found at stay is_open (Front e) =
-        others stay.thread (none at stay e is_open) ∙ are.found at stay e is_open
-    found at stay is_open (Back j e f) =
-        let one = one_only (begun h.now k t) stay j f in
-        let place : length s.tallies.items ≡ at =
-        (let zero = one.0 in omega (arith, e, zero, long)) in
-        ap (place_in new.places) (sym (ap (λ (x : Stay). x.thread) one.1)) ∙ here ∙ ap (λ (n : ℕ). Some n) place
-
-    since : (at : ℕ) (stay : Stay) → IsOf stays (begun h.now k t ∷ []) at stay → stay.since ≤ h.now
-    since at stay (Front e) = are.since at stay e
-    since at stay (Back j e f) =
-        let one = one_only (begun h.now k t) stay j f in
-        let at_now = ap (λ (x : Stay). x.since) one.1 in omega (arith, at_now)
-
-length-set : {A : Type 0} (xs : List A) (i : ℕ) (x : A) → length (slice_set xs i x) ≡ length xs
-length-set [] zero x = refl
-length-set [] (suc i) x = refl
-length-set (y ∷ xs) zero x = refl
-length-set (y ∷ xs) (suc i) x = ap suc (length-set xs i x)
-
-pub close_count : (s : Stays) (new : List Tally) (k place now : ℕ) → (may : MayClose s k)
-    → place_in s.places k ≡ Some place
-    → ((tally : Tally) → slice_get s.tallies.items place ≡ Some tally
-    → new ≡ slice_set s.tallies.items place (closed_tally now tally)) → length new ≡ length s.tallies.items
-close_count s new k place now may found set =
-    let at_place = place_is s may.h may.stays k place may.are may.has found in
-    let tally = tally_of may.h may.has.stay in
-    ap length (set tally (ap (slice_get s.tallies.items) at_place ∙ tally_at s may.h may.stays k may.are may.has))
-    ∙ length-set s.tallies.items place (closed_tally now tally)
+    of : (i : ℕ) (stay : Stay) (other : Tally)
+        → AreBeside stays (begun h.now k t) s.tallies.items tally i stay other → IsTally h stay other
+    of i stay other (Before e f) = are.each i stay other e f
+    of i stay other (Last e f) =
+        subst (λ (x : Stay). IsTally h x other) e
+        (subst (λ (y : Tally). IsTally h (begun h.now k t) y) f (new_is h k t tally is))
 
 name_is : (node : Option Node) (t : Thread) (name : Text) → node ≡ Some (Admitted t) → name_of node ≡ Some name
     → name ≡ t.name
-name_is node t name there has = some_inner name t.name (sym has ∙ ap name_of there)
+name_is node t name there has = inner name t.name (sym has ∙ ap name_of there)
 
 kept_is : (node : Option Node) (t : Thread) (kept : Guarantee) → node ≡ Some (Admitted t)
     → option_map (λ (seat : Seat). seat.kept) (seat_of node 0) ≡ Some kept → kept ≡ t.seat.kept
 kept_is node t kept there has =
-    some_inner kept t.seat.kept
+    inner kept t.seat.kept
     (sym has ∙ ap (λ n. option_map (λ (seat : Seat). seat.kept) (seat_of n 0)) there)
 
 -- a stay begins with what is read of its thread
 pub open_read : (s new : Stays) (h : Hierarchy) (stays : List Stay) (k : ℕ) (name : Text) (kept : Guarantee)
-    (now : ℕ) → IsThread (h.nodes k) → AreTallies s h stays → HasNone stays k → name_of (h.nodes k) ≡ Some name
+    (now : ℕ) (since : Option ℕ) → IsThread (h.nodes k) → AreTallies s h stays → HasNone stays k
+    → name_of (h.nodes k) ≡ Some name
     → option_map (λ (seat : Seat). seat.kept) (seat_of (h.nodes k) 0) ≡ Some kept → now ≡ h.now
-    → new.tallies.items ≡ s.tallies.items
-    ++ (record { name = name; kept = kept; since = now; until = None; ready = 0; served = 0 }) ∷ []
-    → place_in new.places k ≡ Some (length s.tallies.items)
-    → ((c : ℕ) → c ≢ k → place_in new.places c ≡ place_in s.places c) → new.idle ≡ s.idle
-    → AreTallies new h (stays ++ stay_of h.now k (h.nodes k))
-open_read s new h stays k name kept now thread are none named seated at_now push here others idle =
-    open_one s new h stays k thread.thread _ are none thread.there
-    (new_tally h k thread.thread (record {
+    → IsNoted h k since → waited h.now since ≡ 0
+    → new.tallies.items ≡ s.tallies.items ++ (record {
+      thread = k;
       name = name;
       kept = kept;
       since = now;
       until = None;
       ready = 0;
+      ready_since = since;
       served = 0;
-    }) (name_is (h.nodes k) thread.thread name thread.there named)
-    (kept_is (h.nodes k) thread.thread kept thread.there seated) at_now refl refl refl) push here others idle
+    }) ∷ [] → new.idle ≡ s.idle → AreTallies new h (stays ++ stay_of h.now k (h.nodes k))
+open_read s new h stays k name kept now since thread are none named seated at_now noted no_wait push idle =
+    open_one s new h stays k thread.thread _ are none thread.there (record {
+      thread = refl;
+      name = name_is (h.nodes k) thread.thread name thread.there named;
+      kept = kept_is (h.nodes k) thread.thread kept thread.there seated;
+      since = at_now;
+      until = refl;
+      ready = refl;
+      waited_none = no_wait;
+      served = refl;
+      noted = noted;
+    }) push idle

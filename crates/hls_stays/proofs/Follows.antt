@@ -18,6 +18,7 @@ use Rattle.hls_stays.specs.Inside.Renewals.{IsApart, AreRenewable, renewed_all}
 use Rattle.hls_stays.specs.declared.stays.Stays.{Stays}
 use Rattle.hls_stays.proofs.Lists.{map_same, is_in, place_of, contains_at, apart_pairs}
 use Rattle.hls_stays.proofs.Ends.{closed_not}
+use Rattle.hls_stays.proofs.Noted.{at_effect}
 use Rattle.std.proofs.lemmas.List.Kept.{AllPairs-filter}
 use Rattle.hls_chron.specs.declared.book.Event.{Event}
 use Rattle.hls_scenario.specs.declared.scenario.Command.{Command}
@@ -29,21 +30,12 @@ use Rattle.hls_legal.specs.Steps.{loaded, wake_by}
 use Rattle.hls_legal.specs.Legal.{Can}
 use Rattle.hls_legal.proofs.Kept.{at_same}
 use Rattle.hls_legal.proofs.Listings.{filter_had}
-use Rattle.hls_accounts.specs.Tells.{Does}
+use Rattle.hls_accounts.specs.Tells.{Does, HasName}
+use Rattle.hls_accounts.proofs.Alike.{wake_of, moved-reseated}
 use Rattle.hls_stays.specs.Turnovers.{IsTurnover}
 use Rattle.hls_stays.specs.declared.turnover.Turnover.{Turnover}
-use Rattle.hls_stays.specs.declared.turnover.Turnover.TheVariants.{Nothing, Begins, Ends, Renews}
+use Rattle.hls_stays.specs.declared.turnover.Turnover.TheVariants.{Nothing, Begins, Ends, Renews, Rouses}
 use Rattle.hls_stays.proofs.Renewed.{renewed_is, opened_filter, in_filter, closed_alike, shut_on}
-
--- what is thought of tallies goes by ticks and stays alone
-pub at_effect : (s : Stays) (h : Hierarchy) (k : ℕ) (node : Option Node) (below : ℕ → Bool) (stays : List Stay)
-    → AreTallies s h stays → AreTallies s (effect h k node below) stays
-at_effect s h k node below stays are =
-    record { tallies = are.tallies; found = are.found; since = are.since; idle = are.idle }
-
-pub at_wake : (s : Stays) (h : Hierarchy) (k : ℕ) (how : Wake) → AreStays s h → AreStays s (with_wake h k how)
-at_wake s h k how are =
-    record { tallies = are.tallies; found = are.found; since = are.since; idle = are.idle }
 
 pub thread_is : (node : Option Node) → is_thread node ≡ true → IsThread node
 thread_is None is = absurd (cc)
@@ -103,11 +95,16 @@ quiet h k node standing listed_is was is =
     (opened_nothing h.now nodes begins h.threads (λ i c e. not_listed h k listed_is was i c e))
     ∙ append-nil h.stays
 
+-- where a node is no thread it keeps what it has
+keeps_none : (h : Hierarchy) (k : ℕ) (node : Option Node) → HasNone h.stays k → HasOpen h.stays k
+    → is_thread node ≡ true → (is_thread node ≡ is_thread (h.nodes k)) × (wake_of node ≡ wake_of (h.nodes k))
+keeps_none h k node none has is = absurd (none has.at has.stay has.there has.is_open has.thread)
+
 pub quiet_tallies : (s : Stays) (h : Hierarchy) (k : ℕ) (node : Option Node) → IsStanding h → IsListed h
     → is_thread (h.nodes k) ≡ false → is_thread node ≡ false → AreStays s h → AreStays s (effect h k node nobody)
 quiet_tallies s h k node standing listed_is was is are =
     subst (AreTallies s (effect h k node nobody)) (sym (quiet h k node standing listed_is was is))
-    (at_effect s h k node nobody h.stays are)
+    (at_effect s h k node nobody h.stays (keeps_none h k node (has_none h k standing was)) are)
 
 -- a thread comes
 pub admitted_threads : (h : Hierarchy) (k : ℕ) (name : List ℕ) (seat : Seat) → h.nodes k ≡ None
@@ -205,10 +202,9 @@ follow_nothing s h (said.Unload name) (Unload k) of does can standing lists are 
 follow_nothing s h (said.Unload name) _ of does can standing lists are = absurd does
 follow_nothing s h (said.Move name perch) (Move k seat below) of does can standing lists are = absurd (of k does.0)
 follow_nothing s h (said.Move name perch) _ of does can standing lists are = absurd does
-follow_nothing s h (said.Wake name burst) (Rouse k ticks) of does can standing lists are =
-    at_wake s h k (wake_by ticks h.now) are
+follow_nothing s h (said.Wake name burst) (Rouse k ticks) of does can standing lists are = absurd (of k does.0)
 follow_nothing s h (said.Wake name burst) _ of does can standing lists are = absurd does
-follow_nothing s h (said.Block name) (Block k) of does can standing lists are = at_wake s h k Asleep are
+follow_nothing s h (said.Block name) (Block k) of does can standing lists are = absurd (of k does)
 follow_nothing s h (said.Block name) _ of does can standing lists are = absurd does
 
 -- a thread has begun its first stay
@@ -234,7 +230,9 @@ follow_begins s h (said.Thread name perch) (Admit k new seat) of does can standi
   };
   none = has_none h k standing (ap is_thread can.new.unused);
   stays = admitted_stays h k new seat standing lists can.new.unused;
-  are = at_effect s h k (Some (Admitted (admitted h.now new seat))) nobody h.stays are;
+  are = at_effect s h k (Some (Admitted (admitted h.now new seat))) nobody h.stays
+      (keeps_none h k (Some (Admitted (admitted h.now new seat)))
+      (has_none h k standing (ap is_thread can.new.unused))) are;
 }
 follow_begins s h (said.Thread name perch) _ of does can standing lists are = absurd does
 follow_begins s h _ _ of does can standing lists are = absurd of
@@ -255,10 +253,33 @@ follow_ends s h id (said.End name) (End k) of does can standing lists are =
     subst (HasEnded s h (effect h k None nobody)) (sym (lists.names id k name of does)) (record {
       has = has_open h k lists can;
       stays = ended_stays h k (ended_there (h.nodes k) can);
-      are = at_effect s h k None nobody h.stays are;
+      are = at_effect s h k None nobody h.stays (λ has is. absurd (cc)) are;
     })
 follow_ends s h id (said.End name) _ of does can standing lists are = absurd does
 follow_ends s h id _ _ of does can standing lists are = absurd of
+
+-- a thread was woken or blocked
+pub record HasRoused (h : Hierarchy) (step : Step) (k : ℕ) : Type 0 where
+  pub how : Wake
+  pub leads : after h step ≡ with_wake h k how
+  pub has : HasOpen h.stays k
+  pub thread : IsThread (h.nodes k)
+
+roused_here : (h : Hierarchy) (step : Step) (id k : ℕ) (name : List ℕ) (how : Wake) → IsListed h → HasName h id name
+    → HasName h k name → IsThread (h.nodes k) → after h step ≡ with_wake h k how → HasRoused h step id
+roused_here h step id k name how lists named has thread leads =
+    subst (HasRoused h step) (sym (lists.names id k name named has))
+    (record { how = how; leads = leads; has = has_open h k lists thread; thread = thread })
+
+pub follow_rouses : (h : Hierarchy) (id : ℕ) (command : Command) (step : Step) → IsTurnover h command (Rouses id)
+    → Does h command step → Can h step → IsListed h → HasRoused h step id
+follow_rouses h id (said.Wake name burst) (Rouse k ticks) of does can lists =
+    roused_here h (Rouse k ticks) id k name (wake_by ticks h.now) lists of does.0 can refl
+follow_rouses h id (said.Wake name burst) _ of does can lists = absurd does
+follow_rouses h id (said.Block name) (Block k) of does can lists =
+    roused_here h (Block k) id k name Asleep lists of does can refl
+follow_rouses h id (said.Block name) _ of does can lists = absurd does
+follow_rouses h id _ _ of does can lists = absurd of
 
 -- the stays of these threads have ended, and others begun
 pub record HaveRenewed (s : Stays) (h later : Hierarchy) (ids : List ℕ) : Type 0 where
@@ -299,7 +320,8 @@ moved_renewed s h k seat below standing lists on are =
     (AllPairs-filter (λ (k c : ℕ). k ≢ c) below h.threads lists.threads.once) in
     record {
       may = record {
-        are = at_effect s h k (reseated seat (h.nodes k)) below h.stays are;
+        are = at_effect s h k (reseated seat (h.nodes k)) below h.stays
+            (λ has is. (let moved = moved-reseated seat (h.nodes k) in (moved.sort, moved.wake))) are;
         apart = apart;
         there = λ i c e. thread_is (nodes_after h k (reseated seat (h.nodes k)) below c)
             (moved_thread h k c seat below ∙ was i c e);

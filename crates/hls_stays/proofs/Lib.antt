@@ -1,9 +1,11 @@
-pub mod Lists
-pub mod Ends
-pub mod Counted
-pub mod Renewed
-pub mod Follows
-pub mod Told
-pub mod Under
-pub mod Begins
-pub mod Turned
+mod Lists
+mod Opened
+mod Ends
+mod Renewed
+mod Noted
+mod Follows
+mod Ticked
+mod Turned
+mod Begins
+mod Told
+mod Under

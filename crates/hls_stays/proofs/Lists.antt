@@ -1,6 +1,6 @@
 -- Lists by their places.
 use Rattle.std.proofs.Common.{◌≡◌, ◌≢◌, ℕ, zero, suc, inl, inr, ◌+◌, ◌≤◌, List, [], ◌∷◌, ◌++◌, Bool, true, false}
-use Rattle.std.proofs.Common.{length, refl, sym, ap, ◌∙◌, arith, map, take, ◌==◌, ◌||◌}
+use Rattle.std.proofs.Common.{length, refl, sym, ap, ◌∙◌, arith, map, filter, take, cond, ◌==◌, ◌||◌}
 use Rattle.std.specs.Prelude.{Some, slice_get, slice_set, Contains, AllPairs}
 use Rattle.std.specs.List.{list_any}
 use Rattle.std.proofs.lemmas.Bool.{cases_lt, cases_eq, ne_eqb, eq-eqb}
@@ -14,18 +14,6 @@ map_same f g [] same = refl
 map_same f g (x ∷ xs) same =
     ap (λ y. y ∷ map g xs) (same 0 x refl)
     ∙ ap (λ ys. f x ∷ ys) (map_same f g xs (λ i y e. same (suc i) y e))
-
--- a map that differs at one place
-pub map_set : {X Y : Type 0} (f g : X → Y) (xs : List X) (i : ℕ) (x : X) → slice_get xs i ≡ Some x
-    → ((j : ℕ) (y : X) → slice_get xs j ≡ Some y → j ≢ i → g y ≡ f y) → map g xs ≡ slice_set (map f xs) i (g x)
-map_set f g [] i x e same = absurd (cc)
-map_set {X = X} f g (y ∷ xs) zero x e same =
-    let is : y ≡ x = cc in
-    ap (λ (z : X). g z ∷ map g xs) is
-    ∙ ap (λ ys. g x ∷ ys) (map_same f g xs (λ j z at. same (suc j) z at (λ no. absurd (omega (arith, no)))))
-map_set f g (y ∷ xs) (suc i) x e same =
-    ap (λ z. z ∷ map g xs) (same 0 y refl (λ no. absurd (omega (arith, no))))
-    ∙ ap (λ ys. f y ∷ ys) (map_set f g xs i x e (λ j z at ne. same (suc j) z at (λ no. ne (omega (arith, no)))))
 
 -- the places of a list behind which others stand
 pub get_front : {X : Type 0} (xs ys : List X) (i : ℕ) (x : X) → slice_get xs i ≡ Some x
@@ -130,9 +118,6 @@ not_in (c ∷ ks) (suc n) k later = elim (cases_eq k c) [
       ∙ not_in ks n k (λ j e. (let le = later (suc j) e in omega (arith, le)))
 ]
 
-pub taken_not : (ks : List ℕ) (i k : ℕ) → IsApart ks → slice_get ks i ≡ Some k → is_in (take i ks) k ≡ false
-taken_not ks i k apart e = not_in ks i k (λ j f. (let same = apart i j k e f in omega (arith, same)))
-
 pub is_in_at : (ks : List ℕ) (i k : ℕ) → slice_get ks i ≡ Some k → is_in ks k ≡ true
 is_in_at [] i k e = absurd (cc)
 is_in_at (c ∷ ks) zero k e =
@@ -143,14 +128,80 @@ is_in_at (c ∷ ks) (suc i) k e = or_right (k == c) (is_in ks k) (is_in_at ks i 
     or_right true b e = refl
     or_right false b e = e
 
-pub is_in_next : (ks : List ℕ) (c k : ℕ) → is_in (ks ++ c ∷ []) k ≡ (is_in ks k || k == c)
-is_in_next [] c k = or_false (k == c)
-  where
-    or_false : (b : Bool) → (b || false) ≡ b
-    or_false true = refl
-    or_false false = refl
-is_in_next (d ∷ ks) c k = ap (λ b. k == d || b) (is_in_next ks c k) ∙ or_assoc (k == d) (is_in ks k) (k == c)
-  where
-    or_assoc : (x y z : Bool) → (x || (y || z)) ≡ ((x || y) || z)
-    or_assoc true y z = refl
-    or_assoc false y z = refl
+-- ---- two lists of one length, place by place
+
+pub inner : {A : Type 0} (x y : A) → Some x ≡ Some y → x ≡ y
+inner x y e = cc
+
+pub beside : {X Y : Type 0} (xs : List X) (ys : List Y) → length xs ≡ length ys → (i : ℕ) (x : X)
+    → slice_get xs i ≡ Some x → (y : Y) × (slice_get ys i ≡ Some y)
+beside [] ys same i x e = absurd (cc)
+beside (c ∷ xs) [] same i x e = absurd (omega (arith, same))
+beside (c ∷ xs) (d ∷ ys) same zero x e = (d, refl)
+beside (c ∷ xs) (d ∷ ys) same (suc i) x e = beside xs ys (omega (arith, same)) i x e
+
+-- items at one place of two lists at whose end another item stands
+pub data AreBeside {X Y : Type 0} (xs : List X) (x : X) (ys : List Y) (y : Y) (i : ℕ) (a : X) (b : Y) : Type 0 where
+  Before : slice_get xs i ≡ Some a → slice_get ys i ≡ Some b → AreBeside xs x ys y i a b
+  Last : x ≡ a → y ≡ b → AreBeside xs x ys y i a b
+
+beside_later : {X Y : Type 0} (c : X) (d : Y) (xs : List X) (x : X) (ys : List Y) (y : Y) (i : ℕ) (a : X) (b : Y)
+    → AreBeside xs x ys y i a b → AreBeside (c ∷ xs) x (d ∷ ys) y (suc i) a b
+beside_later c d xs x ys y i a b (Before e f) = Before e f
+beside_later c d xs x ys y i a b (Last e f) = Last e f
+
+pub of_ends : {X Y : Type 0} (xs : List X) (x : X) (ys : List Y) (y : Y) → length xs ≡ length ys → (i : ℕ) (a : X)
+    (b : Y) → slice_get (xs ++ x ∷ []) i ≡ Some a → slice_get (ys ++ y ∷ []) i ≡ Some b → AreBeside xs x ys y i a b
+of_ends [] x [] y same zero a b e f = Last (inner x a e) (inner y b f)
+of_ends [] x [] y same (suc i) a b e f = absurd (cc)
+of_ends [] x (d ∷ ys) y same i a b e f = absurd (omega (arith, same))
+of_ends (c ∷ xs) x [] y same i a b e f = absurd (omega (arith, same))
+of_ends (c ∷ xs) x (d ∷ ys) y same zero a b e f = Before e f
+of_ends (c ∷ xs) x (d ∷ ys) y same (suc i) a b e f =
+    beside_later c d xs x ys y i a b (of_ends xs x ys y (omega (arith, same)) i a b e f)
+
+-- an item of a list in which one was set
+pub data IsSet {X : Type 0} (xs : List X) (i : ℕ) (x : X) (j : ℕ) (y : X) : Type 0 where
+  Here : j ≡ i → x ≡ y → IsSet xs i x j y
+  There : j ≢ i → slice_get xs j ≡ Some y → IsSet xs i x j y
+
+set_later : {X : Type 0} (z : X) (xs : List X) (i : ℕ) (x : X) (j : ℕ) (y : X) → IsSet xs i x j y
+    → IsSet (z ∷ xs) (suc i) x (suc j) y
+set_later z xs i x j y (Here e is) = Here (ap suc e) is
+set_later z xs i x j y (There ne e) = There (λ no. ne (omega (arith, no))) e
+
+pub of_set : {X : Type 0} (xs : List X) (i : ℕ) (x : X) (j : ℕ) (y : X) → slice_get (slice_set xs i x) j ≡ Some y
+    → IsSet xs i x j y
+of_set [] zero x j y e = absurd (cc)
+of_set [] (suc i) x j y e = absurd (cc)
+of_set (z ∷ xs) zero x zero y e = Here refl (inner x y e)
+of_set (z ∷ xs) zero x (suc j) y e = There (λ no. absurd (omega (arith, no))) e
+of_set (z ∷ xs) (suc i) x zero y e = There (λ no. absurd (omega (arith, no))) e
+of_set (z ∷ xs) (suc i) x (suc j) y e = set_later z xs i x j y (of_set xs i x j y e)
+
+pub length-set : {A : Type 0} (xs : List A) (i : ℕ) (x : A) → length (slice_set xs i x) ≡ length xs
+length-set [] zero x = refl
+length-set [] (suc i) x = refl
+length-set (y ∷ xs) zero x = refl
+length-set (y ∷ xs) (suc i) x = ap suc (length-set xs i x)
+
+-- what is taken out of two lists by tests that say the same, and is mapped to the same
+either_alike : {X Y Z : Type 0} (f : X → Z) (g : Y → Z) (x : X) (y : Y) (b c : Bool) → b ≡ c → f x ≡ g y
+    → (xs : List X) (ys : List Y) → map f xs ≡ map g ys → map f (cond b (x ∷ xs) xs) ≡ map g (cond c (y ∷ ys) ys)
+either_alike f g x y true true e same xs ys rest =
+    ap (λ z. z ∷ map f xs) same ∙ ap (λ l. g y ∷ l) rest
+either_alike f g x y false false e same xs ys rest = rest
+either_alike f g x y true false e same xs ys rest = absurd (cc)
+either_alike f g x y false true e same xs ys rest = absurd (cc)
+
+pub filter_alike : {X Y Z : Type 0} (p : X → Bool) (q : Y → Bool) (f : X → Z) (g : Y → Z) (xs : List X)
+    (ys : List Y) → length xs ≡ length ys
+    → ((i : ℕ) (x : X) (y : Y) → slice_get xs i ≡ Some x → slice_get ys i ≡ Some y → (p x ≡ q y) × (f x ≡ g y))
+    → map f (filter p xs) ≡ map g (filter q ys)
+filter_alike p q f g [] [] same each = refl
+filter_alike p q f g [] (y ∷ ys) same each = absurd (omega (arith, same))
+filter_alike p q f g (x ∷ xs) [] same each = absurd (omega (arith, same))
+filter_alike p q f g (x ∷ xs) (y ∷ ys) same each =
+    let first = each 0 x y refl refl in
+    either_alike f g x y (p x) (q y) first.0 first.1 (filter p xs) (filter q ys)
+    (filter_alike p q f g xs ys (omega (arith, same)) (λ i a b e f. each (suc i) a b e f))

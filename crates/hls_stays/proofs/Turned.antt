@@ -1,28 +1,52 @@
--- What a turnover needs, and comes to.
-use Rattle.std.proofs.Common.{◌≡◌, ℕ, ◌+◌, ◌<◌, ◌^◌, ◌∷◌, [], ◌++◌, List, sym, ap, ◌∙◌, subst, arith, suc}
-use Rattle.std.proofs.Common.{is_none, map}
-use Rattle.std.specs.Prelude.{Option, Bool}
+-- What a turnover and a tick need, and come to.
+use Rattle.std.proofs.Common.{◌≡◌, ℕ, ◌+◌, ◌-◌, ◌<◌, ◌≤◌, ◌^◌, ◌∷◌, [], ◌++◌, List, Bool, true, false}
+use Rattle.std.proofs.Common.{length, refl, sym, ap, ◌∙◌, subst, arith, suc, is_none, is_some}
+use Rattle.std.specs.Prelude.{Option, Some, None, slice_get, slice_set}
 use Rattle.std.specs.Global.{Vec}
 use Rattle.hls_scenario.specs.declared.scenario.Command.{Command}
 use Rattle.hls_chron.specs.Ticks.{count, one_if}
 use Rattle.hls_chron.proofs.CountLaws.{count-push, count-agree, count-le}
 use Rattle.hls_sched.specs.Seen.{Seen}
-use Rattle.hls_legal.specs.Hierarchy.{Hierarchy, Stay, Tick}
-use Rattle.hls_legal.specs.Steps.{Step, Path, Elapse, after, thread_of}
+use Rattle.hls_legal.specs.Hierarchy.{Hierarchy, Stay, Tick, Wake, had_asked, was_served, is_just}
+use Rattle.hls_legal.specs.Steps.{Step, Path, Elapse, after, thread_of, is_thread, with_wake}
 use Rattle.hls_legal.specs.Legal.{asks_now}
+use Rattle.hls_legal.specs.Supplied.{end_of}
 use Rattle.hls_legal.proofs.Kept.{at_same, at_other}
 use Rattle.hls_accounts.specs.Agrees.{idle_in}
-use Rattle.hls_tree.specs.Trees.{Stands}
+use Rattle.hls_tree.specs.Trees.{IsTreeOf, IsReadyOf, Stands, ready_of}
 use Rattle.hls_tree.specs.declared.tree.Tree.{Tree}
-use Rattle.hls_stays.specs.Tallies.{AreStays, tally_of}
+use Rattle.hls_stays.specs.Tallies.{AreStays, IsTally, IsNoted, waited}
 use Rattle.hls_stays.specs.Changes.{Turns, MayTurn, Ticks, MayTick}
-use Rattle.hls_stays.specs.Inside.Steps.{MayClose}
-use Rattle.hls_stays.specs.Inside.Renewals.{AreRenewable, Counts, ticked_by}
+use Rattle.hls_stays.specs.Inside.Steps.{HasOpen, MayClose, noted_tally, served_tally}
+use Rattle.hls_stays.specs.Inside.Renewals.{AreRenewable, IsRousing, MayNote}
 use Rattle.hls_stays.specs.declared.stays.Stays.{Stays}
+use Rattle.hls_stays.specs.declared.tally.Tally.{Tally}
 use Rattle.hls_stays.specs.declared.turnover.Turnover.{Turnover}
-use Rattle.hls_stays.specs.declared.turnover.Turnover.TheVariants.{Nothing, Begins, Ends, Renews}
-use Rattle.hls_stays.proofs.Follows.{follow_nothing, follow_begins, follow_ends, follow_renews, HasBegun, HasEnded}
-use Rattle.hls_stays.proofs.Follows.{HaveRenewed, RenewsThese}
+use Rattle.hls_stays.specs.declared.turnover.Turnover.TheVariants.{Nothing, Begins, Ends, Renews, Rouses}
+use Rattle.hls_stays.proofs.Lists.{inner, length-set}
+use Rattle.hls_stays.proofs.Ends.{Finds, tally_found}
+use Rattle.hls_stays.proofs.Noted.{note_one}
+use Rattle.hls_stays.proofs.Ticked.{Goes, grown, unserved, served_tallies}
+use Rattle.hls_stays.proofs.Follows.{follow_nothing, follow_begins, follow_ends, follow_renews, follow_rouses}
+use Rattle.hls_stays.proofs.Follows.{HasBegun, HasEnded, HaveRenewed, HasRoused, RenewsThese, thread_is, has_open}
+
+idle_more : (h : Hierarchy) (asking : ℕ → Bool) (masks : ℕ → ℕ) (path : Option Path)
+    → idle_in (after h (Elapse asking masks path)) ≡ idle_in h + one_if (is_none (thread_of path))
+idle_more h asking masks path =
+    let last : Tick = record { asking = asking; to = thread_of path } in
+    let f : ℕ → Bool = λ x. is_none ((after h (Elapse asking masks path)).past x).to in
+    let more : h.now + 1 ≡ suc h.now = omega arith in
+    let at : 0 + h.now ≡ h.now = omega arith in
+    ap (count f 0) more ∙ count-push f 0 h.now
+    ∙ ap (λ n. n + one_if (f (0 + h.now)))
+    (count-agree f (λ x. is_none (h.past x).to) 0 h.now
+    (λ x lo hi. ap (λ (w : Tick). is_none w.to) (at_other x h.now last (h.past x) (λ e. omega (arith, e, hi)))))
+    ∙ ap (λ b. idle_in h + one_if b)
+    (ap (λ (w : Tick). is_none w.to) (at_same (0 + h.now) h.now last (h.past (0 + h.now)) at))
+
+one_most : (b : Bool) → one_if b ≤ 1
+one_most true = omega arith
+one_most false = omega arith
 
 -- V and P are what the checker knows a box by
 module _ {V : Type 0} {P : V → Type 0} (seen : (x : V) × P x → Seen) (s : Stays) (t : Tree V P) where
@@ -67,7 +91,7 @@ module _ {V : Type 0} {P : V → Type 0} (seen : (x : V) × P x → Seen) (s : S
       record { h = after may.h may.step; stays = may.h.stays; are = e.are; has = e.has }
 
   pub renews_stands : (turnover : Turnover) (ids : List ℕ) → RenewsThese turnover ids → MayTurn seen s t turnover
-      → Stands seen t (λ h. (stays : List Stay) × AreRenewable s h stays ids)
+      → Stands seen t (λ h. IsReadyOf seen t h × ((stays : List Stay) × AreRenewable s h stays ids))
   renews_stands turnover ids is may =
       let r = turn_renews turnover may.h may.command may.step ids is may.turns in
       record {
@@ -75,69 +99,205 @@ module _ {V : Type 0} {P : V → Type 0} (seen : (x : V) × P x → Seen) (s : S
         tree = may.turns.tree;
         seated = may.seated;
         listed = may.listed;
-        is = (may.h.stays, r.may);
+        is = (may.turns.ready, (may.h.stays, r.may));
       }
+
+  pub rouses_now : (turnover : Turnover) (h : Hierarchy) (command : Command) (step : Step) (id : ℕ)
+      → turnover ≡ Rouses id → Turns seen s t turnover h command step → HasRoused h step id
+  rouses_now turnover h command step id is x =
+      follow_rouses h id command step (subst (Rattle.hls_stays.specs.Turnovers.IsTurnover h command) is x.of) x.does
+      x.can x.listed
+
+  rousing : (h : Hierarchy) (step : Step) (id : ℕ) → AreStays s h → IsTreeOf seen t (after h step)
+      → IsReadyOf seen t (after h step) → (x : HasRoused h step id) → IsRousing seen s t h id x.how
+  rousing h step id are tree ready x = record {
+    are = are;
+    has = x.has;
+    thread = x.thread;
+    tree = subst (IsTreeOf seen t) x.leads tree;
+    ready = subst (IsReadyOf seen t) x.leads ready;
+  }
+
+  pub rouses_may : (turnover : Turnover) (id : ℕ) → turnover ≡ Rouses id → MayTurn seen s t turnover
+      → MayNote seen s t id
+  rouses_may turnover id is may =
+      let x = rouses_now turnover may.h may.command may.step id is may.turns in
+      record {
+        h = may.h;
+        how = x.how;
+        rousing = rousing may.h may.step id may.turns.stays may.turns.tree may.turns.ready x;
+      }
+
+  pub turn_rouses : (turnover : Turnover) (id : ℕ) (new : Stays)
+      → ((h : Hierarchy) (how : Wake) → IsRousing seen s t h id how → AreStays new (with_wake h id how))
+      → turnover ≡ Rouses id → (h : Hierarchy) (command : Command) (step : Step)
+      → Turns seen s t turnover h command step → AreStays new (after h step)
+  turn_rouses turnover id new noted is h command step turns =
+      let x = rouses_now turnover h command step id is turns in
+      subst (AreStays new) (sym x.leads) (noted h x.how (rousing h step id turns.stays turns.tree turns.ready x))
+
+  -- ---- a thread that is woken or blocked
+
+  pub note_within : (id place : ℕ) → MayNote seen s t id → Finds s id place → place < length s.tallies.items
+  note_within id place may finds =
+      (tally_found s may.h may.h.stays id place may.rousing.are may.rousing.has finds).within
+
+  -- what is noted fits
+  few_ready : (h : Hierarchy) (stay : Stay) (tally : Tally) (now : ℕ) → IsTally h stay tally → stay.until ≡ None
+      → now ≡ h.now → tally.ready + waited now tally.ready_since ≤ now
+  few_ready h stay tally now is none at_now =
+      let most = count-le (had_asked h.past stay.thread) stay.since (end_of h.now stay.until - stay.since) in
+      let end : end_of h.now tally.until ≡ now = ap (end_of h.now) (is.until ∙ none) ∙ sym at_now in
+      let total : tally.ready + waited now tally.ready_since
+      ≡ count (had_asked h.past stay.thread) stay.since (end_of h.now stay.until - stay.since) =
+      ap (λ n. tally.ready + waited n tally.ready_since) (sym end) ∙ is.ready in
+      let past = is.past in omega (arith, most, total, past, at_now)
+
+  pub note_fits : (id place now : ℕ) (tally : Tally) → MayNote seen s t id → Finds s id place
+      → ((h : Hierarchy) → IsTreeOf seen t h → now ≡ h.now) → slice_get s.tallies.items place ≡ Some tally
+      → tally.ready + waited now tally.ready_since ≤ now
+  note_fits id place now tally may finds at_now e =
+      let x = tally_found s may.h may.h.stays id place may.rousing.are may.rousing.has finds in
+      let same : x.tally ≡ tally = inner x.tally tally (sym x.there ∙ e) in
+      few_ready may.h may.rousing.has.stay tally now (subst (IsTally may.h may.rousing.has.stay) same x.is)
+      may.rousing.has.is_open (at_now (with_wake may.h id may.how) may.rousing.tree)
+
+  pub note_does : (id place now : ℕ) (ready : Bool) (new : Stays) → Finds s id place
+      → ((h : Hierarchy) → IsTreeOf seen t h → now ≡ h.now) → ready ≡ ready_of seen t id
+      → ((tally : Tally) → slice_get s.tallies.items place ≡ Some tally
+      → new.tallies.items ≡ slice_set s.tallies.items place (noted_tally ready now tally))
+      → new.idle ≡ s.idle → (h : Hierarchy) (how : Wake) → IsRousing seen s t h id how
+      → AreStays new (with_wake h id how)
+  note_does id place now ready new finds at_now flag set idle h how x =
+      note_one s new h id place now how ready x.are x.has finds (at_now (with_wake h id how) x.tree)
+      (λ y there. x.ready id y there ∙ sym flag) set idle
 
   -- ---- ticks
 
-  pub tick_counts : (thread : Option ℕ) (h : Hierarchy) (asking : ℕ → Bool) (masks : ℕ → ℕ) (path : Option Path)
-      → Ticks seen s t thread h asking masks path → Counts seen s t h asking
-  tick_counts thread h asking masks path x = record {
-    tree = x.tree;
-    listed = x.listed;
-    standing = x.standing;
-    stays = x.stays;
-    asks = λ k y there. x.can.0.nodes k ∙ ap (asks_now h k (masks k)) there ∙ x.ready k y there;
-    early = x.early;
-  }
+  asks_as_noted : (h : Hierarchy) (asking : ℕ → Bool) (k mask : ℕ) (since : Option ℕ) → is_thread (h.nodes k) ≡ true
+      → asking k ≡ asks_now h k mask (h.nodes k) → IsNoted h k since → asking k ≡ is_some since
+  asks_as_noted h asking k mask since is asks noted =
+      let x = thread_is (h.nodes k) is in
+      asks ∙ ap (asks_now h k mask) x.there ∙ sym (noted.is x.thread x.there)
 
-  pub may_count_all : (thread : Option ℕ) → MayTick seen s t thread
-      → Stands seen t (λ h. (asking : ℕ → Bool) × Counts seen s t h asking)
-  may_count_all thread may = record {
-    h = may.h;
-    tree = may.ticks.tree;
-    seated = may.seated;
-    listed = may.ticks.listed;
-    is = (may.asking, tick_counts thread may.h may.asking may.masks may.path may.ticks);
-  }
+  module _ (thread : Option ℕ) (h : Hierarchy) (asking : ℕ → Bool) (masks : ℕ → ℕ) (path : Option Path)
+      (x : Ticks seen s t thread h asking masks path) where
+    goes : (i : ℕ) (stay : Stay) → slice_get h.stays i ≡ Some stay → stay.until ≡ None
+        → Goes h asking masks path (ready_of seen t) stay
+    goes i stay e none = record {
+      asks = λ since noted.
+          asks_as_noted h asking stay.thread (masks stay.thread) since (x.standing.there i stay e none)
+          (x.can.0.nodes stay.thread) noted;
+      ready = λ y there. x.ready stay.thread y there;
+      others = λ y off there. x.others stay.thread y (ap (λ o. is_just o stay.thread) (sym x.to) ∙ off) there;
+    }
 
-  pub few_idle : (thread : Option ℕ) (idle : ℕ) → MayTick seen s t thread → idle ≡ s.idle → idle + 1 < 2 ^ 32
-  few_idle thread idle may same =
+    served_has : (k : ℕ) → thread ≡ Some k → HasOpen h.stays k
+    served_has k is = has_open h k x.listed (x.comes k is)
+
+    pub tick_idle : (new : Stays) → thread ≡ None → new.tallies.items ≡ s.tallies.items → new.idle ≡ s.idle + 1
+        → AreStays new (after h (Elapse asking masks path))
+    tick_idle new none same idle = record {
+      many = ap length same ∙ x.stays.many;
+      each = λ i stay tally e f.
+          unserved h asking masks path (ready_of seen t) stay tally
+          (x.stays.each i stay tally e (ap (λ l. slice_get l i) (sym same) ∙ f))
+          (λ open_yet. ap (λ o. is_just o stay.thread) (x.to ∙ none)) (goes i stay e);
+      single = x.stays.single;
+      idle = idle ∙ ap (λ n. n + 1) x.stays.idle
+          ∙ ap (λ (o : Option ℕ). idle_in h + one_if (is_none o)) (sym (x.to ∙ none))
+          ∙ sym (idle_more h asking masks path);
+    }
+
+    pub tick_served : (new : Stays) (k place now : ℕ) (ready : Bool) → thread ≡ Some k → Finds s k place
+        → ((h : Hierarchy) → IsTreeOf seen t h → now ≡ h.now) → ready ≡ ready_of seen t k
+        → ((tally : Tally) → slice_get s.tallies.items place ≡ Some tally
+        → new.tallies.items ≡ slice_set s.tallies.items place (noted_tally ready now (served_tally tally)))
+        → new.idle ≡ s.idle → AreStays new (after h (Elapse asking masks path))
+    tick_served new k place now ready is finds at_now flag set idle =
+        let has = served_has k is in
+        let y = tally_found s h h.stays k place x.stays has finds in
+        let set_by : (tally : Tally) → slice_get s.tallies.items place ≡ Some tally
+        → new.tallies.items
+        ≡ slice_set s.tallies.items place (noted_tally (ready_of seen t k) now (served_tally tally)) =
+        λ tally e. set tally e
+        ∙ ap (λ b. slice_set s.tallies.items place (noted_tally b now (served_tally tally))) flag in
+        record {
+          many = ap length (set y.tally y.there)
+              ∙ length-set s.tallies.items place (noted_tally ready now (served_tally y.tally)) ∙ x.stays.many;
+          each = served_tallies h asking masks path s new (ready_of seen t) k place now x.stays has finds
+              (at_now (after h (Elapse asking masks path)) x.tree) (x.to ∙ is) goes set_by;
+          single = x.stays.single;
+          idle = idle ∙ x.stays.idle ∙ (let no : idle_in h ≡ idle_in h + 0 = omega arith in no)
+              ∙ ap (λ (o : Option ℕ). idle_in h + one_if (is_none o)) (sym (x.to ∙ is))
+              ∙ sym (idle_more h asking masks path);
+        }
+
+    tick_within : (k place : ℕ) → thread ≡ Some k → Finds s k place → place < length s.tallies.items
+    tick_within k place is finds =
+        (tally_found s h h.stays k place x.stays (served_has k is) finds).within
+
+    -- a tally before the tick, of the thread that was served in it
+    tick_few : (k place now : ℕ) (tally : Tally) → thread ≡ Some k → Finds s k place → now ≡ h.now + 1
+        → slice_get s.tallies.items place ≡ Some tally
+        → (tally.ready + waited now tally.ready_since ≤ now) × (tally.served + 1 ≤ now)
+    tick_few k place now tally is finds at_now e =
+        let has = served_has k is in
+        let y = tally_found s h h.stays k place x.stays has finds in
+        let same : y.tally ≡ tally = inner y.tally tally (sym y.there ∙ e) in
+        let z = subst (IsTally h has.stay) same y.is in
+        let ready = few_ready h has.stay tally h.now z has.is_open refl in
+        let more = grown tally.ready h.now tally.ready_since (z.noted has.is_open).early in
+        let one = one_most (is_some tally.ready_since) in
+        let most = count-le (was_served h.past has.stay.thread) has.stay.since
+        (end_of h.now has.stay.until - has.stay.since) in
+        let served = z.served in
+        let past = z.past in
+        let total : tally.ready + waited now tally.ready_since ≤ now =
+        subst (λ n. tally.ready + waited n tally.ready_since ≤ n) (sym at_now) (omega (arith, ready, more, one)) in
+        (total, omega (arith, at_now, most, served, past))
+
+  module _ (id : ℕ) (may : MayTick seen s t (Some id)) where
+    pub serve_within : (place : ℕ) → Finds s id place → place < length s.tallies.items
+    serve_within place finds =
+        tick_within (Some id) may.h may.asking may.masks may.path may.ticks id place refl finds
+
+    serve_few : (place now : ℕ) (tally : Tally) → Finds s id place
+        → ((h : Hierarchy) → IsTreeOf seen t h → now ≡ h.now) → slice_get s.tallies.items place ≡ Some tally
+        → (tally.ready + waited now tally.ready_since ≤ now) × (tally.served + 1 ≤ now)
+    serve_few place now tally finds at_now e =
+        tick_few (Some id) may.h may.asking may.masks may.path may.ticks id place now tally refl finds
+        (at_now (after may.h (Elapse may.asking may.masks may.path)) may.ticks.tree) e
+
+    pub serve_fits : (place now : ℕ) (tally : Tally) → Finds s id place
+        → ((h : Hierarchy) → IsTreeOf seen t h → now ≡ h.now) → slice_get s.tallies.items place ≡ Some tally
+        → tally.ready + waited now tally.ready_since ≤ now
+    serve_fits place now tally finds at_now e = (serve_few place now tally finds at_now e).0
+
+    pub serve_counts : (place now : ℕ) (tally : Tally) → Finds s id place
+        → ((h : Hierarchy) → IsTreeOf seen t h → now ≡ h.now) → slice_get s.tallies.items place ≡ Some tally
+        → tally.served + 1 ≤ now
+    serve_counts place now tally finds at_now e = (serve_few place now tally finds at_now e).1
+
+  pub few_idle : (thread : Option ℕ) → MayTick seen s t thread → s.idle + 1 < 2 ^ 32
+  few_idle thread may =
       let most = count-le (λ x. is_none (may.h.past x).to) 0 may.h.now in
       let are = may.ticks.stays.idle in
-      let early = may.ticks.early in omega (arith, same, most, are, early)
+      let early = may.ticks.early in omega (arith, most, are, early)
 
-abbrev idle_later : (h : Hierarchy) → (asking : ℕ → Bool) → (to : Option ℕ) → ℕ
-idle_later h asking to = idle_in (ticked_by h asking to)
-
-idle_more : (h : Hierarchy) (asking : ℕ → Bool) (to : Option ℕ)
-    → idle_later h asking to ≡ idle_in h + one_if (is_none to)
-idle_more h asking to =
-    let last : Tick = record { asking = asking; to = to } in
-    let f : ℕ → Bool = λ x. is_none ((ticked_by h asking to).past x).to in
-    let more : h.now + 1 ≡ suc h.now = omega arith in
-    let at : 0 + h.now ≡ h.now = omega arith in
-    ap (count f 0) more ∙ count-push f 0 h.now
-    ∙ ap (λ n. n + one_if (f (0 + h.now)))
-    (count-agree f (λ x. is_none (h.past x).to) 0 h.now
-    (λ x lo hi. ap (λ (w : Tick). is_none w.to) (at_other x h.now last (h.past x) (λ e. omega (arith, e, hi)))))
-    ∙ ap (λ b. idle_in h + one_if b)
-    (ap (λ (w : Tick). is_none w.to) (at_same (0 + h.now) h.now last (h.past (0 + h.now)) at))
-
-pub ticked : (s new : Stays) (h : Hierarchy) (asking : ℕ → Bool) (masks : ℕ → ℕ) (path : Option Path)
-    (thread : Option ℕ) → AreStays s h → thread_of path ≡ thread
-    → new.tallies.items ≡ map (tally_of (ticked_by h asking thread)) h.stays → new.places ≡ s.places
-    → new.idle ≡ s.idle + one_if (is_none thread) → AreStays new (after h (Elapse asking masks path))
-ticked s new h asking masks path thread are to tallies places idle = record {
-  tallies = tallies ∙ ap (λ (o : Option ℕ). map (tally_of (ticked_by h asking o)) h.stays) (sym to);
-  found = λ at stay e none.
-      ap (λ p. Rattle.hls_stays.specs.Places.place_in p stay.thread) places ∙ are.found at stay e none;
-  since = λ at stay e. (let le = are.since at stay e in omega (arith, le));
-  idle = idle ∙ ap (λ n. n + one_if (is_none thread)) are.idle
-      ∙ ap (λ (o : Option ℕ). idle_in h + one_if (is_none o)) (sym to)
-      ∙ sym (idle_more h asking (thread_of path));
-}
+  pub tick_at : (thread : Option ℕ) (id : ℕ) → thread ≡ Some id → MayTick seen s t thread
+      → MayTick seen s t (Some id)
+  tick_at thread id is may = subst (MayTick seen s t) is may
 
 pub these_are : (turnover : Turnover) (threads : Vec ℕ) (ids : List ℕ) → turnover ≡ Renews threads
     → ids ≡ threads.items → RenewsThese turnover ids
 these_are turnover threads ids is value = subst (λ x. RenewsThese x ids) (sym is) (sym value)
+
+pub same_stays : (s new : Stays) → new.tallies.items ≡ s.tallies.items → new.idle ≡ s.idle → (h : Hierarchy)
+    → AreStays s h → AreStays new h
+same_stays s new same idle h are = record {
+  many = ap length same ∙ are.many;
+  each = λ at stay tally e f. are.each at stay tally e (ap (λ l. slice_get l at) (sym same) ∙ f);
+  single = are.single;
+  idle = idle ∙ are.idle;
+}

@@ -1,6 +1,6 @@
 -- The threads that are a node or below it.
 use Rattle.std.proofs.Common.{◌≡◌, ◌≢◌, ℕ, ◌+◌, List, [], ◌∷◌, ◌++◌, Bool, true, false, cond, length, sym, ap, ◌∙◌}
-use Rattle.std.proofs.Common.{filter, take, ◌≤◌, inl, inr}
+use Rattle.std.proofs.Common.{filter, take, ◌≤◌, inl, inr, subst}
 use Rattle.std.specs.Prelude.{Option, Some, None, slice_get}
 use Rattle.std.proofs.lemmas.Bool.{cases_Bool}
 use Rattle.std.proofs.lemmas.List.{append-nil}
@@ -11,7 +11,11 @@ use Rattle.hls_legal.specs.Steps.{is_thread}
 use Rattle.hls_legal.specs.Readings.{IsUnder}
 use Rattle.hls_tree.specs.Trees.{Stands}
 use Rattle.hls_tree.specs.declared.tree.Tree.{Tree}
-use Rattle.hls_stays.specs.Turnovers.{Tells}
+use Rattle.hls_text.specs.Lines.{Text}
+use Rattle.hls_scenario.specs.declared.scenario.Command.{Command}
+use Rattle.hls_scenario.specs.declared.scenario.Command.TheVariants as said
+use Rattle.hls_stays.specs.Turnovers.{Tells, IsRoused, IsTurnover}
+use Rattle.hls_stays.specs.declared.turnover.Turnover.{Turnover}
 use Rattle.hls_stays.proofs.Lists.{take_next, take_all, contains_at}
 
 there_is : (node : Option Node) → is_thread node ≡ true → node ≢ None
@@ -60,3 +64,11 @@ under_skip h below id at k kept tells e not are =
 pub under_all : (h : Hierarchy) (below : ℕ → Bool) (at : ℕ) (kept : List ℕ) → length h.threads ≤ at
     → kept ≡ filter below (take at h.threads) → kept ≡ filter below h.threads
 under_all h below at kept le are = are ∙ ap (filter below) (take_all h.threads at le)
+
+pub roused_wake : (h : Hierarchy) (command : Command) (name : Text) (burst : Option ℕ) (turnover : Turnover)
+    → command ≡ said.Wake name burst → IsRoused h name turnover → IsTurnover h command turnover
+roused_wake h command name burst turnover is of = subst (λ k. IsTurnover h k turnover) (sym is) of
+
+pub roused_block : (h : Hierarchy) (command : Command) (name : Text) (turnover : Turnover)
+    → command ≡ said.Block name → IsRoused h name turnover → IsTurnover h command turnover
+roused_block h command name turnover is of = subst (λ k. IsTurnover h k turnover) (sym is) of

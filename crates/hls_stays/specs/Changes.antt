@@ -1,14 +1,14 @@
 -- What a command and a tick do to stays.
-use Rattle.std.specs.Prelude.{◌≡◌, ℕ, ◌<◌, ◌+◌, ◌^◌, Option, Bool}
+use Rattle.std.specs.Prelude.{◌≡◌, ℕ, ◌<◌, ◌+◌, ◌^◌, Option, Some, Bool, false}
 use Rattle.hls_scenario.specs.declared.scenario.Command.{Command}
 use Rattle.hls_sched.specs.Seen.{Seen}
-use Rattle.hls_legal.specs.Hierarchy.{Hierarchy}
+use Rattle.hls_legal.specs.Hierarchy.{Hierarchy, Thread, Admitted, is_just, is_ready, was_served}
 use Rattle.hls_legal.specs.Steps.{Step, Path, Elapse, after, thread_of}
-use Rattle.hls_legal.specs.Legal.{Can}
+use Rattle.hls_legal.specs.Legal.{Can, IsThread}
 use Rattle.hls_legal.specs.Lists.{IsListed}
 use Rattle.hls_legal.specs.Seated.{IsSeated}
 use Rattle.hls_accounts.specs.Tells.{Does}
-use Rattle.hls_tree.specs.Trees.{IsTreeOf, IsReadyOf}
+use Rattle.hls_tree.specs.Trees.{IsTreeOf, IsReadyOf, ready_of}
 use Rattle.hls_tree.specs.declared.tree.Tree.{Tree}
 use Rattle.hls_stays.specs.Tallies.{AreStays, IsStanding}
 use Rattle.hls_stays.specs.Turnovers.{IsTurnover, Tells}
@@ -30,6 +30,7 @@ module _ {V : Type 0} {P : V → Type 0} where
     pub can : Can h step
     pub tells : (k : ℕ) (below : ℕ → Bool) → IsBelow h k below → Tells h k below
     pub tree : IsTreeOf seen t (after h step)
+    pub ready : IsReadyOf seen t (after h step)
 
   pub record MayTurn (seen : (x : V) × P x → Seen) (s : Stays) (t : Tree V P) (turnover : Turnover) : Type 0 where
     pub h : Hierarchy
@@ -39,16 +40,20 @@ module _ {V : Type 0} {P : V → Type 0} where
     pub seated : IsSeated (after h step)
     pub listed : IsListed (after h step)
 
-  -- a tick can elapse by a path that leads to this thread, or is idle
+  -- A tick has elapsed by a path that leads to this thread, or idly, after which the tree is. Before it the stays
+  -- were those of the hierarchy. Who was not served is ready as before.
   pub record Ticks (seen : (x : V) × P x → Seen) (s : Stays) (t : Tree V P) (thread : Option ℕ) (h : Hierarchy)
       (asking : ℕ → Bool) (masks : ℕ → ℕ) (path : Option Path) : Type 0 where
     pub stays : AreStays s h
     pub standing : IsStanding h
     pub listed : IsListed h
-    pub tree : IsTreeOf seen t h
-    pub ready : IsReadyOf seen t h
     pub can : Can h (Elapse asking masks path)
     pub to : thread_of path ≡ thread
+    pub comes : (k : ℕ) → thread ≡ Some k → IsThread (h.nodes k)
+    pub tree : IsTreeOf seen t (after h (Elapse asking masks path))
+    pub ready : IsReadyOf seen t (after h (Elapse asking masks path))
+    pub others : (k : ℕ) (x : Thread) → is_just thread k ≡ false → h.nodes k ≡ Some (Admitted x)
+        → is_ready (was_served h.past k) h.now x.wake ≡ ready_of seen t k
     pub early : h.now + 1 < 2 ^ 32
 
   pub record MayTick (seen : (x : V) × P x → Seen) (s : Stays) (t : Tree V P) (thread : Option ℕ) : Type 0 where
@@ -57,4 +62,3 @@ module _ {V : Type 0} {P : V → Type 0} where
     pub masks : ℕ → ℕ
     pub path : Option Path
     pub ticks : Ticks seen s t thread h asking masks path
-    pub seated : IsSeated h

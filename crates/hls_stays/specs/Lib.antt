@@ -1,4 +1,3 @@
-pub mod Places
 pub mod Tallies
 pub mod Turnovers
 pub mod Inside

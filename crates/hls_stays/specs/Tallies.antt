@@ -1,32 +1,50 @@
 -- What tallies say of the stays of a hierarchy.
-use Rattle.std.specs.Prelude.{◌≡◌, ℕ, ◌+◌, ◌≤◌, ◌<◌, List, Some, None, true, map, length, slice_get}
+use Rattle.std.specs.Prelude.{◌≡◌, ℕ, ◌+◌, ◌-◌, ◌≤◌, ◌==◌, ◌&&◌, List, Option, Some, None, Bool, true, false}
+use Rattle.std.specs.Prelude.{length, slice_get, is_some, is_none}
 use Rattle.std.specs.Vec.{vec_capacity}
-use Rattle.hls_legal.specs.Hierarchy.{Hierarchy, Stay}
+use Rattle.hls_legal.specs.Hierarchy.{Hierarchy, Stay, Thread, Admitted, is_ready, was_served}
 use Rattle.hls_legal.specs.Steps.{is_thread}
 use Rattle.hls_legal.specs.Supplied.{end_of, ready_ticks, served_ticks}
 use Rattle.hls_accounts.specs.Agrees.{idle_in}
-use Rattle.hls_stays.specs.Places.{place_in, spare_in}
 use Rattle.hls_stays.specs.declared.stays.Stays.{Stays}
 use Rattle.hls_stays.specs.declared.tally.Tally.{Tally}
 
--- a stay, and in how many of its ticks so far its thread was ready and was served
-abbrev pub tally_of : Hierarchy → Stay → Tally
-tally_of h stay = record {
-  name = stay.name;
-  kept = stay.kept;
-  since = stay.since;
-  until = stay.until;
-  ready = ready_ticks h stay;
-  served = served_ticks h stay;
-}
+-- how many ticks have passed since a thread became ready, where it is
+abbrev pub waited : (now : ℕ) → Option ℕ → ℕ
+waited now None = 0
+waited now (Some since) = now - since
 
--- The tallies are those of these stays, in their order. Those that are open are found by their threads. None
--- begins later than now, and the idle ticks are counted.
+-- the thread of a stay is ready since a tick exactly where it is ready at present
+pub record IsNoted (h : Hierarchy) (k : ℕ) (since : Option ℕ) : Type 0 where
+  pub is : (t : Thread) → h.nodes k ≡ Some (Admitted t)
+      → is_some since ≡ is_ready (was_served h.past k) h.now t.wake
+  pub early : (tick : ℕ) → since ≡ Some tick → tick ≤ h.now
+
+-- A tally is that of a stay, with how many of the stay's ticks so far its thread was ready and was served. The stay
+-- neither begins nor ends later than now.
+pub record IsTally (h : Hierarchy) (stay : Stay) (tally : Tally) : Type 0 where
+  pub thread : tally.thread ≡ stay.thread
+  pub name : tally.name ≡ stay.name
+  pub kept : tally.kept ≡ stay.kept
+  pub since : tally.since ≡ stay.since
+  pub until : tally.until ≡ stay.until
+  pub ready : tally.ready + waited (end_of h.now tally.until) tally.ready_since ≡ ready_ticks h stay
+  pub served : tally.served ≡ served_ticks h stay
+  pub noted : stay.until ≡ None → IsNoted h stay.thread tally.ready_since
+  pub early : stay.since ≤ h.now
+  pub past : end_of h.now stay.until ≤ h.now
+
+-- no thread has two stays that are open
+abbrev pub AreSingle : List Stay → Type 0
+AreSingle stays = (i j : ℕ) (one other : Stay) → slice_get stays i ≡ Some one → slice_get stays j ≡ Some other
+    → one.until ≡ None → other.until ≡ None → one.thread ≡ other.thread → i ≡ j
+
+-- the tallies are those of these stays, in their order, and the idle ticks are counted
 pub record AreTallies (s : Stays) (h : Hierarchy) (stays : List Stay) : Type 0 where
-  pub tallies : s.tallies.items ≡ map (tally_of h) stays
-  pub found : (at : ℕ) (stay : Stay) → slice_get stays at ≡ Some stay → stay.until ≡ None
-      → place_in s.places stay.thread ≡ Some at
-  pub since : (at : ℕ) (stay : Stay) → slice_get stays at ≡ Some stay → stay.since ≤ h.now
+  pub many : length s.tallies.items ≡ length stays
+  pub each : (at : ℕ) (stay : Stay) (tally : Tally) → slice_get stays at ≡ Some stay
+      → slice_get s.tallies.items at ≡ Some tally → IsTally h stay tally
+  pub single : AreSingle stays
   pub idle : s.idle ≡ idle_in h
 
 -- they are those of all stays so far
@@ -39,7 +57,14 @@ pub record IsStanding (h : Hierarchy) : Type 0 where
       → is_thread (h.nodes stay.thread) ≡ true
   pub past : (at : ℕ) (stay : Stay) → slice_get h.stays at ≡ Some stay → end_of h.now stay.until ≤ h.now
 
--- there is room for so many stays more, and for one thread more
-pub record HasRoom (s : Stays) (more : ℕ) : Type 0 where
-  pub stays : length s.tallies.items + more ≤ vec_capacity s.tallies
-  pub thread : 0 < spare_in s.places
+-- there is room for so many stays more
+abbrev pub HasRoom : Stays → (more : ℕ) → Type 0
+HasRoom s more = length s.tallies.items + more ≤ vec_capacity s.tallies
+
+-- the tally at a place is that of an open stay of a thread
+abbrev pub open_by : Option Tally → (k : ℕ) → Bool
+open_by None k = false
+open_by (Some tally) k = is_none tally.until && tally.thread == k
+
+abbrev pub opened_at : List Tally → (at k : ℕ) → Bool
+opened_at tallies at k = open_by (slice_get tallies at) k

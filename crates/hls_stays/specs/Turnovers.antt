@@ -7,7 +7,7 @@ use Rattle.hls_legal.specs.Hierarchy.{Hierarchy}
 use Rattle.hls_legal.specs.Readings.{IsUnder}
 use Rattle.hls_accounts.specs.Tells.{HasName}
 use Rattle.hls_stays.specs.declared.turnover.Turnover.{Turnover}
-use Rattle.hls_stays.specs.declared.turnover.Turnover.TheVariants.{Nothing, Begins, Ends, Renews}
+use Rattle.hls_stays.specs.declared.turnover.Turnover.TheVariants.{Nothing, Begins, Ends, Renews, Rouses}
 
 -- the test tells what is a node or below it
 abbrev pub Tells : Hierarchy → (k : ℕ) → (below : ℕ → Bool) → Type 0
@@ -15,6 +15,12 @@ Tells h k below = (c : ℕ) → (below c ≡ true) ↔ IsUnder h k c
 
 abbrev pub IsNameless : Hierarchy → Text → Type 0
 IsNameless h name = (k : ℕ) → ¬ HasName h k name
+
+-- a thread of this name is woken or blocked
+abbrev pub IsRoused : Hierarchy → Text → Turnover → Type 0
+IsRoused h name Nothing = IsNameless h name
+IsRoused h name (Rouses k) = HasName h k name
+IsRoused h name _ = ⊥
 
 -- a command that is carried out will end and begin these stays
 abbrev pub IsTurnover : Hierarchy → Command → Turnover → Type 0
@@ -26,8 +32,8 @@ IsTurnover h (said.Unload name) Nothing = Unit {0}
 IsTurnover h (said.Move name perch) Nothing = IsNameless h name
 IsTurnover h (said.Move name perch) (Renews threads) = (k : ℕ) × HasName h k name
     × ((below : ℕ → Bool) → Tells h k below → threads.items ≡ filter below h.threads)
-IsTurnover h (said.Wake name burst) Nothing = Unit {0}
-IsTurnover h (said.Block name) Nothing = Unit {0}
+IsTurnover h (said.Wake name burst) turnover = IsRoused h name turnover
+IsTurnover h (said.Block name) turnover = IsRoused h name turnover
 IsTurnover h _ _ = ⊥
 
 abbrev pub stays_begun : Turnover → ℕ
@@ -35,3 +41,4 @@ stays_begun Nothing = 0
 stays_begun Begins = 1
 stays_begun (Ends k) = 0
 stays_begun (Renews threads) = length threads.items
+stays_begun (Rouses k) = 0

@@ -3,13 +3,23 @@ ghost use Rattle.std.specs.Prelude.{◌≡◌, IfOk, map, filter, nat_lt};
 ghost use Rattle.hls_legal.specs.Hierarchy.{Hierarchy};
 ghost use Rattle.hls_legal.specs.Supplied.{end_of};
 ghost use Rattle.hls_accounts.specs.Agrees.{accounts_in, idle_in};
-ghost use Rattle.hls_stays.specs.Tallies.{AreStays};
+ghost use Rattle.hls_stays.specs.Tallies.{AreStays, waited};
 ghost use Rattle.hls_stays.specs.Inside.Accounts.{account_by};
 
 use crate::Stays;
 use crate::tally::Tally;
 use hls_report_text::Account;
 use std::alloc::{AllocError, Global};
+
+/// How many ticks have passed since a thread became ready, where it is.
+fn waited(now: u32, ready_since: Option<u32>) -> u32
+    ensures { result ≡ waited now ready_since }
+{
+    match ready_since {
+        Some(since) => now.saturating_sub(since),
+        None => 0,
+    }
+}
 
 impl Tally {
     /// The tick before which the stay ends: the present one where it is open.
@@ -25,12 +35,13 @@ impl Tally {
     fn account(&self, now: u32) -> Account
         ensures { result ≡ account_by now self.now }
     {
+        let end = self.end(now);
         Account {
             name: self.name,
             from: self.since,
-            to: self.end(now).saturating_sub(1),
+            to: end.saturating_sub(1),
             kept: self.kept,
-            ready: self.ready,
+            ready: self.ready.saturating_add(waited(end, self.ready_since)),
             served: self.served,
         }
     }

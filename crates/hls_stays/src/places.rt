@@ -1,53 +1,54 @@
 // The places of the last stays of threads.
-ghost use Rattle.std.specs.Prelude.{◌≡◌, ◌≢◌, ◌<◌, ◌⊎◌, ℕ, Some, None, OnOk};
-ghost use Rattle.hls_stays.specs.Places.{place_in, spare_in};
+ghost use Rattle.std.specs.Prelude.{◌≡◌, length, slice_get, unwrap_or};
 
 use hls_tree::NodeId;
-use indexmap::IndexMap;
 use std::alloc::{AllocError, Global};
 
-/// The place of the last stay of each thread that had one, by the thread's number.
+/// How many keys there may be beyond the number of stays: schedulers have keys too.
+const SPARE: usize = 66;
+
+/// The place of the last stay of each thread, by the thread's key. It is a guess, and the stay there tells
+/// whether it is right.
 #[derive(Drop)]
 pub(crate) struct Places {
-    places: IndexMap<u32, usize>,
+    pub(crate) places: Vec<usize>,
 }
 
 impl Places {
     /// No places.
     pub(crate) fn new(alloc: Global) -> Places
-        ensures { (k : ℕ) → place_in result k ≡ None }
+        ensures { length result.places.items ≡ 0 }
     {
         Places {
-            places: IndexMap::new(alloc),
+            places: Vec::new(alloc),
         }
     }
 
-    /// Makes room for one thread more.
-    pub(crate) fn reserve(&mut self) -> Result<(), AllocError>
-        ensures room { OnOk result (0 < spare_in self.new) }
-        ensures same { (k : ℕ) → place_in self.new k ≡ place_in self.old k }
-    {
-        self.places.reserve(1)
+    /// Makes room for the threads that there may be where there are so many stays.
+    pub(crate) fn reserve(&mut self, stays: usize) -> Result<(), AllocError> {
+        for _key in self.places.len()..stays.saturating_add(SPARE) {
+            self.places.push(0)?;
+        }
+        Ok(())
     }
 
-    /// The place of the last stay of a thread.
-    pub(crate) fn find(&self, id: NodeId) -> Option<usize>
-        ensures { result ≡ place_in self.now id }
+    /// The place of the last stay of a thread, if there is one.
+    pub(crate) fn guess(&self, id: NodeId) -> usize
+        ensures { result ≡ unwrap_or (slice_get self.now.places.items id) 0 }
     {
-        let key = id.key() as u32;
-        self.places.get(&key).copied()
+        match self.places.get(id.key()) {
+            Some(place) => *place,
+            None => 0,
+        }
     }
 
-    /// Notes the place of a stay that begins: of a thread that had one before, or into room that is there.
+    /// Notes the place of a stay that begins.
     pub(crate) fn put(&mut self, id: NodeId, place: usize)
-        requires { (place_in self.old id ≢ None) ⊎ (0 < spare_in self.old) }
-        ensures here { place_in self.new id ≡ Some place }
-        ensures others { (k : ℕ) → k ≢ id → place_in self.new k ≡ place_in self.old k }
+        ensures { length self.new.places.items ≡ length self.old.places.items }
     {
-        let key = id.key() as u32;
-        match self.places.insert(key, place) {
-            Ok(_) => {}
-            Err(_) => unreachable!(),
+        let key = id.key();
+        if key < self.places.len() {
+            self.places[key] = place;
         }
     }
 }

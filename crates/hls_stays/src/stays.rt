@@ -1,25 +1,21 @@
 // The stays of threads.
-ghost use Rattle.std.specs.Prelude.{◌≡◌, ◌≢◌, ◌+◌, ◌<◌, ◌≤◌, ◌⊎◌, ◌++◌, ◌^◌, ℕ, Some, None, Bool, OnOk, true, [], ◌∷◌};
-ghost use Rattle.std.specs.Prelude.{List, Option, length, map, slice_get, slice_set};
-ghost use Rattle.std.specs.Prelude.{is_none};
+ghost use Rattle.std.specs.Prelude.{◌≡◌, ◌+◌, ◌<◌, ◌≤◌, ◌++◌, ◌^◌, ℕ, Bool, true, OnOk, Option, Some, [], ◌∷◌};
+ghost use Rattle.std.specs.Prelude.{List, length};
 ghost use Rattle.std.specs.Vec.{vec_capacity};
-ghost use Rattle.hls_chron.specs.Ticks.{one_if};
-ghost use Rattle.hls_legal.specs.Hierarchy.{Hierarchy, Stay, start, is_just};
+ghost use Rattle.hls_legal.specs.Hierarchy.{Hierarchy, Stay, Wake, start};
 ghost use Rattle.hls_legal.specs.Legal.{IsThread};
-ghost use Rattle.hls_legal.specs.Steps.{Step, Elapse, Path, after, is_thread, stay_of};
+ghost use Rattle.hls_legal.specs.Steps.{Step, Elapse, Path, after, stay_of, with_wake};
 ghost use Rattle.hls_scenario.specs.declared.scenario.Command.{Command};
-ghost use Rattle.hls_tree.specs.Trees.{IsTreeOf, Stands, ready_of};
-ghost use Rattle.hls_stays.specs.Places.{place_in, spare_in};
-ghost use Rattle.hls_stays.specs.Tallies.{AreStays, AreTallies, HasRoom, tally_of};
+ghost use Rattle.hls_tree.specs.Trees.{IsTreeOf, IsReadyOf, Stands};
+ghost use Rattle.hls_stays.specs.Tallies.{AreStays, AreTallies, HasRoom, IsNoted, waited, opened_at};
 ghost use Rattle.hls_stays.specs.Turnovers.{stays_begun};
 ghost use Rattle.hls_stays.specs.Changes.{Turns, MayTurn, Ticks, MayTick};
-ghost use Rattle.hls_stays.specs.Inside.Steps.{HasOpen, HasNone, MayClose, MayCount, without, counted_tally};
-ghost use Rattle.hls_stays.specs.Inside.Renewals.{AreRenewable, renewed_one, renewed_all, Counts, ticked_by};
-ghost use Rattle.hls_stays.specs.declared.tally.Tally.{Tally};
+ghost use Rattle.hls_stays.specs.Inside.Steps.{HasOpen, HasNone, MayClose, without};
+ghost use Rattle.hls_stays.specs.Inside.Renewals.{AreRenewable, renewed_one, renewed_all, IsRousing, MayNote};
 
 use crate::Turnover;
 use crate::places::Places;
-use crate::tally::{Tally, close_at, count_at};
+use crate::tally::{Tally, close_at, is_open_at, note_at, search, serve_at};
 use hls_tree::{NodeId, Tree};
 use std::alloc::{AllocError, Global};
 
@@ -32,13 +28,15 @@ pub struct Stays {
     pub(crate) idle: u32,
 }
 
-/// Whether it is this node.
-fn is_just(thread: &Option<NodeId>, id: NodeId) -> bool
-    ensures { result ≡ is_just thread.now id }
+/// Since when a thread is ready, where it is ready from now on.
+fn ready_since(tree: &Tree, id: NodeId) -> Option<u32>
+    ensures noted { (h : Hierarchy) → IsTreeOf seen tree.now h → IsReadyOf seen tree.now h → IsNoted h id result }
+    ensures begun { (h : Hierarchy) → IsTreeOf seen tree.now h → waited h.now result ≡ 0 }
 {
-    match thread {
-        Some(other) => *other == id,
-        None => false,
+    if tree.is_ready(id) {
+        Some(tree.now())
+    } else {
+        None
     }
 }
 
@@ -63,7 +61,19 @@ impl Stays {
         ensures same { (h : Hierarchy) → AreStays self.old h → AreStays self.new h }
     {
         self.tallies.reserve(turnover.begun())?;
-        self.places.reserve()
+        self.places.reserve(self.tallies.len())
+    }
+
+    /// The place of the open stay of a thread.
+    fn place(&self, id: NodeId) -> usize
+        ensures { (at : ℕ) → opened_at self.now.tallies.items at id ≡ true →
+            opened_at self.now.tallies.items result id ≡ true }
+    {
+        let guess = self.places.guess(id);
+        if is_open_at(&self.tallies, guess, id) {
+            return guess;
+        }
+        search(&self.tallies, id)
     }
 
     /// Ends the open stay of a thread.
@@ -71,34 +81,32 @@ impl Stays {
         requires { MayClose self.old id }
         ensures closed { (h : Hierarchy) (stays : List Stay) → h.now ≡ now → AreTallies self.old h stays →
             HasOpen stays id → AreTallies self.new h (without h.now id stays) }
-        ensures places { self.new.places ≡ self.old.places }
         ensures count { length self.new.tallies.items ≡ length self.old.tallies.items }
         ensures capacity { vec_capacity self.new.tallies ≡ vec_capacity self.old.tallies }
     {
-        match self.places.find(id) {
-            Some(place) => close_at(&mut self.tallies, place, now),
-            None => unreachable!(),
-        }
+        let place = self.place(id);
+        close_at(&mut self.tallies, place, now);
     }
 
     /// Begins a stay of a thread that has none that is open, into room that is there.
     fn open(&mut self, tree: &Tree, id: NodeId)
         requires thread { Stands seen tree.now (λ h. IsThread (h.nodes id)) }
         requires room { length self.old.tallies.items < vec_capacity self.old.tallies }
-        requires place { (place_in self.old.places id ≢ None) ⊎ (0 < spare_in self.old.places) }
-        ensures opened { (h : Hierarchy) (stays : List Stay) → IsTreeOf seen tree.now h → IsThread (h.nodes id) →
-            AreTallies self.old h stays → HasNone stays id →
+        ensures opened { (h : Hierarchy) (stays : List Stay) → IsTreeOf seen tree.now h → IsReadyOf seen tree.now h →
+            IsThread (h.nodes id) → AreTallies self.old h stays → HasNone stays id →
             AreTallies self.new h (stays ++ stay_of h.now id (h.nodes id)) }
         ensures count { length self.new.tallies.items ≡ length self.old.tallies.items + 1 }
         ensures capacity { vec_capacity self.new.tallies ≡ vec_capacity self.old.tallies }
     {
         let place = self.tallies.len();
         self.tallies.push_reserved(Tally {
+            thread: id,
             name: tree.name(id),
             kept: tree.kept(id, 0),
             since: tree.now(),
             until: None,
             ready: 0,
+            ready_since: ready_since(tree, id),
             served: 0,
         });
         self.places.put(id, place);
@@ -109,8 +117,9 @@ impl Stays {
         requires thread { Stands seen tree.now (λ h. IsThread (h.nodes id)) }
         requires room { length self.old.tallies.items < vec_capacity self.old.tallies }
         requires close { MayClose self.old id }
-        ensures renewed { (h : Hierarchy) (stays : List Stay) → IsTreeOf seen tree.now h → IsThread (h.nodes id) →
-            AreTallies self.old h stays → HasOpen stays id → AreTallies self.new h (renewed_one h stays id) }
+        ensures renewed { (h : Hierarchy) (stays : List Stay) → IsTreeOf seen tree.now h →
+            IsReadyOf seen tree.now h → IsThread (h.nodes id) → AreTallies self.old h stays → HasOpen stays id →
+            AreTallies self.new h (renewed_one h stays id) }
         ensures count { length self.new.tallies.items ≡ length self.old.tallies.items + 1 }
         ensures capacity { vec_capacity self.new.tallies ≡ vec_capacity self.old.tallies }
     {
@@ -120,9 +129,10 @@ impl Stays {
 
     /// Ends the open stays of threads, and begins others.
     fn renew_all(&mut self, tree: &Tree, ids: &[NodeId])
-        requires may { Stands seen tree.now (λ h. (stays : List Stay) × AreRenewable self.old h stays ids.now) }
+        requires may { Stands seen tree.now (λ h. IsReadyOf seen tree.now h ×
+            ((stays : List Stay) × AreRenewable self.old h stays ids.now)) }
         requires room { length self.old.tallies.items + length ids.now ≤ vec_capacity self.old.tallies }
-        ensures { (h : Hierarchy) (stays : List Stay) → IsTreeOf seen tree.now h →
+        ensures { (h : Hierarchy) (stays : List Stay) → IsTreeOf seen tree.now h → IsReadyOf seen tree.now h →
             AreRenewable self.old h stays ids.now → AreTallies self.new h (renewed_all h stays ids.now) }
     {
         for id in ids {
@@ -136,11 +146,22 @@ impl Stays {
             (h.threads ≡ front ++ k ∷ [])) }
         requires room { HasRoom self.old 1 }
         ensures { (h : Hierarchy) (stays : List Stay) (front : List ℕ) (k : ℕ) → IsTreeOf seen tree.now h →
-            IsThread (h.nodes k) → h.threads ≡ front ++ k ∷ [] → AreTallies self.old h stays →
-            HasNone stays k → AreTallies self.new h (stays ++ stay_of h.now k (h.nodes k)) }
+            IsReadyOf seen tree.now h → IsThread (h.nodes k) → h.threads ≡ front ++ k ∷ [] →
+            AreTallies self.old h stays → HasNone stays k →
+            AreTallies self.new h (stays ++ stay_of h.now k (h.nodes k)) }
     {
         let last = tree.threads() - 1;
         self.open(tree, tree.thread(last));
+    }
+
+    /// Notes whether a thread that was woken or blocked is ready from now on.
+    fn note(&mut self, tree: &Tree, id: NodeId)
+        requires { MayNote seen self.old tree.now id }
+        ensures { (h : Hierarchy) (how : Wake) → IsRousing seen self.old tree.now h id how →
+            AreStays self.new (with_wake h id how) }
+    {
+        let place = self.place(id);
+        note_at(&mut self.tallies, place, tree.is_ready(id), tree.now());
     }
 
     /// Ends and begins stays, after a command was carried out, into room that is there.
@@ -155,62 +176,31 @@ impl Stays {
             Turnover::Begins => self.begin(tree),
             Turnover::Ends(id) => self.close(id, tree.now()),
             Turnover::Renews(ids) => self.renew_all(tree, &ids),
+            Turnover::Rouses(id) => self.note(tree, id),
         }
     }
 
-    /// Counts a tick of the open stay of a thread.
-    fn count(&mut self, tree: &Tree, id: NodeId, thread: &Option<NodeId>)
-        requires { MayCount self.old id }
-        ensures counted { (place : ℕ) (tally : Tally) → place_in self.old.places id ≡ Some place →
-            slice_get self.old.tallies.items place ≡ Some tally → self.new.tallies.items ≡
-            slice_set self.old.tallies.items place (counted_tally (ready_of seen tree.now id)
-            (is_just thread.now id) tally) }
-        ensures places { self.new.places ≡ self.old.places }
-        ensures idle { self.new.idle ≡ self.old.idle }
+    /// Counts a tick in which this thread was served, and notes whether it is ready from now on.
+    fn serve(&mut self, tree: &Tree, id: NodeId)
+        requires { MayTick seen self.old tree.now (Some id) }
+        ensures { (h : Hierarchy) (asking : ℕ → Bool) (masks : ℕ → ℕ) (path : Option Path) →
+            Ticks seen self.old tree.now (Some id) h asking masks path →
+            AreStays self.new (after h (Elapse asking masks path)) }
     {
-        match self.places.find(id) {
-            Some(place) => {
-                let ready = tree.is_ready(id);
-                count_at(&mut self.tallies, place, ready, is_just(thread, id));
-            }
-            None => unreachable!(),
-        }
+        let place = self.place(id);
+        serve_at(&mut self.tallies, place, tree.is_ready(id), tree.now());
     }
 
-    /// Counts a tick of each open stay.
-    fn count_all(&mut self, tree: &Tree, thread: &Option<NodeId>)
-        requires { Stands seen tree.now (λ h. (asking : ℕ → Bool) × Counts seen self.old tree.now h asking) }
-        ensures counted { (h : Hierarchy) (asking : ℕ → Bool) → Counts seen self.old tree.now h asking →
-            self.new.tallies.items ≡ map (tally_of (ticked_by h asking thread.now)) h.stays }
-        ensures places { self.new.places ≡ self.old.places }
-        ensures idle { self.new.idle ≡ self.old.idle }
-    {
-        for at in 0..tree.threads() {
-            self.count(tree, tree.thread(at), thread);
-        }
-    }
-
-    /// Counts a tick that is idle where no thread is served.
-    fn count_idle(&mut self, thread: &Option<NodeId>)
-        requires { self.old.idle + 1 < 2 ^ 32 }
-        ensures idle { self.new.idle ≡ self.old.idle + one_if (is_none thread.now) }
-        ensures tallies { self.new.tallies ≡ self.old.tallies }
-        ensures places { self.new.places ≡ self.old.places }
-    {
-        if thread.is_none() {
-            self.idle += 1;
-        }
-    }
-
-    /// Counts a tick in which this thread is served, or none: of each open stay whether its thread is ready
-    /// and whether it is served. It comes before a burst is used up.
+    /// Counts a tick that has elapsed, in which this thread was served, or none.
     pub fn tick(&mut self, tree: &Tree, thread: Option<NodeId>)
         requires { MayTick seen self.old tree.now thread }
         ensures { (h : Hierarchy) (asking : ℕ → Bool) (masks : ℕ → ℕ) (path : Option Path) →
             Ticks seen self.old tree.now thread h asking masks path →
             AreStays self.new (after h (Elapse asking masks path)) }
     {
-        self.count_all(tree, &thread);
-        self.count_idle(&thread);
+        match thread {
+            Some(id) => self.serve(tree, id),
+            None => self.idle += 1,
+        }
     }
 }

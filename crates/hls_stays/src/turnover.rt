@@ -2,8 +2,9 @@
 ghost use Rattle.std.specs.Prelude.{◌≡◌, ◌≢◌, ◌<◌, ◌^◌, ℕ, IfOk, Bool, filter, length};
 ghost use Rattle.hls_legal.specs.Hierarchy.{Hierarchy};
 ghost use Rattle.hls_tree.specs.Trees.{IsTreeOf, Stands, Any};
-ghost use Rattle.hls_stays.specs.Turnovers.{Tells, IsTurnover, stays_begun};
+ghost use Rattle.hls_stays.specs.Turnovers.{Tells, IsRoused, IsTurnover, stays_begun};
 
+use hls_chron::Name;
 use hls_scenario::Command;
 use hls_tree::{NodeId, Tree};
 use std::alloc::{AllocError, Global};
@@ -19,6 +20,8 @@ pub enum Turnover {
     Ends(NodeId),
     /// The stays of these threads end, and others of theirs begin.
     Renews(Vec<NodeId>),
+    /// None, but a thread may be ready that was not, or not any more.
+    Rouses(NodeId),
 }
 
 /// The threads that are a node or below it, in the order of their admissions.
@@ -36,6 +39,16 @@ fn threads_under(alloc: Global, tree: &Tree, id: NodeId) -> Result<Vec<NodeId>, 
         threads.push(thread)?;
     }
     Ok(threads)
+}
+
+/// That a thread of this name is woken or blocked, where there is one.
+fn rouses(tree: &Tree, name: &Name) -> Turnover
+    ensures { (h : Hierarchy) → IsTreeOf seen tree.now h → IsRoused h name.now result }
+{
+    match tree.find(name) {
+        Some(id) => Turnover::Rouses(id),
+        None => Turnover::Nothing,
+    }
 }
 
 impl Turnover {
@@ -58,6 +71,8 @@ impl Turnover {
                 Some(id) => Ok(Turnover::Renews(threads_under(alloc, tree, id)?)),
                 None => Ok(Turnover::Nothing),
             },
+            Command::Wake { name, .. } => Ok(rouses(tree, name)),
+            Command::Block { name } => Ok(rouses(tree, name)),
             _ => Ok(Turnover::Nothing),
         }
     }
@@ -71,6 +86,7 @@ impl Turnover {
             Turnover::Begins => 1,
             Turnover::Ends(_) => 0,
             Turnover::Renews(threads) => threads.len(),
+            Turnover::Rouses(_) => 0,
         }
     }
 }

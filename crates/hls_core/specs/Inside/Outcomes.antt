@@ -8,7 +8,7 @@ use Rattle.hls_legal.specs.Steps.{Step, after}
 use Rattle.hls_legal.specs.Legal.{Can}
 use Rattle.hls_accounts.specs.Tells.{Answers}
 use Rattle.hls_answers.specs.Moment.{Moment}
-use Rattle.hls_tree.specs.Trees.{IsTreeOf}
+use Rattle.hls_tree.specs.Trees.{IsTreeOf, IsReadyOf}
 use Rattle.hls_tree.specs.declared.tree.Tree.{Tree}
 use Rattle.hls_stays.specs.Tallies.{AreStays, IsStanding}
 use Rattle.hls_stays.specs.Turnovers.{IsTurnover}
@@ -46,6 +46,7 @@ module _ {V : Type 0} {P : V → Type 0} where
     pub answers : Answers h command answer step
     pub can : Can h step
     pub tree : IsTreeOf seen t (after h step)
+    pub ready : IsReadyOf seen t (after h step)
 
   pub record MayFollow (seen : (x : V) × P x → Seen) (tallies : Stays) (t : Tree V P) (turnover : Turnover)
       (answer : Answer) : Type 0 where

@@ -1,7 +1,8 @@
 -- The account of a tally.
-use Rattle.std.specs.Prelude.{ℕ, ◌-◌}
+use Rattle.std.specs.Prelude.{ℕ, ◌-◌, ◌+◌, ◌^◌, min}
 use Rattle.hls_report_text.specs.declared.report.Account.{Account}
 use Rattle.hls_legal.specs.Supplied.{end_of}
+use Rattle.hls_stays.specs.Tallies.{waited}
 use Rattle.hls_stays.specs.declared.tally.Tally.{Tally}
 
 abbrev pub account_by : (now : ℕ) → Tally → Account
@@ -10,6 +11,6 @@ account_by now tally = record {
   from = tally.since;
   to = end_of now tally.until - 1;
   kept = tally.kept;
-  ready = tally.ready;
+  ready = min (tally.ready + waited (end_of now tally.until) tally.ready_since) (2 ^ 32 - 1);
   served = tally.served;
 }

@@ -1,14 +1,12 @@
--- What stays that are renewed, and a tick of all open ones, leave of tallies.
-use Rattle.std.specs.Prelude.{◌≡◌, ℕ, ◌+◌, ◌<◌, ◌^◌, ◌==◌, List, [], ◌∷◌, ◌++◌, Option, Some, Bool}
-use Rattle.std.specs.Prelude.{slice_get, if◌then◌else◌}
+-- What stays that are renewed, and threads that are woken or blocked, leave of tallies.
+use Rattle.std.specs.Prelude.{◌≡◌, ℕ, List, [], ◌∷◌, ◌++◌, Some, slice_get}
 use Rattle.hls_sched.specs.Seen.{Seen}
-use Rattle.hls_legal.specs.Hierarchy.{Hierarchy, Stay, Thread, Admitted}
+use Rattle.hls_legal.specs.Hierarchy.{Hierarchy, Stay, Wake}
 use Rattle.hls_legal.specs.Legal.{IsThread}
-use Rattle.hls_legal.specs.Lists.{IsListed}
-use Rattle.hls_legal.specs.Steps.{stay_of}
-use Rattle.hls_tree.specs.Trees.{IsTreeOf, ready_of}
+use Rattle.hls_legal.specs.Steps.{stay_of, with_wake}
+use Rattle.hls_tree.specs.Trees.{IsTreeOf, IsReadyOf}
 use Rattle.hls_tree.specs.declared.tree.Tree.{Tree}
-use Rattle.hls_stays.specs.Tallies.{AreTallies, AreStays, IsStanding}
+use Rattle.hls_stays.specs.Tallies.{AreTallies, AreStays}
 use Rattle.hls_stays.specs.Inside.Steps.{HasOpen, without}
 use Rattle.hls_stays.specs.declared.stays.Stays.{Stays}
 
@@ -31,21 +29,18 @@ pub record AreRenewable (s : Stays) (h : Hierarchy) (stays : List Stay) (threads
   pub there : (i k : ℕ) → slice_get threads i ≡ Some k → IsThread (h.nodes k)
   pub each : (i k : ℕ) → slice_get threads i ≡ Some k → HasOpen stays k
 
--- the hierarchy after a tick, but for its books
-abbrev pub ticked_by : Hierarchy → (asking : ℕ → Bool) → (to : Option ℕ) → Hierarchy
-ticked_by h asking to = record h {
-  now = h.now + 1;
-  past = λ t. if t == h.now then record { asking = asking; to = to } else h.past t;
-}
-
 -- V and P are what the checker knows a box by
 module _ {V : Type 0} {P : V → Type 0} where
-  -- who asks is told by the flags of threads
-  pub record Counts (seen : (x : V) × P x → Seen) (s : Stays) (t : Tree V P) (h : Hierarchy) (asking : ℕ → Bool)
+  -- a thread with an open stay was woken or blocked, after which the tree is
+  pub record IsRousing (seen : (x : V) × P x → Seen) (s : Stays) (t : Tree V P) (h : Hierarchy) (k : ℕ) (how : Wake)
       : Type 0 where
-    pub tree : IsTreeOf seen t h
-    pub listed : IsListed h
-    pub standing : IsStanding h
-    pub stays : AreStays s h
-    pub asks : (k : ℕ) (x : Thread) → h.nodes k ≡ Some (Admitted x) → asking k ≡ ready_of seen t k
-    pub early : h.now + 1 < 2 ^ 32
+    pub are : AreStays s h
+    pub has : HasOpen h.stays k
+    pub thread : IsThread (h.nodes k)
+    pub tree : IsTreeOf seen t (with_wake h k how)
+    pub ready : IsReadyOf seen t (with_wake h k how)
+
+  pub record MayNote (seen : (x : V) × P x → Seen) (s : Stays) (t : Tree V P) (k : ℕ) : Type 0 where
+    pub h : Hierarchy
+    pub how : Wake
+    pub rousing : IsRousing seen s t h k how

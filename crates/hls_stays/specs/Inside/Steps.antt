@@ -1,10 +1,8 @@
--- What one stay that begins, ends or has a tick more leaves of tallies.
-use Rattle.std.specs.Prelude.{◌≡◌, ◌≢◌, ℕ, ◌+◌, ◌<◌, ◌^◌, ◌==◌, List, Some, None}
-use Rattle.std.specs.Prelude.{Bool, map, slice_get}
-use Rattle.hls_chron.specs.Ticks.{one_if}
+-- What one stay that begins, ends or is served leaves of tallies.
+use Rattle.std.specs.Prelude.{◌≡◌, ◌≢◌, ℕ, ◌+◌, ◌-◌, ◌==◌, List, Option, Some, None, Bool, true, false}
+use Rattle.std.specs.Prelude.{map, slice_get}
 use Rattle.hls_legal.specs.Hierarchy.{Hierarchy, Stay}
 use Rattle.hls_legal.specs.Steps.{closed}
-use Rattle.hls_stays.specs.Places.{place_in}
 use Rattle.hls_stays.specs.Tallies.{AreTallies}
 use Rattle.hls_stays.specs.declared.stays.Stays.{Stays}
 use Rattle.hls_stays.specs.declared.tally.Tally.{Tally}
@@ -12,11 +10,17 @@ use Rattle.hls_stays.specs.declared.tally.Tally.{Tally}
 abbrev pub closed_tally : (now : ℕ) → Tally → Tally
 closed_tally now tally = record tally { until = Some now }
 
-abbrev pub counted_tally : (ready served : Bool) → Tally → Tally
-counted_tally ready served tally = record tally {
-  ready = tally.ready + one_if ready;
-  served = tally.served + one_if served;
-}
+abbrev pub served_tally : Tally → Tally
+served_tally tally = record tally { served = tally.served + 1 }
+
+-- a thread that was ready since a tick, or not ready, is ready from now on or not
+abbrev pub noted_by : (since : Option ℕ) → (ready : Bool) → (now : ℕ) → Tally → Tally
+noted_by None true now tally = record tally { ready_since = Some now }
+noted_by (Some since) false now tally = record tally { ready = tally.ready + (now - since); ready_since = None }
+noted_by _ _ now tally = tally
+
+abbrev pub noted_tally : (ready : Bool) → (now : ℕ) → Tally → Tally
+noted_tally ready now tally = noted_by tally.ready_since ready now tally
 
 -- the stays, where those of a thread end now
 abbrev pub without : (now k : ℕ) → List Stay → List Stay
@@ -39,12 +43,3 @@ pub record MayClose (s : Stays) (k : ℕ) : Type 0 where
   pub stays : List Stay
   pub are : AreTallies s h stays
   pub has : HasOpen stays k
-
--- a thread has a tally, with numbers that can grow
-pub record MayCount (s : Stays) (k : ℕ) : Type 0 where
-  pub place : ℕ
-  pub tally : Tally
-  pub at_place : place_in s.places k ≡ Some place
-  pub there : slice_get s.tallies.items place ≡ Some tally
-  pub ready : tally.ready + 1 < 2 ^ 32
-  pub served : tally.served + 1 < 2 ^ 32

@@ -15,3 +15,10 @@ follow-requires-clause-may g c =
     c.args.stays.now c.reserve.new.self c.args.kit.now c.args.depth c.args.commands c.in_ok-turnover.turnover
     c.args.command.now c.in_ok-answer.answer c.requires.stands c.reserve.ensures.same c.in_ok-turnover.ensures
     c.in_ok-answer.ensures.carried
+
+pub returns-clause-stays : goal.returns-clause-stays
+returns-clause-stays g c = λ h step may does can tree ready.
+    c.follow.ensures h c.args.command.now step
+    (follows _ c.args.tree.now c.carry_out.new.tree c.args.bursts.now c.args.stays.now c.reserve.new.self
+    c.in_ok-turnover.turnover c.args.command.now c.in_ok-answer.answer h step may (c.reserve.ensures.same h may.stays)
+    (c.in_ok-turnover.ensures h may.at_state.tree) does can tree ready)

@@ -8,9 +8,9 @@ open-requires-clause-thread g c =
     (c.thread.ensures c.requires.thread.h c.requires.thread.tree)
 
 pub returns : goal.returns
-returns g c = λ h stays front k tree thread is are none.
+returns g c = λ h stays front k tree ready thread is are none.
     let many = c.threads-last.ensures h tree in
     let same : c.thread.result ≡ k =
     last_is h.threads front k c.thread.result _ is (omega (arith, many)) (c.thread.ensures h tree) in
     begin_at c.open.new.self h stays c.thread.result k same
-    (λ thread none. c.open.ensures.opened h stays tree thread are none) thread none
+    (λ thread none. c.open.ensures.opened h stays tree ready thread are none) thread none

@@ -2,7 +2,7 @@ use Rattle.std.proofs.Common.{sym, subst}
 use Rattle.hls_legal.specs.Steps.{after}
 use Rattle.hls_stays.specs.Tallies.{AreTallies}
 use Rattle.hls_stays.proofs.Turned.{turn_nothing, turn_begins, turn_ends, turn_renews, ends_may, renews_stands}
-use Rattle.hls_stays.proofs.Turned.{these_are}
+use Rattle.hls_stays.proofs.Turned.{these_are, rouses_may, turn_rouses}
 use Rattle.hls_stays.proofs.stays.Stays.follow.Goals as goal
 
 pub close-requires : goal.close-requires
@@ -22,7 +22,7 @@ pub returns-in-Begins : goal.returns-in-Begins
 returns-in-Begins g c = λ h command step turns.
     let b = turn_begins _ c.args.self.now c.args.tree.now c.args.turnover h command step c.in-Begins.is turns in
     subst (AreTallies c.begin.new.self (after h step)) (sym b.stays)
-    (c.begin.ensures (after h step) h.stays b.front b.k turns.tree b.thread b.threads b.are b.none)
+    (c.begin.ensures (after h step) h.stays b.front b.k turns.tree turns.ready b.thread b.threads b.are b.none)
 
 pub returns-in-Ends : goal.returns-in-Ends
 returns-in-Ends g c = λ h command step turns.
@@ -36,4 +36,13 @@ returns-in-Renews g c = λ h command step turns.
     let r = turn_renews _ c.args.self.now c.args.tree.now c.args.turnover h command step c.deref.result.now
     (these_are c.args.turnover c.in-Renews.ids c.deref.result.now c.in-Renews.is c.deref.ensures.value) turns in
     subst (AreTallies c.renew_all.new.self (after h step)) r.stays
-    (c.renew_all.ensures (after h step) h.stays turns.tree r.may)
+    (c.renew_all.ensures (after h step) h.stays turns.tree turns.ready r.may)
+
+pub note-requires : goal.note-requires
+note-requires g c =
+    rouses_may _ c.args.self.now c.args.tree.now c.args.turnover c.in-Rouses.id c.in-Rouses.is c.requires.may
+
+pub returns-in-Rouses : goal.returns-in-Rouses
+returns-in-Rouses g c =
+    turn_rouses _ c.args.self.now c.args.tree.now c.args.turnover c.in-Rouses.id c.note.new.self c.note.ensures
+    c.in-Rouses.is
