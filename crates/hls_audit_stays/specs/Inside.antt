@@ -1,0 +1,4 @@
+pub mod Index
+pub mod Seats
+pub mod Marks
+pub mod Carried
