@@ -112,7 +112,7 @@ tree_here all t then next tree e so_far =
 -- ---- runs
 
 module _ (names : List Text) where
-  run_since : (from : ℕ) (last : Option (Option (List Text))) (runs : List Run) (end at : ℕ) (run : Run)
+  pub run_since : (from : ℕ) (last : Option (Option (List Text))) (runs : List Run) (end at : ℕ) (run : Run)
       → Cover from last (map (stretch_of names) runs) end → slice_get runs at ≡ Some run
       → (from ≤ run.from) × (run.from ≤ run.to)
   run_since from last [] end at run cover there = absurd (cc)
@@ -173,7 +173,7 @@ module _ (names : List Text) where
 
 -- ---- what a step of the audit does
 
-path_is : (c : Content) (names : List Text) (runs : List Run) (t at : ℕ) (run : Run) → IsContent c
+pub path_is : (c : Content) (names : List Text) (runs : List Run) (t at : ℕ) (run : Run) → IsContent c
     → c.stretches ≡ map (stretch_of names) runs → slice_get runs at ≡ Some run → run.from ≤ t → t ≤ run.to
     → path_at c.stretches t ≡ option_map (path_names names) run.path
 path_is c names runs t at run formed e there lo hi =

@@ -47,10 +47,10 @@ pub lacks_within : (served ready : List Bool) (horizon t : ℕ) → length serve
 lacks_within served ready horizon t e lack = let lt = lack.within in omega (arith, lt, e)
 
 -- what a served tick has
-record HasThread (c : Content) (name : Text) (t : ℕ) : Type 0 where
-  names : List Text
-  path : path_at c.stretches t ≡ Some names
-  thread : last_name names ≡ Some name
+pub record HasThread (c : Content) (name : Text) (t : ℕ) : Type 0 where
+  pub names : List Text
+  pub path : path_at c.stretches t ≡ Some names
+  pub thread : last_name names ≡ Some name
 
 by_last : (c : Content) (name : Text) (t : ℕ) (names : List Text) (last : Option Text)
     → path_at c.stretches t ≡ Some names → last_name names ≡ last → is_name name last ≡ true → HasThread c name t
@@ -63,7 +63,7 @@ by_path : (c : Content) (name : Text) (t : ℕ) (path : Option (List Text)) → 
 by_path c name t None e on = absurd (let wrong : false ≡ true = on in cc)
 by_path c name t (Some names) e on = by_last c name t names (last_name names) e refl on
 
-has_thread : (c : Content) (name : Text) (t : ℕ) → is_served c.stretches name t ≡ true → HasThread c name t
+pub has_thread : (c : Content) (name : Text) (t : ℕ) → is_served c.stretches name t ≡ true → HasThread c name t
 unfolding is_served
 has_thread c name t on = by_path c name t (path_at c.stretches t) refl on
 

@@ -1,4 +1,5 @@
 pub mod Lists
+pub mod ChainLaws
 pub mod MarkLaws
 pub mod FitLaws
 pub mod PathLaws
@@ -19,4 +20,7 @@ pub mod Least
 pub mod Linked
 pub mod Abreast
 pub mod EachName
+pub mod Found
+pub mod LookupLaws
+pub mod MarkedLaws
 pub mod Counted

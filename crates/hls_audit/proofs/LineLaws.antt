@@ -1,15 +1,13 @@
 -- The ticks of one thread: in which it is served, and in which it is ready.
 use Rattle.std.proofs.Common.{◌≡◌, ℕ, zero, suc, inl, inr, ◌+◌, ◌-◌, ◌<◌, ◌≤◌, List, [], ◌∷◌, ◌++◌}
-use Rattle.std.proofs.Common.{refl, sym, ap, ◌∙◌, subst, arith, cond, map, take, length, get_or, reverse}
-use Rattle.std.specs.Prelude.{Bool, true, false, Some, None, ◌&&◌, nat_le, find, slice_get}
-use Rattle.std.specs.Prelude.{replicate}
+use Rattle.std.proofs.Common.{refl, sym, ap, ◌∙◌, subst, arith, cond, take, length, get_or, reverse}
+use Rattle.std.specs.Prelude.{Bool, true, false, Option, Some, None, ◌&&◌, nat_le, find, slice_get}
 use Rattle.std.specs.Option.{option_or}
 use Rattle.std.proofs.lemmas.Bool.{cases_eq, cases_lt, le-leb, lt-leb}
-use Rattle.std.proofs.lemmas.List.{get_or_append_left, length-append, reverse-append, take_more, map-append, append-nil}
+use Rattle.std.proofs.lemmas.List.{get_or_append_left, length-append, reverse-append, take_more}
 use Rattle.std.proofs.Math.Seq.{get_or-append_seam}
 use Rattle.std.proofs.lemmas.List.Folds.{find-append}
-use Rattle.std.proofs.lemmas.Grind.{flat_map-append}
-use Rattle.std.proofs.lemmas.Option.{slice_get_read, slice_get_within, get_or_from_slice_get}
+use Rattle.std.proofs.lemmas.Option.{slice_get_read, slice_get_within, slice_get_cases, get_or_from_slice_get}
 use Rattle.hls_text.specs.Lines.{Text}
 use Rattle.hls_chron.specs.Ticks.{count, one_if}
 use Rattle.hls_chron.proofs.CountLaws.{count-none, count-push}
@@ -17,46 +15,16 @@ use Rattle.hls_guarantee.specs.Service.{schedule_of}
 use Rattle.hls_scenario.specs.declared.scenario.Command.{Command}
 use Rattle.hls_scenario.specs.declared.scenario.Command.TheVariants.{Load, Thread, End, Unload, Move, Wake, Block}
 use Rattle.hls_report_text.specs.declared.report.Answered.{Answered}
-use Rattle.hls_report_text.specs.declared.report.Run.{Run}
-use Rattle.hls_report_text.specs.declared.stretch.Stretch.{Stretch}
-use Rattle.hls_report_text.specs.Content.{stretch_of}
 use Rattle.hls_accounts.specs.Commands.{has_done, rouses, last_rousing}
 use Rattle.hls_accounts.specs.Ready.{lasts, is_awake}
-use Rattle.hls_accounts.specs.Schedule.{tick_list}
 use Rattle.hls_accounts.proofs.Rousings.{rousing, find-snoc_hit, find-snoc_miss}
 use Rattle.hls_audit.specs.declared.lines.Readiness.{Readiness}
 use Rattle.hls_audit.specs.declared.lines.Readiness.TheVariants.{Asleep}
+use Rattle.hls_audit.specs.declared.chains.Chains.{Chains}
+use Rattle.hls_audit.specs.Inside.Chains.{Keys, HasKey, IsNextAt, IsNext, AreChains, next_of}
+use Rattle.hls_audit.specs.Inside.Lookups.{AreKeys, Rouses}
 use Rattle.hls_audit.specs.Inside.Sites.{AreInOrder}
-use Rattle.hls_audit.specs.Inside.Lines.{serves, readiness_of, is_on, IsFilled, AreReady}
-
--- ---- served
-
-map_replicate : {A B : Type 0} (f : A → B) (n : ℕ) (x : A) → map f (replicate n x) ≡ replicate n (f x)
-map_replicate f zero x = refl
-map_replicate f (suc n) x = ap (λ l. f x ∷ l) (map_replicate f n x)
-
-pub served_more : (names : List Text) (runs : List Run) (i : ℕ) (d : Run) (name : Text) (ticks more : List Bool)
-    (b : Bool) → i < length runs
-    → b ≡ serves name (stretch_of names (get_or runs i d)).path
-    → more ≡ ticks ++ replicate ((get_or runs i d).to + 1 - (get_or runs i d).from) b
-    → ticks ≡ map (serves name) (tick_list (map (stretch_of names) (take i runs)))
-    → more ≡ map (serves name) (tick_list (map (stretch_of names) (take (i + 1) runs)))
-served_more names runs i d name ticks more b lt is step told =
-    let run : Run = get_or runs i d in
-    let f = λ (s : Stretch). replicate (s.to + 1 - s.from) s.path in
-    let first : List Stretch = map (stretch_of names) (take i runs) in
-    let s : Stretch = stretch_of names run in
-    let spelled : tick_list (map (stretch_of names) (take (i + 1) runs)) ≡ tick_list first ++ (f s ++ []) =
-    ap (λ (l : List Run). tick_list (map (stretch_of names) l)) (take_more runs i d lt)
-    ∙ ap tick_list (map-append (stretch_of names) (take i runs) (run ∷ []))
-    ∙ flat_map-append f first (s ∷ []) in
-    step ∙ ap (λ (l : List Bool). l ++ replicate (run.to + 1 - run.from) b) told
-    ∙ ap (λ (x : Bool). map (serves name) (tick_list first) ++ replicate (run.to + 1 - run.from) x) is
-    ∙ ap (λ (l : List Bool). map (serves name) (tick_list first) ++ l)
-    (sym (map_replicate (serves name) (run.to + 1 - run.from) s.path)
-    ∙ ap (map (serves name)) (sym (append-nil (f s))))
-    ∙ sym (map-append (serves name) (tick_list first) (f s ++ []))
-    ∙ ap (map (serves name)) (sym spelled)
+use Rattle.hls_audit.specs.Inside.Lines.{readiness_of, is_on, IsFilled, AreReady}
 
 -- ---- the last word on a thread at a tick
 
@@ -270,6 +238,41 @@ ready_more xs name served i ready new r a order lt e on early filled so_far =
           let after = order i k a b (omega (arith, le)) there at in omega (arith, after, long);
     }
 
+-- what is between the commands that rouse the thread
+module _ (xs : List Answered) (name : Text) (served : List Bool) (keys : Keys) (are : AreKeys Rouses Rouses xs keys)
+  where
+    off_here : (k : ℕ) (a : Answered) → slice_get xs k ≡ Some a → ¬ HasKey keys name k
+        → has_done (rouses name) a ≡ false
+    off_here k a there none = by (has_done (rouses name) a) refl
+      where
+        by : (b : Bool) → has_done (rouses name) a ≡ b → has_done (rouses name) a ≡ false
+        by true e = absurd (none (are.all k a name there e))
+        by false e = e
+
+    ready_skip : (n i : ℕ) (ready : List Bool) (r : Readiness) → i + n ≤ length xs
+        → ((k : ℕ) → i ≤ k → k < i + n → ¬ HasKey keys name k) → IsReadyTo xs name served i ready r
+        → IsReadyTo xs name served (i + n) ready r
+    ready_skip zero i ready r le none so_far = subst (λ m. IsReadyTo xs name served m ready r) (omega arith) so_far
+    ready_skip (suc n) i ready r le none so_far = elim (slice_get_cases xs i).1 [
+      | inl g ↦
+          let one : IsReadyTo xs name served (i + 1) ready r =
+          ready_same xs name served i ready r g.0 g.1 (sym g.3)
+          (off_here i g.0 g.2 (none i (omega arith) (omega arith))) so_far in
+          subst (λ m. IsReadyTo xs name served m ready r) (omega arith)
+          (ready_skip n (i + 1) ready r (omega (arith, le))
+          (λ k lo hi. none k (omega (arith, lo)) (omega (arith, hi))) one)
+      | inr past ↦ absurd (let end = past.0 in omega (arith, end, le))
+    ]
+
+    -- up to a command, or to the end
+    ready_to : (i j : ℕ) (ready : List Bool) (r : Readiness) → i ≤ j → j ≤ length xs
+        → ((k : ℕ) → i ≤ k → k < j → ¬ HasKey keys name k) → IsReadyTo xs name served i ready r
+        → IsReadyTo xs name served j ready r
+    ready_to i j ready r le within none so_far =
+        subst (λ m. IsReadyTo xs name served m ready r) (omega (arith, le))
+        (ready_skip (j - i) i ready r (omega (arith, le, within))
+        (λ k lo hi. none k lo (omega (arith, hi, le))) so_far)
+
 pub ready_all : (xs : List Answered) (name : Text) (served : List Bool) (i : ℕ) (ready new : List Bool) (r : Readiness)
     → length xs ≤ i → IsFilled r served ready new (length served) → IsReadyTo xs name served i ready r
     → AreReady xs name served new
@@ -280,7 +283,85 @@ ready_all xs name served i ready new r le filled so_far = record {
       filled so_far;
 }
 
+-- a walk along the commands that rouse the thread
+pub record IsFilling (xs : List Answered) (keys : Keys) (name : Text) (served ready : List Bool) (r : Readiness)
+    (next : Option ℕ) : Type 0 where
+  pub upto : ℕ
+  pub within : upto ≤ length xs
+  pub next_is : IsNext keys name upto next
+  pub so_far : IsReadyTo xs name served upto ready r
+
+pub filling_none : (xs : List Answered) (keys : Keys) (name : Text) (served : List Bool) (next : Option ℕ)
+    → IsNext keys name 0 next → IsFilling xs keys name served [] Asleep next
+filling_none xs keys name served next is = record {
+  upto = 0;
+  within = omega arith;
+  next_is = is;
+  so_far = ready_none xs name served;
+}
+
+pub filling_here : (xs : List Answered) (keys : Keys) (name : Text) (served ready : List Bool) (r : Readiness) (at : ℕ)
+    → AreKeys Rouses Rouses xs keys → IsFilling xs keys name served ready r (Some at)
+    → (at < length xs) × IsReadyTo xs name served at ready r
+filling_here xs keys name served ready r at are going =
+    let here : IsNextAt keys name going.upto at = going.next_is in
+    let lt = slice_get_within keys at (Some name) here.here in
+    let long = are.long in (
+      omega (arith, lt, long),
+      ready_to xs name served keys are going.upto at ready r here.behind
+          (omega (arith, lt, long)) here.none going.so_far,
+    )
+
+pub filling_begun : (xs : List Answered) (keys : Keys) (name : Text) (served ready : List Bool) (r : Readiness)
+    (at : ℕ) (a : Answered) → AreKeys Rouses Rouses xs keys → IsFilling xs keys name served ready r (Some at)
+    → a ≡ get_or xs at a → length ready ≤ a.tick
+filling_begun xs keys name served ready r at a are going e =
+    let here = filling_here xs keys name served ready r at are going in
+    here.1.ahead at a (omega arith) (slice_get_read xs (length xs) at a refl here.0 e)
+
+pub filling_more : (xs : List Answered) (keys : Keys) (name : Text) (served ready new : List Bool) (r : Readiness)
+    (at : ℕ) (a : Answered) (next : Option ℕ) → AreInOrder xs → AreKeys Rouses Rouses xs keys
+    → IsFilling xs keys name served ready r (Some at) → a ≡ get_or xs at a → a.tick ≤ length served
+    → IsFilled r served ready new a.tick → IsNext keys name (at + 1) next
+    → IsFilling xs keys name served new (readiness_of a.command) next
+filling_more xs keys name served ready new r at a next order are going e early filled behind =
+    let here = filling_here xs keys name served ready r at are going in
+    let lt = here.0 in
+    let there = slice_get_read xs (length xs) at a refl lt e in
+    let next_at : IsNextAt keys name going.upto at = going.next_is in
+    record {
+      upto = at + 1;
+      within = omega (arith, lt);
+      next_is = behind;
+      so_far = ready_more xs name served at ready new r a order lt e (are.sound at a name there next_at.here) early
+          filled here.1;
+    }
+
+pub filling_all : (xs : List Answered) (keys : Keys) (name : Text) (served ready new : List Bool) (r : Readiness)
+    → AreKeys Rouses Rouses xs keys → IsFilling xs keys name served ready r None
+    → IsFilled r served ready new (length served) → AreReady xs name served new
+filling_all xs keys name served ready new r are going filled =
+    ready_all xs name served (length xs) ready new r (omega arith) filled
+    (ready_to xs name served keys are going.upto (length xs) ready r going.within (omega arith)
+    (λ k lo hi. going.next_is k lo) going.so_far)
+
+pub filled_same : (r : Readiness) (b : Bool) (served old new : List Bool) (until : ℕ) → length old ≤ until
+    → length new ≡ until → ((t : ℕ) → t < length old → schedule_of new t ≡ schedule_of old t)
+    → ((t : ℕ) → length old ≤ t → t < until → schedule_of new t ≡ b) → ((used : ℕ) → is_on r used ≡ b)
+    → IsFilled r served old new until
+filled_same r b served old new until begun long kept rest on = record {
+  long = long;
+  kept = kept;
+  rest = λ t lo hi. rest t lo hi ∙ sym (on (count (schedule_of served) (length old) (t - length old)));
+}
+
 pub count_at : (f : ℕ → Bool) (since at : ℕ) → at ≡ since → 0 ≡ count f since (at - since)
 count_at f since at e =
     let none : at - since ≡ 0 = omega (arith, e) in
     sym (count-none f since) ∙ ap (count f since) (sym none)
+
+pub filling_next : (xs : List Answered) (keys : Keys) (chains : Chains) (name : Text) (served ready : List Bool)
+    (r : Readiness) (at : ℕ) → AreChains keys chains → IsFilling xs keys name served ready r (Some at)
+    → IsNext keys name (at + 1) (next_of chains at)
+filling_next xs keys chains name served ready r at linked going =
+    let here : IsNextAt keys name going.upto at = going.next_is in linked.next at name (omega arith) here.here

@@ -1,9 +1,7 @@
 -- The lists of ticks of a thread tell what the report says.
-use Rattle.std.proofs.Common.{◌≡◌, ℕ, ◌-◌, ◌<◌, ◌≤◌, List, length, map, get_or}
+use Rattle.std.proofs.Common.{◌≡◌, ℕ, ◌-◌, ◌<◌, ◌≤◌, List}
 use Rattle.std.proofs.Common.{refl, ap, ◌∙◌, subst, arith}
-use Rattle.std.specs.Prelude.{Bool, false, Option, Some, None, nat_lt, slice_get, option_map}
-use Rattle.std.proofs.lemmas.List.{length-map}
-use Rattle.std.proofs.lemmas.Option.{slice_get-map, get_or_from_slice_get}
+use Rattle.std.specs.Prelude.{Bool, Option, Some, None, nat_lt, slice_get}
 use Rattle.hls_text.specs.Lines.{Text}
 use Rattle.hls_chron.specs.Ticks.{count}
 use Rattle.hls_chron.proofs.CountLaws.{count-agree}
@@ -11,62 +9,14 @@ use Rattle.hls_guarantee.specs.Service.{schedule_of}
 use Rattle.hls_scenario.specs.declared.scenario.Command.{Command}
 use Rattle.hls_scenario.specs.declared.scenario.Command.TheVariants.{Load, Thread, End, Unload, Move, Wake, Block}
 use Rattle.hls_report_text.specs.declared.report.Answered.{Answered}
-use Rattle.hls_report_text.specs.declared.report.Run.{Run}
-use Rattle.hls_report_text.specs.declared.report.Report.{Report}
-use Rattle.hls_report_text.specs.Content.{Content, content_of, stretch_of}
+use Rattle.hls_report_text.specs.Content.{Content}
 use Rattle.hls_report_text.specs.WellFormed.{IsContent}
 use Rattle.hls_accounts.specs.Commands.{last_rousing}
 use Rattle.hls_accounts.specs.Ready.{lasts, is_awake, is_ready}
-use Rattle.hls_accounts.specs.Schedule.{tick_list, path_at, is_served}
-use Rattle.hls_accounts.proofs.TickLists.{spelled_length, spelled_at}
-use Rattle.hls_audit.specs.Inside.Lines.{serves, AreReady}
+use Rattle.hls_accounts.specs.Schedule.{is_served}
+use Rattle.hls_audit.specs.Inside.Lines.{AreReady}
 use Rattle.hls_audit.specs.Inside.Ticks.{TellsReady, TellsServed}
 use Rattle.hls_audit.proofs.Formed.{command_early}
-
--- ---- served
-
-served_long : (c : Content) (name : Text) (ticks : List Bool) → IsContent c
-    → ticks ≡ map (serves name) (tick_list c.stretches) → length ticks ≡ c.horizon
-served_long c name ticks formed e =
-    ap (λ (l : List Bool). length l) e ∙ length-map (tick_list c.stretches) (serves name)
-    ∙ spelled_length None c.stretches c.horizon formed.cover
-
-served_here : (c : Content) (name : Text) (t : ℕ) → serves name (path_at c.stretches t) ≡ is_served c.stretches name t
-unfolding is_served
-served_here c name t = refl
-
-served_told : (c : Content) (name : Text) (ticks : List Bool) → IsContent c
-    → ticks ≡ map (serves name) (tick_list c.stretches) → TellsServed c name ticks
-served_told c name ticks formed e = record {
-  is = λ t lt.
-      let long = served_long c name ticks formed e in
-      let at = spelled_at None c.stretches c.horizon t formed.cover (omega (arith, lt, long)) in
-      ap (λ (l : List Bool). get_or l t false) e
-      ∙ get_or_from_slice_get (map (serves name) (tick_list c.stretches)) t
-      (serves name (path_at c.stretches t)) false
-      (slice_get-map (serves name) (tick_list c.stretches) t ∙ ap (option_map (serves name)) at)
-      ∙ served_here c name t;
-}
-
-spelled_same : (names others : List Text) (runs more : List Run) → names ≡ others → runs ≡ more
-    → tick_list (map (stretch_of names) runs) ≡ tick_list (map (stretch_of others) more)
-spelled_same names others runs more e f =
-    ap (λ (l : List Text). tick_list (map (stretch_of l) runs)) e
-    ∙ ap (λ (l : List Run). tick_list (map (stretch_of others) l)) f
-
-pub line_long : (r : Report) (names : List Text) (runs : List Run) (name : Text) (ticks : List Bool)
-    → IsContent (content_of r) → names ≡ r.names → runs ≡ r.runs
-    → ticks ≡ map (serves name) (tick_list (map (stretch_of names) runs)) → length ticks ≡ r.horizon
-line_long r names runs name ticks formed e f told =
-    served_long (content_of r) name ticks formed
-    (told ∙ ap (map (serves name)) (spelled_same names r.names runs r.runs e f))
-
-pub line_told : (r : Report) (names : List Text) (runs : List Run) (name : Text) (ticks : List Bool)
-    → IsContent (content_of r) → names ≡ r.names → runs ≡ r.runs
-    → ticks ≡ map (serves name) (tick_list (map (stretch_of names) runs)) → TellsServed (content_of r) name ticks
-line_told r names runs name ticks formed e f told =
-    served_told (content_of r) name ticks formed
-    (told ∙ ap (map (serves name)) (spelled_same names r.names runs r.runs e f))
 
 -- ---- ready
 

@@ -7,10 +7,11 @@ ghost use Rattle.hls_audit.specs.Inside.Failing as least;
 
 use crate::commands::{first_misplaced, first_underived};
 use crate::counts::first_miscounted;
+use crate::findings::Findings;
 use crate::leading::first_astray;
+use crate::lookup::Lookup;
 use crate::paths::first_unready;
-use crate::stays::{first_over_cap, first_starved};
-use hls_plain_accounts::stays_of;
+use hls_audit_stays::stays_of;
 use hls_report_text::Report;
 use std::alloc::{AllocError, Global};
 
@@ -59,15 +60,21 @@ pub fn audit(alloc: Global, report: &Report) -> Result<Outcome, AllocError>
     ensures { IfOk result (IsAudit (content_of report.now)) }
 {
     let stays = stays_of(alloc, report.answered.items())?;
+    let lookup = Lookup::of(alloc, report)?;
     let misplaced = sooner(Outcome::Kept, 1, first_misplaced(alloc, report)?);
     let astray = sooner(misplaced, 2, first_astray(alloc, report)?);
-    let unready = sooner(astray, 3, first_unready(alloc, report)?);
-    let starved = sooner(unready, 4, first_starved(alloc, report, &stays)?);
-    let over_cap = sooner(starved, 5, first_over_cap(alloc, report, &stays)?);
+    let unready = sooner(astray, 3, first_unready(alloc, report, &lookup)?);
+    let found = Findings::of(alloc, report, &lookup, &stays)?;
+    let starved = sooner(unready, 4, found.starved);
+    let over_cap = sooner(starved, 5, found.over_cap);
     let underived = sooner(
         over_cap,
         6,
         first_underived(alloc, report, bound(over_cap, report.horizon))?,
     );
-    Ok(sooner(underived, 7, first_miscounted(alloc, report, &stays)?))
+    Ok(sooner(
+        underived,
+        7,
+        first_miscounted(alloc, report, &found.accounts)?,
+    ))
 }

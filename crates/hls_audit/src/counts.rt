@@ -1,5 +1,5 @@
 // The accounts and the idle ticks at the end.
-ghost use Rattle.std.specs.Prelude.{◌≡◌, ◌==◌, ◌&&◌, ◌+◌, ◌<◌, ◌≤◌, IfOk, Decides, is_none, length};
+ghost use Rattle.std.specs.Prelude.{◌≡◌, ◌==◌, ◌&&◌, ◌+◌, ◌<◌, ◌≤◌, IfOk, Decides, is_none, length, map};
 ghost use Rattle.hls_chron.specs.Ticks.{count};
 ghost use Rattle.hls_guarantee.specs.Service.{schedule_of};
 ghost use Rattle.hls_report_text.specs.Content.{content_of};
@@ -10,10 +10,11 @@ ghost use Rattle.hls_accounts.specs.Stays as listed;
 ghost use Rattle.hls_clauses.specs.Clauses.{IsMiscounted};
 ghost use Rattle.hls_audit.specs.Inside.First.{FirstAt};
 ghost use Rattle.hls_audit.specs.Inside.Leading.{IsReached};
+ghost use Rattle.hls_audit.specs.Inside.Ticks.{TellsReady, TellsServed};
+ghost use Rattle.hls_audit.specs.Inside.Findings.{account_if, those_in};
 
 use crate::leading::{path_of, run_of};
 use crate::stays::end_of;
-use crate::threads::{ready_ticks, served_ticks};
 use crate::tree::is_same;
 use hls_accounts::Stay;
 use hls_guarantee::Guarantee;
@@ -88,40 +89,60 @@ fn count_in(list: &[bool], from: u32, ticks: u32) -> u32
     counted
 }
 
-/// The account of a stay that has a tick.
-fn account_of(alloc: Global, report: &Report, stay: &Stay) -> Result<Account, AllocError>
+/// The account of a stay, if it has a tick. The lists tell of the ticks below the horizon.
+pub(crate) fn account_of(
+    report: &Report,
+    stay: &Stay,
+    ready: &[bool],
+    served: &[bool],
+) -> Option<Account>
     requires formed { IsWellFormed report.now }
-    requires some { stay.now.since < told.end_of (content_of report.now) stay.now }
     requires ends { told.end_of (content_of report.now) stay.now ≤ report.now.horizon }
-    ensures { IfOk result (λ account. account ≡ told.account_of (content_of report.now) stay.now) }
+    requires ready { length ready.now ≡ report.now.horizon }
+    requires tells_ready { TellsReady (content_of report.now) stay.now.name ready.now }
+    requires served { length served.now ≡ report.now.horizon }
+    requires tells_served { TellsServed (content_of report.now) stay.now.name served.now }
+    ensures { result ≡ account_if (content_of report.now) stay.now }
 {
     let end = end_of(report, stay);
+    if end <= stay.since {
+        return None;
+    }
     let ticks = end.saturating_sub(stay.since);
-    let served = served_ticks(alloc, report, &stay.name)?;
-    let ready = ready_ticks(alloc, report, &stay.name, &served)?;
-    Ok(Account {
+    Some(Account {
         name: stay.name,
         from: stay.since,
         to: end.saturating_sub(1),
         kept: stay.kept,
-        ready: count_in(&ready, stay.since, ticks),
-        served: count_in(&served, stay.since, ticks),
+        ready: count_in(ready, stay.since, ticks),
+        served: count_in(served, stay.since, ticks),
     })
 }
 
-/// The accounts of all stays that have a tick.
-fn accounts_of(alloc: Global, report: &Report, stays: &[Stay]) -> Result<Vec<Account>, AllocError>
-    requires formed { IsWellFormed report.now }
-    requires stays { stays.now ≡ listed.stays report.now.answered }
-    ensures { IfOk result (λ accounts. accounts.items ≡ told.accounts_of (content_of report.now)) }
+/// Those accounts that are there.
+fn accounts_in(alloc: Global, found: &[Option<Account>]) -> Result<Vec<Account>, AllocError>
+    ensures { IfOk result (λ accounts. accounts.items ≡ those_in found.now) }
 {
     let mut accounts = Vec::new(alloc);
-    for stay in stays {
-        if stay.since < end_of(report, stay) {
-            accounts.push(account_of(alloc, report, stay)?)?;
+    for account in found {
+        if let Some(account) = account {
+            accounts.push(*account)?;
         }
     }
     Ok(accounts)
+}
+
+/// The accounts of all stays that have a tick.
+fn accounts_of(
+    alloc: Global,
+    report: &Report,
+    found: &[Option<Account>],
+) -> Result<Vec<Account>, AllocError>
+    requires { found.now ≡ map (account_if (content_of report.now)) (listed.stays report.now.answered) }
+    ensures { IfOk result (λ accounts. accounts.items ≡ told.accounts_of (content_of report.now)) }
+{
+    let _ = report;
+    accounts_in(alloc, found)
 }
 
 /// Whether a tick, whose run is at a place, is idle.
@@ -154,12 +175,16 @@ fn idle_of(report: &Report) -> u32
 }
 
 /// Whether the seventh clause fails at the horizon.
-fn is_miscounted(alloc: Global, report: &Report, stays: &[Stay]) -> Result<bool, AllocError>
+fn is_miscounted(
+    alloc: Global,
+    report: &Report,
+    found: &[Option<Account>],
+) -> Result<bool, AllocError>
     requires formed { IsWellFormed report.now }
-    requires stays { stays.now ≡ listed.stays report.now.answered }
+    requires found { found.now ≡ map (account_if (content_of report.now)) (listed.stays report.now.answered) }
     ensures { IfOk result (λ b. Decides b (IsMiscounted (content_of report.now) report.now.horizon)) }
 {
-    let accounts = accounts_of(alloc, report, stays)?;
+    let accounts = accounts_of(alloc, report, found)?;
     Ok(!same_accounts(report.accounts.items(), &accounts) || report.idle != idle_of(report))
 }
 
@@ -167,13 +192,13 @@ fn is_miscounted(alloc: Global, report: &Report, stays: &[Stay]) -> Result<bool,
 pub(crate) fn first_miscounted(
     alloc: Global,
     report: &Report,
-    stays: &[Stay],
+    found: &[Option<Account>],
 ) -> Result<Option<u32>, AllocError>
     requires formed { IsWellFormed report.now }
-    requires stays { stays.now ≡ listed.stays report.now.answered }
+    requires found { found.now ≡ map (account_if (content_of report.now)) (listed.stays report.now.answered) }
     ensures { IfOk result (FirstAt (IsMiscounted (content_of report.now))) }
 {
-    if is_miscounted(alloc, report, stays)? {
+    if is_miscounted(alloc, report, found)? {
         return Ok(Some(report.horizon));
     }
     Ok(None)

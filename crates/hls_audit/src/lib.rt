@@ -3,12 +3,15 @@
 
 mod auditing;
 mod below;
+mod chains;
 mod commands;
 mod counts;
 mod dues;
+mod findings;
 mod known;
 mod leading;
 mod lines;
+mod lookup;
 mod paths;
 mod places;
 mod placing;

@@ -1,17 +1,16 @@
 // The ticks of one thread below the horizon: in which it is served, and in which it is ready.
-ghost use Rattle.std.specs.Prelude.{◌≡◌, ◌+◌, ◌-◌, ◌<◌, ◌≤◌, ◌++◌, ℕ, IfOk, OnOk, Some, [], map, replicate};
-ghost use Rattle.std.specs.Prelude.{length, slice_get, get_or, take};
+ghost use Rattle.std.specs.Prelude.{◌≡◌, ◌+◌, ◌-◌, ◌<◌, ◌≤◌, ℕ, IfOk, OnOk, Some, length, slice_get, take};
 ghost use Rattle.hls_chron.specs.Ticks as ticks;
 ghost use Rattle.hls_report_text.specs.declared.report.Answered as report;
-ghost use Rattle.hls_report_text.specs.Content.{path_names, stretch_of};
-ghost use Rattle.hls_accounts.specs.Commands as said;
-ghost use Rattle.hls_accounts.specs.Schedule as spelled;
+ghost use Rattle.hls_report_text.specs.declared.report.Run as reports;
+ghost use Rattle.hls_audit.specs.Inside.Chains.{AreChains};
+ghost use Rattle.hls_audit.specs.Inside.Lookups.{AreKeys, AreMarked, EndsBefore, Marks, Rouses};
 ghost use Rattle.hls_audit.specs.Inside.Sites.{AreInOrder};
 ghost use Rattle.hls_audit.specs.Inside.Lines as told;
 
-use crate::tree::is_same;
+use crate::lookup::Lookup;
 use hls_chron::Name;
-use hls_report_text::{Answer, Answered, Path, Run};
+use hls_report_text::{Answered, Path, Run};
 use hls_scenario::Command;
 use std::alloc::{AllocError, Global};
 
@@ -25,7 +24,7 @@ pub(crate) enum Readiness {
 }
 
 /// The place, in a list of names, of the thread that a path ends in.
-fn last_place(path: &Path) -> Option<u16>
+pub(crate) fn last_place(path: &Path) -> Option<u16>
     ensures { result ≡ slice_get (take path.now.len path.now.names)
         (length (take path.now.len path.now.names) - 1) }
 {
@@ -36,61 +35,55 @@ fn last_place(path: &Path) -> Option<u16>
         .last()
 }
 
-/// The name at a place of a list, and nothing where there is none.
-fn name_at(names: &[Name], place: u16) -> &[u8]
-    ensures { result.now ≡ get_or names.now place [] }
+/// Marks the ticks of a run.
+fn mark(ticks: &mut Vec<bool>, run: &Run)
+    requires order { run.now.from ≤ run.now.to }
+    requires within { run.now.to < length ticks.old.items }
+    requires few { length ticks.old.items ≤ 100000 }
+    ensures { Marks run.now (run.now.to + 1) ticks.old.items ticks.new.items }
 {
-    match names.get(usize::from(place)) {
-        Some(name) => name.bytes(),
-        None => b"",
+    for tick in run.from..run.to + 1 {
+        ticks[tick as usize] = true;
     }
 }
 
-/// Whether a path ends in the thread of a name.
-fn ends_in(names: &[Name], path: &Path, name: &Name) -> bool
-    ensures { result ≡ spelled.is_name name.now (spelled.last_name (path_names names.now path.now)) }
+/// Marks the ticks of the runs that serve the thread of a name.
+fn mark_runs(ticks: &mut Vec<bool>, runs: &[Run], lookup: &Lookup, name: &Name)
+    requires ends { (k : ℕ) (run : reports.Run) → slice_get runs.now k ≡ Some run →
+        EndsBefore (length ticks.old.items) run }
+    requires few { length ticks.old.items ≤ 100000 }
+    requires long { length lookup.now.served.items ≡ length runs.now }
+    requires chains { AreChains lookup.now.served.items lookup.now.runs }
+    requires bare { AreMarked runs.now lookup.now.served.items name.now 0 ticks.old.items }
+    ensures long { length ticks.new.items ≡ length ticks.old.items }
+    ensures marked { AreMarked runs.now lookup.now.served.items name.now (length runs.now) ticks.new.items }
 {
-    match last_place(path) {
-        Some(place) => name_at(names, place) == name.bytes(),
-        None => false,
+    let mut next = lookup.runs.first(name);
+    while let Some(at) = next {
+        mark(ticks, &runs[at]);
+        next = lookup.runs.next(at);
     }
 }
 
-/// Whether the thread of a name is served in a run.
-fn serves(names: &[Name], run: &Run, name: &Name) -> bool
-    ensures { result ≡ told.serves name.now (stretch_of names.now run.now).path }
-{
-    match &run.path {
-        Some(path) => ends_in(names, path, name),
-        None => false,
-    }
-}
-
-/// Puts ticks behind others, from one on up to another.
-fn put(ticks: &mut Vec<bool>, served: bool, from: u32, to: u32) -> Result<(), AllocError>
-    ensures { OnOk result (ticks.new.items ≡ ticks.old.items ++ replicate (to + 1 - from) served) }
-{
-    let count = (u64::from(to) + 1).saturating_sub(u64::from(from));
-    for _k in 0..count {
-        ticks.push(served)?;
-    }
-    Ok(())
-}
-
-/// In which ticks of these runs, one after another, the thread of a name is served.
+/// In which ticks below the horizon the thread of a name is served.
 pub(crate) fn served_line(
     alloc: Global,
-    names: &[Name],
+    horizon: u32,
     runs: &[Run],
+    lookup: &Lookup,
     name: &Name,
 ) -> Result<Vec<bool>, AllocError>
-    ensures { IfOk result (λ ticks. ticks.items
-        ≡ map (told.serves name.now) (spelled.tick_list (map (stretch_of names.now) runs.now))) }
+    requires ends { (k : ℕ) (run : reports.Run) → slice_get runs.now k ≡ Some run → EndsBefore horizon run }
+    requires few { horizon ≤ 100000 }
+    requires long { length lookup.now.served.items ≡ length runs.now }
+    requires chains { AreChains lookup.now.served.items lookup.now.runs }
+    ensures long { IfOk result (λ ticks. length ticks.items ≡ horizon) }
+    ensures marked { IfOk result (λ ticks. AreMarked runs.now lookup.now.served.items name.now
+        (length runs.now) ticks.items) }
 {
     let mut ticks = Vec::new(alloc);
-    for run in runs {
-        put(&mut ticks, serves(names, run, name), run.from, run.to)?;
-    }
+    ticks.resize(horizon as usize, false)?;
+    mark_runs(&mut ticks, runs, lookup, name);
     Ok(ticks)
 }
 
@@ -112,8 +105,8 @@ fn one_if(served: bool) -> u32
     u32::from(served)
 }
 
-/// Fills a list of ready ticks up to a tick.
-fn fill(
+/// Fills a list of ready ticks up to a tick by the ticks of a burst.
+fn fill_burst(
     ready: &mut Vec<bool>,
     readiness: Readiness,
     served: &[bool],
@@ -132,6 +125,25 @@ fn fill(
     Ok(())
 }
 
+/// Fills a list of ready ticks up to a tick.
+fn fill(
+    ready: &mut Vec<bool>,
+    readiness: Readiness,
+    served: &[bool],
+    until: usize,
+) -> Result<(), AllocError>
+    requires begun { length ready.old.items ≤ until }
+    requires within { until ≤ length served.now }
+    requires few { length served.now ≤ 100000 }
+    ensures { OnOk result (told.IsFilled readiness served.now ready.old.items ready.new.items until) }
+{
+    match readiness {
+        Readiness::Asleep => ready.resize(until, false),
+        Readiness::Awake => ready.resize(until, true),
+        Readiness::Burst { .. } => fill_burst(ready, readiness, served, until),
+    }
+}
+
 /// What a command leaves of the thread that it rouses.
 fn readiness_of(command: &Command) -> Readiness
     ensures { result ≡ told.readiness_of command.now }
@@ -146,33 +158,11 @@ fn readiness_of(command: &Command) -> Readiness
     }
 }
 
-/// Whether a command admits, wakes, blocks or ends the thread of a name.
-fn names(command: &Command, thread: &Name) -> bool
-    ensures { result ≡ said.rouses thread.now command.now }
-{
-    match command {
-        Command::Thread { name, .. } => is_same(name, thread),
-        Command::End { name } => is_same(name, thread),
-        Command::Wake { name, .. } => is_same(name, thread),
-        Command::Block { name } => is_same(name, thread),
-        _ => false,
-    }
-}
-
-/// Whether a command that does was carried out.
-fn rouses(a: &Answered, thread: &Name) -> bool
-    ensures { result ≡ said.has_done (said.rouses thread.now) a.now }
-{
-    match &a.answer {
-        Answer::Done(_) => names(&a.command, thread),
-        Answer::Refused(_) => false,
-    }
-}
-
 /// In which ticks the thread of a name is ready, by the commands and the ticks in which it is served.
 pub(crate) fn ready_line(
     alloc: Global,
     answered: &[Answered],
+    lookup: &Lookup,
     name: &Name,
     served: &[bool],
 ) -> Result<Vec<bool>, AllocError>
@@ -180,15 +170,18 @@ pub(crate) fn ready_line(
     requires early { (at : ℕ) (a : report.Answered) → slice_get answered.now at ≡ Some a
         → a.tick ≤ length served.now }
     requires few { length served.now ≤ 100000 }
+    requires roused { AreKeys Rouses Rouses answered.now lookup.now.roused.items }
+    requires chains { AreChains lookup.now.roused.items lookup.now.commands }
     ensures { IfOk result (λ ready. told.AreReady answered.now name.now served.now ready.items) }
 {
     let mut ready = Vec::new(alloc);
     let mut readiness = Readiness::Asleep;
-    for a in answered {
-        if rouses(a, name) {
-            fill(&mut ready, readiness, served, a.tick as usize)?;
-            readiness = readiness_of(&a.command);
-        }
+    let mut next = lookup.commands.first(name);
+    while let Some(at) = next {
+        let a = &answered[at];
+        fill(&mut ready, readiness, served, a.tick as usize)?;
+        readiness = readiness_of(&a.command);
+        next = lookup.commands.next(at);
     }
     fill(&mut ready, readiness, served, served.len())?;
     Ok(ready)

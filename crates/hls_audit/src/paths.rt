@@ -5,8 +5,10 @@ ghost use Rattle.hls_report_text.specs.Content.{content_of};
 ghost use Rattle.hls_report_text.specs.WellFormed.{IsWellFormed};
 ghost use Rattle.hls_clauses.specs.Clauses.{RunsUnready};
 ghost use Rattle.hls_audit.specs.Inside.First.{FirstAt};
+ghost use Rattle.hls_audit.specs.Inside.Lookups.{IsLookup};
 ghost use Rattle.hls_audit.specs.Inside.Unready.{IsLack, IsUnready};
 
+use crate::lookup::Lookup;
 use crate::stays::sooner_of;
 use crate::threads::{ready_ticks, served_ticks};
 use hls_chron::Name;
@@ -37,12 +39,18 @@ fn first_lack(served: &[bool], ready: &[bool], horizon: u32) -> Option<u32>
 }
 
 /// The first tick in which the thread of a name is served and not ready.
-fn first_unready_of(alloc: Global, report: &Report, name: &Name) -> Result<Option<u32>, AllocError>
-    requires { IsWellFormed report.now }
+fn first_unready_of(
+    alloc: Global,
+    report: &Report,
+    lookup: &Lookup,
+    name: &Name,
+) -> Result<Option<u32>, AllocError>
+    requires formed { IsWellFormed report.now }
+    requires lookup { IsLookup report.now lookup.now }
     ensures { IfOk result (FirstAt (λ t. IsUnready (content_of report.now) t name.now)) }
 {
-    let served = served_ticks(alloc, report, name)?;
-    let ready = ready_ticks(alloc, report, name, &served)?;
+    let served = served_ticks(alloc, report, lookup, name)?;
+    let ready = ready_ticks(alloc, report, lookup, name, &served)?;
     Ok(first_lack(&served, &ready, report.horizon))
 }
 
@@ -50,23 +58,30 @@ fn first_unready_of(alloc: Global, report: &Report, name: &Name) -> Result<Optio
 fn first_unready_among(
     alloc: Global,
     report: &Report,
+    lookup: &Lookup,
     names: &[Name],
 ) -> Result<Option<u32>, AllocError>
     requires formed { IsWellFormed report.now }
+    requires lookup { IsLookup report.now lookup.now }
     requires names { names.now ≡ report.now.names }
     ensures { IfOk result (FirstAt (RunsUnready (content_of report.now))) }
 {
     let mut first = None;
     for name in names {
-        first = sooner_of(first, first_unready_of(alloc, report, name)?);
+        first = sooner_of(first, first_unready_of(alloc, report, lookup, name)?);
     }
     Ok(first)
 }
 
 /// The first tick at which the third clause fails.
-pub(crate) fn first_unready(alloc: Global, report: &Report) -> Result<Option<u32>, AllocError>
-    requires { IsWellFormed report.now }
+pub(crate) fn first_unready(
+    alloc: Global,
+    report: &Report,
+    lookup: &Lookup,
+) -> Result<Option<u32>, AllocError>
+    requires formed { IsWellFormed report.now }
+    requires lookup { IsLookup report.now lookup.now }
     ensures { IfOk result (FirstAt (RunsUnready (content_of report.now))) }
 {
-    first_unready_among(alloc, report, report.names.items())
+    first_unready_among(alloc, report, lookup, report.names.items())
 }

@@ -1,6 +1,6 @@
 // The places of names.
 ghost use Rattle.std.specs.Prelude.{◌≡◌, ◌≢◌, ◌<◌, ℕ, List, Some, None, OnOk, is_some};
-ghost use Rattle.hls_audit.specs.Inside.Places.{place_in, spare_of, Notes};
+ghost use Rattle.hls_audit.specs.Inside.Places.{place_in, spare_of, Notes, Sets};
 
 use hls_chron::Name;
 use indexmap::IndexMap;
@@ -39,6 +39,18 @@ impl Places {
         if self.has(name) {
             return Ok(());
         }
+        self.reserve()?;
+        self.insert(*name, place);
+        Ok(())
+    }
+
+    /// Notes that a name is at a place, whatever was noted before.
+    ///
+    /// # Errors
+    /// Returns `AllocError` for want of memory.
+    pub(crate) fn set(&mut self, name: &Name, place: usize) -> Result<(), AllocError>
+        ensures { OnOk result (Sets self.old self.new name.now place) }
+    {
         self.reserve()?;
         self.insert(*name, place);
         Ok(())

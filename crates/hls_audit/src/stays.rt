@@ -1,17 +1,15 @@
 // What stays are guaranteed, and what they get.
-ghost use Rattle.std.specs.Prelude.{◌≡◌, ◌≤◌, IfOk};
+ghost use Rattle.std.specs.Prelude.{◌≡◌, ◌≤◌, IfOk, length};
 ghost use Rattle.hls_guarantee.specs.Limits.{IsValid};
 ghost use Rattle.hls_report_text.specs.Content.{content_of};
 ghost use Rattle.hls_report_text.specs.WellFormed.{IsWellFormed};
 ghost use Rattle.hls_accounts.specs.Accounts as ends;
-ghost use Rattle.hls_accounts.specs.Stays as told;
-ghost use Rattle.hls_clauses.specs.Clauses.{IsStarved, IsOverCap};
 ghost use Rattle.hls_audit.specs.Inside.First.{FirstAt};
 ghost use Rattle.hls_audit.specs.Inside.Least as least;
 ghost use Rattle.hls_audit.specs.Inside.Sites.{Starves, Exceeds};
+ghost use Rattle.hls_audit.specs.Inside.Ticks.{TellsReady, TellsServed};
 
 use crate::starving::{first_exceeding, first_starving};
-use crate::threads::{ready_ticks, served_ticks};
 use hls_accounts::Stay;
 use hls_report_text::Report;
 use std::alloc::{AllocError, Global};
@@ -37,67 +35,49 @@ pub(crate) fn end_of(report: &Report, stay: &Stay) -> u32
     }
 }
 
-/// The first tick of a stay at which its thread is ready, and the longest window that ends with it lacks service.
-fn first_lack(alloc: Global, report: &Report, stay: &Stay) -> Result<Option<u32>, AllocError>
+/// The first tick of a stay at which its thread is ready, and the longest window that ends with it lacks service. The
+/// lists tell of the ticks below the horizon.
+pub(crate) fn first_lack(
+    alloc: Global,
+    report: &Report,
+    stay: &Stay,
+    ready: &[bool],
+    served: &[bool],
+) -> Result<Option<u32>, AllocError>
     requires formed { IsWellFormed report.now }
     requires kept { IsValid stay.now.kept }
     requires ends { ends.end_of (content_of report.now) stay.now ≤ report.now.horizon }
+    requires ready { length ready.now ≡ report.now.horizon }
+    requires tells_ready { TellsReady (content_of report.now) stay.now.name ready.now }
+    requires served { length served.now ≡ report.now.horizon }
+    requires tells_served { TellsServed (content_of report.now) stay.now.name served.now }
     ensures { IfOk result (FirstAt (λ t. Starves (content_of report.now) t stay.now)) }
 {
     let until = end_of(report, stay);
     if until <= stay.since {
         return Ok(None);
     }
-    let served = served_ticks(alloc, report, &stay.name)?;
-    let ready = ready_ticks(alloc, report, &stay.name, &served)?;
-    first_starving(alloc, stay, until, &ready, &served)
+    first_starving(alloc, stay, until, ready, served)
 }
 
-/// The first tick of a stay at which its thread is served, and the ticks up to this one are over its cap.
-fn first_excess(alloc: Global, report: &Report, stay: &Stay) -> Result<Option<u32>, AllocError>
+/// The first tick of a stay at which its thread is served, and the ticks up to this one are over its cap. The list
+/// tells of the ticks below the horizon.
+pub(crate) fn first_excess(
+    alloc: Global,
+    report: &Report,
+    stay: &Stay,
+    served: &[bool],
+) -> Result<Option<u32>, AllocError>
     requires formed { IsWellFormed report.now }
     requires kept { IsValid stay.now.kept }
     requires ends { ends.end_of (content_of report.now) stay.now ≤ report.now.horizon }
+    requires served { length served.now ≡ report.now.horizon }
+    requires tells_served { TellsServed (content_of report.now) stay.now.name served.now }
     ensures { IfOk result (FirstAt (λ t. Exceeds (content_of report.now) t stay.now)) }
 {
     let until = end_of(report, stay);
     if until <= stay.since {
         return Ok(None);
     }
-    let served = served_ticks(alloc, report, &stay.name)?;
-    first_exceeding(alloc, stay, until, &served)
-}
-
-/// The first tick at which the fourth clause fails.
-pub(crate) fn first_starved(
-    alloc: Global,
-    report: &Report,
-    stays: &[Stay],
-) -> Result<Option<u32>, AllocError>
-    requires formed { IsWellFormed report.now }
-    requires stays { stays.now ≡ told.stays report.now.answered }
-    ensures { IfOk result (FirstAt (IsStarved (content_of report.now))) }
-{
-    let mut first = None;
-    for stay in stays {
-        first = sooner_of(first, first_lack(alloc, report, stay)?);
-    }
-    Ok(first)
-}
-
-/// The first tick at which the fifth clause fails.
-pub(crate) fn first_over_cap(
-    alloc: Global,
-    report: &Report,
-    stays: &[Stay],
-) -> Result<Option<u32>, AllocError>
-    requires formed { IsWellFormed report.now }
-    requires stays { stays.now ≡ told.stays report.now.answered }
-    ensures { IfOk result (FirstAt (IsOverCap (content_of report.now))) }
-{
-    let mut first = None;
-    for stay in stays {
-        first = sooner_of(first, first_excess(alloc, report, stay)?);
-    }
-    Ok(first)
+    first_exceeding(alloc, stay, until, served)
 }

@@ -1,5 +1,5 @@
 -- The places of names in a tree.
-use Rattle.std.specs.Prelude.{◌≡◌, ℕ, suc, List, [], ◌∷◌, Option, Some, None, option_map, if◌then◌else◌}
+use Rattle.std.specs.Prelude.{◌≡◌, ◌≢◌, ℕ, suc, List, [], ◌∷◌, Option, Some, None, option_map, if◌then◌else◌}
 use Rattle.std.specs.Str.{bytes_eq}
 use Rattle.indexmap.specs.IndexMap.{get, spare}
 use Rattle.hls_text.specs.Lines.{Text}
@@ -27,6 +27,11 @@ spare_of places = spare places.places
 abbrev pub Notes : (old new : Places) → (name : Text) → (place : ℕ) → Type 0
 Notes old new name place = (other : Text)
     → place_in new other ≡ noted (place_in old other) (if bytes_eq name other then Some place else None)
+
+-- this place, whatever was noted before
+pub record Sets (old new : Places) (name : Text) (place : ℕ) : Type 0 where
+  pub here : place_in new name ≡ Some place
+  pub others : (other : Text) → other ≢ name → place_in new other ≡ place_in old other
 
 -- each name is found where it comes first
 abbrev pub ArePlaces : Places → List Member → Type 0

@@ -16,9 +16,9 @@ first_underived-requires-clause-placed c =
     refl
     c.sooner-unready.ensures two c.in_ok-first_unready.ensures in
     let four = step content 3 4 Supplied c.sooner-unready.result c.sooner-starved.result
-    c.in_ok-first_starved.field-0 refl refl c.sooner-starved.ensures three c.in_ok-first_starved.ensures in
+    c.in_ok-found.found.starved refl refl c.sooner-starved.ensures three c.in_ok-found.ensures.starved in
     let five = step content 4 5 Capped c.sooner-starved.result c.sooner-over_cap.result
-    c.in_ok-first_over_cap.field-0 refl refl c.sooner-over_cap.ensures four c.in_ok-first_over_cap.ensures in
+    c.in_ok-found.found.over_cap refl refl c.sooner-over_cap.ensures four c.in_ok-found.ensures.over_cap in
     placed_to content 5 c.bound.result c.sooner-over_cap.result (omega arith) c.bound.ensures five
 
 pub returns : goal.returns
@@ -32,9 +32,9 @@ returns c =
     refl
     c.sooner-unready.ensures two c.in_ok-first_unready.ensures in
     let four = step content 3 4 Supplied c.sooner-unready.result c.sooner-starved.result
-    c.in_ok-first_starved.field-0 refl refl c.sooner-starved.ensures three c.in_ok-first_starved.ensures in
+    c.in_ok-found.found.starved refl refl c.sooner-starved.ensures three c.in_ok-found.ensures.starved in
     let five = step content 4 5 Capped c.sooner-starved.result c.sooner-over_cap.result
-    c.in_ok-first_over_cap.field-0 refl refl c.sooner-over_cap.ensures four c.in_ok-first_over_cap.ensures in
+    c.in_ok-found.found.over_cap refl refl c.sooner-over_cap.ensures four c.in_ok-found.ensures.over_cap in
     let six = step_below content 5 6 Derived c.sooner-over_cap.result c.sooner-underived.result
     c.in_ok-first_underived.field-0 c.bound.result refl refl c.sooner-underived.ensures c.bound.ensures
     (underived_early content c.requires.content) five c.in_ok-first_underived.ensures in

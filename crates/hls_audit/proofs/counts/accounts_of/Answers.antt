@@ -1,8 +1,10 @@
+use Rattle.std.proofs.lemmas.Result.{IfOk-weaker}
 use Rattle.hls_report_text.specs.Content.{content_of}
-use Rattle.hls_audit.proofs.EachStay.{ends_early}
+use Rattle.hls_audit.proofs.Found.{accounts_told}
 use Rattle.hls_audit.proofs.counts.accounts_of.Goals as goal
 
-pub account_of-requires-clause-ends : goal.account_of-requires-clause-ends
-account_of-requires-clause-ends c =
-    ends_early (content_of c.args.report.now) c.args.stays.now c.loop-stay.stay-index c.stay-item.result
-    c.requires.formed.content c.requires.stays c.loop-stay-test.true c.stay-item.is
+pub returns : goal.returns
+returns c =
+    IfOk-weaker _ _ _
+    (λ accounts. accounts_told (content_of c.args.report.now) c.args.found.now accounts.items c.requires)
+    c.accounts_in.ensures

@@ -13,7 +13,7 @@ returns c =
     let ready = c.deref-3.result.now in
     let one : served ≡ c.in_ok-served.served.items = c.deref-2.ensures.value in
     let two : ready ≡ c.in_ok-ready.ready.items = c.deref-3.ensures.value in
-    lack_told content name served ready c.first_lack.result c.requires.content
+    lack_told content name served ready c.first_lack.result c.requires.formed.content
     (ap (λ (l : List Bool). length l) one ∙ c.in_ok-served.ensures.long)
     (ap (λ (l : List Bool). length l) two ∙ c.in_ok-ready.ensures.long)
     (subst (TellsServed content name) (sym one) c.in_ok-served.ensures.tells)

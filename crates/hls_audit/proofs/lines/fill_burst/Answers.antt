@@ -4,7 +4,7 @@ use Rattle.hls_chron.specs.Ticks.{one_if}
 use Rattle.hls_guarantee.specs.Service.{schedule_of}
 use Rattle.hls_audit.specs.Inside.Lines.{IsFilled}
 use Rattle.hls_audit.proofs.LineLaws.{fill_none, fill_more, used_more, few_more, count_at}
-use Rattle.hls_audit.proofs.lines.fill.Goals as goal
+use Rattle.hls_audit.proofs.lines.fill_burst.Goals as goal
 
 pub loop-at-init : goal.loop-at-init
 loop-at-init c =

@@ -2,7 +2,7 @@ use Rattle.std.proofs.Common.{◌≡◌, ◌-◌, ◌≤◌, length}
 use Rattle.hls_chron.specs.Ticks.{count}
 use Rattle.hls_guarantee.specs.Service.{schedule_of}
 use Rattle.hls_audit.specs.Inside.Lines.{IsFilled}
-use Rattle.hls_audit.proofs.lines.fill.Given as goal
+use Rattle.hls_audit.proofs.lines.fill_burst.Given as goal
 
 abbrev pub invariant-loop-at : goal.invariant-loop-at
 invariant-loop-at l = record {

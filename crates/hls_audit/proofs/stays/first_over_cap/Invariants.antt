@@ -1,9 +1,0 @@
-use Rattle.hls_report_text.specs.Content.{content_of}
-use Rattle.hls_audit.specs.Inside.First.{FirstAt}
-use Rattle.hls_audit.specs.Inside.Sites.{Exceeds}
-use Rattle.hls_audit.proofs.EachStay.{HasEarly}
-use Rattle.hls_audit.proofs.stays.first_over_cap.Given as goal
-
-abbrev pub invariant-loop-stay : goal.invariant-loop-stay
-invariant-loop-stay l =
-    FirstAt (λ t. HasEarly (Exceeds (content_of l.report) t) l.stays l.stay-index) l.first
