@@ -1,11 +1,13 @@
 //! Reads reports that lie where it runs, worked ones and some with a wrong answer, named in the file `rows`, and
 //! says of each whether its answers are the defined ones, whether its schedule is that of the disciplines, whether it
-//! tells what its commands and runs alone give, and whether it is written again to the byte; and what the program
-//! writes about the same commands.
+//! tells what its commands and runs alone give, and whether it is written again to the byte; what the program writes
+//! about the same commands; and at which status, and with which word, it checks the report.
 #![tactic(auto)]
 
+mod checking;
 mod repeating;
 
+use crate::checking::word_on;
 use crate::repeating::repeated;
 use hls_judge::judged;
 use std::{fs, io};
@@ -20,7 +22,8 @@ fn main(rt: HostRuntime) -> io::Result<()> {
         let words = found.words();
         let again = repeated(alloc, &text)?;
         let ends = again.words();
-        println!(rt; "{row}: {words}, {ends}")?;
+        let word = word_on(alloc, &text)?;
+        println!(rt; "{row}: {words}, {ends}, {word}")?;
     }
     Ok(())
 }
