@@ -42,6 +42,8 @@ fn main(rt: HostRuntime) -> ExitCode {
 #[cfg(test)]
 mod clause_tests;
 #[cfg(test)]
+mod order_tests;
+#[cfg(test)]
 mod tests;
 #[cfg(test)]
 mod word_tests;
