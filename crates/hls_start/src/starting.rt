@@ -1,7 +1,13 @@
 // The boxes and the rules that the program runs with.
+ghost use Rattle.std.specs.Prelude.{◌≡◌, map, string_bytes, IfOk, OnErr};
 ghost use Rattle.hls_guarantee.specs.Limits.{IsValid};
 ghost use Rattle.hls_sched.specs.GoodKit.{IsGood};
 ghost use Rattle.hls_walks.specs.Views.{boxed};
+ghost use Rattle.hls_manager.specs.Outcomes.{boxes_in};
+ghost use Rattle.hls_top.specs.Exchange.{exchange, IsOrderly};
+ghost use Rattle.hls_top.specs.Ends.{Ends};
+ghost use Rattle.hls_top.specs.Musts.{MustAnswer};
+ghost use Rattle.hls_start.specs.FullKit.{full_kit};
 
 use hls_chron::Kind;
 use hls_edf::Edf;
@@ -41,6 +47,13 @@ fn run_with_rules<S: Source, K: Sink>(
     kit: Kit,
 ) -> Result<Status, AllocError>
     requires good { IsGood (boxed seen) kit }
+    requires full { boxes_in kit ≡ full_kit }
+    ensures ends { IfOk result (λ status. Ends (exchange S.left S.faults K.written K.faults
+        (map string_bytes words.now.items) full_kit source.old source.new sink.old sink.new) status) }
+    ensures orderly { IfOk result (λ _. IsOrderly (exchange S.left S.faults K.written K.faults
+        (map string_bytes words.now.items) full_kit source.old source.new sink.old sink.new)) }
+    ensures unread { OnErr result (source.new ≡ source.old) }
+    ensures unwritten { OnErr result (sink.new ≡ sink.old) }
 {
     let mut rules = Vec::new(alloc);
     for name in NAMES {
@@ -62,7 +75,14 @@ fn run_with_boxes<S: Source, K: Sink>(
     words: &Vec<String>,
     source: &mut S,
     sink: &mut K,
-) -> Result<Status, AllocError> {
+) -> Result<Status, AllocError>
+    ensures ends { IfOk result (λ status. Ends (exchange S.left S.faults K.written K.faults
+        (map string_bytes words.now.items) full_kit source.old source.new sink.old sink.new) status) }
+    ensures orderly { IfOk result (λ _. IsOrderly (exchange S.left S.faults K.written K.faults
+        (map string_bytes words.now.items) full_kit source.old source.new sink.old sink.new)) }
+    ensures unread { OnErr result (source.new ≡ source.old) }
+    ensures unwritten { OnErr result (sink.new ≡ sink.old) }
+{
     let mut kit = Kit {
         fp: Vec::new(alloc),
         edf: Vec::new(alloc),
@@ -72,7 +92,7 @@ fn run_with_boxes<S: Source, K: Sink>(
         join: Vec::new(alloc),
         used: [0; 6],
     };
-    for _ in 0..BOXES {
+    for _made in 0..BOXES {
         kit.put(Kind::Fp, Box::new(alloc, Fp::blank(alloc))?)?;
         kit.put(Kind::Edf, Box::new(alloc, Edf::blank(alloc))?)?;
         kit.put(Kind::Sfq, Box::new(alloc, Sfq::blank(alloc))?)?;
@@ -83,13 +103,20 @@ fn run_with_boxes<S: Source, K: Sink>(
     run_with_rules(alloc, words, source, sink, kit)
 }
 
-/// Does all that the program does, with 64 boxes of each kind and the nine rules.
+/// Does all that the program does, as `hls_run` says, with 64 boxes of each kind and the nine rules.
 pub fn start<S: Source, K: Sink>(
     alloc: Global,
     words: &Vec<String>,
     source: &mut S,
     sink: &mut K,
-) -> Status {
+) -> Status
+    ensures ends { Ends (exchange S.left S.faults K.written K.faults (map string_bytes words.now.items) full_kit
+        source.old source.new sink.old sink.new) result }
+    ensures orderly { IsOrderly (exchange S.left S.faults K.written K.faults (map string_bytes words.now.items)
+        full_kit source.old source.new sink.old sink.new) }
+    ensures answers { MustAnswer (exchange S.left S.faults K.written K.faults (map string_bytes words.now.items)
+        full_kit source.old source.new sink.old sink.new) result }
+{
     match run_with_boxes(alloc, words, source, sink) {
         Ok(status) => status,
         Err(AllocError) => Status::Memory,
