@@ -3,6 +3,7 @@ pub mod Telling
 pub mod Walks
 pub mod Snapshots
 pub mod Tells
+pub mod Levels
 pub mod Leads
 pub mod Passes
 pub mod Rouses

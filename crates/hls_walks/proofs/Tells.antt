@@ -11,12 +11,12 @@ use Rattle.hls_legal.specs.Hierarchy.{Seat, Place, Processor, At}
 use Rattle.hls_walks.specs.Shown.{What, Scheduler, Thread, Shown, Bare, level_in, seats_in, place_in, mask_in, asks_in}
 use Rattle.hls_walks.specs.Shown.{grant_in, is_sched, is_sched_what, PostedIn, on_post, post_revoked, bare_in}
 use Rattle.hls_walks.specs.Shown.{bare_what}
-use Rattle.hls_walks.specs.Shown.{SchedulerNode, ThreadNode, book_in, most_in, most_bare}
+use Rattle.hls_walks.specs.Shown.{SchedulerNode, ThreadNode, book_in, most_bare}
 use Rattle.hls_walks.specs.Views.{told_place}
 use Rattle.hls_walks.specs.TreeOf.{IsAlike, IsLaid, ToldBy, ToldAt, IsTelling, Tells, NoScheduler, IsFrom, IsOn, IsRoll}
-use Rattle.hls_walks.specs.TreeOf.{AllFrom, AllUpTo, Each, IsNew, AreTold}
-use Rattle.hls_walks.proofs.Snapshots.{Nodes, one_of, rise, raised, IsChanged, changed, changed_alike, laid_alike, empty_terms}
-use Rattle.hls_walks.proofs.Snapshots.{alike_refl, alike_then, alike_places, revoked, revoked_alike}
+use Rattle.hls_walks.specs.TreeOf.{IsRanked, AllFrom, AllUpTo, Each, IsNew, AreTold}
+use Rattle.hls_walks.proofs.Snapshots.{Nodes, one_of, rise, raised, IsChanged, changed, changed_alike, laid_alike}
+use Rattle.hls_walks.proofs.Snapshots.{empty_terms, alike_refl, alike_then, alike_places, revoked, revoked_alike}
 
 -- on the way through the ports of a node, which asks so
 pub record IsAtPort (old s : Nodes) (key port : ℕ) (asks : Bool) : Type 0 where
@@ -229,7 +229,7 @@ roll_alike old new schedulers a r =
     record { all = λ c is. r.all c (sym (sched_alike old new a c) ∙ is); once = r.once }
 
 -- the number of a list's place
-entry_at : (l : List ℕ) (i c key : ℕ) → slice_get l i ≡ Some key → slice_get l i ≡ Some c → c ≡ key
+pub entry_at : (l : List ℕ) (i c key : ℕ) → slice_get l i ≡ Some key → slice_get l i ≡ Some c → c ≡ key
 entry_at l i c key e f = (let same : Some c ≡ Some key = sym f ∙ e in cc)
 
 -- threads that have something new to tell, by a list or all
@@ -294,16 +294,26 @@ all_end s key none t = record {
   ];
 }
 
--- the greatest level of those before a place of a list
+-- the greatest level of those before a place of a list, and no level is greater than 9
 pub record IsMost (s : Nodes) (l : List ℕ) (i deep : ℕ) : Type 0 where
+  pub within : deep < 10
   pub each : (j c : ℕ) → j < i → slice_get l j ≡ Some c → level_in (s c) ≤ deep
 
-pub most_start : (s : Nodes) (l : List ℕ) (deep : ℕ) → IsMost s l 0 deep
-most_start s l deep = record { each = λ j c lt e. absurd (omega (arith, lt)) }
+pub most_start : (s : Nodes) (l : List ℕ) → IsMost s l 0 0
+most_start s l = record { within = omega arith; each = λ j c lt e. absurd (omega (arith, lt)) }
 
-pub most_step : (s : Nodes) (l : List ℕ) (i key deep new : ℕ) → slice_get l i ≡ Some key → IsMost s l i deep
+nine : (b : Option Bare) → most_bare b ≤ 9
+nine None = omega arith
+nine (Some (SchedulerNode s)) = omega arith
+nine (Some (ThreadNode name seats)) = omega arith
+
+pub low_level : (s : Nodes) (k : ℕ) → IsRanked s → level_in (s k) < 10
+low_level s k ranked = (let few = ranked.few k in let most = nine (bare_in (s k)) in omega (arith, few, most))
+
+pub most_step : (s : Nodes) (l : List ℕ) (i key deep new : ℕ) → slice_get l i ≡ Some key → new < 10 → IsMost s l i deep
     → deep ≤ new → level_in (s key) ≤ new → IsMost s l (i + 1) new
-most_step s l i key deep new at so le here = record {
+most_step s l i key deep new at within so le here = record {
+  within = within;
   each = λ j c lt e. elim (cases_eq j i) [
     | inl same ↦
         let is : c ≡ key = entry_at l i c key at (ap (slice_get l) (sym same) ∙ e) in
@@ -328,15 +338,6 @@ levels_start s l deep all most t = tells_fewer s _ _ t (λ c then is.
     let far : deep + 1 ≤ level_in (s c) = then is in
     let le : level_in (s c) ≤ deep = most c (all c is) in
     omega (arith, far, le))
-
-pub level_start : (s : Nodes) (level : ℕ) (l : List ℕ) → ((c : ℕ) → is_sched (s c) ≡ true → IsOn l c)
-    → IsTelling s (AllFrom s (level + 1)) → IsTelling s (AllUpTo s level l 0)
-level_start s level l all t = tells_fewer s _ _ t (λ c then is.
-    let both = then is in
-    elim (cases_eq (level_in (s c)) level) [
-      | inl e ↦ absurd (let on = all c is in both.1 e (on.0, omega arith, on.1))
-      | inr ne ↦ (let le : level ≤ level_in (s c) = both.0 in omega (arith, le, ne))
-    ])
 
 pub level_step : (old new : Nodes) (level : ℕ) (l : List ℕ) (i key : ℕ) → slice_get l i ≡ Some key
     → level_in (old key) ≡ level → IsTelling old (AllUpTo old level l i) → Tells key old new

@@ -1,3 +1,4 @@
 pub mod Shown
 pub mod Views
 pub mod TreeOf
+pub mod Inside

@@ -1,6 +1,7 @@
 // Walks over the nodes.
 ghost use Rattle.std.specs.Prelude.{◌≡◌, ◌≢◌, ℕ, ◌+◌, ◌<◌, ◌≤◌, Option, Some, None, true, IfSome, IsNone};
-ghost use Rattle.std.specs.Prelude.{length, map, option_map, slice_get};
+ghost use Rattle.std.specs.Prelude.{length, map, option_map, slice_get, get_or};
+ghost use Rattle.std.specs.Int.{bit_at};
 ghost use Rattle.slab.specs.Slab.{get};
 ghost use Rattle.hls_chron.specs.Seats.{terms_at};
 ghost use Rattle.hls_legal.specs.Hierarchy.{Processor, Seat};
@@ -9,8 +10,9 @@ ghost use Rattle.hls_walks.specs.Shown.{book_in, asks_in, level_in, place_in, se
 ghost use Rattle.hls_walks.specs.Shown.{grant_in, is_sched, on_post, post_revoked, post_granted, post_turned};
 ghost use Rattle.hls_walks.specs.Shown.{with_ready};
 ghost use Rattle.hls_walks.specs.Views.{shown_at, choice_at, told_place, is_place, place_view, seat_view};
-ghost use Rattle.hls_walks.specs.TreeOf.{IsLaid, IsAlike, IsTelling, ToldBy, Sitter, Led, Ran, RootAt, Passed};
-ghost use Rattle.hls_walks.specs.TreeOf.{Tells, NoScheduler, IsNew, IsOn, IsRoll, AllFrom, AllUpTo, Each, AreTold};
+ghost use Rattle.hls_walks.specs.Inside.Levels.{IsLevel};
+ghost use Rattle.hls_walks.specs.TreeOf.{IsLaid, IsRanked, IsAlike, IsTelling, ToldBy, Sitter, Led, Ran, RootAt};
+ghost use Rattle.hls_walks.specs.TreeOf.{Passed, Tells, NoScheduler, IsNew, IsOn, IsRoll, AllFrom, AllUpTo, Each, AreTold};
 
 use crate::node::same_place;
 use crate::{Changed, Node, NodeId, Place, Role, Route, TakenSeat};
@@ -191,27 +193,65 @@ fn tell_scheduler(nodes: &mut Slab<Node>, schedulers: &[NodeId], at: usize, leve
     tell_ports(nodes, key);
 }
 
-/// Tells what the schedulers at a level ask.
-fn tell_level(nodes: &mut Slab<Node>, schedulers: &[NodeId], level: u8)
+/// Tells what the schedulers at these places of the list ask, a bit for each place.
+fn tell_places(nodes: &mut Slab<Node>, schedulers: &[NodeId], places: u64)
     requires roll { IsRoll (shown_at seen nodes.old) schedulers.now }
+    requires within { (at : ℕ) → bit_at places at ≡ 1 → at < length schedulers.now }
+    requires laid { IsLaid (shown_at seen nodes.old) }
+    requires posted { (k : ℕ) → PostedIn (shown_at seen nodes.old k) }
+    ensures telling { (level : ℕ) → IsLevel (shown_at seen nodes.old) level schedulers.now places →
+        IsTelling (shown_at seen nodes.old) (AllFrom (shown_at seen nodes.old) (level + 1)) →
+        IsTelling (shown_at seen nodes.new) (AllUpTo (shown_at seen nodes.new) level schedulers.now 64) }
+    ensures alike { IsAlike (shown_at seen nodes.old) (shown_at seen nodes.new) }
+{
+    let mut left = places;
+    while left != 0 {
+        let at = left.trailing_zeros();
+        tell_ports(nodes, schedulers[at as usize].key());
+        left &= !(1 << at);
+    }
+}
+
+/// Tells what the schedulers at a level ask. They stand at these places of the list; those past the 64th are
+/// looked for.
+fn tell_level(nodes: &mut Slab<Node>, schedulers: &[NodeId], level: u8, places: u64)
+    requires roll { IsRoll (shown_at seen nodes.old) schedulers.now }
+    requires places { IsLevel (shown_at seen nodes.old) level schedulers.now places }
     requires telling { IsTelling (shown_at seen nodes.old) (AllFrom (shown_at seen nodes.old) (level + 1)) }
     ensures telling { IsTelling (shown_at seen nodes.new) (AllFrom (shown_at seen nodes.new) level) }
     ensures alike { IsAlike (shown_at seen nodes.old) (shown_at seen nodes.new) }
 {
-    for at in 0..schedulers.len() {
+    tell_places(nodes, schedulers, places);
+    for at in 64..schedulers.len() {
         tell_scheduler(nodes, schedulers, at, level);
     }
 }
 
 /// The deepest level of these nodes.
 fn deepest(nodes: &Slab<Node>, keys: &[NodeId]) -> u8
-    ensures { (c : ℕ) → IsOn keys.now c → level_in (shown_at seen nodes.now c) ≤ result }
+    requires { IsRanked (shown_at seen nodes.now) }
+    ensures most { (c : ℕ) → IsOn keys.now c → level_in (shown_at seen nodes.now c) ≤ result }
+    ensures within { result < 10 }
 {
     let mut deep = 0u8;
     for id in keys {
         deep = deep.max(level_at(nodes, id.key()));
     }
     deep
+}
+
+/// The places of these nodes by their levels, a bit for each of the first 64.
+fn places_by_level(nodes: &Slab<Node>, keys: &[NodeId]) -> [u64; 10]
+    requires { IsRanked (shown_at seen nodes.now) }
+    ensures { (level : ℕ) → level < 10 →
+        IsLevel (shown_at seen nodes.now) level keys.now (get_or result level 0) }
+{
+    let mut places = [0u64; 10];
+    for at in 0..keys.len().min(64) {
+        let level = level_at(nodes, keys[at].key());
+        places[usize::from(level)] |= 1 << at;
+    }
+    places
 }
 
 /// Tells what each scheduler asks, from the deepest level up. Those at level 1 sit at the processor alone.
@@ -222,8 +262,13 @@ fn tell_schedulers(nodes: &mut Slab<Node>, schedulers: &[NodeId])
     ensures alike { IsAlike (shown_at seen nodes.old) (shown_at seen nodes.new) }
 {
     let deep = deepest(nodes, schedulers);
+    if deep < 2 {
+        return;
+    }
+    let places = places_by_level(nodes, schedulers);
     for step in 1..deep {
-        tell_level(nodes, schedulers, deep - step + 1);
+        let level = deep - step + 1;
+        tell_level(nodes, schedulers, level, places[usize::from(level)]);
     }
 }
 
