@@ -7,9 +7,8 @@ use Rattle.std.proofs.lemmas.List.{append-nil}
 use Rattle.std.proofs.lemmas.List.Elements.{filter-append}
 use Rattle.hls_sched.specs.Seen.{Seen}
 use Rattle.hls_legal.specs.Hierarchy.{Hierarchy, Node}
-use Rattle.hls_legal.specs.Steps.{is_thread}
 use Rattle.hls_legal.specs.Readings.{IsUnder}
-use Rattle.hls_tree.specs.Trees.{Stands}
+use Rattle.hls_tree.specs.Trees.{Stands, Any}
 use Rattle.hls_tree.specs.declared.tree.Tree.{Tree}
 use Rattle.hls_text.specs.Lines.{Text}
 use Rattle.hls_scenario.specs.declared.scenario.Command.{Command}
@@ -18,20 +17,10 @@ use Rattle.hls_stays.specs.Turnovers.{Tells, IsRoused, IsTurnover}
 use Rattle.hls_stays.specs.declared.turnover.Turnover.{Turnover}
 use Rattle.hls_stays.proofs.Lists.{take_next, take_all, contains_at}
 
-there_is : (node : Option Node) → is_thread node ≡ true → node ≢ None
-there_is node is none = (let clash : true ≡ false = sym is ∙ ap is_thread none in absurd (cc))
-
 -- V and P are what the checker knows a box by
-pub under_stands : {V : Type 0} {P : V → Type 0} (seen : (x : V) × P x → Seen) (t : Tree V P) (id at k : ℕ)
-    (x : Stands seen t (λ h. h.nodes id ≢ None)) → slice_get x.h.threads at ≡ Some k
-    → Stands seen t (λ h. (h.nodes id ≢ None) × (h.nodes k ≢ None))
-under_stands seen t id at k x e = record {
-  h = x.h;
-  tree = x.tree;
-  seated = x.seated;
-  listed = x.listed;
-  is = (x.is, there_is (x.h.nodes k) (x.listed.threads.only k (contains_at x.h.threads at k e)));
-}
+pub any_stands : {V : Type 0} {P : V → Type 0} (seen : (x : V) × P x → Seen) (t : Tree V P) (id : ℕ)
+    → Stands seen t (λ h. h.nodes id ≢ None) → Stands seen t Any
+any_stands seen t id x = record { h = x.h; tree = x.tree; seated = x.seated; listed = x.listed; is = tt }
 
 filter_one : (below : ℕ → Bool) (k : ℕ) (b : Bool) → below k ≡ b → filter below (k ∷ []) ≡ cond b (k ∷ []) []
 filter_one below k b e = ap (λ x. cond x (k ∷ []) []) e

@@ -30,10 +30,11 @@ fn threads_under(alloc: Global, tree: &Tree, id: NodeId) -> Result<Vec<NodeId>, 
     ensures { IfOk result (λ threads. (h : Hierarchy) (below : ℕ → Bool) → IsTreeOf seen tree.now h →
         Tells h id below → threads.items ≡ filter below h.threads) }
 {
+    let subtree = tree.subtree(id);
     let mut threads = Vec::new(alloc);
     for at in 0..tree.threads() {
         let thread = tree.thread(at);
-        if !tree.below(id, thread) {
+        if !tree.is_in(&subtree, thread) {
             continue;
         }
         threads.push(thread)?;

@@ -1,9 +1,8 @@
 -- What is asked of a tree about paths, and what is answered.
-use Rattle.std.proofs.Common.{◌≡◌, ◌⊎◌, ℕ, zero, suc, ◌+◌, ◌<◌, ◌≤◌, ◌==◌, if◌then◌else◌}
+use Rattle.std.proofs.Common.{◌≡◌, ◌⊎◌, ℕ, ◌+◌, ◌<◌, ◌≤◌, ◌==◌, if◌then◌else◌}
 use Rattle.std.proofs.Common.{List, [], ◌∷◌, ◌++◌, length, get_or, Option, Some, None, Bool, true, false}
-use Rattle.std.proofs.Common.{refl, sym, ap, ◌∙◌, subst, arith, ltb}
+use Rattle.std.proofs.Common.{refl, sym, ap, ◌∙◌, subst, arith}
 use Rattle.std.specs.Prelude.{Contains}
-use Rattle.std.proofs.lemmas.Bool.{ltb-true, lt-ltb}
 use Rattle.hls_sched.specs.Seen.{Seen}
 use Rattle.hls_legal.specs.Hierarchy.{Hierarchy, Node, Loaded, Admitted, Scheduler, Seat, config_of}
 use Rattle.hls_legal.specs.Legal.{IsChain, scheduler_at, fair_queue}
@@ -15,7 +14,8 @@ use Rattle.hls_walks.specs.Views.{boxed, shown_at}
 use Rattle.hls_walks.specs.TreeOf.{IsLaid}
 use Rattle.hls_walks.proofs.Leads.{loaded_from}
 use Rattle.hls_walks.proofs.Passes.{laid_from}
-use Rattle.hls_tree.specs.Inside.Sums.{sum_at, sum_on, next_in, counts_in, IsSettled, IsLocal, IsGreatestSum}
+use Rattle.hls_tree.specs.Subtrees.{IsSubtree, sum_at}
+use Rattle.hls_tree.specs.Inside.Sums.{sum_on, next_in, counts_in, IsSettled, IsLocal, IsGreatestSum}
 use Rattle.hls_tree.specs.Offers.{moved_to}
 use Rattle.hls_tree.specs.Reads.{IsLoaded, IsParent, IsShares, IsGreatestLevel, AreMostShares, MayAskAbout}
 use Rattle.hls_tree.specs.Trees.{IsTreeOf, Stands}
@@ -24,11 +24,11 @@ use Rattle.hls_tree.specs.declared.depths.Counted.TheVariants as counts
 use Rattle.hls_tree.specs.declared.depths.Question.{Question}
 use Rattle.hls_tree.specs.declared.tree.Tree.{Tree}
 use Rattle.hls_tree.proofs.Loads.{stands_at}
-use Rattle.hls_tree.proofs.Sums.{AreApart, false_not_true}
+use Rattle.hls_tree.proofs.Sums.{AreApart}
 use Rattle.hls_tree.proofs.Chains.{IsSolved, solved, reached, path_low}
 use Rattle.hls_tree.proofs.Elsewhere.{marked, unmarked, rank, moved_local, moved_low, moved_greatest}
 use Rattle.hls_tree.proofs.Heights.{levels_rank, levels_local, levels_low, levels_capped, level_eight}
-use Rattle.hls_tree.proofs.Heights.{below_yes, below_no, fair_same, fair_sum, ones_sum}
+use Rattle.hls_tree.proofs.Heights.{right_there, below_yes, under_some, fair_same, fair_sum, ones_sum}
 
 sched_bare : Option Bare → Bool
 sched_bare None = false
@@ -40,10 +40,6 @@ unfolding sched_bare
 sched_of_bare None = refl
 sched_of_bare (Some (Loaded s)) = refl
 sched_of_bare (Some (Admitted t)) = refl
-
-none_of : (sum : ℕ) → ltb 0 sum ≡ false → sum ≡ 0
-none_of zero test = refl
-none_of (suc n) test = absurd (false_not_true (sym test ∙ lt-ltb 0 (suc n) (omega arith)))
 
 config_reseated : (seat : Seat) (node : Option Node) → config_of (reseated seat node) ≡ config_of node
 config_reseated seat None = refl
@@ -70,7 +66,7 @@ AreSums q s order sums = (rank : ℕ → ℕ) → IsLocal (next_in q s) order ra
 -- V and P are what the checker knows a box by
 module _ {V : Type 0} {P : V → Type 0} (seen : (x : V) × P x → Seen) (t : Tree V P) (Is : Hierarchy → Type 0)
     (x : Stands seen t Is) where
-  laid : IsLaid (shown_at (boxed seen) t.nodes)
+  pub laid : IsLaid (shown_at (boxed seen) t.nodes)
   laid = laid_from (shown_at (boxed seen) t.nodes) t.tick t.horizon t.root (stands_at seen t Is x)
 
   pub few : length t.schedulers.items ≤ 64
@@ -138,22 +134,43 @@ module _ {V : Type 0} {P : V → Type 0} (seen : (x : V) × P x → Seen) (t : T
     module _ (upper : ℕ) (sums : List ℕ)
         (are : AreSums (record { counted = counts.Only upper; moved = None }) (shown_at (boxed seen) t.nodes)
         t.schedulers.items sums) where
-      pub under_read : (lower sum : ℕ)
-          → sum ≡ next_in (record { counted = counts.Only upper; moved = None }) (shown_at (boxed seen) t.nodes)
-          (sum_at t.schedulers.items sums) lower → ltb 0 sum ≡ true → IsUnder h upper lower
-      under_read lower sum is test =
-          let some = ltb-true 0 sum test in
-          below_yes (shown_at (boxed seen) t.nodes) laid h tree.of.nodes t.schedulers.items lists upper sums
-          (sums_settled (counts.Only upper) sums are) lower
-          (omega (arith, some, is))
+      -- the sum of a scheduler is that of those that it sits on, and what it counts itself
+      own_sum : (k : ℕ) (sched : Scheduler) → h.nodes k ≡ Some (Loaded sched) → sum_at t.schedulers.items sums k
+          ≡ next_in (record { counted = counts.Only upper; moved = None }) (shown_at (boxed seen) t.nodes)
+          (sum_at t.schedulers.items sums) k
+      own_sum = right_there (shown_at (boxed seen) t.nodes) laid h tree.of.nodes t.schedulers.items lists
+          (next_in (record { counted = counts.Only upper; moved = None }) (shown_at (boxed seen) t.nodes)) sums
+          (sums_settled (counts.Only upper) sums are)
 
-      pub not_under_read : (lower sum : ℕ)
-          → sum ≡ next_in (record { counted = counts.Only upper; moved = None }) (shown_at (boxed seen) t.nodes)
-          (sum_at t.schedulers.items sums) lower → ltb 0 sum ≡ false → ¬ IsUnder h upper lower
-      not_under_read lower sum is test =
-          below_no (shown_at (boxed seen) t.nodes) laid h tree.of.nodes t.schedulers.items lists upper sums
-          (sums_settled (counts.Only upper) sums are) lower
-          (sym is ∙ none_of sum test)
+      under_summed : (k : ℕ) (sched : Scheduler) → h.nodes k ≡ Some (Loaded sched)
+          → 0 < sum_at t.schedulers.items sums k → IsUnder h upper k
+      under_summed k sched there some =
+          let own = own_sum k sched there in
+          below_yes (shown_at (boxed seen) t.nodes) laid h tree.of.nodes t.schedulers.items lists upper sums
+          (sums_settled (counts.Only upper) sums are) k (omega (arith, some, own))
+
+      summed_under : (k : ℕ) (sched : Scheduler) → h.nodes k ≡ Some (Loaded sched) → IsUnder h upper k
+          → 0 < sum_at t.schedulers.items sums k
+      summed_under k sched there under =
+          let own = own_sum k sched there in
+          let some = under_some (shown_at (boxed seen) t.nodes) laid h tree.of.nodes t.schedulers.items lists upper sums
+          (sums_settled (counts.Only upper) sums are) under.0 k under.1 in
+          omega (arith, some, own)
+
+      subtree_of : IsSubtree h upper (record { upper = upper; sums = sums })
+      subtree_of = record {
+        upper_is = refl;
+        under = λ k sched there some.
+            under_summed k sched there (subst (λ l. 0 < sum_at l sums k) tree.schedulers some);
+        all = λ k sched there under.
+            subst (λ l. 0 < sum_at l sums k) (sym tree.schedulers) (summed_under k sched there under);
+      }
+
+    pub subtree_read : (upper key : ℕ) (sums : List ℕ) → key ≡ upper
+        → AreSums (record { counted = counts.Only key; moved = None }) (shown_at (boxed seen) t.nodes)
+        t.schedulers.items sums → IsSubtree h upper (record { upper = upper; sums = sums })
+    subtree_read upper key sums e are =
+        subst (λ n. IsSubtree h n (record { upper = n; sums = sums })) e (subtree_of key sums are)
 
     fair : (k : ℕ) → fair_queue (config_of (h.nodes k))
         ≡ counts_in counts.FairQueues (shown_at (boxed seen) t.nodes) k

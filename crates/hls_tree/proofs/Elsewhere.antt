@@ -12,7 +12,8 @@ use Rattle.hls_legal.specs.Steps.{is_scheduler, reseated}
 use Rattle.hls_walks.specs.Shown.{bare, bare_in, level_in, seats_in}
 use Rattle.hls_walks.specs.TreeOf.{IsLaid}
 use Rattle.hls_walks.proofs.Snapshots.{Nodes}
-use Rattle.hls_tree.specs.Inside.Sums.{sum_at, sum_under, greatest_over, greatest_in, count_in, next_in}
+use Rattle.hls_tree.specs.Subtrees.{sum_at}
+use Rattle.hls_tree.specs.Inside.Sums.{sum_under, greatest_over, greatest_in, count_in, next_in}
 use Rattle.hls_tree.specs.Inside.Sums.{counts_in, IsSettled, IsLocal, IsGreatestSum}
 use Rattle.hls_tree.specs.Offers.{moved_to}
 use Rattle.hls_tree.specs.declared.depths.Counted.{Counted}

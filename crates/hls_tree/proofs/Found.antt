@@ -3,7 +3,7 @@ use Rattle.std.proofs.Common.{◌≡◌, ◌≢◌, ◌⊎◌, inl, inr, ℕ, su
 use Rattle.std.proofs.Common.{Bool, true, false, Option, Some, None, if◌then◌else◌, ◌==◌}
 use Rattle.std.proofs.Common.{slice_get, refl, sym, ap, ◌∙◌, subst, arith}
 use Rattle.std.specs.Prelude.{option_map}
-use Rattle.std.proofs.lemmas.Bool.{cases_eq, cases_lt, eq-eqb, ne_eqb}
+use Rattle.std.proofs.lemmas.Bool.{cases_eq, eq-eqb, ne_eqb}
 use Rattle.std.proofs.lemmas.Option.{slice_get_within}
 use Rattle.hls_chron.specs.declared.book.Event.{Event}
 use Rattle.hls_chron.specs.declared.book.Event.TheVariants as events
@@ -17,7 +17,7 @@ use Rattle.hls_walks.proofs.Snapshots.{Nodes, one_of, level_over_same}
 use Rattle.hls_walks.proofs.Leads.{sat}
 use Rattle.hls_tree.specs.Seating.{marked_bare}
 use Rattle.hls_tree.specs.Inside.Below.{at_level, plain, begun, HasRoomToSettle}
-use Rattle.hls_tree.specs.Inside.Below.{SitsBelow, SitsAbove, CanBegin, IsBegun}
+use Rattle.hls_tree.specs.Inside.Below.{SitsBelow, SitsAbove, IsBegun, IsFresh, with_one}
 
 -- of the seats the first so many are on nodes that were not found
 pub record AreAbove (s : Nodes) (seats : List Seat) (n : ℕ) : Type 0 where
@@ -107,14 +107,14 @@ pub decide : (b : Bool) → (b ≡ true) ⊎ (b ≡ false)
 decide true = inl refl
 decide false = inr refl
 
-not_none : (o : Option Shown) (port : ℕ) (place : Place) → place_in o port ≡ Some place → o ≢ None
+pub not_none : (o : Option Shown) (port : ℕ) (place : Place) → place_in o port ≡ Some place → o ≢ None
 not_none None port place e ne = cc
 not_none (Some s) port place e ne = cc
 
 pub places_of : (o new : Option Shown) (port : ℕ) → seats_in new ≡ seats_in o → place_in new port ≡ place_in o port
 places_of o new port e = ap (λ (l : List Seat). option_map (λ (seat : Seat). seat.place) (slice_get l port)) e
 
-plain_level : (s : Nodes) (k : ℕ) → level_in (plain s k) ≡ level_in (s k) % 32
+pub plain_level : (s : Nodes) (k : ℕ) → level_in (plain s k) ≡ level_in (s k) % 32
 plain_level s k = level_is (level_in (s k) % 32) (s k) (λ none. ap (λ o. level_in o % 32) none)
 
 at_within : (s : Nodes) (most : ℕ) → 1 ≤ most → (place : Place)
@@ -133,7 +133,20 @@ over_within s (seat ∷ seats) most some each =
     let rest : level_over s seats ≤ most = over_within s seats most some (λ port p slot e. each (suc port) p slot e) in
     omega (arith, first, rest)
 
-module _ (h : Hierarchy) (old s : Nodes) (k level key : ℕ) (b : IsBegun h old s k level key) where
+-- with one node more
+pub with_key : (key : ℕ) (reached : ℕ → Bool) (c : ℕ) → c ≡ key → with_one key reached c ≡ true
+with_key key reached c same = rw (eq-eqb c key same) refl
+
+pub with_other : (key : ℕ) (reached : ℕ → Bool) (c : ℕ) → c ≢ key → with_one key reached c ≡ reached c
+with_other key reached c ne = rw (ne_eqb c key ne) refl
+
+pub with_more : (key : ℕ) (reached : ℕ → Bool) (c : ℕ) → reached c ≡ true → with_one key reached c ≡ true
+with_more key reached c r = elim (cases_eq c key) [
+  | inl same ↦ with_key key reached c same
+  | inr ne ↦ with_other key reached c ne ∙ r
+]
+
+module _ (h : Hierarchy) (old s : Nodes) (k : ℕ) (reached : ℕ → Bool) (b : IsBegun h old s k reached) where
   found_there : (c : ℕ) → b.found c ≡ true → old c ≢ None
   found_there c f = elim (cases_eq c k) [
     | inl same ↦ (λ none. b.can.there (ap old (sym same) ∙ none))
@@ -182,9 +195,11 @@ module _ (h : Hierarchy) (old s : Nodes) (k level key : ℕ) (b : IsBegun h old 
       let p : level_in (plain s c) ≡ level_in (s c) % 32 = plain_level s c in
       omega (arith, e, low, p)
 
-  -- where the node at the key is not at the level, or sits on none that was found
-  pub pass_by : (level_in (s key) ≡ level → SitsAbove s (seats_in (s key))) → IsBegun h old s k level (key + 1)
-  pass_by not = record {
+  -- where as many were looked at, or such as were not found and would not have been
+  pub widen : (wider : ℕ → Bool) → ((c : ℕ) → reached c ≡ true → wider c ≡ true)
+      → ((c port p slot : ℕ) → place_in (old c) port ≡ Some (At p slot) → b.found p ≡ true → b.found c ≡ false
+      → wider c ≡ true → reached c ≡ true) → IsBegun h old s k wider
+  widen wider more less = record {
     can = b.can;
     found = b.found;
     levels = b.levels;
@@ -194,30 +209,33 @@ module _ (h : Hierarchy) (old s : Nodes) (k level key : ℕ) (b : IsBegun h old 
     up = b.up;
     down = λ c port p slot e f r. elim (decide (b.found c)) [
       | inl done ↦ done
-      | inr lost ↦ elim (cases_eq (level_in (old c)) level) [
-        | inr ne ↦ b.down c port p slot e f (r.0, λ at. absurd (ne at))
-        | inl at ↦ elim (cases_eq c key) [
-          | inr other ↦ b.down c port p slot e f (r.0, λ eq. (let lt = r.1 eq in omega (arith, lt, other)))
-          | inl same ↦ absurd (
-              let above = not (ap (λ n. level_in (s n)) (sym same) ∙ ap level_in (lost_same c lost) ∙ at) in
-              let low : level_in (s p) < 32 = above.none port p slot
-              (ap (λ n. place_in (s n) port) (sym same) ∙ places_of (old c) (s c) port (same_seats c) ∙ e) in
-              let x : level_in (s p) ≡ b.levels p + 32 = found_level p f in
-              omega (arith, low, x))
-        ]
-      ]
+      | inr lost ↦ b.down c port p slot e f (less c port p slot e f lost r)
     ];
-    only = λ c f ne. (let r = b.only c f ne in (r.0, λ eq. (let lt = r.1 eq in omega (arith, lt))));
+    only = λ c f. more c (b.only c f);
     levels_are = b.levels_are;
     most = b.most;
   }
 
-  module _ (at : level_in (s key) ≡ level) (low : level ≤ 9) (sits : SitsBelow s (seats_in (s key))) where
-    key_lost : b.found key ≡ false
-    key_lost = is_lost key (omega (arith, at, low))
+  -- where a node was found, or sits on none that was found
+  pub pass_by : (key : ℕ) → (level_in (s key) < 32 → SitsAbove s (seats_in (s key)))
+      → IsBegun h old s k (with_one key reached)
+  pass_by key not = widen (with_one key reached) (with_more key reached) (λ c port p slot e f lost r.
+      elim (cases_eq c key) [
+        | inr other ↦ sym (with_other key reached c other) ∙ r
+        | inl same ↦ absurd (
+            let still : level_in (s key) ≡ level_in (old c) = ap (λ n. level_in (s n)) (sym same)
+            ∙ ap level_in (lost_same c lost) in
+            let few : level_in (old c) ≤ 9 = b.can.low c in
+            let above = not (omega (arith, still, few)) in
+            let low : level_in (s p) < 32 = above.none port p slot
+            (ap (λ n. place_in (s n) port) (sym same) ∙ places_of (old c) (s c) port (same_seats c) ∙ e) in
+            let x : level_in (s p) ≡ b.levels p + 32 = found_level p f in
+            omega (arith, low, x))
+      ])
 
-    key_level : level_in (old key) ≡ level
-    key_level = sym (ap level_in (lost_same key key_lost)) ∙ at
+  module _ (key : ℕ) (at : level_in (s key) < 32) (sits : SitsBelow s (seats_in (s key))) where
+    key_lost : b.found key ≡ false
+    key_lost = is_lost key at
 
     key_other : key ≢ k
     key_other same = (let f : b.found key ≡ true = ap b.found same ∙ b.itself in
@@ -235,7 +253,8 @@ module _ (h : Hierarchy) (old s : Nodes) (k level key : ℕ) (b : IsBegun h old 
     pub key_room : HasRoomToSettle (s key)
     key_room = subst HasRoomToSettle (sym (lost_same key key_lost)) (b.can.room key key_under)
 
-    module _ (new : Nodes) (here : new key ≡ begun true (level_over (plain s) (seats_in (s key))) (s key))
+    module _ (fresh : IsFresh old k key reached) (new : Nodes)
+        (here : new key ≡ begun true (level_over (plain s) (seats_in (s key))) (s key))
         (others : (c : ℕ) → c ≢ key → new c ≡ s c) where
       abbrev found_now : ℕ → Bool
       found_now c = if c == key then true else b.found c
@@ -259,10 +278,7 @@ module _ (h : Hierarchy) (old s : Nodes) (k level key : ℕ) (b : IsBegun h old 
       not_on c f port p slot e same = elim (cases_eq c k) [
         | inl top ↦ b.can.acyclic port p slot (ap (λ n. place_in (old n) port) (sym top) ∙ e)
             (subst (IsUnder h k) (sym same) key_under)
-        | inr ne ↦ (let r = b.only c f ne in
-            let up : level_in (old p) < level_in (old c) = b.can.rises c port p slot ne e in
-            let is : level_in (old p) ≡ level_in (old key) = ap (λ n. level_in (old n)) same in
-            omega (arith, r.0, up, is, key_level))
+        | inr ne ↦ fresh c port p slot ne (b.only c f) e same
       ]
 
       key_not_on : (port p slot : ℕ) → place_in (old key) port ≡ Some (At p slot) → p ≢ key
@@ -271,8 +287,8 @@ module _ (h : Hierarchy) (old s : Nodes) (k level key : ℕ) (b : IsBegun h old 
           let is : level_in (old p) ≡ level_in (old key) = ap (λ n. level_in (old n)) same in
           omega (arith, up, is)
 
-      on_level : (p : ℕ) → level_in (old p) < level → level_in (plain s p) + 1 ≤ 10 + level
-      on_level p up = elim (decide (b.found p)) [
+      on_level : (p level : ℕ) → level_in (old p) < level → level_in (plain s p) + 1 ≤ 10 + level
+      on_level p level up = elim (decide (b.found p)) [
         | inl f ↦ (let e : level_in (plain s p) ≡ b.levels p = plain_found p f in
             let m : b.levels p ≤ 10 + level_in (old p) = b.most p f in omega (arith, e, m, up))
         | inr f ↦ (let e : level_in (plain s p) ≡ level_in (old p) = plain_lost p f in omega (arith, e, up))
@@ -284,10 +300,9 @@ module _ (h : Hierarchy) (old s : Nodes) (k level key : ℕ) (b : IsBegun h old 
           let place : place_in (old key) port ≡ Some (At p slot) =
           sym (places_of (old key) (s key) port (same_seats key)) ∙ e in
           let up : level_in (old p) < level_in (old key) = b.can.rises key port p slot key_other place in
-          let on : level_in (plain s p) + 1 ≤ 10 + level = on_level p (omega (arith, up, key_level)) in
-          omega (arith, on, key_level))
+          on_level p (level_in (old key)) up)
 
-      pub found_more : IsBegun h old new k level (key + 1)
+      pub found_more : IsBegun h old new k (with_one key reached)
       found_more = record {
         can = b.can;
         found = found_now;
@@ -320,22 +335,17 @@ module _ (h : Hierarchy) (old s : Nodes) (k level key : ℕ) (b : IsBegun h old 
         ];
         down = λ c port p slot e f r. elim (cases_eq c key) [
           | inl same ↦ found_key c same
-          | inr ne ↦ found_other c ne ∙ elim (cases_eq p key) [
-            | inl on ↦ elim (cases_eq c k) [
-              | inl top ↦ ap b.found top ∙ b.itself
-              | inr under ↦ absurd (let up : level_in (old p) < level_in (old c) = b.can.rises c port p slot under e in
-                  let is : level_in (old p) ≡ level_in (old key) = ap (λ n. level_in (old n)) on in
-                  omega (arith, r.0, up, is, key_level))
-            ]
-            | inr off ↦ b.down c port p slot e (sym (found_other p off) ∙ f)
-                (r.0, λ eq. (let lt = r.1 eq in omega (arith, lt, ne)))
+          | inr ne ↦ found_other c ne ∙ elim (cases_eq c k) [
+            | inl top ↦ ap b.found top ∙ b.itself
+            | inr under ↦
+                (let had : reached c ≡ true = sym (with_other key reached c ne) ∙ r in
+                b.down c port p slot e
+                (sym (found_other p (fresh c port p slot under had e)) ∙ f) had)
           ]
         ];
-        only = λ c f top. elim (cases_eq c key) [
-          | inl same ↦ (let is : level_in (old c) ≡ level_in (old key) = ap (λ n. level_in (old n)) same in
-              (omega (arith, is, key_level), λ eq. omega (arith, same)))
-          | inr ne ↦ (let r = b.only c (sym (found_other c ne) ∙ f) top in
-              (r.0, λ eq. (let lt = r.1 eq in omega (arith, lt))))
+        only = λ c f. elim (cases_eq c key) [
+          | inl same ↦ with_key key reached c same
+          | inr ne ↦ with_other key reached c ne ∙ b.only c (sym (found_other c ne) ∙ f)
         ];
         levels_are = λ c f. elim (cases_eq c key) [
           | inl same ↦ rw (eq-eqb c key same, same) (ap (level_over (plain s)) (same_seats key)
@@ -348,75 +358,3 @@ module _ (h : Hierarchy) (old s : Nodes) (k level key : ℕ) (b : IsBegun h old 
           | inr ne ↦ rw (ne_eqb c key ne) (b.most c (sym (found_other c ne) ∙ f))
         ];
       }
-
-  pub none_before : (c : ℕ) → s c ≡ None → old c ≡ None
-  none_before c none = begun_none (b.found c) (b.levels c) (old c) (sym (b.nodes c) ∙ none)
-
-  -- where no further node is at the level
-  pub level_end : ((c : ℕ) → key ≤ c → old c ≡ None) → IsBegun h old s k (level + 1) 0
-  level_end none = record {
-    can = b.can;
-    found = b.found;
-    levels = b.levels;
-    nodes = b.nodes;
-    itself = b.itself;
-    under = b.under;
-    up = b.up;
-    down = λ c port p slot e f r. b.down c port p slot e f (
-      elim (cases_eq (level_in (old c)) (level + 1)) [
-        | inl at ↦ absurd (let lt = r.1 at in omega (arith, lt))
-        | inr ne ↦ (let le = r.0 in omega (arith, le, ne))
-      ],
-      λ eq. elim (cases_lt c key) [
-        | inl lt ↦ lt
-        | inr ge ↦ absurd (not_none (old c) port (At p slot) e (none c ge))
-      ],
-    );
-    only = λ c f ne.
-        (let r = b.only c f ne in let le = r.0 in (omega (arith, le), λ eq. absurd (omega (arith, eq, le))));
-    levels_are = b.levels_are;
-    most = b.most;
-  }
-
-pub level_to : (h : Hierarchy) (old s : Nodes) (k one other : ℕ) → one ≡ other → IsBegun h old s k one 0
-    → IsBegun h old s k other 0
-level_to h old s k one other e b = subst (λ n. IsBegun h old s k n 0) e b
-
--- the moved node is the first that is found
-pub first_found : (h : Hierarchy) (old new : Nodes) (k : ℕ) → CanBegin h old k
-    → new k ≡ begun true (level_over (plain old) (seats_in (old k))) (old k) → ((c : ℕ) → c ≢ k → new c ≡ old c)
-    → IsBegun h old new k 1 0
-first_found h old new k can here others =
-    let is_k : (c : ℕ) → (c == k) ≡ true → c ≡ k = (λ c f. elim (cases_eq c k) [
-      | inl same ↦ same
-      | inr ne ↦ absurd (let g : false ≡ true = sym (ne_eqb c k ne) ∙ f in cc)
-    ]) in
-    let not_on : (port p slot : ℕ) → place_in (old k) port ≡ Some (At p slot) → p ≢ k =
-    (λ port p slot e same. can.acyclic port p slot e (0, same)) in
-    let over : level_over (plain new) (seats_in (old k)) ≡ level_over (plain old) (seats_in (old k)) =
-    level_over_same (plain old) (plain new) (seats_in (old k)) (λ port p slot e.
-    ap (λ o. level_in (at_level (level_in o % 32) o)) (others p (not_on port p slot e))) in
-    record {
-      can = can;
-      found = λ c. c == k;
-      levels = λ c. level_over (plain old) (seats_in (old k));
-      nodes = one_of (λ c. new c ≡ begun (c == k) (level_over (plain old) (seats_in (old k))) (old c)) k
-          (rw (eq-eqb k k refl) here) (λ c ne. rw (ne_eqb c k ne) (others c ne));
-      itself = eq-eqb k k refl;
-      under = λ c f. (0, is_k c f);
-      up = λ c f ne. absurd (ne (is_k c f));
-      down = λ c port p slot e f r. elim (cases_eq c k) [
-        | inl same ↦ eq-eqb c k same
-        | inr ne ↦ absurd (let up : level_in (old p) < level_in (old c) = can.rises c port p slot ne e in
-            let le = r.0 in
-            elim (cases_eq (level_in (old c)) 1) [
-              | inl one ↦ (let lt = r.1 one in omega (arith, lt))
-              | inr other ↦ omega (arith, up, le, other)
-            ])
-      ];
-      only = λ c f ne. absurd (ne (is_k c f));
-      levels_are = λ c f. rw (is_k c f) (sym over);
-      most = λ c f. over_within (plain old) (seats_in (old k)) (10 + level_in (old c)) (omega arith)
-          (λ port p slot e. let low : level_in (old p) ≤ 9 = can.low p in
-          let is : level_in (plain old p) ≡ level_in (old p) % 32 = plain_level old p in omega (arith, low, is));
-    }

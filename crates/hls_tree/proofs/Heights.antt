@@ -21,7 +21,8 @@ use Rattle.hls_walks.specs.Shown.{Scheduler as SchedulerWhat, Thread as ThreadWh
 use Rattle.hls_walks.specs.TreeOf.{IsLaid}
 use Rattle.hls_walks.proofs.Snapshots.{Nodes, rise, empty_terms}
 use Rattle.hls_walks.proofs.Passes.{seats_same, book_same}
-use Rattle.hls_tree.specs.Inside.Sums.{sum_at, sum_under, greatest_over, fair_in, fair_what, count_in, next_in}
+use Rattle.hls_tree.specs.Subtrees.{sum_at}
+use Rattle.hls_tree.specs.Inside.Sums.{sum_under, greatest_over, fair_in, fair_what, count_in, next_in}
 use Rattle.hls_tree.specs.Inside.Sums.{counts_in, IsSettled, IsLocal, sum_on}
 use Rattle.hls_tree.specs.declared.depths.Counted.{Counted}
 use Rattle.hls_tree.specs.declared.depths.Counted.TheVariants as counts
@@ -258,7 +259,7 @@ module _ (s : Nodes) (laid : IsLaid s) (h : Hierarchy) (nodes : (k : ℕ) → ba
           → IsUnder h upper c
       below_yes c some = under_by (level_in (s c) + 1) c (omega arith) some
 
-      under_some : (count c : ℕ) → IsUnderBy h upper count c
+      pub under_some : (count c : ℕ) → IsUnderBy h upper count c
           → 0 < next_in (record { counted = counts.Only upper; moved = None }) s (sum_at order sums) c
       under_some zero c e = let one = counted_self c e in omega (arith, one)
       under_some (suc count) c x =
@@ -276,8 +277,3 @@ module _ (s : Nodes) (laid : IsLaid s) (h : Hierarchy) (nodes : (k : ℕ) → ba
           let greatest : 0 < greatest_over (sum_at order sums) (seats_in (s c)) =
           omega (arith, is, some, over, same) in
           omega (arith, greatest)
-
-      pub below_no : (c : ℕ)
-          → next_in (record { counted = counts.Only upper; moved = None }) s (sum_at order sums) c ≡ 0
-          → ¬ IsUnder h upper c
-      below_no c none x = let some = under_some x.0 c x.1 in omega (arith, some, none)

@@ -1,8 +1,8 @@
 -- A node that is moved, and all that is below it.
-use Rattle.std.proofs.Common.{◌≡◌, ◌≢◌, inl, inr, ℕ, zero, suc, ◌+◌, ◌<◌, ◌≤◌, List, [], ◌∷◌, ◌++◌, length}
+use Rattle.std.proofs.Common.{◌≡◌, ◌≢◌, ◌⊎◌, inl, inr, ℕ, zero, suc, ◌+◌, ◌<◌, ◌≤◌, List, [], ◌∷◌, ◌++◌, length}
 use Rattle.std.proofs.Common.{Bool, true, false, Option, Some, None, if◌then◌else◌, ◌==◌}
 use Rattle.std.proofs.Common.{slice_get, length-append, refl, sym, ap, ◌∙◌, subst, arith}
-use Rattle.std.specs.Prelude.{option_map}
+use Rattle.std.specs.Prelude.{option_map, Contains}
 use Rattle.std.proofs.lemmas.Bool.{cases_eq, eq-eqb, ne_eqb}
 use Rattle.hls_chron.specs.declared.book.Event.{Event}
 use Rattle.hls_chron.specs.Seats.{terms_at}
@@ -15,7 +15,9 @@ use Rattle.hls_legal.specs.Hierarchy.{config_of as config_of_node}
 use Rattle.hls_legal.specs.Hierarchy.{Scheduler as LoadedScheduler}
 use Rattle.hls_legal.specs.Ledgers.{with_marks}
 use Rattle.hls_legal.specs.Steps.{leavings, seatings, marked, renewed, reseated, effect, root_with, root_without}
+use Rattle.hls_legal.specs.Steps.{is_scheduler, is_thread}
 use Rattle.hls_legal.specs.Legal.{IsChain, SitsUnder, SitsOn, IsBelow, scheduler_at}
+use Rattle.hls_legal.specs.Lists.{Lists}
 use Rattle.hls_legal.specs.Readings.{IsUnder, IsUnderBy}
 use Rattle.hls_legal.specs.Seated.{IsSeated}
 use Rattle.hls_walks.specs.Shown.{Shown, What, Scheduler, Thread, Bare, SchedulerNode, ThreadNode, PostedIn, RoomBare}
@@ -26,7 +28,7 @@ use Rattle.hls_walks.specs.TreeOf.{IsOf, IsLaid, IsReady, IsRanked, IsNew, AreTo
 use Rattle.hls_walks.proofs.Snapshots.{Nodes, one_of, empty_terms, rise, below_ten, level_over_same}
 use Rattle.hls_walks.proofs.Passes.{laid_from, seats_same, book_same, place_there}
 use Rattle.hls_walks.proofs.Leads.{sat}
-use Rattle.hls_tree.specs.Inside.Below.{at_level, plain, HasRoomToSettle, CanBegin, IsBegun}
+use Rattle.hls_tree.specs.Inside.Below.{at_level, plain, HasRoomToSettle, CanBegin, IsBegun, AreListed}
 use Rattle.hls_tree.specs.Offers.{MayMove, MovesTo, TakesAt, IsTakenAs, moved_to}
 use Rattle.hls_tree.specs.Seating.{marked_bare, IsMarked, MayTake, MayLeaveAt, LeavesAt, IsTaken, IsWanted}
 use Rattle.hls_tree.specs.Seating.{IsAtFree}
@@ -144,6 +146,10 @@ level_what : (name : List ℕ) (level : ℕ) (seats : List Seat) (w : What)
     → most_in (Some (record { name = name; level = level; seats = seats; what = w })) ≡ 0 → level ≡ 0
 level_what name level seats (Scheduler post) e = absurd (omega (arith, e))
 level_what name level seats (Thread r) e = absurd (omega (arith, e))
+
+nobody : (o : Option Shown) → bare_in o ≡ None → o ≡ None
+nobody None e = refl
+nobody (Some s) e = cc
 
 level_nobody : (o : Option Shown) → most_in o ≡ 0 → level_in o ≡ 0
 level_nobody None e = refl
@@ -358,9 +364,51 @@ module _ (s : Nodes) (tick horizon : ℕ) (root : Option ℕ) (h : Hierarchy) (t
         room = room_under;
       }
 
-      module _ (s1 new : Nodes) (b : IsBegun h s0 s1 k 10 0) (plain_is : (c : ℕ) → new c ≡ plain s1 c) where
+      takes_there : (parent : Option ℕ) (p : ℕ) → TakesAt h parent w.terms → parent ≡ Some p
+          → (y : LoadedScheduler) × (h.nodes p ≡ Some (Loaded y))
+      takes_there None p x e = cc
+      takes_there (Some q) p x e =
+          let same : q ≡ p = cc in (x.scheduler, ap h.nodes (sym same) ∙ x.there)
+
+      parent_there : (c port p slot : ℕ) → place_in (s0 c) port ≡ Some (At p slot)
+          → (y : LoadedScheduler) × (h.nodes p ≡ Some (Loaded y))
+      parent_there c port p slot e = elim (cases_eq c k) [
+        | inl same ↦ takes_there w.parent p may.seat.fits (sym on ∙ ap scheduler_at
+            (only_place (seats_in (s0 k)) seat port (At p slot) r.here
+            (ap (λ n. place_in (s0 n) port) (sym same) ∙ e)).1)
+        | inr ne ↦ loaded_if (h.nodes p) slot (λ none. laid.taken c port p slot
+            (sym (old_place c port ne) ∙ e)
+            (ap (λ bk. terms_at bk slot) (sym (book_same (h.nodes p) (s p) (tree.nodes p))) ∙ none))
+      ]
+
+      none_there : (c : ℕ) → bare_in (s c) ≡ None → bare_in (s0 c) ≡ None
+      none_there c e = elim (cases_eq c k) [
+        | inl same ↦ ap (λ n. bare_in (s0 n)) same ∙ r.node
+            ∙ ap (bare_reseated seat) (ap (λ n. bare_in (s n)) (sym same) ∙ e)
+        | inr ne ↦ r.nodes c ne ∙ ap (marked_bare (leavings (left ∷ []) c ++ seatings (seat ∷ []) c)) e
+      ]
+
+      -- its lists are those of the hierarchy
+      module _ (schedulers : Lists h.schedulers (λ c. is_scheduler (h.nodes c)))
+          (threads : Lists h.threads (λ c. is_thread (h.nodes c))) where
+        listed_by : (c : ℕ) (node : Option Node) → h.nodes c ≡ node → s0 c ≢ None
+            → Contains h.schedulers c ⊎ Contains h.threads c
+        listed_by c None e ne = absurd (ne (nobody (s0 c) (none_there c (sym (tree.nodes c) ∙ ap bare e))))
+        listed_by c (Some (Loaded y)) e ne = inl (schedulers.all c (ap is_scheduler e))
+        listed_by c (Some (Admitted y)) e ne = inr (threads.all c (ap is_thread e))
+
+        pub moved_listed : AreListed s0 h.schedulers h.threads
+        moved_listed = record {
+          nodes = λ c ne. listed_by c (h.nodes c) refl ne;
+          parents = λ c port p slot e on.
+              let parent = parent_there c port p slot e in
+              let clash : true ≡ false = sym (threads.only p on) ∙ ap is_thread parent.1 in
+              cc;
+        }
+
+      module _ (s1 new : Nodes) (b : IsBegun h s0 s1 k (λ c. true)) (plain_is : (c : ℕ) → new c ≡ plain s1 c) where
         seats_new : (c : ℕ) → seats_in (new c) ≡ seats_in (s0 c)
-        seats_new c = ap seats_in (plain_is c) ∙ level_left _ (s1 c) ∙ same_seats h s0 s1 k 10 0 b c
+        seats_new c = ap seats_in (plain_is c) ∙ level_left _ (s1 c) ∙ same_seats h s0 s1 k (λ c. true) b c
 
         place_new : (c port : ℕ) → place_in (new c) port ≡ place_in (s0 c) port
         place_new c port = places_of (s0 c) (new c) port (seats_new c)
@@ -378,15 +426,13 @@ module _ (s : Nodes) (tick horizon : ℕ) (root : Option ℕ) (h : Hierarchy) (t
         posted_new c = subst PostedIn (sym (plain_is c)) (posted_level _ (s1 c) ((found_left c).posted (r.posted c)))
 
         level_found : (c : ℕ) → b.found c ≡ true → level_in (new c) ≡ b.levels c
-        level_found c f = ap level_in (plain_is c) ∙ plain_found h s0 s1 k 10 0 b c f
+        level_found c f = ap level_in (plain_is c) ∙ plain_found h s0 s1 k (λ c. true) b c f
 
         level_lost : (c : ℕ) → b.found c ≡ false → level_in (new c) ≡ level_in (s c)
-        level_lost c f = ap level_in (plain_is c) ∙ plain_lost h s0 s1 k 10 0 b c f ∙ r.levels c
+        level_lost c f = ap level_in (plain_is c) ∙ plain_lost h s0 s1 k (λ c. true) b c f ∙ r.levels c
 
         all_down : (c port p slot : ℕ) → place_in (s0 c) port ≡ Some (At p slot) → b.found p ≡ true → b.found c ≡ true
-        all_down c port p slot e f =
-            let low : level_in (s0 c) ≤ 9 = b.can.low c in
-            b.down c port p slot e f (omega (arith, low), λ eq. absurd (omega (arith, low, eq)))
+        all_down c port p slot e f = b.down c port p slot e f refl
 
         pub moved_under : (g : Hierarchy) → ((c : ℕ) → bare (g.nodes c) ≡ bare_in (s c)) → IsBelow g k b.found
         moved_under g nodes = record {
@@ -502,22 +548,9 @@ module _ (s : Nodes) (tick horizon : ℕ) (root : Option ℕ) (h : Hierarchy) (t
           )
         ]
 
-        takes_there : (parent : Option ℕ) (p : ℕ) → TakesAt h parent w.terms → parent ≡ Some p
-            → (y : LoadedScheduler) × (h.nodes p ≡ Some (Loaded y))
-        takes_there None p x e = cc
-        takes_there (Some q) p x e =
-            let same : q ≡ p = cc in (x.scheduler, ap h.nodes (sym same) ∙ x.there)
-
         parent_new : (c port p slot : ℕ) → place_in (new c) port ≡ Some (At p slot)
             → (y : LoadedScheduler) × (h.nodes p ≡ Some (Loaded y))
-        parent_new c port p slot e = elim (cases_eq c k) [
-          | inl same ↦ takes_there w.parent p may.seat.fits (sym on ∙ ap scheduler_at
-              (only_place (seats_in (s0 k)) seat port (At p slot) r.here
-              (ap (λ n. place_in (s0 n) port) (sym same) ∙ sym (place_new c port) ∙ e)).1)
-          | inr ne ↦ loaded_if (h.nodes p) slot (λ none. laid.taken c port p slot
-              (sym (place_new c port ∙ old_place c port ne) ∙ e)
-              (ap (λ bk. terms_at bk slot) (sym (book_same (h.nodes p) (s p) (tree.nodes p))) ∙ none))
-        ]
+        parent_new c port p slot e = parent_there c port p slot (sym (place_new c port) ∙ e)
 
         record IsUp (c : ℕ) : Type 0 where
           above : List ℕ
@@ -552,8 +585,8 @@ module _ (s : Nodes) (tick horizon : ℕ) (root : Option ℕ) (h : Hierarchy) (t
             let count : length u.above + 1 ≡ level_in (new p) = u.count in
             record {
               above = u.above ++ p ∷ [];
-              chain =
-                  chain_snoc (moved_to h k seat) None u.above p c u.chain (sits_under c y there port x at (At p slot) on);
+              chain = chain_snoc (moved_to h k seat) None u.above p c u.chain
+                  (sits_under c y there port x at (At p slot) on);
               count = omega (arith, length-append u.above (p ∷ []), count, level);
             }
 
@@ -670,7 +703,8 @@ module _ (s : Nodes) (tick horizon : ℕ) (root : Option ℕ) (h : Hierarchy) (t
                   (one_of (λ d. RoomBare n (bare_in (s0 d))) k
                   (rw r.node (room_reseated seat n (bare_in (s k)) (x.room k n le)))
                   (λ d ne. rw (r.nodes d ne)
-                  (room_marked (leavings (left ∷ []) d ++ seatings (seat ∷ []) d) n (bare_in (s d)) (x.room d n le))) c));
+                  (room_marked (leavings (left ∷ []) d ++ seatings (seat ∷ []) d) n (bare_in (s d))
+                  (x.room d n le))) c));
               within = x.within;
             }
 

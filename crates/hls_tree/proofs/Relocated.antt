@@ -14,7 +14,7 @@ use Rattle.hls_walks.specs.Views.{boxed, shown_at}
 use Rattle.hls_walks.specs.TreeOf.{IsNew}
 use Rattle.hls_walks.proofs.Snapshots.{Nodes}
 use Rattle.hls_walks.proofs.Passes.{seats_same}
-use Rattle.hls_tree.specs.Inside.Below.{plain, CanBegin, IsBegun}
+use Rattle.hls_tree.specs.Inside.Below.{plain, CanBegin, IsBegun, AreListed}
 use Rattle.hls_tree.specs.Lists.{holder_view}
 use Rattle.hls_tree.specs.Names.{id_of}
 use Rattle.hls_tree.specs.Offers.{MayMove}
@@ -30,7 +30,7 @@ use Rattle.hls_tree.proofs.Named.{named_alike}
 use Rattle.hls_tree.proofs.Ported.{ported_effect, ported_reseated, mover_seat}
 use Rattle.hls_tree.proofs.Reseats.{bare_reseated, reseated_bare}
 use Rattle.hls_tree.proofs.Moved.{can_leave, can_take, left_posted, can_begin, moved_under, moved_taken, moved_tree}
-use Rattle.hls_tree.proofs.Moved.{moved_ready, moved_told, moved_name, late_own, reseated_seats}
+use Rattle.hls_tree.proofs.Moved.{moved_listed, moved_ready, moved_told, moved_name, late_own, reseated_seats}
 
 -- one that is struck off makes a list shorter
 pub shorter : {A : Type 0} (p : A → Bool) (xs : List A) (x : A) → Contains xs x → p x ≡ false
@@ -147,7 +147,13 @@ module _ {V : Type 0} {P : V → Type 0} (seen : (x : V) × P x → Seen) (old :
           begin = can_begin s old.tick old.horizon old.root stands.h stands.tree.of stands.seated id w left stands.is
               own seat mid late put leaves takes here others
 
-          module _ (found : Nodes) (b : IsBegun stands.h put found id 10 0) (new : Tree V P)
+          pub listed_now : AreListed put old.schedulers.items old.threads.items
+          listed_now = subst (λ order. AreListed put order old.threads.items) stands.tree.schedulers
+              (subst (AreListed put stands.h.schedulers) stands.tree.threads
+              (moved_listed s old.tick old.horizon old.root stands.h stands.tree.of stands.seated id w left stands.is
+              own seat mid late put leaves takes here others stands.listed.schedulers stands.listed.threads))
+
+          module _ (found : Nodes) (b : IsBegun stands.h put found id (λ c. true)) (new : Tree V P)
               (plain_is : (c : ℕ) → shown_at (boxed seen) new.nodes c ≡ plain found c) where
             pub moves : new.root ≡ root_with id (seat ∷ []) (root_without (left ∷ []) old.root)
                 → map holder_view new.seats.items ≡ filter (λ (x : SeatHolder). not (x.node == id))
@@ -202,6 +208,6 @@ module _ {V : Type 0} {P : V → Type 0} (seen : (x : V) × P x → Seen) (old :
                     (ported_reseated seat w.parent (stands.h.nodes id) stands.is.sort));
               };
               ready = λ ready. moved_ready s old.tick old.horizon old.root stands.h stands.tree.of stands.seated id w
-                  left stands.is own seat mid late put leaves takes here others found (shown_at (boxed seen) new.nodes) b
-                  plain_is h ready;
+                  left stands.is own seat mid late put leaves takes here others found
+                  (shown_at (boxed seen) new.nodes) b plain_is h ready;
             }

@@ -7,7 +7,8 @@ use Rattle.std.proofs.lemmas.List.{drop_more, drop_all, get_or-set_same, length-
 use Rattle.std.proofs.lemmas.Bool.{cases_eq, cases_lt, ne_eqb}
 use Rattle.hls_legal.specs.Hierarchy.{Seat}
 use Rattle.hls_legal.specs.Legal.{scheduler_at}
-use Rattle.hls_tree.specs.Inside.Sums.{sum_at, sum_under, greatest_over, IsRight, IsSettled, IsSettledTo, IsLocal}
+use Rattle.hls_tree.specs.Subtrees.{sum_at}
+use Rattle.hls_tree.specs.Inside.Sums.{sum_under, greatest_over, IsRight, IsSettled, IsSettledTo, IsLocal}
 
 -- each is on the list once
 abbrev pub AreApart : List ℕ → Type 0

@@ -7,11 +7,12 @@ ghost use Rattle.hls_legal.specs.Readings.{IsUnder};
 ghost use Rattle.hls_legal.specs.Seated.{IsSeated};
 ghost use Rattle.hls_walks.specs.Shown.{seats_in};
 ghost use Rattle.hls_walks.specs.Views.{boxed, shown_at, place_view, seat_view};
-ghost use Rattle.hls_tree.specs.Inside.Sums.{sum_at, sum_under, greatest_over, greatest_in, fair_in, count_in, next_in};
+ghost use Rattle.hls_tree.specs.Inside.Sums.{sum_under, greatest_over, greatest_in, fair_in, count_in, next_in};
 ghost use Rattle.hls_tree.specs.Inside.Sums.{IsSettled, IsSettledTo, IsLocal, IsGreatestSum, counts_in};
 ghost use Rattle.hls_tree.specs.Offers.{moved_to};
 ghost use Rattle.hls_tree.specs.Reads.{IsLoaded, IsShares, IsGreatestLevel, AreMostShares, MayAskAbout};
-ghost use Rattle.hls_tree.specs.Trees.{IsTreeOf, Stands};
+ghost use Rattle.hls_tree.specs.Subtrees.{IsSubtree, sum_at};
+ghost use Rattle.hls_tree.specs.Trees.{IsTreeOf, Stands, Any};
 
 use crate::Tree;
 use hls_chron::Config;
@@ -25,6 +26,14 @@ type Sums = [u8; 64];
 /// How many rounds lead to all sums at most: one for each level up to 8 and, after these, for each level
 /// of those below a scheduler that is thought to sit elsewhere.
 const ROUNDS: u8 = 18;
+
+/// The schedulers that are a node or below it. It is asked about in the tree that it was found in.
+#[derive(Clone, Copy)]
+pub struct Subtree {
+    upper: NodeId,
+    /// More than 0 for the schedulers of the subtree.
+    sums: Sums,
+}
 
 /// Which schedulers count on a path.
 #[derive(Clone, Copy)]
@@ -250,18 +259,42 @@ impl Tree {
         sums
     }
 
+    /// The schedulers that are a node or below it.
+    pub fn subtree(&self, upper: NodeId) -> Subtree
+        requires { Stands seen self.now (λ h. h.nodes upper ≢ None) }
+        ensures { (h : Hierarchy) → IsTreeOf seen self.now h → IsSubtree h upper result }
+    {
+        let question = Question {
+            counted: Counted::Only(upper.key()),
+            moved: None,
+        };
+        Subtree {
+            upper,
+            sums: self.sums(&question),
+        }
+    }
+
+    /// Whether a node is that of a subtree or below it.
+    pub fn is_in(&self, subtree: &Subtree, lower: NodeId) -> bool
+        requires { Stands seen self.now Any }
+        ensures yes { result ≡ true → (h : Hierarchy) (upper : ℕ) → IsTreeOf seen self.now h →
+            IsSubtree h upper subtree.now → IsUnder h upper lower }
+        ensures no { result ≡ false → (h : Hierarchy) (upper : ℕ) → IsTreeOf seen self.now h →
+            IsSubtree h upper subtree.now → ¬ IsUnder h upper lower }
+    {
+        if lower.key() == subtree.upper.key() {
+            return true;
+        }
+        self.sum_seated(&subtree.sums, lower.key()) > 0
+    }
+
     /// Whether a node is another or below it.
     pub fn below(&self, upper: NodeId, lower: NodeId) -> bool
         requires { Stands seen self.now (λ h. (h.nodes upper ≢ None) × (h.nodes lower ≢ None)) }
         ensures yes { result ≡ true → (h : Hierarchy) → IsTreeOf seen self.now h → IsUnder h upper lower }
         ensures no { result ≡ false → (h : Hierarchy) → IsTreeOf seen self.now h → ¬ IsUnder h upper lower }
     {
-        let question = Question {
-            counted: Counted::Only(upper.key()),
-            moved: None,
-        };
-        let sums = self.sums(&question);
-        self.next_sum(&question, &sums, lower.key()) > 0
+        self.is_in(&self.subtree(upper), lower)
     }
 
     /// The most fair queueing schedulers on a path to a scheduler, itself included.

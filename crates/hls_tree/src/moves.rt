@@ -1,11 +1,13 @@
 // Nodes that take another seat.
-ghost use Rattle.std.specs.Prelude.{◌≡◌, ◌≢◌, ◌≤◌, ◌<◌, ◌+◌, ℕ, true, false, Option, length, map, [], ◌∷◌};
+ghost use Rattle.std.specs.Prelude.{◌≡◌, ◌≢◌, ◌≤◌, ◌<◌, ◌+◌, ℕ, true, false, Bool, Option, List, length, map, [], ◌∷◌};
+ghost use Rattle.std.specs.Prelude.{slice_index};
 ghost use Rattle.hls_legal.specs.Hierarchy.{Hierarchy, At};
 ghost use Rattle.hls_legal.specs.Steps.{root_with, root_without};
 ghost use Rattle.hls_walks.specs.Shown.{Shown, PostedIn, level_in, seats_in, with_seat};
 ghost use Rattle.hls_walks.specs.Views.{boxed, shown_at, seat_view, place_view};
 ghost use Rattle.hls_walks.specs.TreeOf.{level_at, level_over};
 ghost use Rattle.hls_tree.specs.Inside.Below.{plain, begun, HasRoomToSettle, SitsBelow, SitsAbove, IsBegun};
+ghost use Rattle.hls_tree.specs.Inside.Below.{IsBegunTo, AreListed, IsFresh, with_one};
 ghost use Rattle.hls_tree.specs.Offers.{MayMove};
 ghost use Rattle.hls_tree.specs.Trees.{IsTreeOf, Stands, HasPassed, Moves};
 
@@ -128,16 +130,15 @@ fn sits_below(nodes: &Slab<Node>, key: usize) -> bool
     }
 }
 
-/// Begins the accounts of a node anew, if it was at this level and sits on one that was found.
-fn begin_node(nodes: &mut Slab<Node>, key: usize, level: u8)
-    requires low { level ≤ 9 }
-    requires begun { (h : Hierarchy) × (old : ℕ → Option Shown) × (k : ℕ) ×
-        IsBegun h old (shown_at (boxed seen) nodes.old) k level key }
-    ensures { (h : Hierarchy) (old : ℕ → Option Shown) (k : ℕ) →
-        IsBegun h old (shown_at (boxed seen) nodes.old) k level key →
-        IsBegun h old (shown_at (boxed seen) nodes.new) k level (key + 1) }
+/// Begins the accounts of a node anew, if it was not found before and sits on one that was.
+fn begin_node(nodes: &mut Slab<Node>, key: usize)
+    requires { (h : Hierarchy) × (old : ℕ → Option Shown) × (k : ℕ) × (reached : ℕ → Bool) ×
+        IsBegun h old (shown_at (boxed seen) nodes.old) k reached }
+    ensures { (h : Hierarchy) (old : ℕ → Option Shown) (k : ℕ) (reached : ℕ → Bool) →
+        IsBegun h old (shown_at (boxed seen) nodes.old) k reached → IsFresh old k key reached →
+        IsBegun h old (shown_at (boxed seen) nodes.new) k (with_one key reached) }
 {
-    if level_at(nodes, key) != level {
+    if level_at(nodes, key) >= BELOW {
         return;
     }
     if sits_below(nodes, key) {
@@ -145,32 +146,72 @@ fn begin_node(nodes: &mut Slab<Node>, key: usize, level: u8)
     }
 }
 
-/// Begins the accounts of those anew that were at this level and sit on one that was found.
-fn begin_level(nodes: &mut Slab<Node>, level: u8)
+/// The same where the node was at this level.
+fn begin_leveled(nodes: &mut Slab<Node>, key: usize, level: u8)
+    requires low { level ≤ 9 }
+    requires begun { (h : Hierarchy) × (old : ℕ → Option Shown) × (k : ℕ) × (reached : ℕ → Bool) ×
+        IsBegun h old (shown_at (boxed seen) nodes.old) k reached }
+    ensures { (h : Hierarchy) (old : ℕ → Option Shown) (k : ℕ) (order : List ℕ) (at : ℕ) →
+        slice_index order at ≡ key →
+        IsBegunTo h old (shown_at (boxed seen) nodes.old) k order level at →
+        IsBegunTo h old (shown_at (boxed seen) nodes.new) k order level (at + 1) }
+{
+    if level_at(nodes, key) == level {
+        begin_node(nodes, key);
+    }
+}
+
+/// Begins the accounts of those schedulers anew that were at this level and sit on one that was found.
+fn begin_level(nodes: &mut Slab<Node>, schedulers: &[NodeId], level: u8)
     requires begun { (h : Hierarchy) × (old : ℕ → Option Shown) × (k : ℕ) ×
-        IsBegun h old (shown_at (boxed seen) nodes.old) k level 0 }
+        IsBegunTo h old (shown_at (boxed seen) nodes.old) k schedulers.now level 0 }
     requires low { level ≤ 9 }
     ensures { (h : Hierarchy) (old : ℕ → Option Shown) (k : ℕ) →
-        IsBegun h old (shown_at (boxed seen) nodes.old) k level 0 →
-        IsBegun h old (shown_at (boxed seen) nodes.new) k (level + 1) 0 }
+        IsBegunTo h old (shown_at (boxed seen) nodes.old) k schedulers.now level 0 →
+        IsBegunTo h old (shown_at (boxed seen) nodes.new) k schedulers.now (level + 1) 0 }
 {
-    let end = nodes.capacity();
-    for key in 0..end {
-        begin_node(nodes, key, level);
+    for id in schedulers {
+        begin_leveled(nodes, id.key(), level);
+    }
+}
+
+/// Begins the accounts of the schedulers anew that are below one that was found, level by level.
+fn begin_schedulers(nodes: &mut Slab<Node>, schedulers: &[NodeId])
+    requires { (h : Hierarchy) × (old : ℕ → Option Shown) × (k : ℕ) ×
+        IsBegunTo h old (shown_at (boxed seen) nodes.old) k schedulers.now 1 0 }
+    ensures { (h : Hierarchy) (old : ℕ → Option Shown) (k : ℕ) →
+        IsBegunTo h old (shown_at (boxed seen) nodes.old) k schedulers.now 1 0 →
+        IsBegunTo h old (shown_at (boxed seen) nodes.new) k schedulers.now 10 0 }
+{
+    for level in 1..10u8 {
+        begin_level(nodes, schedulers, level);
+    }
+}
+
+/// Begins the stays of the threads anew that sit on a scheduler that was found.
+fn begin_threads(nodes: &mut Slab<Node>, threads: &[NodeId])
+    requires { (h : Hierarchy) × (old : ℕ → Option Shown) × (k : ℕ) × (order : List ℕ) ×
+        AreListed old order threads.now × IsBegunTo h old (shown_at (boxed seen) nodes.old) k order 10 0 }
+    ensures { (h : Hierarchy) (old : ℕ → Option Shown) (k : ℕ) (order : List ℕ) →
+        AreListed old order threads.now → IsBegunTo h old (shown_at (boxed seen) nodes.old) k order 10 0 →
+        IsBegun h old (shown_at (boxed seen) nodes.new) k (λ c. true) }
+{
+    for id in threads {
+        begin_node(nodes, id.key());
     }
 }
 
 /// Begins the accounts of all anew that are below one that was found.
-fn begin_all(nodes: &mut Slab<Node>)
+fn begin_all(nodes: &mut Slab<Node>, schedulers: &[NodeId], threads: &[NodeId])
     requires { (h : Hierarchy) × (old : ℕ → Option Shown) × (k : ℕ) ×
-        IsBegun h old (shown_at (boxed seen) nodes.old) k 1 0 }
-    ensures { (h : Hierarchy) (old : ℕ → Option Shown) (k : ℕ) →
-        IsBegun h old (shown_at (boxed seen) nodes.old) k 1 0 →
-        IsBegun h old (shown_at (boxed seen) nodes.new) k 10 0 }
+        AreListed old schedulers.now threads.now ×
+        IsBegunTo h old (shown_at (boxed seen) nodes.old) k schedulers.now 1 0 }
+    ensures { (h : Hierarchy) (old : ℕ → Option Shown) (k : ℕ) → AreListed old schedulers.now threads.now →
+        IsBegunTo h old (shown_at (boxed seen) nodes.old) k schedulers.now 1 0 →
+        IsBegun h old (shown_at (boxed seen) nodes.new) k (λ c. true) }
 {
-    for level in 1..10u8 {
-        begin_level(nodes, level);
-    }
+    begin_schedulers(nodes, schedulers);
+    begin_threads(nodes, threads);
 }
 
 /// Forgets that a node was found.
@@ -227,7 +268,7 @@ impl Tree {
         let taken = take_seat(&mut self.nodes, &seat);
         put_seat(&mut self.nodes, key, taken);
         begin_at(&mut self.nodes, key);
-        begin_all(&mut self.nodes);
+        begin_all(&mut self.nodes, &self.schedulers, &self.threads);
         forget_all(&mut self.nodes);
         list_last(&mut self.seats, id);
         self.root = root_moved(&left, &taken, id, self.root);

@@ -5,16 +5,11 @@ use Rattle.std.specs.Prelude.{List, [], ◌∷◌, length, slice_index, Option, 
 use Rattle.hls_legal.specs.Hierarchy.{Hierarchy, Seat}
 use Rattle.hls_legal.specs.Legal.{IsChain, scheduler_at, fair_queue}
 use Rattle.hls_walks.specs.Shown.{Shown, What, Scheduler, Thread, seats_in}
+use Rattle.hls_tree.specs.Subtrees.{sum_at}
 use Rattle.hls_tree.specs.declared.depths.Counted.{Counted}
 use Rattle.hls_tree.specs.declared.depths.Counted.TheVariants as counts
 use Rattle.hls_tree.specs.declared.depths.Moved.{Moved}
 use Rattle.hls_tree.specs.declared.depths.Question.{Question}
-
--- the sum of the scheduler of a number, and 0 for what is not on the list
-abbrev pub sum_at : (order sums : List ℕ) → (k : ℕ) → ℕ
-sum_at [] sums k = 0
-sum_at (c ∷ order) [] k = 0
-sum_at (c ∷ order) (sum ∷ sums) k = if c == k then sum else sum_at order sums k
 
 -- the sum of a parent, 0 at the processor
 abbrev pub sum_under : (sums : ℕ → ℕ) → (parent : Option ℕ) → ℕ

@@ -1,22 +1,22 @@
 use Rattle.std.proofs.Common.{arith}
-use Rattle.hls_stays.proofs.Under.{under_stands, under_next, under_skip, under_all}
+use Rattle.hls_stays.proofs.Under.{any_stands, under_next, under_skip, under_all}
 use Rattle.hls_stays.proofs.turnover.threads_under.Goals as goal
 
-pub below-requires : goal.below-requires
-below-requires g c =
-    under_stands _ c.args.tree.now c.args.id c.loop-at.at c.thread-thread.result c.requires
-    (c.thread-thread.ensures c.requires.h c.requires.tree)
+pub is_in-requires : goal.is_in-requires
+is_in-requires g c = any_stands _ c.args.tree.now c.args.id c.requires
 
-pub loop-at-preserved-then-not-below : goal.loop-at-preserved-then-not-below
-loop-at-preserved-then-not-below g c = λ h below tree tells.
+pub loop-at-preserved-then-not-is_in : goal.loop-at-preserved-then-not-is_in
+loop-at-preserved-then-not-is_in g c = λ h below tree tells.
     under_skip h below c.args.id c.loop-at.at c.thread-thread.result c.loop-at.threads.items tells
-    (c.thread-thread.ensures h tree) (c.below.ensures.no c.if-not-below.true h tree)
+    (c.thread-thread.ensures h tree)
+    (c.is_in.ensures.no c.if-not-is_in.true h c.args.id tree (c.subtree-subtree.ensures h tree))
     (c.loop-at.invariant h below tree tells)
 
 pub loop-at-preserved : goal.loop-at-preserved
 loop-at-preserved g c = λ h below tree tells.
     under_next h below c.args.id c.loop-at.at c.thread-thread.result c.loop-at.threads.items _ tells
-    (c.thread-thread.ensures h tree) (c.below.ensures.yes c.if-not-below.false h tree)
+    (c.thread-thread.ensures h tree)
+    (c.is_in.ensures.yes c.if-not-is_in.false h c.args.id tree (c.subtree-subtree.ensures h tree))
     (c.loop-at.invariant h below tree tells) c.in_ok-push.ensures.items
 
 pub returns : goal.returns

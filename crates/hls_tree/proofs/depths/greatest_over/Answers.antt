@@ -2,7 +2,8 @@ use Rattle.std.proofs.Common.{◌≡◌, ◌∙◌, Some, refl, ap, map, slice_g
 use Rattle.std.specs.Prelude.{option_map}
 use Rattle.std.proofs.lemmas.Option.{slice_get_read, slice_get-map}
 use Rattle.hls_walks.specs.Views.{seat_view}
-use Rattle.hls_tree.specs.Inside.Sums.{sum_at, sum_under}
+use Rattle.hls_tree.specs.Subtrees.{sum_at}
+use Rattle.hls_tree.specs.Inside.Sums.{sum_under}
 use Rattle.hls_tree.proofs.Sums.{under_step}
 use Rattle.hls_tree.proofs.depths.greatest_over.Goals as goal
 

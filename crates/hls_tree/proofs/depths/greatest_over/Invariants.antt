@@ -1,6 +1,7 @@
 use Rattle.std.proofs.Common.{◌≡◌, max, map, drop}
 use Rattle.hls_walks.specs.Views.{seat_view}
-use Rattle.hls_tree.specs.Inside.Sums.{sum_at, greatest_over}
+use Rattle.hls_tree.specs.Subtrees.{sum_at}
+use Rattle.hls_tree.specs.Inside.Sums.{greatest_over}
 use Rattle.hls_tree.proofs.depths.greatest_over.Given as goal
 
 abbrev pub invariant-loop-seat : goal.invariant-loop-seat

@@ -1,5 +1,5 @@
 use Rattle.std.proofs.Common.{◌≡◌, drop}
-use Rattle.hls_tree.specs.Inside.Sums.{sum_at}
+use Rattle.hls_tree.specs.Subtrees.{sum_at}
 use Rattle.hls_tree.proofs.depths.sum_of.Given as goal
 
 abbrev pub invariant-loop-at : goal.invariant-loop-at

@@ -1,7 +1,7 @@
 use Rattle.std.proofs.Common.{refl}
-use Rattle.hls_tree.proofs.Found.{first_found}
+use Rattle.hls_tree.proofs.Begun.{start}
 use Rattle.hls_tree.proofs.Relocated.{seat_there, seat_listed, leaves_may, takes_may, takes_posted, one_there, begin}
-use Rattle.hls_tree.proofs.Relocated.{moves}
+use Rattle.hls_tree.proofs.Relocated.{listed_now, moves}
 use Rattle.hls_tree.proofs.tree.Tree.relocate.Goals as goal
 
 pub seat-left-requires : goal.seat-left-requires
@@ -45,7 +45,10 @@ begin_all-requires g c =
     let rest = rw c.key-key.ensures.key at c.begin_at.ensures.others in
     let can = begin _ c.args.self.now c.args.id c.args.seat c.requires _ c.seat-left.ensures _ c.leave_seat.ensures _ _
     c.take_seat-taken.ensures.taken _ here others in
-    (c.requires.h, _, c.args.id, first_found c.requires.h _ _ c.args.id can first rest)
+    let listed = listed_now _ c.args.self.now c.args.id c.args.seat c.requires _ c.seat-left.ensures _
+    c.leave_seat.ensures _ _ c.take_seat-taken.ensures.taken _ here others in
+    let begun = start c.requires.h _ _ c.args.id can first rest c.args.self.now.schedulers.items in
+    rw (c.deref.ensures.value, c.deref-2.ensures.value) (c.requires.h, _, c.args.id, listed, begun)
 
 pub list_last-requires : goal.list_last-requires
 list_last-requires g c = seat_listed _ c.args.self.now c.args.id c.args.seat c.requires
@@ -58,8 +61,13 @@ returns-clause-moved g c =
     let rest = rw c.key-key.ensures.key at c.begin_at.ensures.others in
     let can = begin _ c.args.self.now c.args.id c.args.seat c.requires _ c.seat-left.ensures _ c.leave_seat.ensures _ _
     c.take_seat-taken.ensures.taken _ here others in
+    let listed = listed_now _ c.args.self.now c.args.id c.args.seat c.requires _ c.seat-left.ensures _
+    c.leave_seat.ensures _ _ c.take_seat-taken.ensures.taken _ here others in
+    let order_is = rw c.deref.ensures.value at c.begin_all.ensures in
+    let begins = rw c.deref-2.ensures.value at order_is in
     moves _ c.args.self.now c.args.id c.args.seat c.requires _ c.seat-left.ensures _ c.leave_seat.ensures _ _
     c.take_seat-taken.ensures.taken _ here others _
-    (c.begin_all.ensures c.requires.h _ c.args.id (first_found c.requires.h _ _ c.args.id can first rest)) _
+    (begins c.requires.h _ c.args.id listed
+    (start c.requires.h _ _ c.args.id can first rest c.args.self.now.schedulers.items)) _
     c.forget_all.ensures c.root_moved-self.ensures c.list_last.ensures.seats c.list_last.ensures.fewer
     (λ name. refl) refl refl refl refl c.note_changed.ensures.kept c.note_changed.ensures.noted
