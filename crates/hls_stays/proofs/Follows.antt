@@ -11,12 +11,13 @@ use Rattle.hls_legal.specs.Steps.{admitted, reseated, after}
 use Rattle.hls_legal.specs.Legal.{IsBelow, IsThread}
 use Rattle.hls_legal.specs.Lists.{IsListed, open_stay}
 use Rattle.hls_accounts.proofs.Orders.{opened_without, opened_push, listed_same}
-use Rattle.hls_stays.specs.Tallies.{AreTallies, AreStays, IsStanding}
+use Rattle.hls_stays.specs.Tallies.{AreTallies, AreStays, IsStanding, lasting}
 use Rattle.hls_stays.specs.Turnovers.{Tells}
 use Rattle.hls_stays.specs.Inside.Steps.{HasOpen, HasNone, without}
 use Rattle.hls_stays.specs.Inside.Renewals.{IsApart, AreRenewable, renewed_all}
 use Rattle.hls_stays.specs.declared.stays.Stays.{Stays}
 use Rattle.hls_stays.proofs.Lists.{map_same, is_in, place_of, contains_at, apart_pairs}
+use Rattle.hls_stays.proofs.Lasting.{has_kept, none_kept}
 use Rattle.hls_stays.proofs.Ends.{closed_not}
 use Rattle.hls_stays.proofs.Noted.{at_effect}
 use Rattle.std.proofs.lemmas.List.Kept.{AllPairs-filter}
@@ -96,15 +97,19 @@ quiet h k node standing listed_is was is =
     ∙ append-nil h.stays
 
 -- where a node is no thread it keeps what it has
-keeps_none : (h : Hierarchy) (k : ℕ) (node : Option Node) → HasNone h.stays k → HasOpen h.stays k
+keeps_none : (h : Hierarchy) (stays : List Stay) (k : ℕ) (node : Option Node) → HasNone stays k → HasOpen stays k
     → is_thread node ≡ true → (is_thread node ≡ is_thread (h.nodes k)) × (wake_of node ≡ wake_of (h.nodes k))
-keeps_none h k node none has is = absurd (none has.at has.stay has.there has.is_open has.thread)
+keeps_none h stays k node none has is = absurd (none has.at has.stay has.there has.is_open has.thread)
 
 pub quiet_tallies : (s : Stays) (h : Hierarchy) (k : ℕ) (node : Option Node) → IsStanding h → IsListed h
     → is_thread (h.nodes k) ≡ false → is_thread node ≡ false → AreStays s h → AreStays s (effect h k node nobody)
 quiet_tallies s h k node standing listed_is was is are =
-    subst (AreTallies s (effect h k node nobody)) (sym (quiet h k node standing listed_is was is))
-    (at_effect s h k node nobody h.stays (keeps_none h k node (has_none h k standing was)) are)
+    record {
+      kept = are.kept;
+      are = at_effect s h k node nobody are.kept
+          (keeps_none h are.kept k node (none_kept h.stays are.kept k are.all (has_none h k standing was))) are.are;
+      all = are.all ∙ ap lasting (sym (quiet h k node standing listed_is was is));
+    }
 
 -- a thread comes
 pub admitted_threads : (h : Hierarchy) (k : ℕ) (name : List ℕ) (seat : Seat) → h.nodes k ≡ None
@@ -208,17 +213,18 @@ follow_nothing s h (said.Block name) (Block k) of does can standing lists are = 
 follow_nothing s h (said.Block name) _ of does can standing lists are = absurd does
 
 -- a thread has begun its first stay
-pub record HasBegun (s : Stays) (h later : Hierarchy) : Type 0 where
+pub record HasBegun (s : Stays) (h later : Hierarchy) (kept : List Stay) : Type 0 where
   pub k : ℕ
   pub front : List ℕ
   pub threads : later.threads ≡ front ++ k ∷ []
   pub thread : IsThread (later.nodes k)
-  pub none : HasNone h.stays k
+  pub none : HasNone kept k
   pub stays : later.stays ≡ h.stays ++ stay_of later.now k (later.nodes k)
-  pub are : AreTallies s later h.stays
+  pub are : AreTallies s later kept
 
 pub follow_begins : (s : Stays) (h : Hierarchy) (command : Command) (step : Step) → IsTurnover h command Begins
-    → Does h command step → Can h step → IsStanding h → IsListed h → AreStays s h → HasBegun s h (after h step)
+    → Does h command step → Can h step → IsStanding h → IsListed h → (are : AreStays s h)
+    → HasBegun s h (after h step) are.kept
 follow_begins s h (said.Thread name perch) (Admit k new seat) of does can standing lists are = record {
   k = k;
   front = h.threads;
@@ -228,32 +234,32 @@ follow_begins s h (said.Thread name perch) (Admit k new seat) of does can standi
     there = at_same k k (Some (Admitted (admitted h.now new seat)))
         (marked (leavings (seats_of (h.nodes k)) k ++ seatings (seat ∷ []) k) (h.nodes k)) refl;
   };
-  none = has_none h k standing (ap is_thread can.new.unused);
+  none = none_kept h.stays are.kept k are.all (has_none h k standing (ap is_thread can.new.unused));
   stays = admitted_stays h k new seat standing lists can.new.unused;
-  are = at_effect s h k (Some (Admitted (admitted h.now new seat))) nobody h.stays
-      (keeps_none h k (Some (Admitted (admitted h.now new seat)))
-      (has_none h k standing (ap is_thread can.new.unused))) are;
+  are = at_effect s h k (Some (Admitted (admitted h.now new seat))) nobody are.kept
+      (keeps_none h are.kept k (Some (Admitted (admitted h.now new seat)))
+      (none_kept h.stays are.kept k are.all (has_none h k standing (ap is_thread can.new.unused)))) are.are;
 }
 follow_begins s h (said.Thread name perch) _ of does can standing lists are = absurd does
 follow_begins s h _ _ of does can standing lists are = absurd of
 
 -- the stay of a thread has ended
-pub record HasEnded (s : Stays) (h later : Hierarchy) (k : ℕ) : Type 0 where
-  pub has : HasOpen h.stays k
+pub record HasEnded (s : Stays) (h later : Hierarchy) (kept : List Stay) (k : ℕ) : Type 0 where
+  pub has : HasOpen kept k
   pub stays : later.stays ≡ without later.now k h.stays
-  pub are : AreTallies s later h.stays
+  pub are : AreTallies s later kept
 
 ended_there : (node : Option Node) → IsThread node → is_thread node ≡ true
 ended_there node thread = ap is_thread thread.there
 
 pub follow_ends : (s : Stays) (h : Hierarchy) (id : ℕ) (command : Command) (step : Step)
-    → IsTurnover h command (Ends id) → Does h command step → Can h step → IsStanding h → IsListed h → AreStays s h
-    → HasEnded s h (after h step) id
+    → IsTurnover h command (Ends id) → Does h command step → Can h step → IsStanding h → IsListed h
+    → (are : AreStays s h) → HasEnded s h (after h step) are.kept id
 follow_ends s h id (said.End name) (End k) of does can standing lists are =
-    subst (HasEnded s h (effect h k None nobody)) (sym (lists.names id k name of does)) (record {
-      has = has_open h k lists can;
+    subst (HasEnded s h (effect h k None nobody) are.kept) (sym (lists.names id k name of does)) (record {
+      has = has_kept h.stays are.kept k (sym are.all) (has_open h k lists can);
       stays = ended_stays h k (ended_there (h.nodes k) can);
-      are = at_effect s h k None nobody h.stays (λ has is. absurd (cc)) are;
+      are = at_effect s h k None nobody are.kept (λ has is. absurd (cc)) are.are;
     })
 follow_ends s h id (said.End name) _ of does can standing lists are = absurd does
 follow_ends s h id _ _ of does can standing lists are = absurd of
@@ -282,8 +288,8 @@ follow_rouses h id (said.Block name) _ of does can lists = absurd does
 follow_rouses h id _ _ of does can lists = absurd of
 
 -- the stays of these threads have ended, and others begun
-pub record HaveRenewed (s : Stays) (h later : Hierarchy) (ids : List ℕ) : Type 0 where
-  pub may : AreRenewable s later h.stays ids
+pub record HaveRenewed (s : Stays) (h later : Hierarchy) (kept : List Stay) (ids : List ℕ) : Type 0 where
+  pub may : AreRenewable s later kept ids
   pub stays : renewed_all later h.stays ids ≡ later.stays
 
 is_thread-marked : (es : List Event) (node : Option Node) → is_thread (marked es node) ≡ is_thread node
@@ -313,19 +319,20 @@ moved_thread h k c seat below =
     by false off = is_thread-marked es (h.nodes c)
 
 moved_renewed : (s : Stays) (h : Hierarchy) (k : ℕ) (seat : Seat) (below : ℕ → Bool) → IsStanding h → IsListed h
-    → below k ≡ true → AreStays s h
-    → HaveRenewed s h (effect h k (reseated seat (h.nodes k)) below) (filter below h.threads)
+    → below k ≡ true → (are : AreStays s h)
+    → HaveRenewed s h (effect h k (reseated seat (h.nodes k)) below) are.kept (filter below h.threads)
 moved_renewed s h k seat below standing lists on are =
     let apart = apart_pairs (filter below h.threads)
     (AllPairs-filter (λ (k c : ℕ). k ≢ c) below h.threads lists.threads.once) in
     record {
       may = record {
-        are = at_effect s h k (reseated seat (h.nodes k)) below h.stays
-            (λ has is. (let moved = moved-reseated seat (h.nodes k) in (moved.sort, moved.wake))) are;
+        are = at_effect s h k (reseated seat (h.nodes k)) below are.kept
+            (λ has is. (let moved = moved-reseated seat (h.nodes k) in (moved.sort, moved.wake))) are.are;
         apart = apart;
         there = λ i c e. thread_is (nodes_after h k (reseated seat (h.nodes k)) below c)
             (moved_thread h k c seat below ∙ was i c e);
-        each = λ i c e. has_open h c lists (thread_is (h.nodes c) (was i c e));
+        each = λ i c e.
+            has_kept h.stays are.kept c (sym are.all) (has_open h c lists (thread_is (h.nodes c) (was i c e)));
       };
       stays = moved_stays h k seat below standing lists on apart;
     }
@@ -341,12 +348,13 @@ RenewsThese _ ids = ⊥
 pub follow_renews : (s : Stays) (h : Hierarchy) (ids : List ℕ) (turnover : Turnover) (command : Command)
     (step : Step) → IsTurnover h command turnover → RenewsThese turnover ids → Does h command step → Can h step
     → ((k : ℕ) (below : ℕ → Bool) → IsBelow h k below → Tells h k below) → IsStanding h → IsListed h
-    → AreStays s h → HaveRenewed s h (after h step) ids
+    → (are : AreStays s h) → HaveRenewed s h (after h step) are.kept ids
 follow_renews s h ids (Renews threads) (said.Move name perch) (Move k seat below) of same does can tells standing lists
     are =
     let id_is : of.0 ≡ k = lists.names of.0 k name of.1 does.0 in
     let told : Tells h of.0 below = subst (λ n. Tells h n below) (sym id_is) (tells k below can.0.under) in
-    subst (HaveRenewed s h (effect h k (reseated seat (h.nodes k)) below)) (sym (sym same ∙ of.2 below told))
+    subst (HaveRenewed s h (effect h k (reseated seat (h.nodes k)) below) are.kept)
+    (sym (sym same ∙ of.2 below told))
     (moved_renewed s h k seat below standing lists can.0.under.itself are)
 follow_renews s h ids (Renews threads) (said.Move name perch) _ of same does can tells standing lists are = absurd does
 follow_renews s h ids (Renews threads) _ _ of same does can tells standing lists are = absurd of

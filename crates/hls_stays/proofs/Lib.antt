@@ -1,4 +1,6 @@
 mod Lists
+mod Lasting
+mod Swept
 mod Opened
 mod Ends
 mod Renewed

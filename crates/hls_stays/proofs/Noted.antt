@@ -9,7 +9,7 @@ use Rattle.hls_legal.specs.Steps.{effect, is_thread, roused, with_wake}
 use Rattle.hls_legal.specs.Supplied.{end_of}
 use Rattle.hls_legal.proofs.Kept.{at_other}
 use Rattle.hls_accounts.proofs.Alike.{wake_of, alike_other, alike_same}
-use Rattle.hls_stays.specs.Tallies.{AreTallies, AreStays, IsTally, IsNoted, waited}
+use Rattle.hls_stays.specs.Tallies.{AreTallies, IsTally, IsNoted, waited}
 use Rattle.hls_stays.specs.Inside.Steps.{HasOpen, noted_by, noted_tally}
 use Rattle.hls_stays.specs.declared.stays.Stays.{Stays}
 use Rattle.hls_stays.specs.declared.tally.Tally.{Tally}
@@ -113,14 +113,14 @@ roused_other h k c how since ne noted = record {
   early = noted.early;
 }
 
-pub note_one : (s new : Stays) (h : Hierarchy) (k place now : ℕ) (how : Wake) (ready : Bool) → AreStays s h
-    → HasOpen h.stays k → Finds s k place → now ≡ h.now
+pub note_one : (s new : Stays) (h : Hierarchy) (stays : List Stay) (k place now : ℕ) (how : Wake) (ready : Bool)
+    → AreTallies s h stays → HasOpen stays k → Finds s k place → now ≡ h.now
     → ((t : Thread) → (with_wake h k how).nodes k ≡ Some (Admitted t)
     → is_ready (was_served h.past k) h.now t.wake ≡ ready)
     → ((tally : Tally) → slice_get s.tallies.items place ≡ Some tally
     → new.tallies.items ≡ slice_set s.tallies.items place (noted_tally ready now tally))
-    → new.idle ≡ s.idle → AreStays new (with_wake h k how)
-note_one s new h k place now how ready are has finds at_now flag set idle = record {
+    → new.idle ≡ s.idle → AreTallies new (with_wake h k how) stays
+note_one s new h stays k place now how ready are has finds at_now flag set idle = record {
   many = ap length is ∙ length-set s.tallies.items place (noted_tally ready now t.tally) ∙ are.many;
   each = λ i stay tally e f.
       of stay i tally e
@@ -130,10 +130,10 @@ note_one s new h k place now how ready are has finds at_now flag set idle = reco
 }
   where
     at_place : place ≡ has.at
-    at_place = place_is s h h.stays k place are has finds
+    at_place = place_is s h stays k place are has finds
 
     t : HasTally s h place has.stay
-    t = tally_found s h h.stays k place are has finds
+    t = tally_found s h stays k place are has finds
 
     is : new.tallies.items ≡ slice_set s.tallies.items place (noted_tally ready now t.tally)
     is = set t.tally t.there
@@ -155,12 +155,12 @@ note_one s new h k place now how ready are has finds at_now flag set idle = reco
               (λ n was. subst (λ m. n ≤ m) (sym at_now) ((t.is.noted has.is_open).early n was)) tick e);
         }))
 
-    of : (x : Stay) (i : ℕ) (tally : Tally) → slice_get h.stays i ≡ Some x
+    of : (x : Stay) (i : ℕ) (tally : Tally) → slice_get stays i ≡ Some x
         → IsSet s.tallies.items place (noted_tally ready now t.tally) i tally
         → IsTally (with_wake h k how) x tally
     of x i tally there (Here at same) =
         let this : has.stay ≡ x =
-        inner has.stay x (sym has.there ∙ ap (slice_get h.stays) (sym at_place ∙ sym at) ∙ there) in
+        inner has.stay x (sym has.there ∙ ap (slice_get stays) (sym at_place ∙ sym at) ∙ there) in
         subst (λ (y : Tally). IsTally (with_wake h k how) x y) same
         (subst (λ (y : Stay). IsTally (with_wake h k how) y (noted_tally ready now t.tally)) this mine)
     of x i tally there (There ne e) =

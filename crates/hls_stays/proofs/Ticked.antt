@@ -1,5 +1,5 @@
 -- Tallies after a tick.
-use Rattle.std.proofs.Common.{◌≡◌, ℕ, suc, ◌+◌, ◌-◌, ◌≤◌, Bool, true, false}
+use Rattle.std.proofs.Common.{◌≡◌, ℕ, suc, ◌+◌, ◌-◌, ◌≤◌, List, Bool, true, false}
 use Rattle.std.proofs.Common.{refl, sym, ap, ◌∙◌, subst, arith, is_some}
 use Rattle.std.specs.Prelude.{Option, Some, None, slice_get, slice_set}
 use Rattle.std.proofs.lemmas.Bool.{ne_eqb}
@@ -10,7 +10,7 @@ use Rattle.hls_legal.specs.Hierarchy.{had_asked, was_served, is_just, is_ready}
 use Rattle.hls_legal.specs.Steps.{Path, Hop, elapsed, thread_of, ticked, hop_at, hops_of}
 use Rattle.hls_legal.specs.Supplied.{end_of}
 use Rattle.hls_legal.proofs.Kept.{at_same, at_other}
-use Rattle.hls_stays.specs.Tallies.{AreStays, IsTally, IsNoted, waited}
+use Rattle.hls_stays.specs.Tallies.{AreTallies, IsTally, IsNoted, waited}
 use Rattle.hls_stays.specs.Inside.Steps.{HasOpen, noted_tally, served_tally}
 use Rattle.hls_stays.specs.declared.stays.Stays.{Stays}
 use Rattle.hls_stays.specs.declared.tally.Tally.{Tally}
@@ -207,21 +207,21 @@ module _ (h : Hierarchy) (asking : ℕ → Bool) (masks : ℕ → ℕ) (path : O
       on : is_just (thread_of path) stay.thread ≡ true
       on = ap (λ o. is_just o stay.thread) to ∙ Rattle.std.proofs.lemmas.Bool.eq-eqb k stay.thread (sym same)
 
-  pub served_tallies : (s new : Stays) (flag : ℕ → Bool) (k place now : ℕ) → AreStays s h → HasOpen h.stays k
-      → Finds s k place → now ≡ h.now + 1 → thread_of path ≡ Some k
-      → ((i : ℕ) (stay : Stay) → slice_get h.stays i ≡ Some stay → stay.until ≡ None → Goes flag stay)
+  pub served_tallies : (s new : Stays) (stays : List Stay) (flag : ℕ → Bool) (k place now : ℕ) → AreTallies s h stays
+      → HasOpen stays k → Finds s k place → now ≡ h.now + 1 → thread_of path ≡ Some k
+      → ((i : ℕ) (stay : Stay) → slice_get stays i ≡ Some stay → stay.until ≡ None → Goes flag stay)
       → ((tally : Tally) → slice_get s.tallies.items place ≡ Some tally
       → new.tallies.items ≡ slice_set s.tallies.items place (noted_tally (flag k) now (served_tally tally)))
-      → (i : ℕ) (stay : Stay) (tally : Tally) → slice_get h.stays i ≡ Some stay
+      → (i : ℕ) (stay : Stay) (tally : Tally) → slice_get stays i ≡ Some stay
       → slice_get new.tallies.items i ≡ Some tally → IsTally later stay tally
-  served_tallies s new flag k place now are has finds at_now to goes set i stay tally e f =
+  served_tallies s new stays flag k place now are has finds at_now to goes set i stay tally e f =
       of (of_set s.tallies.items place counted i tally (ap (λ l. slice_get l i) (sym (set t.tally t.there)) ∙ f))
     where
       at_place : place ≡ has.at
-      at_place = place_is s h h.stays k place are has finds
+      at_place = place_is s h stays k place are has finds
 
       t : HasTally s h place has.stay
-      t = tally_found s h h.stays k place are has finds
+      t = tally_found s h stays k place are has finds
 
       counted : Tally
       counted = noted_tally (flag k) now (served_tally t.tally)
@@ -229,7 +229,7 @@ module _ (h : Hierarchy) (asking : ℕ → Bool) (masks : ℕ → ℕ) (path : O
       of : IsSet s.tallies.items place counted i tally → IsTally later stay tally
       of (Here at same) =
           let this : has.stay ≡ stay =
-          inner has.stay stay (sym has.there ∙ ap (slice_get h.stays) (sym at_place ∙ sym at) ∙ e) in
+          inner has.stay stay (sym has.there ∙ ap (slice_get stays) (sym at_place ∙ sym at) ∙ e) in
           subst (λ (y : Tally). IsTally later stay y) same
           (subst (λ (y : Stay). IsTally later y counted) this
           (served_one flag has.stay t.tally k now t.is has.is_open has.thread to at_now

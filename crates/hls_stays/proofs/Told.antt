@@ -1,6 +1,6 @@
 -- The accounts of tallies.
 use Rattle.std.proofs.Common.{◌≡◌, ℕ, ◌+◌, ◌-◌, ◌<◌, ◌≤◌, ◌^◌, List, Bool, sym, ap, ◌∙◌, arith, map, filter}
-use Rattle.std.specs.Prelude.{Result, Ok, Err, IfOk, nat_lt, min}
+use Rattle.std.specs.Prelude.{Result, Ok, Err, IfOk, Option, Some, None, false, nat_lt, min}
 use Rattle.std.specs.Global.{Vec}
 use Rattle.std.proofs.Math.Nat.{min-eq_left}
 use Rattle.hls_chron.proofs.CountLaws.{count-le}
@@ -8,14 +8,34 @@ use Rattle.hls_report_text.specs.declared.report.Account.{Account}
 use Rattle.hls_legal.specs.Hierarchy.{Hierarchy, Stay, had_asked}
 use Rattle.hls_legal.specs.Supplied.{end_of, ready_ticks}
 use Rattle.hls_accounts.specs.Agrees.{accounts_in, account_in}
-use Rattle.hls_stays.specs.Tallies.{AreStays, IsTally, waited}
+use Rattle.hls_stays.specs.Tallies.{AreStays, IsTally, waited, lasts, lasting}
 use Rattle.hls_stays.specs.Inside.Accounts.{account_by}
 use Rattle.hls_stays.specs.declared.stays.Stays.{Stays}
 use Rattle.hls_stays.specs.declared.tally.Tally.{Tally}
 use Rattle.hls_stays.proofs.Lists.{filter_alike}
+use Rattle.hls_stays.proofs.Lasting.{filter_within}
 
-abbrev lasts : (now : ℕ) → Tally → Bool
-lasts now t = nat_lt t.since (end_of now t.until)
+abbrev lasts_at : (now : ℕ) → Tally → Bool
+lasts_at now t = nat_lt t.since (end_of now t.until)
+
+-- a stay had at least one tick
+abbrev lasted : (now : ℕ) → Stay → Bool
+lasted now stay = nat_lt stay.since (end_of now stay.until)
+
+not_lasted : (now since : ℕ) (until : Option ℕ) → lasts since until ≡ false → nat_lt since (end_of now until) ≡ false
+not_lasted now since None off = absurd (cc)
+not_lasted now since (Some t) off = off
+
+lasted_of : (now : ℕ) (stays : List Stay) → filter (lasted now) (lasting stays) ≡ filter (lasted now) stays
+lasted_of now stays =
+    filter_within (λ (x : Stay). lasts x.since x.until) (lasted now) stays
+    (λ x off. not_lasted now x.since x.until off)
+
+-- lists of the same stays that are open or lasted have the same that had a tick
+lasted_all : (h : Hierarchy) (kept : List Stay) → lasting kept ≡ lasting h.stays
+    → filter (lasted h.now) kept ≡ filter (lasted h.now) h.stays
+lasted_all h kept same =
+    sym (lasted_of h.now kept) ∙ ap (filter (lasted h.now)) same ∙ lasted_of h.now h.stays
 
 account_is : (h : Hierarchy) (stay : Stay) (tally : Tally) → IsTally h stay tally
     → end_of h.now stay.until < 2 ^ 32 → account_by h.now tally ≡ account_in h stay
@@ -43,14 +63,14 @@ pub accounts_told : (s : Stays) (h : Hierarchy) (now : ℕ) (accounts : List Acc
     → accounts ≡ accounts_in h
 accounts_told s h now accounts are same small is =
     is
-    ∙ ap (λ n. map (account_by n) (filter (lasts n) s.tallies.items)) (sym same)
-    ∙ filter_alike (lasts h.now) (λ (stay : Stay). nat_lt stay.since (end_of h.now stay.until)) (account_by h.now)
-    (account_in h) s.tallies.items h.stays are.many
-    (λ i tally stay e f. (let x = are.each i stay tally f e in (
+    ∙ ap (λ n. map (account_by n) (filter (lasts_at n) s.tallies.items)) (sym same)
+    ∙ filter_alike (lasts_at h.now) (lasted h.now) (account_by h.now) (account_in h) s.tallies.items are.kept
+    are.are.many (λ i tally stay e f. (let x = are.are.each i stay tally f e in (
       ap (λ n. nat_lt n (end_of h.now tally.until)) x.since
           ∙ ap (λ u. nat_lt stay.since (end_of h.now u)) x.until,
       account_is h stay tally x (let past = x.past in omega (arith, past, same, small)),
     )))
+    ∙ ap (map (account_in h)) (lasted_all h are.kept are.all)
 
 pub accounts_result : {E : Type 0} (s : Stays) (now : ℕ) (result : Result (Vec Account) E) → now < 2 ^ 32
     → IfOk result (λ accounts. accounts.items

@@ -24,7 +24,8 @@ use Rattle.hls_stays.specs.declared.tally.Tally.{Tally}
 use Rattle.hls_stays.specs.declared.turnover.Turnover.{Turnover}
 use Rattle.hls_stays.specs.declared.turnover.Turnover.TheVariants.{Nothing, Begins, Ends, Renews, Rouses}
 use Rattle.hls_stays.proofs.Lists.{inner, length-set}
-use Rattle.hls_stays.proofs.Ends.{Finds, tally_found}
+use Rattle.hls_stays.proofs.Lasting.{open_in, has_kept}
+use Rattle.hls_stays.proofs.Ends.{Finds, HasTally, tally_found}
 use Rattle.hls_stays.proofs.Noted.{note_one}
 use Rattle.hls_stays.proofs.Ticked.{Goes, grown, unserved, served_tallies}
 use Rattle.hls_stays.proofs.Follows.{follow_nothing, follow_begins, follow_ends, follow_renews, follow_rouses}
@@ -57,19 +58,21 @@ module _ {V : Type 0} {P : V → Type 0} (seen : (x : V) × P x → Seen) (s : S
       x.can x.standing x.listed x.stays
 
   pub turn_begins : (turnover : Turnover) (h : Hierarchy) (command : Command) (step : Step) → turnover ≡ Begins
-      → Turns seen s t turnover h command step → HasBegun s h (after h step)
+      → (x : Turns seen s t turnover h command step) → HasBegun s h (after h step) x.stays.kept
   turn_begins turnover h command step is x =
       follow_begins s h command step (subst (Rattle.hls_stays.specs.Turnovers.IsTurnover h command) is x.of) x.does
       x.can x.standing x.listed x.stays
 
   pub turn_ends : (turnover : Turnover) (h : Hierarchy) (command : Command) (step : Step) (id : ℕ)
-      → turnover ≡ Ends id → Turns seen s t turnover h command step → HasEnded s h (after h step) id
+      → turnover ≡ Ends id → (x : Turns seen s t turnover h command step)
+      → HasEnded s h (after h step) x.stays.kept id
   turn_ends turnover h command step id is x =
       follow_ends s h id command step (subst (Rattle.hls_stays.specs.Turnovers.IsTurnover h command) is x.of) x.does
       x.can x.standing x.listed x.stays
 
   pub turn_renews : (turnover : Turnover) (h : Hierarchy) (command : Command) (step : Step) (ids : List ℕ)
-      → RenewsThese turnover ids → Turns seen s t turnover h command step → HaveRenewed s h (after h step) ids
+      → RenewsThese turnover ids → (x : Turns seen s t turnover h command step)
+      → HaveRenewed s h (after h step) x.stays.kept ids
   turn_renews turnover h command step ids is x =
       follow_renews s h ids turnover command step x.of is x.does x.can x.tells x.standing x.listed x.stays
 
@@ -88,7 +91,7 @@ module _ {V : Type 0} {P : V → Type 0} (seen : (x : V) × P x → Seen) (s : S
   pub ends_may : (turnover : Turnover) (id : ℕ) → turnover ≡ Ends id → MayTurn seen s t turnover → MayClose s id
   ends_may turnover id is may =
       let e = turn_ends turnover may.h may.command may.step id is may.turns in
-      record { h = after may.h may.step; stays = may.h.stays; are = e.are; has = e.has }
+      record { h = after may.h may.step; stays = may.turns.stays.kept; are = e.are; has = e.has }
 
   pub renews_stands : (turnover : Turnover) (ids : List ℕ) → RenewsThese turnover ids → MayTurn seen s t turnover
       → Stands seen t (λ h. IsReadyOf seen t h × ((stays : List Stay) × AreRenewable s h stays ids))
@@ -99,7 +102,7 @@ module _ {V : Type 0} {P : V → Type 0} (seen : (x : V) × P x → Seen) (s : S
         tree = may.turns.tree;
         seated = may.seated;
         listed = may.listed;
-        is = (may.turns.ready, (may.h.stays, r.may));
+        is = (may.turns.ready, (may.turns.stays.kept, r.may));
       }
 
   pub rouses_now : (turnover : Turnover) (h : Hierarchy) (command : Command) (step : Step) (id : ℕ)
@@ -138,9 +141,19 @@ module _ {V : Type 0} {P : V → Type 0} (seen : (x : V) × P x → Seen) (s : S
 
   -- ---- a thread that is woken or blocked
 
+  has_now : (h : Hierarchy) (k : ℕ) (are : AreStays s h) → HasOpen h.stays k → HasOpen are.kept k
+  has_now h k are has = has_kept h.stays are.kept k (sym are.all) has
+
+  roused_has : (id : ℕ) → (may : MayNote seen s t id) → HasOpen may.rousing.are.kept id
+  roused_has id may = has_now may.h id may.rousing.are may.rousing.has
+
+  roused_tally : (id place : ℕ) (may : MayNote seen s t id) → Finds s id place
+      → HasTally s may.h place (roused_has id may).stay
+  roused_tally id place may finds =
+      tally_found s may.h may.rousing.are.kept id place may.rousing.are.are (roused_has id may) finds
+
   pub note_within : (id place : ℕ) → MayNote seen s t id → Finds s id place → place < length s.tallies.items
-  note_within id place may finds =
-      (tally_found s may.h may.h.stays id place may.rousing.are may.rousing.has finds).within
+  note_within id place may finds = (roused_tally id place may finds).within
 
   -- what is noted fits
   few_ready : (h : Hierarchy) (stay : Stay) (tally : Tally) (now : ℕ) → IsTally h stay tally → stay.until ≡ None
@@ -157,10 +170,11 @@ module _ {V : Type 0} {P : V → Type 0} (seen : (x : V) × P x → Seen) (s : S
       → ((h : Hierarchy) → IsTreeOf seen t h → now ≡ h.now) → slice_get s.tallies.items place ≡ Some tally
       → tally.ready + waited now tally.ready_since ≤ now
   note_fits id place now tally may finds at_now e =
-      let x = tally_found s may.h may.h.stays id place may.rousing.are may.rousing.has finds in
+      let has = roused_has id may in
+      let x = roused_tally id place may finds in
       let same : x.tally ≡ tally = inner x.tally tally (sym x.there ∙ e) in
-      few_ready may.h may.rousing.has.stay tally now (subst (IsTally may.h may.rousing.has.stay) same x.is)
-      may.rousing.has.is_open (at_now (with_wake may.h id may.how) may.rousing.tree)
+      few_ready may.h has.stay tally now (subst (IsTally may.h has.stay) same x.is) has.is_open
+      (at_now (with_wake may.h id may.how) may.rousing.tree)
 
   pub note_does : (id place now : ℕ) (ready : Bool) (new : Stays) → Finds s id place
       → ((h : Hierarchy) → IsTreeOf seen t h → now ≡ h.now) → ready ≡ ready_of seen t id
@@ -168,9 +182,12 @@ module _ {V : Type 0} {P : V → Type 0} (seen : (x : V) × P x → Seen) (s : S
       → new.tallies.items ≡ slice_set s.tallies.items place (noted_tally ready now tally))
       → new.idle ≡ s.idle → (h : Hierarchy) (how : Wake) → IsRousing seen s t h id how
       → AreStays new (with_wake h id how)
-  note_does id place now ready new finds at_now flag set idle h how x =
-      note_one s new h id place now how ready x.are x.has finds (at_now (with_wake h id how) x.tree)
-      (λ y there. x.ready id y there ∙ sym flag) set idle
+  note_does id place now ready new finds at_now flag set idle h how x = record {
+    kept = x.are.kept;
+    are = note_one s new h x.are.kept id place now how ready x.are.are (has_now h id x.are x.has) finds
+        (at_now (with_wake h id how) x.tree) (λ y there. x.ready id y there ∙ sym flag) set idle;
+    all = x.are.all;
+  }
 
   -- ---- ticks
 
@@ -182,31 +199,36 @@ module _ {V : Type 0} {P : V → Type 0} (seen : (x : V) × P x → Seen) (s : S
 
   module _ (thread : Option ℕ) (h : Hierarchy) (asking : ℕ → Bool) (masks : ℕ → ℕ) (path : Option Path)
       (x : Ticks seen s t thread h asking masks path) where
-    goes : (i : ℕ) (stay : Stay) → slice_get h.stays i ≡ Some stay → stay.until ≡ None
+    goes : (i : ℕ) (stay : Stay) → slice_get x.stays.kept i ≡ Some stay → stay.until ≡ None
         → Goes h asking masks path (ready_of seen t) stay
     goes i stay e none = record {
       asks = λ since noted.
-          asks_as_noted h asking stay.thread (masks stay.thread) since (x.standing.there i stay e none)
-          (x.can.0.nodes stay.thread) noted;
+          (let at = open_in x.stays.kept h.stays i stay x.stays.all e none in
+          asks_as_noted h asking stay.thread (masks stay.thread) since (x.standing.there at.0 stay at.1 none)
+          (x.can.0.nodes stay.thread) noted);
       ready = λ y there. x.ready stay.thread y there;
       others = λ y off there. x.others stay.thread y (ap (λ o. is_just o stay.thread) (sym x.to) ∙ off) there;
     }
 
-    served_has : (k : ℕ) → thread ≡ Some k → HasOpen h.stays k
-    served_has k is = has_open h k x.listed (x.comes k is)
+    served_has : (k : ℕ) → thread ≡ Some k → HasOpen x.stays.kept k
+    served_has k is = has_now h k x.stays (has_open h k x.listed (x.comes k is))
 
     pub tick_idle : (new : Stays) → thread ≡ None → new.tallies.items ≡ s.tallies.items → new.idle ≡ s.idle + 1
         → AreStays new (after h (Elapse asking masks path))
     tick_idle new none same idle = record {
-      many = ap length same ∙ x.stays.many;
-      each = λ i stay tally e f.
-          unserved h asking masks path (ready_of seen t) stay tally
-          (x.stays.each i stay tally e (ap (λ l. slice_get l i) (sym same) ∙ f))
-          (λ open_yet. ap (λ o. is_just o stay.thread) (x.to ∙ none)) (goes i stay e);
-      single = x.stays.single;
-      idle = idle ∙ ap (λ n. n + 1) x.stays.idle
-          ∙ ap (λ (o : Option ℕ). idle_in h + one_if (is_none o)) (sym (x.to ∙ none))
-          ∙ sym (idle_more h asking masks path);
+      kept = x.stays.kept;
+      are = record {
+        many = ap length same ∙ x.stays.are.many;
+        each = λ i stay tally e f.
+            unserved h asking masks path (ready_of seen t) stay tally
+            (x.stays.are.each i stay tally e (ap (λ l. slice_get l i) (sym same) ∙ f))
+            (λ open_yet. ap (λ o. is_just o stay.thread) (x.to ∙ none)) (goes i stay e);
+        single = x.stays.are.single;
+        idle = idle ∙ ap (λ n. n + 1) x.stays.are.idle
+            ∙ ap (λ (o : Option ℕ). idle_in h + one_if (is_none o)) (sym (x.to ∙ none))
+            ∙ sym (idle_more h asking masks path);
+      };
+      all = x.stays.all;
     }
 
     pub tick_served : (new : Stays) (k place now : ℕ) (ready : Bool) → thread ≡ Some k → Finds s k place
@@ -216,26 +238,30 @@ module _ {V : Type 0} {P : V → Type 0} (seen : (x : V) × P x → Seen) (s : S
         → new.idle ≡ s.idle → AreStays new (after h (Elapse asking masks path))
     tick_served new k place now ready is finds at_now flag set idle =
         let has = served_has k is in
-        let y = tally_found s h h.stays k place x.stays has finds in
+        let y = tally_found s h x.stays.kept k place x.stays.are has finds in
         let set_by : (tally : Tally) → slice_get s.tallies.items place ≡ Some tally
         → new.tallies.items
         ≡ slice_set s.tallies.items place (noted_tally (ready_of seen t k) now (served_tally tally)) =
         λ tally e. set tally e
         ∙ ap (λ b. slice_set s.tallies.items place (noted_tally b now (served_tally tally))) flag in
         record {
-          many = ap length (set y.tally y.there)
-              ∙ length-set s.tallies.items place (noted_tally ready now (served_tally y.tally)) ∙ x.stays.many;
-          each = served_tallies h asking masks path s new (ready_of seen t) k place now x.stays has finds
-              (at_now (after h (Elapse asking masks path)) x.tree) (x.to ∙ is) goes set_by;
-          single = x.stays.single;
-          idle = idle ∙ x.stays.idle ∙ (let no : idle_in h ≡ idle_in h + 0 = omega arith in no)
-              ∙ ap (λ (o : Option ℕ). idle_in h + one_if (is_none o)) (sym (x.to ∙ is))
-              ∙ sym (idle_more h asking masks path);
+          kept = x.stays.kept;
+          are = record {
+            many = ap length (set y.tally y.there)
+                ∙ length-set s.tallies.items place (noted_tally ready now (served_tally y.tally)) ∙ x.stays.are.many;
+            each = served_tallies h asking masks path s new x.stays.kept (ready_of seen t) k place now x.stays.are has
+                finds (at_now (after h (Elapse asking masks path)) x.tree) (x.to ∙ is) goes set_by;
+            single = x.stays.are.single;
+            idle = idle ∙ x.stays.are.idle ∙ (let no : idle_in h ≡ idle_in h + 0 = omega arith in no)
+                ∙ ap (λ (o : Option ℕ). idle_in h + one_if (is_none o)) (sym (x.to ∙ is))
+                ∙ sym (idle_more h asking masks path);
+          };
+          all = x.stays.all;
         }
 
     tick_within : (k place : ℕ) → thread ≡ Some k → Finds s k place → place < length s.tallies.items
     tick_within k place is finds =
-        (tally_found s h h.stays k place x.stays (served_has k is) finds).within
+        (tally_found s h x.stays.kept k place x.stays.are (served_has k is) finds).within
 
     -- a tally before the tick, of the thread that was served in it
     tick_few : (k place now : ℕ) (tally : Tally) → thread ≡ Some k → Finds s k place → now ≡ h.now + 1
@@ -243,7 +269,7 @@ module _ {V : Type 0} {P : V → Type 0} (seen : (x : V) × P x → Seen) (s : S
         → (tally.ready + waited now tally.ready_since ≤ now) × (tally.served + 1 ≤ now)
     tick_few k place now tally is finds at_now e =
         let has = served_has k is in
-        let y = tally_found s h h.stays k place x.stays has finds in
+        let y = tally_found s h x.stays.kept k place x.stays.are has finds in
         let same : y.tally ≡ tally = inner y.tally tally (sym y.there ∙ e) in
         let z = subst (IsTally h has.stay) same y.is in
         let ready = few_ready h has.stay tally h.now z has.is_open refl in
@@ -282,8 +308,35 @@ module _ {V : Type 0} {P : V → Type 0} (seen : (x : V) × P x → Seen) (s : S
   pub few_idle : (thread : Option ℕ) → MayTick seen s t thread → s.idle + 1 < 2 ^ 32
   few_idle thread may =
       let most = count-le (λ x. is_none (may.h.past x).to) 0 may.h.now in
-      let are = may.ticks.stays.idle in
+      let are = may.ticks.stays.are.idle in
       let early = may.ticks.early in omega (arith, most, are, early)
+
+  -- stays that are as they were before allow the same tick
+  pub ticks_still : (new : Stays) (thread : Option ℕ) (h : Hierarchy) (asking : ℕ → Bool) (masks : ℕ → ℕ)
+      (path : Option Path) → ((h : Hierarchy) → AreStays s h → AreStays new h)
+      → Ticks seen s t thread h asking masks path → Ticks seen new t thread h asking masks path
+  ticks_still new thread h asking masks path same x = record {
+    stays = same h x.stays;
+    standing = x.standing;
+    listed = x.listed;
+    can = x.can;
+    to = x.to;
+    comes = x.comes;
+    tree = x.tree;
+    ready = x.ready;
+    others = x.others;
+    early = x.early;
+  }
+
+  pub may_still : (new : Stays) (thread : Option ℕ) → ((h : Hierarchy) → AreStays s h → AreStays new h)
+      → MayTick seen s t thread → MayTick seen new t thread
+  may_still new thread same may = record {
+    h = may.h;
+    asking = may.asking;
+    masks = may.masks;
+    path = may.path;
+    ticks = ticks_still new thread may.h may.asking may.masks may.path same may.ticks;
+  }
 
   pub tick_at : (thread : Option ℕ) (id : ℕ) → thread ≡ Some id → MayTick seen s t thread
       → MayTick seen s t (Some id)
@@ -296,8 +349,12 @@ these_are turnover threads ids is value = subst (λ x. RenewsThese x ids) (sym i
 pub same_stays : (s new : Stays) → new.tallies.items ≡ s.tallies.items → new.idle ≡ s.idle → (h : Hierarchy)
     → AreStays s h → AreStays new h
 same_stays s new same idle h are = record {
-  many = ap length same ∙ are.many;
-  each = λ at stay tally e f. are.each at stay tally e (ap (λ l. slice_get l at) (sym same) ∙ f);
-  single = are.single;
-  idle = idle ∙ are.idle;
+  kept = are.kept;
+  are = record {
+    many = ap length same ∙ are.are.many;
+    each = λ at stay tally e f. are.are.each at stay tally e (ap (λ l. slice_get l at) (sym same) ∙ f);
+    single = are.are.single;
+    idle = idle ∙ are.are.idle;
+  };
+  all = are.all;
 }

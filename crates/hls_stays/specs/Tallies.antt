@@ -1,6 +1,6 @@
 -- What tallies say of the stays of a hierarchy.
 use Rattle.std.specs.Prelude.{◌≡◌, ℕ, ◌+◌, ◌-◌, ◌≤◌, ◌==◌, ◌&&◌, List, Option, Some, None, Bool, true, false}
-use Rattle.std.specs.Prelude.{length, slice_get, is_some, is_none}
+use Rattle.std.specs.Prelude.{length, slice_get, is_some, is_none, filter, nat_lt}
 use Rattle.std.specs.Vec.{vec_capacity}
 use Rattle.hls_legal.specs.Hierarchy.{Hierarchy, Stay, Thread, Admitted, is_ready, was_served}
 use Rattle.hls_legal.specs.Steps.{is_thread}
@@ -47,9 +47,19 @@ pub record AreTallies (s : Stays) (h : Hierarchy) (stays : List Stay) : Type 0 w
   pub single : AreSingle stays
   pub idle : s.idle ≡ idle_in h
 
--- they are those of all stays so far
-abbrev pub AreStays : Stays → Hierarchy → Type 0
-AreStays s h = AreTallies s h h.stays
+-- a stay lasts that is open, or ended after the tick in which it began
+abbrev pub lasts : (since : ℕ) → (until : Option ℕ) → Bool
+lasts since None = true
+lasts since (Some until) = nat_lt since until
+
+abbrev pub lasting : List Stay → List Stay
+lasting stays = filter (λ (stay : Stay). lasts stay.since stay.until) stays
+
+-- they are those of all stays so far, but for some that ended in the tick in which they began
+pub record AreStays (s : Stays) (h : Hierarchy) : Type 0 where
+  pub kept : List Stay
+  pub are : AreTallies s h kept
+  pub all : lasting kept ≡ lasting h.stays
 
 -- the thread of each open stay is there, and each other stay has ended
 pub record IsStanding (h : Hierarchy) : Type 0 where

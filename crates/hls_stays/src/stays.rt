@@ -15,17 +15,22 @@ ghost use Rattle.hls_stays.specs.Inside.Renewals.{AreRenewable, renewed_one, ren
 
 use crate::Turnover;
 use crate::places::Places;
-use crate::tally::{Tally, close_at, is_open_at, note_at, search, serve_at};
+use crate::tally::{Tally, close_at, is_open_at, note_at, search, serve_at, sweep};
 use hls_tree::{NodeId, Tree};
 use std::alloc::{AllocError, Global};
 
 /// The stays of threads so far, in the order in which they were opened, with how many of their ticks each
-/// thread was ready and was served; and how many ticks were idle.
+/// thread was ready and was served; and how many ticks were idle. Those that ended in the tick in which they
+/// began are dropped: soon, where there are many, and else before the next tick.
 #[derive(Drop)]
 pub struct Stays {
     pub(crate) tallies: Vec<Tally>,
     pub(crate) places: Places,
     pub(crate) idle: u32,
+    /// The place from which on the stays began in the present tick, and how many of these have ended. Only how
+    /// soon stays are dropped rests on the two.
+    pub(crate) fresh: usize,
+    pub(crate) spent: usize,
 }
 
 /// Since when a thread is ready, where it is ready from now on.
@@ -49,17 +54,39 @@ impl Stays {
             tallies: Vec::new(alloc),
             places: Places::new(alloc),
             idle: 0,
+            fresh: 0,
+            spent: 0,
         }
+    }
+
+    /// Drops the stays that began and ended in the present tick, where there are more than so many.
+    fn drop_spent(&mut self, most: usize)
+        ensures { (h : Hierarchy) → AreStays self.old h → AreStays self.new h }
+    {
+        if self.spent > most {
+            sweep(&mut self.tallies, &mut self.places, self.fresh);
+            self.spent = 0;
+        }
+    }
+
+    /// Drops the stays that began and ended in the tick that has passed.
+    fn settle(&mut self)
+        ensures { (h : Hierarchy) → AreStays self.old h → AreStays self.new h }
+    {
+        self.drop_spent(0);
+        self.fresh = self.tallies.len();
     }
 
     /// Makes room for the stays that a command will begin.
     ///
     /// # Errors
-    /// Returns `AllocError` for want of memory, and then nothing has changed.
+    /// Returns `AllocError` for want of memory, and then the stays are as before.
     pub fn reserve(&mut self, turnover: &Turnover) -> Result<(), AllocError>
         ensures room { OnOk result (HasRoom self.new (stays_begun turnover.now)) }
         ensures same { (h : Hierarchy) → AreStays self.old h → AreStays self.new h }
     {
+        let fresh = self.tallies.len().saturating_sub(self.fresh);
+        self.drop_spent(fresh / 2);
         self.tallies.reserve(turnover.begun())?;
         self.places.reserve(self.tallies.len())
     }
@@ -86,6 +113,7 @@ impl Stays {
     {
         let place = self.place(id);
         close_at(&mut self.tallies, place, now);
+        self.spent = self.spent.saturating_add(usize::from(place >= self.fresh));
     }
 
     /// Begins a stay of a thread that has none that is open, into room that is there.
@@ -198,6 +226,7 @@ impl Stays {
             Ticks seen self.old tree.now thread h asking masks path →
             AreStays self.new (after h (Elapse asking masks path)) }
     {
+        self.settle();
         match thread {
             Some(id) => self.serve(tree, id),
             None => self.idle += 1,

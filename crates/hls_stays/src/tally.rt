@@ -1,9 +1,10 @@
 // Tallies of stays.
 ghost use Rattle.std.specs.Prelude.{◌≡◌, ◌+◌, ◌<◌, ◌≤◌, ℕ, true, length, slice_get, slice_set, Some};
 ghost use Rattle.std.specs.Vec.{vec_capacity};
-ghost use Rattle.hls_stays.specs.Tallies.{waited, opened_at};
-ghost use Rattle.hls_stays.specs.Inside.Steps.{closed_tally, noted_tally, served_tally};
+ghost use Rattle.hls_stays.specs.Tallies.{waited, opened_at, lasts};
+ghost use Rattle.hls_stays.specs.Inside.Steps.{closed_tally, noted_tally, served_tally, swept};
 
+use crate::places::Places;
 use hls_chron::Name;
 use hls_guarantee::Guarantee;
 use hls_tree::NodeId;
@@ -36,6 +37,16 @@ impl Tally {
                 self.ready_since = None;
             }
             _ => {}
+        }
+    }
+
+    /// Whether the stay is open, or lasted a tick.
+    fn lasts(&self) -> bool
+        ensures { result ≡ lasts self.now.since self.now.until }
+    {
+        match self.until {
+            Some(until) => self.since < until,
+            None => true,
         }
     }
 }
@@ -101,4 +112,21 @@ pub(crate) fn serve_at(tallies: &mut Vec<Tally>, place: usize, ready: bool, now:
     tally.served += 1;
     tally.note(ready, now);
     tallies[place] = tally;
+}
+
+/// Drops the stays of no tick from a place on. The others keep their order.
+pub(crate) fn sweep(tallies: &mut Vec<Tally>, places: &mut Places, from: usize)
+    ensures { tallies.new.items ≡ swept from tallies.old.items }
+{
+    let mut end = from;
+    for at in from..tallies.len() {
+        let tally = tallies[at];
+        if !tally.lasts() {
+            continue;
+        }
+        tallies[end] = tally;
+        places.put(tally.thread, end);
+        end += 1;
+    }
+    tallies.truncate(end);
 }

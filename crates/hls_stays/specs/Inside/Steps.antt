@@ -1,9 +1,9 @@
 -- What one stay that begins, ends or is served leaves of tallies.
 use Rattle.std.specs.Prelude.{◌≡◌, ◌≢◌, ℕ, ◌+◌, ◌-◌, ◌==◌, List, Option, Some, None, Bool, true, false}
-use Rattle.std.specs.Prelude.{map, slice_get}
+use Rattle.std.specs.Prelude.{◌++◌, map, slice_get, take, drop, filter}
 use Rattle.hls_legal.specs.Hierarchy.{Hierarchy, Stay}
 use Rattle.hls_legal.specs.Steps.{closed}
-use Rattle.hls_stays.specs.Tallies.{AreTallies}
+use Rattle.hls_stays.specs.Tallies.{AreTallies, lasts}
 use Rattle.hls_stays.specs.declared.stays.Stays.{Stays}
 use Rattle.hls_stays.specs.declared.tally.Tally.{Tally}
 
@@ -21,6 +21,10 @@ noted_by _ _ now tally = tally
 
 abbrev pub noted_tally : (ready : Bool) → (now : ℕ) → Tally → Tally
 noted_tally ready now tally = noted_by tally.ready_since ready now tally
+
+-- the tallies, without those of stays of no tick from a place on
+abbrev pub swept : (from : ℕ) → List Tally → List Tally
+swept from tallies = take from tallies ++ filter (λ (t : Tally). lasts t.since t.until) (drop from tallies)
 
 -- the stays, where those of a thread end now
 abbrev pub without : (now k : ℕ) → List Stay → List Stay

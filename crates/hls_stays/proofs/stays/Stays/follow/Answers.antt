@@ -1,6 +1,9 @@
-use Rattle.std.proofs.Common.{sym, subst}
-use Rattle.hls_legal.specs.Steps.{after}
-use Rattle.hls_stays.specs.Tallies.{AreTallies}
+use Rattle.std.proofs.Common.{◌++◌, sym, ap, ◌∙◌}
+use Rattle.hls_legal.specs.Steps.{after, stay_of}
+use Rattle.hls_stays.specs.Tallies.{lasting}
+use Rattle.hls_stays.specs.Inside.Steps.{without}
+use Rattle.hls_stays.specs.Inside.Renewals.{renewed_all}
+use Rattle.hls_stays.proofs.Lasting.{lasting_append, lasting_without, lasting_renewed}
 use Rattle.hls_stays.proofs.Turned.{turn_nothing, turn_begins, turn_ends, turn_renews, ends_may, renews_stands}
 use Rattle.hls_stays.proofs.Turned.{these_are, rouses_may, turn_rouses}
 use Rattle.hls_stays.proofs.stays.Stays.follow.Goals as goal
@@ -21,22 +24,36 @@ returns-in-Nothing g c = λ h command step turns.
 pub returns-in-Begins : goal.returns-in-Begins
 returns-in-Begins g c = λ h command step turns.
     let b = turn_begins _ c.args.self.now c.args.tree.now c.args.turnover h command step c.in-Begins.is turns in
-    subst (AreTallies c.begin.new.self (after h step)) (sym b.stays)
-    (c.begin.ensures (after h step) h.stays b.front b.k turns.tree turns.ready b.thread b.threads b.are b.none)
+    let begun = stay_of (after h step).now b.k ((after h step).nodes b.k) in
+    record {
+      kept = turns.stays.kept ++ begun;
+      are = c.begin.ensures (after h step) turns.stays.kept b.front b.k turns.tree turns.ready b.thread b.threads b.are
+          b.none;
+      all = lasting_append turns.stays.kept h.stays begun turns.stays.all ∙ ap lasting (sym b.stays);
+    }
 
 pub returns-in-Ends : goal.returns-in-Ends
 returns-in-Ends g c = λ h command step turns.
     let e = turn_ends _ c.args.self.now c.args.tree.now c.args.turnover h command step c.in-Ends.id c.in-Ends.is
     turns in
-    subst (AreTallies c.close.new.self (after h step)) (sym e.stays)
-    (c.close.ensures.closed (after h step) h.stays (sym (c.now.ensures (after h step) turns.tree)) e.are e.has)
+    record {
+      kept = without (after h step).now c.in-Ends.id turns.stays.kept;
+      are = c.close.ensures.closed (after h step) turns.stays.kept (sym (c.now.ensures (after h step) turns.tree)) e.are
+          e.has;
+      all = lasting_without (after h step).now c.in-Ends.id turns.stays.kept h.stays turns.stays.all
+          ∙ ap lasting (sym e.stays);
+    }
 
 pub returns-in-Renews : goal.returns-in-Renews
 returns-in-Renews g c = λ h command step turns.
     let r = turn_renews _ c.args.self.now c.args.tree.now c.args.turnover h command step c.deref.result.now
     (these_are c.args.turnover c.in-Renews.ids c.deref.result.now c.in-Renews.is c.deref.ensures.value) turns in
-    subst (AreTallies c.renew_all.new.self (after h step)) r.stays
-    (c.renew_all.ensures (after h step) h.stays turns.tree turns.ready r.may)
+    record {
+      kept = renewed_all (after h step) turns.stays.kept c.deref.result.now;
+      are = c.renew_all.ensures (after h step) turns.stays.kept turns.tree turns.ready r.may;
+      all = lasting_renewed (after h step) turns.stays.kept h.stays c.deref.result.now turns.stays.all
+          ∙ ap lasting r.stays;
+    }
 
 pub note-requires : goal.note-requires
 note-requires g c =

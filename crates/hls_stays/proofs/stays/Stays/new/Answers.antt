@@ -1,12 +1,16 @@
-use Rattle.std.proofs.Common.{sym, ap, length, is_none}
+use Rattle.std.proofs.Common.{refl, sym, ap, [], length, is_none}
 use Rattle.hls_chron.proofs.CountLaws.{count-none}
 use Rattle.hls_legal.specs.Hierarchy.{start}
 use Rattle.hls_stays.proofs.stays.Stays.new.Goals as goal
 
 pub returns : goal.returns
 returns c = record {
-  many = ap length c.new.ensures.items;
-  each = λ at stay tally e f. absurd (cc);
-  single = λ i j one other e f p q same. absurd (cc);
-  idle = sym (count-none (λ t. is_none (start.past t).to) 0);
+  kept = [];
+  are = record {
+    many = ap length c.new.ensures.items;
+    each = λ at stay tally e f. absurd (cc);
+    single = λ i j one other e f p q same. absurd (cc);
+    idle = sym (count-none (λ t. is_none (start.past t).to) 0);
+  };
+  all = refl;
 }
