@@ -173,15 +173,20 @@ impl Core {
             alloc,
             scenario,
             depth,
-            kit: _,
+            kit,
             rules: _,
-            tree: _,
+            tree,
             agenda: _,
             journal,
             bursts: _,
             stays,
         } = self;
+        // A report takes much memory, so the books of the schedulers go first.
+        drop(tree);
+        drop(kit);
         let accounts = stays.accounts(alloc, journal.ticks())?;
-        journal.finish(alloc, scenario, depth, accounts, stays.idle())
+        let idle = stays.idle();
+        drop(stays);
+        journal.finish(alloc, scenario, depth, accounts, idle)
     }
 }

@@ -120,7 +120,7 @@ fn derive_all(
     ensures none { IfOk result (λ found. IsNone found → (h : Hierarchy) → IsTreeOf seen tree.now h →
         IsReached h → IsUntold h depth name.now seats.now) }
 {
-    let mut told = Vec::new(alloc);
+    let mut told = Vec::with_capacity(alloc, seats.len())?;
     for (port, seat) in seats.iter().enumerate() {
         let derivation = match derive(alloc, tree, rules, depth, seat)? {
             Some(derivation) => derivation,

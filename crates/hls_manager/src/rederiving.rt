@@ -47,7 +47,7 @@ pub fn rederive(
     ensures { IfOk result (λ told. (h : Hierarchy) → IsTreeOf seen tree.now h → IsReached h →
         AreRederived depth (dues_on h have.now (Some id)) told) }
 {
-    let mut seats = Vec::new(alloc);
+    let mut seats = Vec::with_capacity(alloc, tree.seats_taken(id) as usize)?;
     for at in 0..tree.seats_taken(id) {
         let (child, port) = tree.child(id, at);
         let name = tree.name(child);

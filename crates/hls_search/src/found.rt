@@ -41,7 +41,7 @@ impl Found {
 fn listed(alloc: Global, chain: &Chain) -> Result<List<Step>, AllocError>
     ensures { IfOk result (λ list. list ≡ chain.now) }
 {
-    let mut items = Vec::new(alloc);
+    let mut items = Vec::with_capacity(alloc, chain.len())?;
     items.extend_from_slice(chain.steps())?;
     Ok(List::of(items))
 }

@@ -33,11 +33,12 @@ fn verdict_line(alloc: Global, audit: Outcome) -> Result<Vec<u8>, AllocError>
     Ok(bytes)
 }
 
-/// The verdict on a report that was read from a text.
-fn verdict_on(alloc: Global, report: &Report, text: &[u8]) -> Result<Output, AllocError>
-    requires read { IsReportText text.now report.now }
-    ensures { IfOk result (λ output. IsOfCheck text.now output.status output.bytes.items) }
+/// The verdict on a report that was read from a text. The text goes first, to save memory.
+fn verdict_on(alloc: Global, report: &Report, text: Vec<u8>) -> Result<Output, AllocError>
+    requires read { IsReportText text.items report.now }
+    ensures { IfOk result (λ output. IsOfCheck text.items output.status output.bytes.items) }
 {
+    drop(text);
     let audit = audit(alloc, report)?;
     Ok(Output {
         status: status_of(audit),
@@ -49,11 +50,11 @@ fn verdict_on(alloc: Global, report: &Report, text: &[u8]) -> Result<Output, All
 ///
 /// # Errors
 /// Returns `AllocError` for want of memory.
-pub fn verdict_on_text(alloc: Global, text: &[u8]) -> Result<Output, AllocError>
-    requires within { length text.now ≤ report_limit }
-    ensures { IfOk result (λ output. IsOfCheck text.now output.status output.bytes.items) }
+pub fn verdict_on_text(alloc: Global, text: Vec<u8>) -> Result<Output, AllocError>
+    requires within { length text.items ≤ report_limit }
+    ensures { IfOk result (λ output. IsOfCheck text.items output.status output.bytes.items) }
 {
-    match read_report(alloc, text) {
+    match read_report(alloc, &text) {
         Ok(report) => verdict_on(alloc, &report, text),
         Err(ReportFault::At { line }) => Ok(Output {
             status: Status::RefusedText,

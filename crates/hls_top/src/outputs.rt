@@ -51,11 +51,11 @@ pub fn output_of<S: Source>(
     match job {
         Job::Run { depth } => {
             let text = text_from(alloc, source, SCENARIO_LIMIT)?;
-            Ok(report_on_text(alloc, &text, depth, kit, rules)?)
+            Ok(report_on_text(alloc, text, depth, kit, rules)?)
         }
         Job::Check => {
             let text = text_from(alloc, source, REPORT_LIMIT)?;
-            Ok(verdict_on_text(alloc, &text)?)
+            Ok(verdict_on_text(alloc, text)?)
         }
         Job::Gen { number } => Ok(scenario_of(alloc, number)?),
         Job::Trial { number } => Ok(trial_of(alloc, number, kit, rules)?),

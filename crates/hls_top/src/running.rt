@@ -17,20 +17,21 @@ use hls_rules::RuleBook;
 use hls_sched::{Kit, Scheduler};
 use std::alloc::{AllocError, Global};
 
-/// The text of the report of a scenario.
+/// The text of the report of a scenario. The scenario's own text goes first, to save memory.
 fn report_on(
     alloc: Global,
     scenario: Scenario,
     depth: u8,
     kit: Kit,
     rules: RuleBook,
-    text: &[u8],
+    text: Vec<u8>,
 ) -> Result<Vec<u8>, AllocError>
-    requires read { IsScenarioText text.now scenario }
+    requires read { IsScenarioText text.items scenario }
     requires depth { depth ≤ 6 }
     requires good { IsGood (boxed seen) kit }
-    ensures { IfOk result (λ bytes. IsReportOf depth (boxes_in kit) text.now bytes.items) }
+    ensures { IfOk result (λ bytes. IsReportOf depth (boxes_in kit) text.items bytes.items) }
 {
+    drop(text);
     let report = carry_out(alloc, scenario, depth, kit, rules)?;
     write_report(alloc, &report)
 }
@@ -41,17 +42,17 @@ fn report_on(
 /// Returns `AllocError` for want of memory.
 pub fn report_on_text(
     alloc: Global,
-    text: &[u8],
+    text: Vec<u8>,
     depth: u8,
     kit: Kit,
     rules: RuleBook,
 ) -> Result<Output, AllocError>
-    requires within { length text.now ≤ scenario_limit }
+    requires within { length text.items ≤ scenario_limit }
     requires depth { depth ≤ 6 }
     requires good { IsGood (boxed seen) kit }
-    ensures { IfOk result (λ output. IsOfRun depth (boxes_in kit) text.now output.status output.bytes.items) }
+    ensures { IfOk result (λ output. IsOfRun depth (boxes_in kit) text.items output.status output.bytes.items) }
 {
-    match read_scenario(alloc, text) {
+    match read_scenario(alloc, &text) {
         Ok(scenario) => Ok(Output {
             status: Status::Done,
             bytes: report_on(alloc, scenario, depth, kit, rules, text)?,
