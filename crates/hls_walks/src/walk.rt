@@ -1,5 +1,5 @@
 // Walks over the nodes.
-ghost use Rattle.std.specs.Prelude.{◌≡◌, ◌≢◌, ℕ, ◌+◌, ◌<◌, ◌≤◌, Option, Some, None, true, IfSome, IsNone};
+ghost use Rattle.std.specs.Prelude.{◌≡◌, ◌≢◌, ℕ, ◌+◌, ◌<◌, ◌≤◌, Option, Some, None, true, IfSome, IsNone, []};
 ghost use Rattle.std.specs.Prelude.{length, map, option_map, slice_get, get_or};
 ghost use Rattle.std.specs.Int.{bit_at};
 ghost use Rattle.slab.specs.Slab.{get};
@@ -438,13 +438,13 @@ fn note_seen(nodes: &mut Slab<Node>, place: Place, last: usize, id: NodeId)
 }
 
 /// Grants along the choices down to a thread, and tells the way.
-fn grant_path(nodes: &mut Slab<Node>, root: NodeId) -> Route
+fn grant_path(nodes: &mut Slab<Node>, root: NodeId, route: &mut Route)
     requires telling { IsTelling (shown_at seen nodes.old) Each }
     requires root { (sitter : Sitter (shown_at seen nodes.old) Processor) ×
         (asks_in (shown_at seen nodes.old sitter.node) ≡ true) }
-    ensures { Led (shown_at seen nodes.old) (shown_at seen nodes.new) (choice_at choice nodes.new) result }
+    requires empty { route.old ≡ [] }
+    ensures { Led (shown_at seen nodes.old) (shown_at seen nodes.new) (choice_at choice nodes.new) route.new }
 {
-    let mut route = Route::new();
     let mut place = Place::Processor;
     for step in 0..9u8 {
         let last = last_seen(nodes, place, root.key());
@@ -455,7 +455,7 @@ fn grant_path(nodes: &mut Slab<Node>, root: NodeId) -> Route
         note_seen(nodes, place, last, id);
         route.push(id);
         match grant_at(nodes, key, port) {
-            None => return route,
+            None => return,
             Some(slot) => {
                 place = Place::At {
                     scheduler: key,
@@ -467,42 +467,43 @@ fn grant_path(nodes: &mut Slab<Node>, root: NodeId) -> Route
     unreachable!()
 }
 
-/// Grants from the root down, if it asks.
-fn grant_root(nodes: &mut Slab<Node>, root: Option<NodeId>) -> Option<Route>
+/// Grants from the root down, if it asks, and tells the way.
+fn grant_root(nodes: &mut Slab<Node>, root: Option<NodeId>, route: &mut Option<Route>)
     requires telling { IsTelling (shown_at seen nodes.old) Each }
     requires root { RootAt (shown_at seen nodes.old) root }
-    ensures { Ran (shown_at seen nodes.old) (shown_at seen nodes.new) (choice_at choice nodes.new) root result }
+    ensures { Ran (shown_at seen nodes.old) (shown_at seen nodes.new) (choice_at choice nodes.new) root route.new }
 {
     match root {
-        None => None,
+        None => *route = None,
         Some(root) => {
             if asks_at(nodes, root.key()) {
-                Some(grant_path(nodes, root))
+                grant_path(nodes, root, route.insert(Route::new()));
             } else {
-                None
+                *route = None;
             }
         }
     }
 }
 
-/// Tells what asks, where it is new, and grants along the choices.
+/// Tells what asks, where it is new, grants along the choices, and tells the way.
 pub fn pass(
     nodes: &mut Slab<Node>,
     schedulers: &[NodeId],
     changed: &Option<Changed>,
     root: Option<NodeId>,
-) -> Option<Route>
+    route: &mut Option<Route>,
+)
     requires roll { IsRoll (shown_at seen nodes.old) schedulers.now }
     requires told { AreTold (shown_at seen nodes.old) changed.now }
     requires laid { IsLaid (shown_at seen nodes.old) }
     requires posted { (k : ℕ) → PostedIn (shown_at seen nodes.old k) }
     requires root { RootAt (shown_at seen nodes.old) root }
-    ensures { Passed (shown_at seen nodes.old) (shown_at seen nodes.new) (choice_at choice nodes.new) root result }
+    ensures { Passed (shown_at seen nodes.old) (shown_at seen nodes.new) (choice_at choice nodes.new) root route.new }
 {
     revoke_all(nodes, schedulers);
     tell_changed(nodes, changed);
     tell_schedulers(nodes, schedulers);
-    grant_root(nodes, root)
+    grant_root(nodes, root, route);
 }
 
 /// One tick of a node.
