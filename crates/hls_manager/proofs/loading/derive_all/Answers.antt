@@ -6,7 +6,7 @@ use Rattle.hls_manager.proofs.loading.derive_all.Goals as goal
 
 pub loop-port-init : goal.loop-port-init
 loop-port-init g c = λ h tree is.
-    rw c.new-told.ensures.items (none_told h c.args.depth c.args.name.now c.args.seats.now)
+    rw c.in_ok-told.ensures.items (none_told h c.args.depth c.args.name.now c.args.seats.now)
 
 pub loop-port-preserved : goal.loop-port-preserved
 loop-port-preserved g c =
