@@ -4,4 +4,5 @@ use Rattle.hls_stays.proofs.Swept.{IsSweeping}
 use Rattle.hls_stays.proofs.tally.sweep.Given as goal
 
 abbrev pub invariant-loop-at : goal.invariant-loop-at
-invariant-loop-at l = IsSweeping (λ (t : Tally). lasts t.since t.until) l.from l.fn.tallies.items l.tallies.items l.end l.at
+invariant-loop-at l =
+    IsSweeping (λ (t : Tally). lasts t.since t.until) l.from l.fn.tallies.items l.tallies.items l.end l.at
