@@ -6,5 +6,5 @@ use Rattle.hls_stays.proofs.turnover.threads_under.Given as goal
 
 abbrev pub invariant-loop-at : goal.invariant-loop-at
 invariant-loop-at g l = (h : Hierarchy) (below : ℕ → Bool)
-    → IsTreeOf (λ z. (goal.Scheduler-dyn g z).seen z.1) l.tree h → Tells h l.id below
+    → IsTreeOf (λ z. (goal.Scheduler-dyn g z).seen z.1) l.tree h → Tells h l.fn.id below
     → l.threads.items ≡ filter below (take l.at h.threads)
