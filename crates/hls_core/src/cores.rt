@@ -184,9 +184,8 @@ impl Core {
         // A report takes much memory, so the books of the schedulers go first.
         drop(tree);
         drop(kit);
-        let accounts = stays.accounts(alloc, journal.ticks())?;
         let idle = stays.idle();
-        drop(stays);
+        let accounts = stays.accounts(alloc, journal.ticks())?;
         journal.finish(alloc, scenario, depth, accounts, idle)
     }
 }

@@ -1,7 +1,9 @@
 -- The accounts of tallies.
 use Rattle.std.proofs.Common.{◌≡◌, ℕ, ◌+◌, ◌-◌, ◌<◌, ◌≤◌, ◌^◌, List, Bool, sym, ap, ◌∙◌, arith, map, filter}
-use Rattle.std.specs.Prelude.{Result, Ok, Err, IfOk, Option, Some, None, false, nat_lt, min}
-use Rattle.std.specs.Global.{Vec}
+use Rattle.std.proofs.Common.{[], ◌∷◌, ◌++◌, cond, length, reverse, append_assoc}
+use Rattle.std.specs.Prelude.{Option, Some, None, true, false, nat_lt, min, Result, Ok, Err, OnOk}
+use Rattle.std.proofs.lemmas.List.{append-nil, reverse-append}
+use Rattle.std.proofs.lemmas.List.Elements.{filter-append}
 use Rattle.std.proofs.Math.Nat.{min-eq_left}
 use Rattle.hls_chron.proofs.CountLaws.{count-le}
 use Rattle.hls_report_text.specs.declared.report.Account.{Account}
@@ -9,10 +11,10 @@ use Rattle.hls_legal.specs.Hierarchy.{Hierarchy, Stay, had_asked}
 use Rattle.hls_legal.specs.Supplied.{end_of, ready_ticks}
 use Rattle.hls_accounts.specs.Agrees.{accounts_in, account_in}
 use Rattle.hls_stays.specs.Tallies.{AreStays, IsTally, waited, lasts, lasting}
-use Rattle.hls_stays.specs.Inside.Accounts.{account_by}
+use Rattle.hls_stays.specs.Inside.Accounts.{account_by, accounts_by}
 use Rattle.hls_stays.specs.declared.stays.Stays.{Stays}
 use Rattle.hls_stays.specs.declared.tally.Tally.{Tally}
-use Rattle.hls_stays.proofs.Lists.{filter_alike}
+use Rattle.hls_stays.proofs.Lists.{filter_alike, map_append}
 use Rattle.hls_stays.proofs.Lasting.{filter_within}
 
 abbrev lasts_at : (now : ℕ) → Tally → Bool
@@ -58,9 +60,7 @@ account_is h stay tally is small =
     }
 
 pub accounts_told : (s : Stays) (h : Hierarchy) (now : ℕ) (accounts : List Account) → AreStays s h → h.now ≡ now
-    → now < 2 ^ 32
-    → accounts ≡ map (account_by now) (filter (λ (t : Tally). nat_lt t.since (end_of now t.until)) s.tallies.items)
-    → accounts ≡ accounts_in h
+    → now < 2 ^ 32 → accounts ≡ accounts_by now s.tallies.items → accounts ≡ accounts_in h
 accounts_told s h now accounts are same small is =
     is
     ∙ ap (λ n. map (account_by n) (filter (lasts_at n) s.tallies.items)) (sym same)
@@ -72,10 +72,52 @@ accounts_told s h now accounts are same small is =
     )))
     ∙ ap (map (account_in h)) (lasted_all h are.kept are.all)
 
-pub accounts_result : {E : Type 0} (s : Stays) (now : ℕ) (result : Result (Vec Account) E) → now < 2 ^ 32
-    → IfOk result (λ accounts. accounts.items
-    ≡ map (account_by now) (filter (λ (t : Tally). nat_lt t.since (end_of now t.until)) s.tallies.items))
-    → IfOk result (λ accounts. (h : Hierarchy) → AreStays s h → h.now ≡ now → accounts.items ≡ accounts_in h)
-accounts_result s now (Ok accounts) small is = λ h are same.
-    accounts_told s h now accounts.items are same small is
-accounts_result s now (Err e) small is = tt
+-- ---- tallies that are taken away, the last first
+
+accounts_append : (now : ℕ) (xs ys : List Tally)
+    → accounts_by now (xs ++ ys) ≡ accounts_by now xs ++ accounts_by now ys
+accounts_append now xs ys =
+    ap (map (account_by now)) (filter-append (lasts_at now) xs ys)
+    ∙ map_append (account_by now) (filter (lasts_at now) xs) (filter (lasts_at now) ys)
+
+pub put_one : (now : ℕ) (tally : Tally) (old new : List Account) → lasts_at now tally ≡ true
+    → new ≡ old ++ account_by now tally ∷ [] → reverse new ≡ accounts_by now (tally ∷ []) ++ reverse old
+put_one now tally old new on push =
+    ap reverse push ∙ reverse-append old (account_by now tally ∷ [])
+    ∙ ap (λ (b : Bool). map (account_by now) (cond b (tally ∷ []) []) ++ reverse old) (sym on)
+
+pub put_none : (now : ℕ) (tally : Tally) (old : List Account) → lasts_at now tally ≡ false
+    → reverse old ≡ accounts_by now (tally ∷ []) ++ reverse old
+put_none now tally old off =
+    ap (λ (b : Bool). map (account_by now) (cond b (tally ∷ []) []) ++ reverse old) (sym off)
+
+-- what is told of the tallies that are left and of those that were taken
+abbrev pub IsTaking : (now : ℕ) → List Tally → List Account → List Account → Type 0
+IsTaking now left accounts whole = accounts_by now left ++ reverse accounts ≡ whole
+
+took_one : (now : ℕ) (left next : List Tally) (tally : Tally) (accounts new : List Account)
+    → left ≡ next ++ tally ∷ [] → reverse new ≡ accounts_by now (tally ∷ []) ++ reverse accounts
+    → IsTaking now next new (accounts_by now left ++ reverse accounts)
+took_one now left next tally accounts new is put =
+    ap (λ l. accounts_by now next ++ l) put
+    ∙ sym (append_assoc (accounts_by now next) (accounts_by now (tally ∷ [])) (reverse accounts))
+    ∙ ap (λ l. l ++ reverse accounts) (sym (accounts_append now next (tally ∷ [])))
+    ∙ ap (λ l. accounts_by now l ++ reverse accounts) (sym is)
+
+-- where the account of the last was put, or not for want of memory
+pub took_last : {X E : Type 0} (now : ℕ) (left next : List Tally) (tally : Tally) (accounts new : List Account)
+    (result : Result X E) → left ≡ next ++ tally ∷ []
+    → OnOk result (reverse new ≡ accounts_by now (tally ∷ []) ++ reverse accounts)
+    → OnOk result (IsTaking now next new (accounts_by now left ++ reverse accounts))
+took_last now left next tally accounts new (Ok x) is put = took_one now left next tally accounts new is put
+took_last now left next tally accounts new (Err e) is put = tt
+
+pub took_none : (now : ℕ) (left next : List Tally) (accounts : List Account) → left ≡ next ++ []
+    → IsTaking now next accounts (accounts_by now left ++ reverse accounts)
+took_none now left next accounts is =
+    ap (λ l. accounts_by now l ++ reverse accounts) (sym (append-nil next) ∙ sym is)
+
+pub took_all : (now : ℕ) (left : List Tally) (accounts whole : List Account) → length left ≡ 0
+    → IsTaking now left accounts whole → reverse accounts ≡ whole
+took_all now [] accounts whole none are = are
+took_all now (x ∷ left) accounts whole none are = absurd (omega (arith, none))

@@ -1,15 +1,18 @@
 // The accounts of stays.
-ghost use Rattle.std.specs.Prelude.{◌≡◌, IfOk, map, filter, nat_lt};
+ghost use Rattle.std.specs.Prelude.{◌≡◌, ◌-◌, ◌++◌, ◌∷◌, [], IfOk, OnOk, length, option_to_list, reverse};
 ghost use Rattle.hls_legal.specs.Hierarchy.{Hierarchy};
 ghost use Rattle.hls_legal.specs.Supplied.{end_of};
 ghost use Rattle.hls_accounts.specs.Agrees.{accounts_in, idle_in};
 ghost use Rattle.hls_stays.specs.Tallies.{AreStays, waited};
-ghost use Rattle.hls_stays.specs.Inside.Accounts.{account_by};
+ghost use Rattle.hls_stays.specs.Inside.Accounts.{account_by, accounts_by};
 
 use crate::Stays;
 use crate::tally::Tally;
 use hls_report_text::Account;
 use std::alloc::{AllocError, Global};
+
+/// How many tallies that were taken there may be before their memory is given back.
+const SPARE: usize = 16384;
 
 /// How many ticks have passed since a thread became ready, where it is.
 fn waited(now: u32, ready_since: Option<u32>) -> u32
@@ -47,15 +50,55 @@ impl Tally {
     }
 }
 
-fn accounts_of(alloc: Global, tallies: &[Tally], now: u32) -> Result<Vec<Account>, AllocError>
-    ensures { IfOk result (λ accounts. accounts.items
-        ≡ map (account_by now) (filter (λ (t : Tally). nat_lt t.since (end_of now t.until)) tallies.now)) }
+/// Takes the last tally away. The memory of those that were taken is given back now and then.
+fn take_last(tallies: &mut Vec<Tally>) -> Option<Tally>
+    ensures items { tallies.old.items ≡ tallies.new.items ++ option_to_list result }
+    ensures fewer { length tallies.new.items ≡ length tallies.old.items - 1 }
 {
-    tallies
-        .iter()
-        .filter(|tally| tally.since < tally.end(now))
-        .map(|tally| tally.account(now))
-        .collect(alloc)
+    let last = tallies.pop();
+    if tallies.capacity().saturating_sub(tallies.len()) > SPARE {
+        tallies.shrink_to_fit();
+    }
+    last
+}
+
+/// Puts the account of a tally on a list, where it had a tick.
+fn put_account(accounts: &mut Vec<Account>, tally: &Tally, now: u32) -> Result<(), AllocError>
+    ensures { OnOk result (reverse accounts.new.items
+        ≡ accounts_by now (tally.now ∷ []) ++ reverse accounts.old.items) }
+{
+    if tally.since < tally.end(now) {
+        accounts.push(tally.account(now))?;
+    }
+    Ok(())
+}
+
+/// Makes an account of the last tally that is left.
+fn move_last(left: &mut Vec<Tally>, accounts: &mut Vec<Account>, now: u32) -> Result<(), AllocError>
+    ensures told { OnOk result (accounts_by now left.new.items ++ reverse accounts.new.items
+        ≡ accounts_by now left.old.items ++ reverse accounts.old.items) }
+    ensures fewer { length left.new.items ≡ length left.old.items - 1 }
+{
+    match take_last(left) {
+        Some(tally) => put_account(accounts, &tally, now),
+        None => Ok(()),
+    }
+}
+
+/// The accounts of tallies, the last first.
+fn accounts_from_last(
+    alloc: Global,
+    tallies: Vec<Tally>,
+    now: u32,
+) -> Result<Vec<Account>, AllocError>
+    ensures { IfOk result (λ accounts. reverse accounts.items ≡ accounts_by now tallies.items) }
+{
+    let mut left = tallies;
+    let mut accounts = Vec::with_capacity(alloc, left.len())?;
+    for _at in 0..left.len() {
+        move_last(&mut left, &mut accounts, now)?;
+    }
+    Ok(accounts)
 }
 
 impl Stays {
@@ -63,11 +106,14 @@ impl Stays {
     ///
     /// # Errors
     /// Returns `AllocError` for want of memory.
-    pub fn accounts(&self, alloc: Global, now: u32) -> Result<Vec<Account>, AllocError>
-        ensures { IfOk result (λ accounts. (h : Hierarchy) → AreStays self.now h → h.now ≡ now →
+    pub fn accounts(self, alloc: Global, now: u32) -> Result<Vec<Account>, AllocError>
+        ensures { IfOk result (λ accounts. (h : Hierarchy) → AreStays self h → h.now ≡ now →
             accounts.items ≡ accounts_in h) }
     {
-        accounts_of(alloc, &self.tallies, now)
+        let Stays { tallies, .. } = self;
+        let mut accounts = accounts_from_last(alloc, tallies, now)?;
+        accounts.reverse();
+        Ok(accounts)
     }
 
     /// How many ticks were idle.

@@ -7,7 +7,7 @@ finish-requires-clause-accounts g c =
     c.in_ok-accounts.ensures
 
 pub finish-requires-clause-idle : goal.finish-requires-clause-idle
-finish-requires-clause-idle g c = core_idle _ c.args.self c.idle.result c.requires.runs c.idle.ensures
+finish-requires-clause-idle g c = core_idle _ c.args.self c.idle-idle.result c.requires.runs c.idle-idle.ensures
 
 pub returns : goal.returns
 returns g c = all_legal _ c.args.self c.finish.result c.finish.ensures c.requires.ended
