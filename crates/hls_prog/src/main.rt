@@ -44,6 +44,8 @@ mod clause_tests;
 #[cfg(test)]
 mod order_tests;
 #[cfg(test)]
+mod size_tests;
+#[cfg(test)]
 mod tests;
 #[cfg(test)]
 mod word_tests;

@@ -1,0 +1,175 @@
+// Reports at the limits: of as many commands as there may be, of as many ticks, and of joins on joins.
+use crate::tests::run_at;
+use hls_io::{MemSink, MemSource};
+use std::alloc::{AllocError, Global};
+use std::str;
+use std::test::Fail;
+
+/// Room for each of the reports.
+const ROOM: usize = 4_194_304;
+
+/// How many bytes a read gives, and a write takes.
+const PIECE: usize = 65_536;
+
+/// How many commands a scenario may have.
+const COMMANDS: u32 = 65_536;
+
+/// How many joins there are, each on the two before it.
+const JOINS: u32 = 58;
+
+/// How a scenario begins that goes on for as many ticks as there may be.
+const LONGEST: &str = "hls 1\nhorizon 100000\n\
+    at 0 load root fp on cpu as ALL\n\
+    at 0 thread a on root prio 0 as ALL\n";
+
+/// How the report with joins begins, with the first two of them.
+const FIRST_JOINS: &str = "hls-report 1\nhorizon 9\ndepth 3\n\
+    at 0 load root fp on cpu as ALL\n= done\nby root 0 ALL CPU ALL\n\
+    at 0 load r rr 1 on root prio 0 as ALL\n= done\nby r 0 ALL FP ALL\n\
+    at 0 load j0 join on root prio 1 as NULL , r turn as NULL\n= done\n\
+    by j0 0 ALL FP NULL\nby j0 1 ALL RR NULL\n\
+    at 0 load j1 join on root prio 2 as NULL , r turn as NULL\n= done\n\
+    by j1 0 ALL FP NULL\nby j1 1 ALL RR NULL\n";
+
+/// How it ends: a thread sits on the last join, and what the first two sit on is moved.
+const LAST_JOIN: &str = "at 0 thread t on j57 sole as NULL\n= done\nby t 0 NULL JOIN 1 NULL\n\
+    at 0 wake t\n= done\n\
+    at 5 move r to root prio 3 as NULL\n= done\n\
+    by r 0 ALL FP NULL\nby j0 1 NULL RR NULL\nby j1 1 NULL RR NULL\n\
+    schedule\n0..8 idle\n\
+    accounts\nt 0..4 NULL ready 5 served 0\nt 5..8 NULL ready 4 served 0\nidle 9\nend\n";
+
+/// The status at which the program ends at a word, and what it writes.
+fn answer(alloc: Global, word: &str, text: &str) -> Result<(u8, String), AllocError> {
+    let mut source = MemSource::new(text.as_bytes().to_vec(alloc)?, PIECE, Vec::new(alloc));
+    let mut sink = MemSink::new(alloc, ROOM, PIECE, Vec::new(alloc))?;
+    let status = run_at(alloc, &[word], &mut source, &mut sink)?;
+    let written = str::from_utf8(sink.bytes()).unwrap_or("");
+    Ok((status.code(), written.to_string(alloc)?))
+}
+
+/// What `check` says of a report in which another line stands in place of one.
+fn word_on(alloc: Global, report: &str, line: &str, other: &str) -> Result<String, AllocError> {
+    let mut text = String::with_capacity(alloc, report.len())?;
+    for each in report.lines() {
+        text.push_str(if each == line { other } else { each })?;
+        text.push('\n')?;
+    }
+    let (_status, word) = answer(alloc, "check", &text)?;
+    Ok(word)
+}
+
+/// A thread that is woken and blocked again until there are no more commands.
+fn wakes_and_blocks(alloc: Global) -> Result<String, AllocError> {
+    let mut scenario = LONGEST.to_string(alloc)?;
+    for tick in 2..COMMANDS {
+        let word = if tick % 2 == 0 { "wake" } else { "block" };
+        let line = format!(in alloc; "at {tick} {word} a\n")?;
+        scenario.push_str(&line)?;
+    }
+    Ok(scenario)
+}
+
+/// A report that no run has, since the joins go below level 8.
+fn joins_on_joins(alloc: Global) -> Result<String, AllocError> {
+    let mut report = FIRST_JOINS.to_string(alloc)?;
+    for number in 2..JOINS {
+        let near = number - 1;
+        let far = number - 2;
+        let load = format!(in alloc;
+            "load j{number} join on j{near} sole as NULL , j{far} sole as NULL"
+        )?;
+        let by = format!(in alloc;
+            "by j{number} 0 NULL JOIN 0 NULL\nby j{number} 1 NULL JOIN 1 NULL"
+        )?;
+        let lines = format!(in alloc; "at 0 {load}\n= done\n{by}\n")?;
+        report.push_str(&lines)?;
+    }
+    report.push_str(LAST_JOIN)?;
+    Ok(report)
+}
+
+#[test]
+fn checks_as_many_commands_as_there_may_be(rt: HostRuntime) -> Result<(), Fail> {
+    let alloc = rt.alloc();
+    let (status, report) = answer(alloc, "run", &wakes_and_blocks(alloc)?)?;
+    assert_eq!(rt; status, 0);
+    let commands = report
+        .lines()
+        .filter(|line| line.starts_with("at "))
+        .count();
+    assert_eq!(rt; commands, COMMANDS as usize);
+    let cases = [
+        ("", "", "kept\n"),
+        ("at 65534 wake a", "at 65534 block a", "broken A3 65534\n"),
+        ("at 65535 block a", "at 65535 block b", "broken A1 65535\n"),
+        ("at 65535 block a", "at 65535 wake a", "broken A4 65535\n"),
+        ("idle 67233", "idle 67232", "broken A7 100000\n"),
+    ];
+    for (line, other, word) in cases {
+        let found = word_on(alloc, &report, line, other)?;
+        assert_eq!(rt; found.as_str(), word, "for {line}");
+    }
+    Ok(())
+}
+
+#[test]
+fn checks_a_thread_for_as_many_ticks_as_there_may_be(rt: HostRuntime) -> Result<(), Fail> {
+    let alloc = rt.alloc();
+    let mut scenario = LONGEST.to_string(alloc)?;
+    scenario.push_str("at 0 wake a\n")?;
+    let (status, report) = answer(alloc, "run", &scenario)?;
+    assert_eq!(rt; status, 0);
+    let cases = [
+        ("", "", "kept\n"),
+        (
+            "0..99999 cpu/root/a",
+            "0..99998 cpu/root/a\n99999..99999 idle",
+            "broken A4 99999\n",
+        ),
+        (
+            "0..99999 cpu/root/a",
+            "0..99998 cpu/root/a\n99999..99999 cpu/root",
+            "broken A2 99999\n",
+        ),
+        (
+            "a 0..99999 ALL ready 100000 served 100000",
+            "a 0..99999 ALL ready 100000 served 99999",
+            "broken A7 100000\n",
+        ),
+    ];
+    for (line, other, word) in cases {
+        let found = word_on(alloc, &report, line, other)?;
+        assert_eq!(rt; found.as_str(), word, "for {line}");
+    }
+    Ok(())
+}
+
+#[test]
+fn checks_joins_on_joins(rt: HostRuntime) -> Result<(), Fail> {
+    let alloc = rt.alloc();
+    let report = joins_on_joins(alloc)?;
+    let cases = [
+        ("", "", "kept\n"),
+        (
+            "at 5 move r to root prio 3 as NULL",
+            "at 5 move r to j57 sole as NULL",
+            "broken A1 5\n",
+        ),
+        (
+            "by j1 1 NULL RR NULL",
+            "by j1 1 ALL RR NULL",
+            "broken A6 5\n",
+        ),
+        (
+            "t 0..4 NULL ready 5 served 0",
+            "t 0..4 NULL ready 5 served 1",
+            "broken A7 9\n",
+        ),
+    ];
+    for (line, other, word) in cases {
+        let found = word_on(alloc, &report, line, other)?;
+        assert_eq!(rt; found.as_str(), word, "for {line}");
+    }
+    Ok(())
+}
