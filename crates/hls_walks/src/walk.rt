@@ -12,7 +12,8 @@ ghost use Rattle.hls_walks.specs.Shown.{with_ready};
 ghost use Rattle.hls_walks.specs.Views.{shown_at, choice_at, told_place, is_place, place_view, seat_view};
 ghost use Rattle.hls_walks.specs.Inside.Levels.{IsLevel};
 ghost use Rattle.hls_walks.specs.TreeOf.{IsLaid, IsRanked, IsAlike, IsTelling, ToldBy, Sitter, Led, Ran, RootAt};
-ghost use Rattle.hls_walks.specs.TreeOf.{Passed, Tells, NoScheduler, IsNew, IsOn, IsRoll, AllFrom, AllUpTo, Each, AreTold};
+ghost use Rattle.hls_walks.specs.TreeOf.{Passed, Tells, NoScheduler, IsNew, IsOn, IsRoll, AllFrom, AllUpTo, Each};
+ghost use Rattle.hls_walks.specs.TreeOf.{AreTold};
 
 use crate::node::same_place;
 use crate::{Changed, Node, NodeId, Place, Role, Route, TakenSeat};
