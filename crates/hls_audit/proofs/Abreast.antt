@@ -16,9 +16,9 @@ use Rattle.hls_clauses.specs.declared.member.Member.{Member}
 use Rattle.hls_clauses.specs.Names.{after_answer, tree_of, tree_at}
 use Rattle.hls_clauses.specs.Ways.{leads_down}
 use Rattle.hls_clauses.specs.Clauses.{IsAstray}
-use Rattle.hls_audit.specs.Inside.Sites.{AreInOrder}
+use Rattle.hls_findings.specs.Inside.Order.{AreInOrder}
 use Rattle.hls_audit.specs.Inside.Leading.{IsAbreast, IsReached}
-use Rattle.hls_audit.proofs.OnPaths.{path_first}
+use Rattle.hls_findings.proofs.RunLaws.{run_since, run_next, path_is, one_run}
 
 -- ---- commands
 
@@ -109,80 +109,7 @@ tree_here all t then next tree e so_far =
     (λ k a lt there. let early = so_far.before k a lt there in omega (arith, early, e))
     (λ k a le there. let late = so_far.behind k a le there in omega (arith, late, e))))
 
--- ---- runs
-
-module _ (names : List Text) where
-  pub run_since : (from : ℕ) (last : Option (Option (List Text))) (runs : List Run) (end at : ℕ) (run : Run)
-      → Cover from last (map (stretch_of names) runs) end → slice_get runs at ≡ Some run
-      → (from ≤ run.from) × (run.from ≤ run.to)
-  run_since from last [] end at run cover there = absurd (cc)
-  run_since from last (r ∷ runs) end zero run cover there =
-      let same : r ≡ run = cc in
-      let starts = cover.0 in
-      let ahead = cover.1 in
-      subst (λ (x : Run). (from ≤ x.from) × (x.from ≤ x.to)) same (omega (arith, starts), omega (arith, starts, ahead))
-  run_since from last (r ∷ runs) end (suc at) run cover there =
-      let starts = cover.0 in
-      let ahead = cover.1 in
-      let rest = run_since (r.to + 1) (Some (stretch_of names r).path) runs end at run cover.4 there in
-      let first = rest.0 in
-      (omega (arith, ahead, first), rest.1)
-
-  -- a run and the next one
-  record HasNext (runs : List Run) (at : ℕ) (run : Run) : Type 0 where
-    next : Run
-    there : slice_get runs (suc at) ≡ Some next
-    since : next.from ≡ run.to + 1
-
-  run_next : (from : ℕ) (last : Option (Option (List Text))) (runs : List Run) (end at : ℕ) (run : Run)
-      → Cover from last (map (stretch_of names) runs) end → slice_get runs at ≡ Some run → run.to + 1 < end
-      → HasNext runs at run
-  run_next from last [] end at run cover there early = absurd (cc)
-  run_next from last (r ∷ []) end zero run cover there early =
-      let same : r ≡ run = cc in
-      absurd (subst (λ (x : Run). x.to + 1 < end → ⊥) same (λ lt. let ends = cover.4 in omega (arith, lt, ends)) early)
-  run_next from last (r ∷ s ∷ runs) end zero run cover there early =
-      let same : r ≡ run = cc in
-      record { next = s; there = refl; since = subst (λ (x : Run). s.from ≡ x.to + 1) same cover.4.0 }
-  run_next from last (r ∷ runs) end (suc at) run cover there early =
-      let rest = run_next (r.to + 1) (Some (stretch_of names r).path) runs end at run cover.4 there early in
-      record { next = rest.next; there = rest.there; since = rest.since }
-
-  path_here : (from : ℕ) (last : Option (Option (List Text))) (runs : List Run) (end at t : ℕ) (run : Run)
-      → Cover from last (map (stretch_of names) runs) end → slice_get runs at ≡ Some run → run.from ≤ t → t ≤ run.to
-      → path_at (map (stretch_of names) runs) t ≡ option_map (path_names names) run.path
-  path_here from last [] end at t run cover there lo hi = absurd (cc)
-  path_here from last (r ∷ runs) end zero t run cover there lo hi =
-      let same : run ≡ r = cc in
-      let now : has_tick t (stretch_of names run) ≡ true =
-      ap (λ b. b && nat_le t run.to) (le-leb run.from t lo) ∙ le-leb t run.to hi in
-      let first : has_tick t (stretch_of names r) ≡ true =
-      subst (λ (x : Run). has_tick t (stretch_of names x) ≡ true) same now in
-      path_first (stretch_of names r) (map (stretch_of names) runs) t true first
-      ∙ ap (λ (x : Run). option_map (path_names names) x.path) (sym same)
-  path_here from last (r ∷ runs) end (suc at) t run cover there lo hi =
-      let starts = cover.0 in
-      let ahead = cover.1 in
-      let later = (run_since (r.to + 1) (Some (stretch_of names r).path) runs end at run cover.4 there).0 in
-      let began : r.from ≤ t = omega (arith, starts, ahead, later, lo) in
-      let past : r.to < t = omega (arith, later, lo) in
-      let over : has_tick t (stretch_of names r) ≡ false =
-      ap (λ b. b && nat_le t r.to) (le-leb r.from t began) ∙ lt-leb t r.to past in
-      path_first (stretch_of names r) (map (stretch_of names) runs) t false over
-      ∙ path_here (r.to + 1) (Some (stretch_of names r).path) runs end at t run cover.4 there lo hi
-
 -- ---- what a step of the audit does
-
-pub path_is : (c : Content) (names : List Text) (runs : List Run) (t at : ℕ) (run : Run) → IsContent c
-    → c.stretches ≡ map (stretch_of names) runs → slice_get runs at ≡ Some run → run.from ≤ t → t ≤ run.to
-    → path_at c.stretches t ≡ option_map (path_names names) run.path
-path_is c names runs t at run formed e there lo hi =
-    subst (λ (l : List Stretch). path_at l t ≡ option_map (path_names names) run.path) (sym e)
-    (path_here names 0 None runs c.horizon at t run
-    (subst (λ (l : List Stretch). Cover 0 None l c.horizon) e formed.cover) there lo hi)
-
-one_run : (one other : Run) → Some one ≡ Some other → one ≡ other
-one_run one other e = cc
 
 -- the path of a tick that a run has
 pub path_reached : (c : Content) (names : List Text) (runs items : List Run) (t at : ℕ) (run : Run) → IsContent c

@@ -10,10 +10,10 @@ use Rattle.hls_clauses.specs.Clauses.{IsMisplacedAt, IsUnderivedAt}
 use Rattle.hls_audit.specs.declared.auditing.Outcome.{Outcome}
 use Rattle.hls_audit.specs.declared.auditing.Outcome.TheVariants.{Kept, Broken}
 use Rattle.hls_audit.specs.Audits.{IsAudit}
-use Rattle.hls_audit.specs.Inside.First.{IsFirstAt, FirstAt}
+use Rattle.hls_watch.specs.First.{IsFirstAt, FirstAt}
 use Rattle.hls_audit.specs.Inside.Failing.{IsLeast, LeastOf, sooner, bound}
-use Rattle.hls_audit.proofs.Formed.{stay_ends, command_early}
-use Rattle.hls_audit.proofs.OnPaths.{path_early}
+use Rattle.hls_findings.proofs.Formed.{stay_ends, command_early}
+use Rattle.hls_findings.proofs.OnPaths.{path_early}
 
 -- ---- from the horizon on
 
@@ -32,12 +32,6 @@ pub over_early : (c : Content) (t : ℕ) → IsContent c → IsOverCap c t → t
 over_early c t formed m =
     let ends = stay_ends c m.stay m.now.number formed m.now.listed in
     let now = m.now.until in omega (arith, ends, now)
-
--- what is nowhere below a bound, and nowhere from it on
-pub nowhere : (P : ℕ → Type 0) (i end : ℕ) → end ≤ i → ((k : ℕ) → k < i → ¬ P k) → ((k : ℕ) → P k → k < end)
-    → (k : ℕ) → ¬ P k
-nowhere P i end le none early k is =
-    let lt = early k is in none k (omega (arith, lt, le)) is
 
 -- ---- clauses by their numbers
 

@@ -1,4 +1,4 @@
--- Names that are the same, and an index that follows a tree of names.
+-- An index that follows a tree of names.
 use Rattle.std.proofs.Common.{◌≡◌, ◌≢◌, List, [], ◌∷◌, ◌++◌, Option, Some, None, Bool, true, false}
 use Rattle.std.proofs.Common.{refl, ap, sym, ◌∙◌, inl, inr}
 use Rattle.std.specs.Prelude.{cond, not, find, is_some}
@@ -6,23 +6,10 @@ use Rattle.std.specs.Str.{bytes_eq}
 use Rattle.std.proofs.lemmas.Bool.{cases_Bool}
 use Rattle.std.proofs.lemmas.Slice.Eq.{bytes_eq-Decides}
 use Rattle.hls_text.specs.Lines.{Text}
-use Rattle.hls_report_text.proofs.NameLaws.{equal-same, equal-self}
 use Rattle.hls_clauses.specs.declared.member.Member.{Member}
 use Rattle.hls_clauses.specs.Names.{has_name, member_of, without}
 use Rattle.hls_audit.specs.declared.known.Known.{Known}
-use Rattle.hls_audit.specs.Inside.Known.{same_name, known_as, IsIndex}
-
-pub same_self : (name : Text) → same_name name name ≡ true
-same_self name = equal-self name
-
-pub same_is : (one other : Text) → same_name one other ≡ true → one ≡ other
-same_is one other same = equal-same one other same
-
-pub same_apart : (one other : Text) → other ≢ one → same_name one other ≡ false
-same_apart one other ne = elim (cases_Bool (same_name one other)) [
-  | inl t ↦ absurd (ne (sym (same_is one other t)))
-  | inr f ↦ f
-]
+use Rattle.hls_audit.specs.Inside.Known.{known_as, IsIndex}
 
 -- ---- who is found in a tree that has changed
 

@@ -14,8 +14,9 @@ use Rattle.hls_clauses.specs.Misplaced.{is_misplaced}
 use Rattle.hls_clauses.specs.declared.member.Member.{Member}
 use Rattle.hls_clauses.specs.Names.{after_answer, tree_of}
 use Rattle.hls_clauses.specs.Clauses.{IsMisplacedAt, IsUnderivedAt}
-use Rattle.hls_audit.specs.Inside.First.{IsFirstAt, FirstAt}
-use Rattle.hls_audit.specs.Inside.Sites.{AreInOrder, IsSound, IsMisplacedBy, IsUnderivedBy, HasBad}
+use Rattle.hls_watch.specs.First.{IsFirstAt, FirstAt}
+use Rattle.hls_findings.specs.Inside.Order.{AreInOrder, IsSound}
+use Rattle.hls_audit.specs.Inside.Sites.{IsMisplacedBy, IsUnderivedBy, HasBad}
 use Rattle.hls_audit.specs.Inside.Fits.{IsFit}
 use Rattle.hls_audit.proofs.FitLaws.{answer_fit}
 

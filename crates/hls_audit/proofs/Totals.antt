@@ -7,15 +7,10 @@ use Rattle.std.proofs.lemmas.Slice.Eq.{bytes_eq-Decides}
 use Rattle.hls_text.specs.Lines.{Text}
 use Rattle.hls_guarantee.specs.declared.Guarantee.{Guarantee}
 use Rattle.hls_report_text.specs.declared.report.Account.{Account}
+use Rattle.hls_findings.proofs.Counted.{account_by}
 
 abbrev pub same_ticks : Account → Account → Bool
 same_ticks a b = a.from == b.from && (a.to == b.to && (a.ready == b.ready && a.served == b.served))
-
-pub account_by : (name other : Text) (f g t u : ℕ) (k l : Guarantee) (r s v w : ℕ) → name ≡ other → f ≡ g → t ≡ u
-    → k ≡ l → r ≡ s → v ≡ w
-    → ◌≡◌ {A = Account} (record { name = name; from = f; to = t; kept = k; ready = r; served = v })
-    (record { name = other; from = g; to = u; kept = l; ready = s; served = w })
-account_by name other f g t u k l r s v w a b d e h i = cc
 
 tests_both : (a b : Bool) → (a && b) ≡ true → (a ≡ true) × (b ≡ true)
 tests_both true b e = (refl, e)

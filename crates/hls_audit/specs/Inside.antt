@@ -3,16 +3,8 @@ pub mod Marks
 pub mod Steps
 pub mod Told
 pub mod Fits
-pub mod First
 pub mod Sites
 pub mod Failing
 pub mod Known
 pub mod Places
-pub mod Chains
-pub mod Ticks
-pub mod Lines
-pub mod Least
 pub mod Leading
-pub mod Findings
-pub mod Lookups
-pub mod Unready

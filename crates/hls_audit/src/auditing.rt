@@ -7,11 +7,8 @@ ghost use Rattle.hls_audit.specs.Inside.Failing as least;
 
 use crate::commands::{first_misplaced, first_underived};
 use crate::counts::first_miscounted;
-use crate::findings::Findings;
 use crate::leading::first_astray;
-use crate::lookup::Lookup;
-use crate::paths::first_unready;
-use hls_audit_stays::stays_of;
+use hls_findings::Findings;
 use hls_report_text::Report;
 use std::alloc::{AllocError, Global};
 
@@ -59,12 +56,10 @@ pub fn audit(alloc: Global, report: &Report) -> Result<Outcome, AllocError>
     requires { IsWellFormed report.now }
     ensures { IfOk result (IsAudit (content_of report.now)) }
 {
-    let stays = stays_of(alloc, report.answered.items())?;
-    let lookup = Lookup::of(alloc, report)?;
     let misplaced = sooner(Outcome::Kept, 1, first_misplaced(alloc, report)?);
     let astray = sooner(misplaced, 2, first_astray(alloc, report)?);
-    let unready = sooner(astray, 3, first_unready(alloc, report, &lookup)?);
-    let found = Findings::of(alloc, report, &lookup, &stays)?;
+    let found = Findings::of(alloc, report)?;
+    let unready = sooner(astray, 3, found.unready);
     let starved = sooner(unready, 4, found.starved);
     let over_cap = sooner(starved, 5, found.over_cap);
     let underived = sooner(
@@ -72,9 +67,5 @@ pub fn audit(alloc: Global, report: &Report) -> Result<Outcome, AllocError>
         6,
         first_underived(alloc, report, bound(over_cap, report.horizon))?,
     );
-    Ok(sooner(
-        underived,
-        7,
-        first_miscounted(alloc, report, &found.accounts)?,
-    ))
+    Ok(sooner(underived, 7, first_miscounted(report, &found.accounts)))
 }

@@ -8,8 +8,8 @@ ghost use Rattle.hls_clauses.specs.Misplaced as clause;
 ghost use Rattle.hls_audit.specs.Inside.Places.{ArePlaces};
 ghost use Rattle.hls_audit.specs.Inside.Marks.{marked, next_mark, next_marks};
 
-use crate::places::Places;
 use crate::tree::{Tree, is_same};
+use hls_audit_stays::Places;
 use hls_chron::Name;
 use hls_clauses::Member;
 use hls_scenario::{Perch, Spot};

@@ -49,7 +49,7 @@ impl Known {
     }
 
     /// Notes who has a name, into room that is there.
-    #[tactic(auto, using(crate::proofs::KnownLaws::same_apart))]
+    #[tactic(auto, using(hls_audit_stays::proofs::Names::same_apart))]
     pub(crate) fn insert(&mut self, name: Name, member: Member)
         requires { 0 < spare_of self.old }
         ensures here { known_as self.new name ≡ Some member }
@@ -62,7 +62,7 @@ impl Known {
     }
 
     /// Forgets a name.
-    #[tactic(auto, using(crate::proofs::KnownLaws::same_apart))]
+    #[tactic(auto, using(hls_audit_stays::proofs::Names::same_apart))]
     pub(crate) fn remove(&mut self, name: &Name)
         ensures here { known_as self.new name.now ≡ None }
         ensures others { (other : List ℕ) → other ≢ name.now → known_as self.new other ≡ known_as self.old other }

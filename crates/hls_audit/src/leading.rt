@@ -5,9 +5,9 @@ ghost use Rattle.hls_report_text.specs.WellFormed.{HasShort, IsWellFormed};
 ghost use Rattle.hls_accounts.specs.Schedule as spelled;
 ghost use Rattle.hls_clauses.specs.Names as told;
 ghost use Rattle.hls_clauses.specs.Clauses.{IsAstray};
-ghost use Rattle.hls_audit.specs.Inside.First.{FirstAt};
+ghost use Rattle.hls_watch.specs.First.{FirstAt};
 ghost use Rattle.hls_audit.specs.Inside.Leading.{IsAbreast, IsReached};
-ghost use Rattle.hls_audit.specs.Inside.Sites.{AreInOrder};
+ghost use Rattle.hls_findings.specs.Inside.Order.{AreInOrder};
 
 use crate::tree::Tree;
 use hls_report_text::{Answered, Path, Report};

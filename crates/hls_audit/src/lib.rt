@@ -3,21 +3,12 @@
 
 mod auditing;
 mod below;
-mod chains;
 mod commands;
 mod counts;
 mod dues;
-mod findings;
 mod known;
 mod leading;
-mod lines;
-mod lookup;
-mod paths;
-mod places;
 mod placing;
-mod starving;
-mod stays;
-mod threads;
 mod tree;
 mod ways;
 

@@ -17,9 +17,9 @@ use Rattle.hls_scenario.specs.declared.scenario.Command.TheVariants.{Load, Threa
 use Rattle.hls_report_text.specs.declared.report.Answered.{Answered}
 use Rattle.hls_accounts.specs.Commands.{last_seating}
 use Rattle.hls_accounts.specs.Under.{is_on, seats_on, sits_on, is_within}
-use Rattle.hls_audit_stays.specs.declared.index.Index.{Index}
+use Rattle.hls_audit_stays.specs.declared.places.Places.{Places}
 use Rattle.hls_audit_stays.specs.declared.seats.Seats.{Seats}
-use Rattle.hls_audit_stays.specs.Inside.Index.{place_in}
+use Rattle.hls_audit_stays.specs.Places.{place_in}
 use Rattle.hls_audit_stays.specs.Inside.Seats.{seated, IsKnown, AreKnown, SeatsOnKnown, SitsOnKnown, AreNamed, AreSeats}
 use Rattle.hls_audit_stays.specs.Inside.Marks.{mark_at, mark_in, next_mark, next_marks, AreBelow}
 use Rattle.hls_audit_stays.proofs.Lists.{get_map, map_same}
@@ -32,15 +32,15 @@ mark-Decides false false = (λ e. refl, λ e. refl)
 
 -- ---- tests that agree on the schedulers that are known
 
-abbrev pub Agree : Index → (test other : Text → Bool) → Type 0
+abbrev pub Agree : Places → (test other : Text → Bool) → Type 0
 Agree places test other = (name : Text) → is_some (place_in places name) ≡ true → test name ≡ other name
 
-on_same : (places : Index) (test other : Text → Bool) → Agree places test other → (spot : Spot) → IsKnown places spot
+on_same : (places : Places) (test other : Text → Bool) → Agree places test other → (spot : Spot) → IsKnown places spot
     → is_on test spot ≡ is_on other spot
 on_same places test other agree Cpu known = refl
 on_same places test other agree (Under sched terms) known = agree sched known
 
-any_same : (places : Index) (test other : Text → Bool) → Agree places test other → (perches : List Perch)
+any_same : (places : Places) (test other : Text → Bool) → Agree places test other → (perches : List Perch)
     → AreKnown places perches
     → list_any (λ (perch : Perch). is_on test perch.spot) perches
     ≡ list_any (λ (perch : Perch). is_on other perch.spot) perches
@@ -51,7 +51,7 @@ any_same places test other agree (perch ∷ perches) known =
     ∙ ap (λ b. is_on other perch.spot || b)
     (any_same places test other agree perches (λ at p e. known (suc at) p e))
 
-seats_same : (places : Index) (test other : Text → Bool) → Agree places test other → (command : Command)
+seats_same : (places : Places) (test other : Text → Bool) → Agree places test other → (command : Command)
     → SeatsOnKnown places command → seats_on test command ≡ seats_on other command
 seats_same places test other agree (Load name config perches) known = any_same places test other agree perches known
 seats_same places test other agree (Thread name perch) known = on_same places test other agree perch.spot known
@@ -61,7 +61,7 @@ seats_same places test other agree (Move name perch) known = on_same places test
 seats_same places test other agree (Wake name burst) known = refl
 seats_same places test other agree (Block name) known = refl
 
-sits_same : (places : Index) (test other : Text → Bool) → Agree places test other → (found : Option Answered)
+sits_same : (places : Places) (test other : Text → Bool) → Agree places test other → (found : Option Answered)
     → SitsOnKnown places found → sits_on test found ≡ sits_on other found
 sits_same places test other agree None known = refl
 sits_same places test other agree (Some a) known = seats_same places test other agree a.command known

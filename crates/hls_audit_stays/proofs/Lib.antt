@@ -1,5 +1,6 @@
 pub mod Lists
 pub mod Names
+pub mod NoteLaws
 pub mod SeatLaws
 pub mod BelowLaws
 pub mod CloseLaws

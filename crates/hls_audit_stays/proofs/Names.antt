@@ -5,7 +5,7 @@ use Rattle.std.proofs.lemmas.Bool.{cases_Bool}
 use Rattle.std.proofs.lemmas.Slice.Eq.{bytes_eq-Decides}
 use Rattle.hls_text.specs.Lines.{Text}
 use Rattle.hls_report_text.proofs.NameLaws.{equal-same, equal-self}
-use Rattle.hls_audit_stays.specs.Inside.Index.{same_name}
+use Rattle.hls_audit_stays.specs.Places.{same_name}
 
 pub same_self : (name : Text) → same_name name name ≡ true
 same_self name = equal-self name

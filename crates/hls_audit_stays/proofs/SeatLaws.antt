@@ -13,9 +13,9 @@ use Rattle.hls_scenario.specs.declared.scenario.Command.TheVariants.{Load, Threa
 use Rattle.hls_report_text.specs.declared.report.Answered.{Answered}
 use Rattle.hls_accounts.specs.Commands.{is_done, has_done, seats, last_seating}
 use Rattle.hls_accounts.proofs.Seatings.{seating_hit, seating_miss}
-use Rattle.hls_audit_stays.specs.declared.index.Index.{Index}
+use Rattle.hls_audit_stays.specs.declared.places.Places.{Places}
 use Rattle.hls_audit_stays.specs.declared.seats.Seats.{Seats}
-use Rattle.hls_audit_stays.specs.Inside.Index.{place_in, IsPut}
+use Rattle.hls_audit_stays.specs.Places.{place_in, Sets}
 use Rattle.hls_audit_stays.specs.Inside.Seats.{command_at, seated, IsKnown, SeatsOnKnown, SitsOnKnown}
 use Rattle.hls_audit_stays.specs.Inside.Seats.{AreNamed, AreSeats, Learns, LearnsSched, LearnsSpot, LearnsSpots}
 use Rattle.hls_audit_stays.specs.Inside.Seats.{LearnsSeats}
@@ -42,7 +42,7 @@ some_is found place e = ap is_some e
 
 named_more : (old new : Seats) (sched : Text) → AreNamed old
     → new.scheds.items ≡ old.scheds.items ++ sched ∷ []
-    → IsPut old.places new.places sched (length old.scheds.items) → AreNamed new
+    → Sets old.places new.places sched (length old.scheds.items) → AreNamed new
 named_more old new sched named scheds put name place found = at (are_same sched name)
   where
     at : AreSame sched name → slice_get new.scheds.items place ≡ Some name
@@ -57,7 +57,7 @@ named_more old new sched named scheds put name place found = at (are_same sched 
         ap (λ (l : List Text). slice_get l place) scheds
         ∙ get_front old.scheds.items (sched ∷ []) place name (named name place (sym (put.others name ne) ∙ found))
 
-grows_more : (old new : Index) (sched : Text) (place : ℕ) → IsPut old new sched place → (name : Text)
+grows_more : (old new : Places) (sched : Text) (place : ℕ) → Sets old new sched place → (name : Text)
     → is_some (place_in old name) ≡ true → is_some (place_in new name) ≡ true
 grows_more old new sched place put name known = at (are_same sched name)
   where
@@ -67,7 +67,7 @@ grows_more old new sched place put name known = at (are_same sched name)
 
 pub learn_new : (old new : Seats) (sched : Text) → new.last ≡ old.last
     → new.scheds.items ≡ old.scheds.items ++ sched ∷ []
-    → IsPut old.places new.places sched (length old.scheds.items) → LearnsSched old new sched
+    → Sets old.places new.places sched (length old.scheds.items) → LearnsSched old new sched
 learn_new old new sched last scheds put = record {
   learns = record {
     last = last;
@@ -156,7 +156,7 @@ sits_more old new (Some a) learns known = more_known old new a.command learns kn
 -- what is known once a command seats a name
 pub seats_note : (old mid new : Seats) (all : List Answered) (place : ℕ) (a : Answered) (name : Text)
     → slice_get all place ≡ Some a → has_done (seats name) a ≡ true → AreSeats old all place
-    → LearnsSeats old mid a.command → IsPut mid.last new.last name place → new.places ≡ mid.places
+    → LearnsSeats old mid a.command → Sets mid.last new.last name place → new.places ≡ mid.places
     → new.scheds ≡ mid.scheds → AreSeats new all (place + 1)
 seats_note old mid new all place a name there done are learns put places scheds = record {
   last = last;
@@ -185,16 +185,16 @@ seats_note old mid new all place a name there done are learns put places scheds 
             ap (seated new.last all) (sym e) ∙ ap (command_at all) put.here ∙ there ∙ sym seated_here
             ∙ ap (λ (n : Text). last_seating n (take (place + 1) all)) e
         at (Apart ne f) =
-            ap (command_at all) (put.others other ne) ∙ ap (λ (i : Index). seated i all other) learns.learns.last
+            ap (command_at all) (put.others other ne) ∙ ap (λ (i : Places). seated i all other) learns.learns.last
             ∙ are.last other ∙ sym (seated_apart other ne)
 
     named : AreNamed new
     named other at found =
         ap (λ s. slice_get s.items at) scheds
-        ∙ learns.learns.named are.named other at (ap (λ (i : Index). place_in i other) (sym places) ∙ found)
+        ∙ learns.learns.named are.named other at (ap (λ (i : Places). place_in i other) (sym places) ∙ found)
 
     moved : (found : Option Answered) → SitsOnKnown mid.places found → SitsOnKnown new.places found
-    moved found known = subst (λ (i : Index). SitsOnKnown i found) (sym places) known
+    moved found known = subst (λ (i : Places). SitsOnKnown i found) (sym places) known
 
     known : (other : Text) → SitsOnKnown new.places (last_seating other (take (place + 1) all))
     known other = at (are_same name other)

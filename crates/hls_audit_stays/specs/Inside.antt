@@ -1,4 +1,3 @@
-pub mod Index
 pub mod Seats
 pub mod Marks
 pub mod Carried

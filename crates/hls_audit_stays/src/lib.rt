@@ -1,10 +1,11 @@
-//! The stays of threads that the commands of a report make, carried along the commands.
+//! The stays of threads that the commands of a report make, carried along the commands; and places of names.
 #![tactic(auto)]
 
 mod below;
 mod carrying;
-mod index;
+mod places;
 mod seats;
 mod spells;
 
 pub use carrying::stays_of;
+pub use places::Places;

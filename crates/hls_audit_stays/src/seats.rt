@@ -6,7 +6,7 @@ ghost use Rattle.hls_accounts.specs.Stays.{want_of};
 ghost use Rattle.hls_audit_stays.specs.Inside.Seats.{seated, AreSeats};
 ghost use Rattle.hls_audit_stays.specs.Inside.Seats.{LearnsSched, LearnsSpot, LearnsSpots, LearnsSeats};
 
-use crate::index::Index;
+use crate::places::Places;
 use crate::spells::want_in;
 use hls_chron::Name;
 use hls_guarantee::Guarantee;
@@ -18,9 +18,9 @@ use std::alloc::{AllocError, Global};
 /// was seated.
 #[derive(Drop)]
 pub(crate) struct Seats {
-    pub(crate) last: Index,
+    pub(crate) last: Places,
     pub(crate) scheds: Vec<Name>,
-    pub(crate) places: Index,
+    pub(crate) places: Places,
 }
 
 impl Seats {
@@ -29,9 +29,9 @@ impl Seats {
         ensures { (all : List report.Answered) → AreSeats result all 0 }
     {
         Seats {
-            last: Index::new(alloc),
+            last: Places::new(alloc),
             scheds: Vec::new(alloc),
-            places: Index::new(alloc),
+            places: Places::new(alloc),
         }
     }
 
@@ -65,7 +65,7 @@ impl Seats {
         ensures { OnOk result (AreSeats self.new answered.now (place + 1)) }
     {
         self.learn_seats(&a.command)?;
-        self.last.put(name, place)?;
+        self.last.set(name, place)?;
         Ok(())
     }
 
@@ -108,7 +108,7 @@ impl Seats {
         }
         let place = self.scheds.len();
         self.scheds.push(*sched)?;
-        self.places.put(sched, place)?;
+        self.places.set(sched, place)?;
         Ok(())
     }
 }

@@ -1,16 +1,11 @@
 -- An index of names.
-use Rattle.std.specs.Prelude.{◌≡◌, ℕ, ◌-◌, List, ◌++◌, Bool, ◌==◌, ◌&&◌, Option, length, replicate}
-use Rattle.std.specs.Str.{bytes_eq}
+use Rattle.std.specs.Prelude.{◌≡◌, ℕ, List, Option}
 use Rattle.indexmap.specs.IndexMap.{get, spare}
 use Rattle.hls_text.specs.Lines.{Text}
+use Rattle.hls_audit_stays.specs.Places.{same_name}
 use Rattle.hls_clauses.specs.declared.member.Member.{Member}
 use Rattle.hls_clauses.specs.Names.{member_of}
 use Rattle.hls_audit.specs.declared.known.Known.{Known}
-
--- two names are the same, as they are kept: filled up with zeros
-abbrev pub same_name : Text → Text → Bool
-same_name one other = length one == length other
-    && bytes_eq (one ++ replicate (16 - length one) 0) (other ++ replicate (16 - length other) 0)
 
 -- who has a name by the index, and room for more names
 abbrev pub known_as : Known → (name : Text) → Option Member

@@ -4,16 +4,16 @@ use Rattle.std.specs.Str.{bytes_eq}
 use Rattle.hls_text.specs.Lines.{Text}
 use Rattle.hls_report_text.specs.declared.report.Answered.{Answered}
 use Rattle.hls_accounts.specs.Under.{sits_on, is_under}
-use Rattle.hls_audit_stays.specs.declared.index.Index.{Index}
+use Rattle.hls_audit_stays.specs.declared.places.Places.{Places}
 use Rattle.hls_audit_stays.specs.declared.seats.Seats.{Seats}
-use Rattle.hls_audit_stays.specs.Inside.Index.{place_in}
+use Rattle.hls_audit_stays.specs.Places.{place_in}
 use Rattle.hls_audit_stays.specs.Inside.Seats.{seated}
 
 abbrev pub mark_at : List Bool → Option ℕ → Bool
 mark_at marks None = false
 mark_at marks (Some place) = get_or marks place false
 
-abbrev pub mark_in : Index → List Bool → (name : Text) → Bool
+abbrev pub mark_in : Places → List Bool → (name : Text) → Bool
 mark_in places marks name = mark_at marks (place_in places name)
 
 -- a name is the one above, or one of its seats is on a marked scheduler

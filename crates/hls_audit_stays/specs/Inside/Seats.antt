@@ -8,35 +8,35 @@ use Rattle.hls_scenario.specs.declared.scenario.Command.{Command}
 use Rattle.hls_scenario.specs.declared.scenario.Command.TheVariants.{Load, Thread, Move}
 use Rattle.hls_report_text.specs.declared.report.Answered.{Answered}
 use Rattle.hls_accounts.specs.Commands.{last_seating}
-use Rattle.hls_audit_stays.specs.declared.index.Index.{Index}
+use Rattle.hls_audit_stays.specs.declared.places.Places.{Places}
 use Rattle.hls_audit_stays.specs.declared.seats.Seats.{Seats}
-use Rattle.hls_audit_stays.specs.Inside.Index.{place_in}
+use Rattle.hls_audit_stays.specs.Places.{place_in}
 
 abbrev pub command_at : List Answered → Option ℕ → Option Answered
 command_at all None = None
 command_at all (Some place) = slice_get all place
 
 -- the command that seated a name last
-abbrev pub seated : Index → List Answered → (name : Text) → Option Answered
+abbrev pub seated : Places → List Answered → (name : Text) → Option Answered
 seated last all name = command_at all (place_in last name)
 
 -- ---- schedulers that are known
 
-abbrev pub IsKnown : Index → Spot → Type 0
+abbrev pub IsKnown : Places → Spot → Type 0
 IsKnown places Cpu = Unit {0}
 IsKnown places (Under sched terms) = is_some (place_in places sched) ≡ true
 
-abbrev pub AreKnown : Index → List Perch → Type 0
+abbrev pub AreKnown : Places → List Perch → Type 0
 AreKnown places perches = (at : ℕ) (perch : Perch) → slice_get perches at ≡ Some perch → IsKnown places perch.spot
 
 -- those on which a command seats
-abbrev pub SeatsOnKnown : Index → Command → Type 0
+abbrev pub SeatsOnKnown : Places → Command → Type 0
 SeatsOnKnown places (Load name config perches) = AreKnown places perches
 SeatsOnKnown places (Thread name perch) = IsKnown places perch.spot
 SeatsOnKnown places (Move name perch) = IsKnown places perch.spot
 SeatsOnKnown places _ = Unit {0}
 
-abbrev pub SitsOnKnown : Index → Option Answered → Type 0
+abbrev pub SitsOnKnown : Places → Option Answered → Type 0
 SitsOnKnown places None = Unit {0}
 SitsOnKnown places (Some a) = SeatsOnKnown places a.command
 

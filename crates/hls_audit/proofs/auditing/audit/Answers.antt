@@ -12,9 +12,8 @@ first_underived-requires-clause-placed c =
     c.sooner-misplaced.ensures (least_none content) c.in_ok-first_misplaced.ensures in
     let two = step content 1 2 Leading c.sooner-misplaced.result c.sooner-astray.result
     c.in_ok-first_astray.field-0 refl refl c.sooner-astray.ensures one c.in_ok-first_astray.ensures in
-    let three = step content 2 3 Ready c.sooner-astray.result c.sooner-unready.result c.in_ok-first_unready.field-0 refl
-    refl
-    c.sooner-unready.ensures two c.in_ok-first_unready.ensures in
+    let three = step content 2 3 Ready c.sooner-astray.result c.sooner-unready.result c.in_ok-found.found.unready refl
+    refl c.sooner-unready.ensures two c.in_ok-found.ensures.unready in
     let four = step content 3 4 Supplied c.sooner-unready.result c.sooner-starved.result
     c.in_ok-found.found.starved refl refl c.sooner-starved.ensures three c.in_ok-found.ensures.starved in
     let five = step content 4 5 Capped c.sooner-starved.result c.sooner-over_cap.result
@@ -28,9 +27,8 @@ returns c =
     c.sooner-misplaced.ensures (least_none content) c.in_ok-first_misplaced.ensures in
     let two = step content 1 2 Leading c.sooner-misplaced.result c.sooner-astray.result
     c.in_ok-first_astray.field-0 refl refl c.sooner-astray.ensures one c.in_ok-first_astray.ensures in
-    let three = step content 2 3 Ready c.sooner-astray.result c.sooner-unready.result c.in_ok-first_unready.field-0 refl
-    refl
-    c.sooner-unready.ensures two c.in_ok-first_unready.ensures in
+    let three = step content 2 3 Ready c.sooner-astray.result c.sooner-unready.result c.in_ok-found.found.unready refl
+    refl c.sooner-unready.ensures two c.in_ok-found.ensures.unready in
     let four = step content 3 4 Supplied c.sooner-unready.result c.sooner-starved.result
     c.in_ok-found.found.starved refl refl c.sooner-starved.ensures three c.in_ok-found.ensures.starved in
     let five = step content 4 5 Capped c.sooner-starved.result c.sooner-over_cap.result
@@ -39,5 +37,5 @@ returns c =
     c.in_ok-first_underived.field-0 c.bound.result refl refl c.sooner-underived.ensures c.bound.ensures
     (underived_early content c.requires.content) five c.in_ok-first_underived.ensures in
     least_all content c.sooner.result
-    (step content 6 7 Counted c.sooner-underived.result c.sooner.result c.in_ok-first_miscounted.field-0 refl refl
-    c.sooner.ensures six c.in_ok-first_miscounted.ensures)
+    (step content 6 7 Counted c.sooner-underived.result c.sooner.result c.first_miscounted.result refl refl
+    c.sooner.ensures six c.first_miscounted.ensures)

@@ -1,4 +1,4 @@
-use Rattle.hls_audit.proofs.KnownLaws.{same_apart}
+use Rattle.hls_audit_stays.proofs.Names.{same_apart}
 use Rattle.hls_audit.proofs.known.Known.remove.Goals as goal
 
 pub returns-clause-others : goal.returns-clause-others

@@ -1,5 +1,0 @@
-use Rattle.hls_audit.proofs.KnownLaws.{same_apart}
-use Rattle.hls_audit.proofs.places.Places.insert.Goals as goal
-
-pub returns-clause-others : goal.returns-clause-others
-returns-clause-others c = λ other ne. rw (same_apart c.args.name other ne) at (c.in-Ok.ensures.updates.0 other)

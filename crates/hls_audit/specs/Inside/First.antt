@@ -1,2 +1,0 @@
--- The first number of which something is so.
-pub use Rattle.hls_watch.specs.First.{IsFirstAt, FirstAt}

@@ -1,0 +1,15 @@
+pub mod Deciding
+pub mod OnPaths
+pub mod RunLaws
+pub mod ChainLaws
+pub mod Formed
+pub mod Least
+pub mod EachStay
+pub mod OneStay
+pub mod LineLaws
+pub mod Linked
+pub mod EachName
+pub mod Found
+pub mod LookupLaws
+pub mod MarkedLaws
+pub mod Counted

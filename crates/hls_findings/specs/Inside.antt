@@ -1,0 +1,9 @@
+pub mod Order
+pub mod Sites
+pub mod Chains
+pub mod Ticks
+pub mod Lines
+pub mod Least
+pub mod StayFindings
+pub mod Lookups
+pub mod Unready

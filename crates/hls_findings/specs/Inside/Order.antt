@@ -1,0 +1,15 @@
+-- The commands of a report, one by one.
+use Rattle.std.specs.Prelude.{◌≡◌, ℕ, ◌≤◌, List, Some, slice_get}
+use Rattle.hls_scenario.specs.Grammar.{IsCommand}
+use Rattle.hls_report_text.specs.declared.report.Answered.{Answered}
+use Rattle.hls_report_text.specs.WellFormed.{IsAnswer}
+
+-- ticks never fall
+abbrev pub AreInOrder : List Answered → Type 0
+AreInOrder all = (i j : ℕ) (a b : Answered) → i ≤ j → slice_get all i ≡ Some a → slice_get all j ≡ Some b
+    → a.tick ≤ b.tick
+
+-- as the grammar of reports has it
+pub record IsSound (a : Answered) : Type 0 where
+  pub command : IsCommand a.command
+  pub answer : IsAnswer a.command a.answer
