@@ -8,43 +8,21 @@ use Rattle.std.proofs.lemmas.List.{get_or_past}
 use Rattle.std.proofs.lemmas.Option.{slice_get-get_or}
 use Rattle.std.proofs.lemmas.Slice.Eq.{bytes_eq-Decides}
 use Rattle.hls_text.specs.Lines.{Text}
-use Rattle.hls_guarantee.specs.Service.{schedule_of}
+use Rattle.hls_spans.specs.Spans.{IsBeyond}
 use Rattle.hls_report_text.specs.declared.report.Path.{Path}
 use Rattle.hls_report_text.specs.declared.report.Run.{Run}
 use Rattle.hls_report_text.specs.declared.report.Report.{Report}
 use Rattle.hls_report_text.specs.Content.{Content, content_of, path_names, stretch_of}
 use Rattle.hls_report_text.specs.WellFormed.{IsContent}
+use Rattle.hls_accounts.specs.Ready.{is_ready}
 use Rattle.hls_accounts.specs.Schedule.{has_tick, path_at, last_name, is_name, is_served}
 use Rattle.hls_clauses.specs.Clauses.{RunsUnready}
 use Rattle.hls_watch.specs.First.{FirstAt}
-use Rattle.hls_findings.specs.Inside.Ticks.{TellsReady, TellsServed}
-use Rattle.hls_findings.specs.Inside.Unready.{IsLack, IsUnready}
+use Rattle.hls_findings.specs.Inside.Unready.{IsUnready}
 use Rattle.hls_findings.proofs.EachStay.{HasEarly, first_same}
 use Rattle.hls_findings.proofs.OnPaths.{path_first, path_none, path_early, last_is, no_name}
 
--- ---- from lists of ticks
-
-both_true : (a b : Bool) → (a && not b) ≡ true → (a ≡ true) × (b ≡ false)
-both_true true false e = (refl, refl)
-both_true true true e = absurd (let wrong : false ≡ true = e in cc)
-both_true false b e = absurd (let wrong : false ≡ true = e in cc)
-
-pub lack_here : (served ready : List Bool) (t : ℕ) (b : Bool) → t < length served
-    → b ≡ (schedule_of served t && not (schedule_of ready t)) → b ≡ true → IsLack served ready t
-lack_here served ready t b lt e on =
-    let both = both_true (schedule_of served t) (schedule_of ready t) (sym e ∙ on) in
-    record { within = lt; runs = both.0; unready = both.1 }
-
-pub no_lack : (served ready : List Bool) (t : ℕ) (b : Bool) → b ≡ (schedule_of served t && not (schedule_of ready t))
-    → b ≡ false → ¬ IsLack served ready t
-no_lack served ready t b e off lack =
-    let on : (schedule_of served t && not (schedule_of ready t)) ≡ true =
-    ap (λ (x : Bool). x && not (schedule_of ready t)) lack.runs ∙ ap not lack.unready in
-    let wrong : true ≡ false = sym on ∙ sym e ∙ off in cc
-
-pub lacks_within : (served ready : List Bool) (horizon t : ℕ) → length served ≡ horizon → IsLack served ready t
-    → t < horizon
-lacks_within served ready horizon t e lack = let lt = lack.within in omega (arith, lt, e)
+-- ---- from spans of ticks
 
 -- what a served tick has
 pub record HasThread (c : Content) (name : Text) (t : ℕ) : Type 0 where
@@ -74,23 +52,18 @@ serves_it c name t names path last =
     ap (λ (p : Option (List Text)). is_name name (option_and_then last_name p)) path
     ∙ ap (is_name name) last ∙ (bytes_eq-Decides name name).1 refl
 
-pub lack_told : (c : Content) (name : Text) (served ready : List Bool) (first : Option ℕ) → IsContent c
-    → length served ≡ c.horizon → length ready ≡ c.horizon → TellsServed c name served → TellsReady c name ready
-    → FirstAt (IsLack served ready) first → FirstAt (λ t. IsUnready c t name) first
-lack_told c name served ready first formed long also told tells =
-    first_same (IsLack served ready) (λ t. IsUnready c t name) first
-    (λ t lack.
-    let lt = lack.within in record {
-      served = sym (told.is t lt) ∙ lack.runs;
-      unready = sym (tells.is t (omega (arith, lt, long, also))) ∙ lack.unready;
-    })
-    (λ t lack.
+pub lack_told : (c : Content) (name : Text) (first : Option ℕ) → IsContent c
+    → IsBeyond (is_served c.stretches name) (is_ready c name) c.horizon first
+    → FirstAt (λ t. IsUnready c t name) first
+lack_told c name None formed never = λ t lack.
     let has = has_thread c name t lack.served in
-    let early = path_early c t has.names formed has.path in record {
-      within = omega (arith, early, long);
-      runs = told.is t (omega (arith, early, long)) ∙ lack.served;
-      unready = tells.is t (omega (arith, early, also)) ∙ lack.unready;
-    })
+    let early = path_early c t has.names formed has.path in
+    absurd (let wrong : true ≡ false = sym (never t early lack.served) ∙ lack.unready in cc)
+lack_told c name (Some t) formed beyond = record {
+  here = record { served = beyond.on; unready = beyond.off };
+  earliest = λ k lt lack.
+      absurd (let wrong : true ≡ false = sym (beyond.none k lt lack.served) ∙ lack.unready in cc);
+}
 
 -- ---- names of a report
 

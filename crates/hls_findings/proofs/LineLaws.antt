@@ -1,17 +1,18 @@
--- The ticks of one thread: in which it is served, and in which it is ready.
+-- The ticks in which a thread is ready, command by command.
 use Rattle.std.proofs.Common.{◌≡◌, ℕ, zero, suc, inl, inr, ◌+◌, ◌-◌, ◌<◌, ◌≤◌, List, [], ◌∷◌, ◌++◌}
 use Rattle.std.proofs.Common.{refl, sym, ap, ◌∙◌, subst, arith, cond, take, length, get_or, reverse}
 use Rattle.std.specs.Prelude.{Bool, true, false, Option, Some, None, ◌&&◌, nat_le, find, slice_get}
 use Rattle.std.specs.Option.{option_or}
-use Rattle.std.proofs.lemmas.Bool.{cases_eq, cases_lt, le-leb, lt-leb}
+use Rattle.std.proofs.lemmas.Bool.{cases_eq, cases_lt, le-leb, lt-leb, lt-ltb, le-ltb}
 use Rattle.std.proofs.lemmas.List.{get_or_append_left, length-append, reverse-append, take_more}
 use Rattle.std.proofs.Math.Seq.{get_or-append_seam}
 use Rattle.std.proofs.lemmas.List.Folds.{find-append}
 use Rattle.std.proofs.lemmas.Option.{slice_get_read, slice_get_within, slice_get_cases, get_or_from_slice_get}
 use Rattle.hls_text.specs.Lines.{Text}
-use Rattle.hls_chron.specs.Ticks.{count, one_if}
-use Rattle.hls_chron.proofs.CountLaws.{count-none, count-push}
-use Rattle.hls_guarantee.specs.Service.{schedule_of}
+use Rattle.hls_chron.specs.Ticks.{count}
+use Rattle.hls_spans.specs.declared.span.Span.{Span}
+use Rattle.hls_spans.specs.Spans.{Tell, IsReach}
+use Rattle.hls_spans.proofs.Growing.{tell_none, tell_wider}
 use Rattle.hls_scenario.specs.declared.scenario.Command.{Command}
 use Rattle.hls_scenario.specs.declared.scenario.Command.TheVariants.{Load, Thread, End, Unload, Move, Wake, Block}
 use Rattle.hls_report_text.specs.declared.report.Answered.{Answered}
@@ -19,12 +20,12 @@ use Rattle.hls_accounts.specs.Commands.{has_done, rouses, last_rousing}
 use Rattle.hls_accounts.specs.Ready.{lasts, is_awake}
 use Rattle.hls_accounts.proofs.Rousings.{rousing, find-snoc_hit, find-snoc_miss}
 use Rattle.hls_findings.specs.declared.lines.Readiness.{Readiness}
-use Rattle.hls_findings.specs.declared.lines.Readiness.TheVariants.{Asleep}
+use Rattle.hls_findings.specs.declared.lines.Readiness.TheVariants.{Asleep, Burst}
 use Rattle.hls_findings.specs.declared.chains.Chains.{Chains}
 use Rattle.hls_findings.specs.Inside.Chains.{Keys, HasKey, IsNextAt, IsNext, AreChains, next_of}
 use Rattle.hls_findings.specs.Inside.Lookups.{AreKeys, Rouses}
 use Rattle.hls_findings.specs.Inside.Order.{AreInOrder}
-use Rattle.hls_findings.specs.Inside.Lines.{readiness_of, is_on, IsFilled, AreReady}
+use Rattle.hls_findings.specs.Inside.Lines.{readiness_of, is_on, IsOn}
 
 -- ---- the last word on a thread at a tick
 
@@ -90,53 +91,6 @@ last_word name t xs i early late =
 
 -- ---- ready
 
-pub fill_none : (r : Readiness) (served old : List Bool) → IsFilled r served old old (length old)
-fill_none r served old = record {
-  long = refl;
-  kept = λ t lt. refl;
-  rest = λ t le lt. absurd (omega (arith, le, lt));
-}
-
-pub fill_more : (r : Readiness) (served old ready more : List Bool) (at used : ℕ) → length old ≤ at
-    → IsFilled r served old ready at → used ≡ count (schedule_of served) (length old) (at - length old)
-    → more ≡ ready ++ is_on r used ∷ [] → IsFilled r served old more (at + 1)
-fill_more r served old ready more at used begun filled counted step = record {
-  long =
-      let grown : length more ≡ length ready + 1 = ap (λ (l : List Bool). length l) step
-      ∙ length-append ready (is_on r used ∷ []) in
-      omega (arith, grown, filled.long);
-  kept = λ t lt.
-      let long = filled.long in
-      ap (λ (l : List Bool). get_or l t false) step
-      ∙ get_or_append_left ready (is_on r used ∷ []) false t (omega (arith, lt, begun, long)) ∙ filled.kept t lt;
-  rest = λ t le lt. elim (cases_eq t at) [
-    | inl same ↦
-        let long = filled.long in
-        let here : t ≡ length ready = omega (arith, same, long) in
-        ap (λ (l : List Bool). get_or l t false) step
-        ∙ ap (λ n. get_or (ready ++ is_on r used ∷ []) n false) here
-        ∙ get_or-append_seam ready (is_on r used) [] false
-        ∙ ap (is_on r) (counted ∙ ap (λ n. count (schedule_of served) (length old) (n - length old)) (sym same))
-    | inr ne ↦
-        let long = filled.long in
-        ap (λ (l : List Bool). get_or l t false) step
-        ∙ get_or_append_left ready (is_on r used ∷ []) false t (omega arith)
-        ∙ filled.rest t le (omega arith)
-  ];
-}
-
-pub used_more : (f : ℕ → Bool) (since at used : ℕ) → since ≤ at → used ≡ count f since (at - since)
-    → used + one_if (f at) ≡ count f since (at + 1 - since)
-used_more f since at used le counted =
-    let next : at + 1 - since ≡ suc (at - since) = omega (arith, le) in
-    let here : since + (at - since) ≡ at = omega (arith, le) in
-    ap (λ n. n + one_if (f at)) counted ∙ ap (λ n. count f since (at - since) + one_if (f n)) (sym here)
-    ∙ sym (count-push f since (at - since)) ∙ ap (count f since) (sym next)
-
-pub few_more : (b : Bool) (used at : ℕ) → used ≤ at → used + one_if b ≤ at + 1
-few_more true used at le = omega (arith, le)
-few_more false used at le = omega (arith, le)
-
 lasts_so : (serves : ℕ → Bool) (since t : ℕ) (command : Command)
     → lasts serves since t command ≡ is_on (readiness_of command) (count serves since (t - since))
 lasts_so serves since t (Load name config perches) = refl
@@ -148,21 +102,24 @@ lasts_so serves since t (Wake name None) = refl
 lasts_so serves since t (Wake name (Some ticks)) = refl
 lasts_so serves since t (Block name) = refl
 
-pub record IsReadyTo (xs : List Answered) (name : Text) (served : List Bool) (i : ℕ) (ready : List Bool) (r : Readiness)
-    : Type 0 where
-  pub within : length ready ≤ length served
-  pub right : (t : ℕ) → t < length ready
-      → schedule_of ready t ≡ is_awake (schedule_of served) t (last_rousing name t xs)
-  pub word : (t : ℕ) → length ready ≤ t → is_awake (schedule_of served) t (rousing name (take i xs))
-      ≡ is_on r (count (schedule_of served) (length ready) (t - length ready))
-  pub past : (k : ℕ) (a : Answered) → k < i → slice_get xs k ≡ Some a → has_done (rouses name) a ≡ true
-      → a.tick ≤ length ready
-  pub ahead : (k : ℕ) (a : Answered) → i ≤ k → slice_get xs k ≡ Some a → length ready ≤ a.tick
+-- in which ticks it is ready, by the ticks in which it is served
+abbrev pub awake : List Answered → (name : Text) → (f : ℕ → Bool) → ℕ → Bool
+awake xs name f t = is_awake f t (last_rousing name t xs)
 
-pub ready_none : (xs : List Answered) (name : Text) (served : List Bool) → IsReadyTo xs name served 0 [] Asleep
-ready_none xs name served = record {
+pub record IsReadyTo (xs : List Answered) (name : Text) (f : ℕ → Bool) (end i since : ℕ) (ready : List Span)
+    (r : Readiness) : Type 0 where
+  pub within : since ≤ end
+  pub tell : Tell (awake xs name f) ready since
+  pub word : (t : ℕ) → since ≤ t
+      → is_awake f t (rousing name (take i xs)) ≡ is_on r (count f since (t - since))
+  pub past : (k : ℕ) (a : Answered) → k < i → slice_get xs k ≡ Some a → has_done (rouses name) a ≡ true
+      → a.tick ≤ since
+  pub ahead : (k : ℕ) (a : Answered) → i ≤ k → slice_get xs k ≡ Some a → since ≤ a.tick
+
+pub ready_none : (xs : List Answered) (name : Text) (f : ℕ → Bool) (end : ℕ) → IsReadyTo xs name f end 0 0 [] Asleep
+ready_none xs name f end = record {
   within = omega arith;
-  right = λ t lt. absurd (omega (arith, lt));
+  tell = tell_none (awake xs name f);
   word = λ t le. refl;
   past = λ k a lt. absurd (omega (arith, lt));
   ahead = λ k a le e. omega arith;
@@ -176,15 +133,15 @@ at_place : (xs : List Answered) (i k : ℕ) (a b : Answered) → a ≡ get_or xs
 at_place xs i k a b e same there =
     e ∙ get_or_from_slice_get xs i b a (subst (λ n. slice_get xs n ≡ Some b) same there)
 
-pub ready_same : (xs : List Answered) (name : Text) (served : List Bool) (i : ℕ) (ready : List Bool) (r : Readiness)
+pub ready_same : (xs : List Answered) (name : Text) (f : ℕ → Bool) (end i since : ℕ) (ready : List Span) (r : Readiness)
     (a : Answered) → i < length xs → a ≡ get_or xs i a → has_done (rouses name) a ≡ false
-    → IsReadyTo xs name served i ready r → IsReadyTo xs name served (i + 1) ready r
-ready_same xs name served i ready r a lt e off so_far = record {
+    → IsReadyTo xs name f end i since ready r → IsReadyTo xs name f end (i + 1) since ready r
+ready_same xs name f end i since ready r a lt e off so_far = record {
   within = so_far.within;
-  right = so_far.right;
+  tell = so_far.tell;
   word = λ t le.
-      ap (λ (l : List Answered). is_awake (schedule_of served) t (rousing name l)) (taken xs i a lt e)
-      ∙ ap (is_awake (schedule_of served) t) (find-snoc_miss (has_done (rouses name)) (take i xs) a off)
+      ap (λ (l : List Answered). is_awake f t (rousing name l)) (taken xs i a lt e)
+      ∙ ap (is_awake f t) (find-snoc_miss (has_done (rouses name)) (take i xs) a off)
       ∙ so_far.word t le;
   past = λ k b less there on. elim (cases_eq k i) [
     | inl same ↦
@@ -196,50 +153,48 @@ ready_same xs name served i ready r a lt e off so_far = record {
   ahead = λ k b le. so_far.ahead k b (omega (arith, le));
 }
 
-filled_right : (xs : List Answered) (name : Text) (served : List Bool) (i : ℕ) (ready new : List Bool) (r : Readiness)
+-- before the next command that rouses it
+word_here : (xs : List Answered) (name : Text) (f : ℕ → Bool) (end i since : ℕ) (ready : List Span) (r : Readiness)
     (until : ℕ) → ((k : ℕ) (b : Answered) → i ≤ k → slice_get xs k ≡ Some b → until ≤ b.tick)
-    → IsFilled r served ready new until → IsReadyTo xs name served i ready r
-    → (t : ℕ) → t < until → schedule_of new t ≡ is_awake (schedule_of served) t (last_rousing name t xs)
-filled_right xs name served i ready new r until late filled so_far t lt = elim (cases_lt t (length ready)) [
-  | inl before ↦ filled.kept t before ∙ so_far.right t before
-  | inr behind ↦
-      let word = last_word name t xs i
-      (λ k a less there on. let past = so_far.past k a less there on in omega (arith, past, behind))
-      (λ k a le there. let after = late k a le there in omega (arith, after, lt)) in
-      filled.rest t behind lt ∙ sym (so_far.word t behind)
-      ∙ ap (is_awake (schedule_of served) t) (sym word)
-]
+    → IsReadyTo xs name f end i since ready r
+    → (t : ℕ) → since ≤ t → t < until → awake xs name f t ≡ is_on r (count f since (t - since))
+word_here xs name f end i since ready r until late so_far t lo hi =
+    let word = last_word name t xs i
+    (λ k a less there on. let past = so_far.past k a less there on in omega (arith, past, lo))
+    (λ k a le there. let after = late k a le there in omega (arith, after, hi)) in
+    ap (is_awake f t) word ∙ so_far.word t lo
 
-pub ready_more : (xs : List Answered) (name : Text) (served : List Bool) (i : ℕ) (ready new : List Bool) (r : Readiness)
-    (a : Answered) → AreInOrder xs → i < length xs → a ≡ get_or xs i a → has_done (rouses name) a ≡ true
-    → a.tick ≤ length served → IsFilled r served ready new a.tick
-    → IsReadyTo xs name served i ready r → IsReadyTo xs name served (i + 1) new (readiness_of a.command)
-ready_more xs name served i ready new r a order lt e on early filled so_far =
+-- the spans grow as far as the ticks go
+abbrev pub Fills : (f : ℕ → Bool) (end since until : ℕ) → Readiness → (old new : List Span) → Type 0
+Fills f end since until r old new = (g : ℕ → Bool) → Tell g old since
+    → ((t : ℕ) → since ≤ t → t < until → g t ≡ is_on r (count f since (t - since))) → Tell g new until
+
+pub ready_more : (xs : List Answered) (name : Text) (f : ℕ → Bool) (end i since : ℕ) (ready new : List Span)
+    (r : Readiness) (a : Answered) → AreInOrder xs → i < length xs → a ≡ get_or xs i a
+    → has_done (rouses name) a ≡ true → a.tick ≤ end → Fills f end since a.tick r ready new
+    → IsReadyTo xs name f end i since ready r
+    → IsReadyTo xs name f end (i + 1) a.tick new (readiness_of a.command)
+ready_more xs name f end i since ready new r a order lt e on early fills so_far =
     let there : slice_get xs i ≡ Some a = slice_get_read xs (length xs) i a refl lt e in
-    let long = filled.long in
     record {
-      within = omega (arith, long, early);
-      right = λ t less.
-          filled_right xs name served i ready new r a.tick (λ k b le at. order i k a b le there at) filled so_far t
-          (omega (arith, less, long));
+      within = early;
+      tell = fills (awake xs name f) so_far.tell
+          (word_here xs name f end i since ready r a.tick (λ k b le at. order i k a b le there at) so_far);
       word = λ t le.
-          ap (λ (l : List Answered). is_awake (schedule_of served) t (rousing name l)) (taken xs i a lt e)
-          ∙ ap (is_awake (schedule_of served) t) (find-snoc_hit (has_done (rouses name)) (take i xs) a on)
-          ∙ lasts_so (schedule_of served) a.tick t a.command
-          ∙ ap (λ n. is_on (readiness_of a.command) (count (schedule_of served) n (t - n))) (sym long);
+          ap (λ (l : List Answered). is_awake f t (rousing name l)) (taken xs i a lt e)
+          ∙ ap (is_awake f t) (find-snoc_hit (has_done (rouses name)) (take i xs) a on)
+          ∙ lasts_so f a.tick t a.command;
       past = λ k b less at rousing_b. elim (cases_eq k i) [
         | inl same ↦
             let one = at_place xs i k a b e same at in
-            subst (λ (x : Answered). x.tick ≤ length new) one (omega (arith, long))
-        | inr ne ↦
-            let before = order k i b a (omega arith) at there in omega (arith, before, long)
+            subst (λ (x : Answered). x.tick ≤ a.tick) one (omega arith)
+        | inr ne ↦ order k i b a (omega arith) at there
       ];
-      ahead = λ k b le at.
-          let after = order i k a b (omega (arith, le)) there at in omega (arith, after, long);
+      ahead = λ k b le at. order i k a b (omega (arith, le)) there at;
     }
 
 -- what is between the commands that rouse the thread
-module _ (xs : List Answered) (name : Text) (served : List Bool) (keys : Keys) (are : AreKeys Rouses Rouses xs keys)
+module _ (xs : List Answered) (name : Text) (f : ℕ → Bool) (end since : ℕ) (keys : Keys) (are : AreKeys Rouses Rouses xs keys)
   where
     off_here : (k : ℕ) (a : Answered) → slice_get xs k ≡ Some a → ¬ HasKey keys name k
         → has_done (rouses name) a ≡ false
@@ -249,83 +204,74 @@ module _ (xs : List Answered) (name : Text) (served : List Bool) (keys : Keys) (
         by true e = absurd (none (are.all k a name there e))
         by false e = e
 
-    ready_skip : (n i : ℕ) (ready : List Bool) (r : Readiness) → i + n ≤ length xs
-        → ((k : ℕ) → i ≤ k → k < i + n → ¬ HasKey keys name k) → IsReadyTo xs name served i ready r
-        → IsReadyTo xs name served (i + n) ready r
-    ready_skip zero i ready r le none so_far = subst (λ m. IsReadyTo xs name served m ready r) (omega arith) so_far
+    ready_skip : (n i : ℕ) (ready : List Span) (r : Readiness) → i + n ≤ length xs
+        → ((k : ℕ) → i ≤ k → k < i + n → ¬ HasKey keys name k) → IsReadyTo xs name f end i since ready r
+        → IsReadyTo xs name f end (i + n) since ready r
+    ready_skip zero i ready r le none so_far = subst (λ m. IsReadyTo xs name f end m since ready r) (omega arith) so_far
     ready_skip (suc n) i ready r le none so_far = elim (slice_get_cases xs i).1 [
       | inl g ↦
-          let one : IsReadyTo xs name served (i + 1) ready r =
-          ready_same xs name served i ready r g.0 g.1 (sym g.3)
+          let one : IsReadyTo xs name f end (i + 1) since ready r =
+          ready_same xs name f end i since ready r g.0 g.1 (sym g.3)
           (off_here i g.0 g.2 (none i (omega arith) (omega arith))) so_far in
-          subst (λ m. IsReadyTo xs name served m ready r) (omega arith)
+          subst (λ m. IsReadyTo xs name f end m since ready r) (omega arith)
           (ready_skip n (i + 1) ready r (omega (arith, le))
           (λ k lo hi. none k (omega (arith, lo)) (omega (arith, hi))) one)
       | inr past ↦ absurd (let end = past.0 in omega (arith, end, le))
     ]
 
     -- up to a command, or to the end
-    ready_to : (i j : ℕ) (ready : List Bool) (r : Readiness) → i ≤ j → j ≤ length xs
-        → ((k : ℕ) → i ≤ k → k < j → ¬ HasKey keys name k) → IsReadyTo xs name served i ready r
-        → IsReadyTo xs name served j ready r
+    ready_to : (i j : ℕ) (ready : List Span) (r : Readiness) → i ≤ j → j ≤ length xs
+        → ((k : ℕ) → i ≤ k → k < j → ¬ HasKey keys name k) → IsReadyTo xs name f end i since ready r
+        → IsReadyTo xs name f end j since ready r
     ready_to i j ready r le within none so_far =
-        subst (λ m. IsReadyTo xs name served m ready r) (omega (arith, le))
+        subst (λ m. IsReadyTo xs name f end m since ready r) (omega (arith, le))
         (ready_skip (j - i) i ready r (omega (arith, le, within))
         (λ k lo hi. none k lo (omega (arith, hi, le))) so_far)
 
-pub ready_all : (xs : List Answered) (name : Text) (served : List Bool) (i : ℕ) (ready new : List Bool) (r : Readiness)
-    → length xs ≤ i → IsFilled r served ready new (length served) → IsReadyTo xs name served i ready r
-    → AreReady xs name served new
-ready_all xs name served i ready new r le filled so_far = record {
-  long = filled.long;
-  right = filled_right xs name served i ready new r (length served)
-      (λ k b more at. let within = slice_get_within xs k b at in absurd (omega (arith, within, more, le)))
-      filled so_far;
-}
-
 -- a walk along the commands that rouse the thread
-pub record IsFilling (xs : List Answered) (keys : Keys) (name : Text) (served ready : List Bool) (r : Readiness)
-    (next : Option ℕ) : Type 0 where
+pub record IsFilling (xs : List Answered) (keys : Keys) (name : Text) (f : ℕ → Bool) (end since : ℕ)
+    (ready : List Span) (r : Readiness) (next : Option ℕ) : Type 0 where
   pub upto : ℕ
   pub within : upto ≤ length xs
   pub next_is : IsNext keys name upto next
-  pub so_far : IsReadyTo xs name served upto ready r
+  pub so_far : IsReadyTo xs name f end upto since ready r
 
-pub filling_none : (xs : List Answered) (keys : Keys) (name : Text) (served : List Bool) (next : Option ℕ)
-    → IsNext keys name 0 next → IsFilling xs keys name served [] Asleep next
-filling_none xs keys name served next is = record {
+pub filling_none : (xs : List Answered) (keys : Keys) (name : Text) (f : ℕ → Bool) (end : ℕ) (ready : List Span)
+    (next : Option ℕ) → ready ≡ [] → IsNext keys name 0 next → IsFilling xs keys name f end 0 ready Asleep next
+filling_none xs keys name f end ready next none is = record {
   upto = 0;
   within = omega arith;
   next_is = is;
-  so_far = ready_none xs name served;
+  so_far = subst (λ (l : List Span). IsReadyTo xs name f end 0 0 l Asleep) (sym none) (ready_none xs name f end);
 }
 
-pub filling_here : (xs : List Answered) (keys : Keys) (name : Text) (served ready : List Bool) (r : Readiness) (at : ℕ)
-    → AreKeys Rouses Rouses xs keys → IsFilling xs keys name served ready r (Some at)
-    → (at < length xs) × IsReadyTo xs name served at ready r
-filling_here xs keys name served ready r at are going =
+pub filling_here : (xs : List Answered) (keys : Keys) (name : Text) (f : ℕ → Bool) (end since : ℕ)
+    (ready : List Span) (r : Readiness) (at : ℕ) → AreKeys Rouses Rouses xs keys
+    → IsFilling xs keys name f end since ready r (Some at)
+    → (at < length xs) × IsReadyTo xs name f end at since ready r
+filling_here xs keys name f end since ready r at are going =
     let here : IsNextAt keys name going.upto at = going.next_is in
     let lt = slice_get_within keys at (Some name) here.here in
     let long = are.long in (
       omega (arith, lt, long),
-      ready_to xs name served keys are going.upto at ready r here.behind
+      ready_to xs name f end since keys are going.upto at ready r here.behind
           (omega (arith, lt, long)) here.none going.so_far,
     )
 
-pub filling_begun : (xs : List Answered) (keys : Keys) (name : Text) (served ready : List Bool) (r : Readiness)
-    (at : ℕ) (a : Answered) → AreKeys Rouses Rouses xs keys → IsFilling xs keys name served ready r (Some at)
-    → a ≡ get_or xs at a → length ready ≤ a.tick
-filling_begun xs keys name served ready r at a are going e =
-    let here = filling_here xs keys name served ready r at are going in
+pub filling_begun : (xs : List Answered) (keys : Keys) (name : Text) (f : ℕ → Bool) (end since : ℕ)
+    (ready : List Span) (r : Readiness) (at : ℕ) (a : Answered) → AreKeys Rouses Rouses xs keys
+    → IsFilling xs keys name f end since ready r (Some at) → a ≡ get_or xs at a → since ≤ a.tick
+filling_begun xs keys name f end since ready r at a are going e =
+    let here = filling_here xs keys name f end since ready r at are going in
     here.1.ahead at a (omega arith) (slice_get_read xs (length xs) at a refl here.0 e)
 
-pub filling_more : (xs : List Answered) (keys : Keys) (name : Text) (served ready new : List Bool) (r : Readiness)
-    (at : ℕ) (a : Answered) (next : Option ℕ) → AreInOrder xs → AreKeys Rouses Rouses xs keys
-    → IsFilling xs keys name served ready r (Some at) → a ≡ get_or xs at a → a.tick ≤ length served
-    → IsFilled r served ready new a.tick → IsNext keys name (at + 1) next
-    → IsFilling xs keys name served new (readiness_of a.command) next
-filling_more xs keys name served ready new r at a next order are going e early filled behind =
-    let here = filling_here xs keys name served ready r at are going in
+pub filling_more : (xs : List Answered) (keys : Keys) (name : Text) (f : ℕ → Bool) (end since : ℕ)
+    (ready new : List Span) (r : Readiness) (at : ℕ) (a : Answered) (next : Option ℕ) → AreInOrder xs
+    → AreKeys Rouses Rouses xs keys → IsFilling xs keys name f end since ready r (Some at) → a ≡ get_or xs at a
+    → a.tick ≤ end → Fills f end since a.tick r ready new → IsNext keys name (at + 1) next
+    → IsFilling xs keys name f end a.tick new (readiness_of a.command) next
+filling_more xs keys name f end since ready new r at a next order are going e early fills behind =
+    let here = filling_here xs keys name f end since ready r at are going in
     let lt = here.0 in
     let there = slice_get_read xs (length xs) at a refl lt e in
     let next_at : IsNextAt keys name going.upto at = going.next_is in
@@ -333,35 +279,56 @@ filling_more xs keys name served ready new r at a next order are going e early f
       upto = at + 1;
       within = omega (arith, lt);
       next_is = behind;
-      so_far = ready_more xs name served at ready new r a order lt e (are.sound at a name there next_at.here) early
-          filled here.1;
+      so_far = ready_more xs name f end at since ready new r a order lt e (are.sound at a name there next_at.here) early
+          fills here.1;
     }
 
-pub filling_all : (xs : List Answered) (keys : Keys) (name : Text) (served ready new : List Bool) (r : Readiness)
-    → AreKeys Rouses Rouses xs keys → IsFilling xs keys name served ready r None
-    → IsFilled r served ready new (length served) → AreReady xs name served new
-filling_all xs keys name served ready new r are going filled =
-    ready_all xs name served (length xs) ready new r (omega arith) filled
-    (ready_to xs name served keys are going.upto (length xs) ready r going.within (omega arith)
-    (λ k lo hi. going.next_is k lo) going.so_far)
+pub filling_all : (xs : List Answered) (keys : Keys) (name : Text) (f : ℕ → Bool) (end since : ℕ)
+    (ready new : List Span) (r : Readiness) → AreKeys Rouses Rouses xs keys
+    → IsFilling xs keys name f end since ready r None → Fills f end since end r ready new
+    → Tell (awake xs name f) new end
+filling_all xs keys name f end since ready new r are going fills =
+    let so_far = ready_to xs name f end since keys are going.upto (length xs) ready r going.within (omega arith)
+    (λ k lo hi. going.next_is k lo) going.so_far in
+    fills (awake xs name f) so_far.tell
+    (word_here xs name f end (length xs) since ready r end
+    (λ k b more at. let within = slice_get_within xs k b at in absurd (omega (arith, within, more))) so_far)
 
-pub filled_same : (r : Readiness) (b : Bool) (served old new : List Bool) (until : ℕ) → length old ≤ until
-    → length new ≡ until → ((t : ℕ) → t < length old → schedule_of new t ≡ schedule_of old t)
-    → ((t : ℕ) → length old ≤ t → t < until → schedule_of new t ≡ b) → ((used : ℕ) → is_on r used ≡ b)
-    → IsFilled r served old new until
-filled_same r b served old new until begun long kept rest on = record {
-  long = long;
-  kept = kept;
-  rest = λ t lo hi. rest t lo hi ∙ sym (on (count (schedule_of served) (length old) (t - length old)));
-}
-
-pub count_at : (f : ℕ → Bool) (since at : ℕ) → at ≡ since → 0 ≡ count f since (at - since)
-count_at f since at e =
-    let none : at - since ≡ 0 = omega (arith, e) in
-    sym (count-none f since) ∙ ap (count f since) (sym none)
-
-pub filling_next : (xs : List Answered) (keys : Keys) (chains : Chains) (name : Text) (served ready : List Bool)
-    (r : Readiness) (at : ℕ) → AreChains keys chains → IsFilling xs keys name served ready r (Some at)
-    → IsNext keys name (at + 1) (next_of chains at)
-filling_next xs keys chains name served ready r at linked going =
+pub filling_next : (xs : List Answered) (keys : Keys) (chains : Chains) (name : Text) (f : ℕ → Bool) (end since : ℕ)
+    (ready : List Span) (r : Readiness) (at : ℕ) → AreChains keys chains
+    → IsFilling xs keys name f end since ready r (Some at) → IsNext keys name (at + 1) (next_of chains at)
+filling_next xs keys chains name f end since ready r at linked going =
     let here : IsNextAt keys name going.upto at = going.next_is in linked.next at name (omega arith) here.here
+
+-- ---- the spans grow
+
+pub fills_some : (f g : ℕ → Bool) (since until reach : ℕ) (r : Readiness) (new : List Span) → IsOn f r since until reach
+    → ((t : ℕ) → since ≤ t → t < until → g t ≡ is_on r (count f since (t - since))) → Tell g new reach
+    → Tell g new until
+fills_some f g since until reach r new is same tell =
+    tell_wider g new reach until is.ends
+    (λ t lo hi. let begins = is.begins in same t (omega (arith, lo, begins)) hi ∙ is.off t lo hi) tell
+
+pub burst_on : (f : ℕ → Bool) (r : Readiness) (since ticks until reach : ℕ) → r ≡ Burst ticks
+    → IsReach f since ticks until reach → IsOn f r since until reach
+burst_on f r since ticks until reach is so =
+    subst (λ (x : Readiness). IsOn f x since until reach) (sym is) (record {
+      begins = so.begins;
+      ends = so.ends;
+      on = λ t lo hi. lt-ltb (count f since (t - since)) ticks (so.fewer t lo hi);
+      off = λ t lo hi. le-ltb (count f since (t - since)) ticks (so.all t lo hi);
+    })
+
+pub on_ticks : (f g : ℕ → Bool) (since until reach : ℕ) (r : Readiness) → IsOn f r since until reach
+    → ((t : ℕ) → since ≤ t → t < until → g t ≡ is_on r (count f since (t - since)))
+    → (t : ℕ) → since ≤ t → t < reach → g t ≡ true
+on_ticks f g since until reach r is same t lo hi =
+    let ends = is.ends in same t lo (omega (arith, hi, ends)) ∙ is.on t lo hi
+
+pub fills_none : (f g : ℕ → Bool) (since until reach : ℕ) (r : Readiness) (old : List Span) → IsOn f r since until reach
+    → reach ≤ since → ((t : ℕ) → since ≤ t → t < until → g t ≡ is_on r (count f since (t - since)))
+    → Tell g old since → Tell g old until
+fills_none f g since until reach r old is none same tell =
+    let begins = is.begins in
+    let here : since ≡ reach = omega (arith, none, begins) in
+    fills_some f g since until reach r old is same (subst (Tell g old) here tell)

@@ -1,179 +1,26 @@
--- The ticks of the runs of a thread, run by run.
-use Rattle.std.proofs.Common.{◌≡◌, ℕ, zero, suc, ◌+◌, ◌<◌, ◌≤◌, List, [], ◌∷◌, length, map, set, get_or}
-use Rattle.std.proofs.Common.{refl, sym, ap, ◌∙◌, inl, inr, subst, arith, get_or-set_same, get_or-set_other, length-set}
-use Rattle.std.specs.Prelude.{Option, Some, None, Bool, true, false, ◌&&◌, nat_le, slice_get, option_map, replicate}
+-- The ticks in which a thread is served, run by run.
+use Rattle.std.proofs.Common.{◌≡◌, ℕ, zero, suc, ◌+◌, ◌<◌, ◌≤◌, List, [], ◌∷◌, length, map, get_or}
+use Rattle.std.proofs.Common.{refl, sym, ap, ◌∙◌, inl, inr, subst, arith}
+use Rattle.std.specs.Prelude.{Option, Some, None, Bool, true, false, ◌&&◌, nat_le, slice_get, option_map}
 use Rattle.std.proofs.lemmas.Bool.{cases_eq, cases_lt, cases_Bool, leb-true}
-use Rattle.std.proofs.lemmas.Option.{slice_get_within}
+use Rattle.std.proofs.lemmas.Option.{slice_get_within, slice_get-get_or}
 use Rattle.hls_text.specs.Lines.{Text}
-use Rattle.hls_guarantee.specs.Service.{schedule_of}
+use Rattle.hls_spans.specs.declared.span.Span.{Span}
+use Rattle.hls_spans.specs.Spans.{Tell}
+use Rattle.hls_spans.proofs.Growing.{tell_none, tell_wider}
 use Rattle.hls_report_text.specs.declared.report.Run.{Run}
 use Rattle.hls_report_text.specs.declared.report.Report.{Report}
 use Rattle.hls_report_text.specs.Content.{Content, content_of, stretch_of, path_names}
 use Rattle.hls_report_text.specs.WellFormed.{Cover, IsContent}
 use Rattle.hls_accounts.specs.Schedule.{has_tick, path_at, is_served}
 use Rattle.hls_findings.specs.declared.chains.Chains.{Chains}
-use Rattle.hls_findings.specs.Inside.Chains.{Keys, IsNextAt, IsNext, AreChains, next_of}
+use Rattle.hls_findings.specs.Inside.Chains.{Keys, HasKey, IsNextAt, IsNext, AreChains, next_of}
 use Rattle.hls_findings.specs.Inside.Lines.{serves}
-use Rattle.hls_findings.specs.Inside.Lookups.{AreKeys, Serves, ServesNamed, AreMarked, EndsBefore, Marks}
+use Rattle.hls_findings.specs.Inside.Lookups.{AreKeys, Serves, ServesNamed}
 use Rattle.hls_findings.specs.Inside.Ticks.{TellsServed}
-use Rattle.hls_findings.proofs.RunLaws.{path_is, run_since}
-use Rattle.hls_findings.proofs.ChainLaws.{none_between}
 use Rattle.hls_findings.proofs.EachName.{has_thread}
 use Rattle.hls_findings.proofs.OnPaths.{path_first, path_none, no_name}
-
--- ---- the ticks of a run
-
-pub mark_none : (run : Run) (ticks : List Bool) → Marks run run.from ticks ticks
-mark_none run ticks = record {
-  long = refl;
-  on = λ t lo hi. absurd (omega (arith, lo, hi));
-  kept = λ t on. on;
-  off = λ t on. inl on;
-}
-
-pub mark_more : (run : Run) (at : ℕ) (old now new : List Bool) → run.from ≤ at → at < length now
-    → new ≡ set now at true → Marks run at old now → Marks run (at + 1) old new
-mark_more run at old now new began within made marks = record {
-  long = ap (λ (l : List Bool). length l) made ∙ length-set now at true ∙ marks.long;
-  on = λ t lo hi. elim (cases_eq t at) [
-    | inl same ↦ written t same
-    | inr ne ↦ other t ne ∙ marks.on t lo (omega (arith, hi, ne))
-  ];
-  kept = λ t on. elim (cases_eq t at) [
-    | inl same ↦ written t same
-    | inr ne ↦ other t ne ∙ marks.kept t on
-  ];
-  off = λ t on. elim (cases_eq t at) [
-    | inl same ↦ inr (omega (arith, same, began), omega (arith, same))
-    | inr ne ↦ elim (marks.off t (sym (other t ne) ∙ on)) [
-      | inl before ↦ inl before
-      | inr has ↦ inr (has.0, let lt = has.1 in omega (arith, lt))
-    ]
-  ];
-}
-  where
-    written : (t : ℕ) → t ≡ at → schedule_of new t ≡ true
-    written t same =
-        ap (λ (l : List Bool). get_or l t false) made ∙ ap (λ n. get_or (set now at true) n false) same
-        ∙ get_or-set_same now at true false within
-
-    other : (t : ℕ) → (t ≡ at → ⊥) → schedule_of new t ≡ schedule_of now t
-    other t ne =
-        ap (λ (l : List Bool). get_or l t false) made ∙ get_or-set_other now at t true false ne
-
-pub mark_all : (run : Run) (at : ℕ) (old now : List Bool) → run.from ≤ run.to → run.to + 1 ≤ at
-    → (run.from ≤ run.to + 1 → at ≤ run.to + 1) → Marks run at old now → Marks run (run.to + 1) old now
-mark_all run at old now order le ge marks =
-    let most = ge (omega (arith, order)) in
-    let same : at ≡ run.to + 1 = omega (arith, le, most) in subst (λ n. Marks run n old now) same marks
-
--- ---- the runs of a thread
-
-bare_at : (n t : ℕ) → get_or (replicate n false) t false ≡ false
-bare_at zero t = refl
-bare_at (suc n) zero = refl
-bare_at (suc n) (suc t) = bare_at n t
-
-pub marked_none : (runs : List Run) (keys : Keys) (name : Text) (ticks : List Bool) (n : ℕ) → ticks ≡ replicate n false
-    → AreMarked runs keys name 0 ticks
-marked_none runs keys name ticks n bare = record {
-  on = λ t m. let lt = m.before in absurd (omega (arith, lt));
-  off = λ t on.
-      let wrong : false ≡ true =
-      sym (ap (λ (l : List Bool). get_or l t false) bare ∙ bare_at n t) ∙ on in absurd (cc);
-}
-
--- a walk along the runs of a name
-pub record IsMarking (runs : List Run) (keys : Keys) (name : Text) (old now : List Bool) (next : Option ℕ)
-    : Type 0 where
-  pub upto : ℕ
-  pub next_is : IsNext keys name upto next
-  pub long : length now ≡ length old
-  pub marked : AreMarked runs keys name upto now
-
-pub marking_more : (runs : List Run) (keys : Keys) (name : Text) (old now new : List Bool) (at : ℕ) (run : Run)
-    (next : Option ℕ) → slice_get runs at ≡ Some run → Marks run (run.to + 1) now new
-    → IsNext keys name (at + 1) next → IsMarking runs keys name old now (Some at)
-    → IsMarking runs keys name old new next
-marking_more runs keys name old now new at run next there marks behind going =
-    let here : IsNextAt keys name going.upto at = going.next_is in
-    record {
-      upto = at + 1;
-      next_is = behind;
-      long = marks.long ∙ going.long;
-      marked = record {
-        on = λ t m. elim (cases_eq m.number at) [
-          | inl same ↦
-              let one : Some run ≡ Some m.run = sym there ∙ ap (slice_get runs) (sym same) ∙ m.there in
-              let is : run ≡ m.run = cc in
-              let lo = subst (λ (r : Run). r.from ≤ t) (sym is) m.since in
-              let hi = subst (λ (r : Run). t ≤ r.to) (sym is) m.until in
-              marks.on t lo (omega (arith, hi))
-          | inr ne ↦
-              let lt = m.before in
-              let less = none_between keys name going.upto at m.number here (omega (arith, lt, ne)) m.key in
-              marks.kept t (going.marked.on t (record {
-                run = m.run;
-                number = m.number;
-                before = less;
-                there = m.there;
-                key = m.key;
-                since = m.since;
-                until = m.until;
-              }))
-        ];
-        off = λ t on. elim (marks.off t on) [
-          | inl before ↦
-              let m = going.marked.off t before in
-              let lt = m.before in
-              let le = here.behind in record {
-                run = m.run;
-                number = m.number;
-                before = omega (arith, lt, le);
-                there = m.there;
-                key = m.key;
-                since = m.since;
-                until = m.until;
-              }
-          | inr has ↦ record {
-            run = run;
-            number = at;
-            before = omega arith;
-            there = there;
-            key = here.here;
-            since = has.0;
-            until = let lt = has.1 in omega (arith, lt);
-          }
-        ];
-      };
-    }
-
-pub marking_all : (runs : List Run) (keys : Keys) (name : Text) (old now : List Bool) → length keys ≡ length runs
-    → IsMarking runs keys name old now None → AreMarked runs keys name (length runs) now
-marking_all runs keys name old now long going = record {
-  on = λ t m. elim (cases_lt m.number going.upto) [
-    | inl lt ↦ going.marked.on t (record {
-      run = m.run;
-      number = m.number;
-      before = lt;
-      there = m.there;
-      key = m.key;
-      since = m.since;
-      until = m.until;
-    })
-    | inr le ↦ absurd (going.next_is m.number le m.key)
-  ];
-  off = λ t on.
-      let m = going.marked.off t on in record {
-        run = m.run;
-        number = m.number;
-        before = slice_get_within runs m.number m.run m.there;
-        there = m.there;
-        key = m.key;
-        since = m.since;
-        until = m.until;
-      };
-}
+use Rattle.hls_findings.proofs.RunLaws.{path_is, run_since}
 
 -- ---- what a report says
 
@@ -222,49 +69,41 @@ served_is : (c : Content) (name : Text) (t : ℕ) → serves name (path_at c.str
 unfolding is_served
 served_is c name t = refl
 
-pub marked_told : (r : Report) (runs : List Run) (keys : Keys) (name : Text) (ticks : List Bool)
-    → IsContent (content_of r) → runs ≡ r.runs → AreKeys (Serves r.names) (ServesNamed r.names) r.runs keys
-    → AreMarked runs keys name (length runs) ticks → TellsServed (content_of r) name ticks
-marked_told r runs keys name ticks formed same are marked = record {
-  is = λ t lt. elim (cases_Bool (schedule_of ticks t)) [
-    | inl on ↦
-        let m = marked.off t on in
-        let there : slice_get r.runs m.number ≡ Some m.run =
-        subst (λ (l : List Run). slice_get l m.number ≡ Some m.run) same m.there in
-        let path = path_is (content_of r) r.names r.runs t m.number m.run formed refl there m.since m.until in
-        let serves_it : serves name (stretch_of r.names m.run).path ≡ true =
-        are.sound m.number m.run name there m.key in
-        on ∙ sym (sym (served_is (content_of r) name t) ∙ ap (serves name) path ∙ serves_it)
-    | inr off ↦ off ∙ sym (not_served t off)
-  ];
-}
-  where
-    served_off : (t : ℕ) (b : Bool) → is_served (content_of r).stretches name t ≡ b → schedule_of ticks t ≡ false
-        → is_served (content_of r).stretches name t ≡ false
-    served_off t false e off = e
-    served_off t true e off =
-        let thread = has_thread (content_of r) name t e in
-        let run = has_run r.names r.runs t thread.names thread.path in
-        let path = path_is (content_of r) r.names r.runs t run.number run.run formed refl run.there run.since
-        run.until in
-        let serves_it : serves name (stretch_of r.names run.run).path ≡ true =
-        sym (ap (serves name) path) ∙ served_is (content_of r) name t ∙ e in
-        let named : ServesNamed r.names run.run name =
-        (no_name (content_of r) t thread.names name formed thread.path thread.thread, serves_it) in
-        let on = marked.on t (record {
-          run = run.run;
-          number = run.number;
-          before = slice_get_within runs run.number run.run
-              (subst (λ (l : List Run). slice_get l run.number ≡ Some run.run) (sym same) run.there);
-          there = subst (λ (l : List Run). slice_get l run.number ≡ Some run.run) (sym same) run.there;
-          key = are.all run.number run.run name run.there named;
-          since = run.since;
-          until = run.until;
-        }) in
-        absurd (let wrong : true ≡ false = sym on ∙ off in cc)
+-- a run of a thread that has a tick
+record HasMark (runs : List Run) (keys : Keys) (name : Text) (t : ℕ) : Type 0 where
+  run : Run
+  number : ℕ
+  there : slice_get runs number ≡ Some run
+  key : HasKey keys name number
+  since : run.from ≤ t
+  until : t ≤ run.to
 
-    not_served : (t : ℕ) → schedule_of ticks t ≡ false → is_served (content_of r).stretches name t ≡ false
-    not_served t off = served_off t (is_served (content_of r).stretches name t) refl off
+served_on : (r : Report) (keys : Keys) (name : Text) (number t : ℕ) (run : Run) → IsContent (content_of r)
+    → AreKeys (Serves r.names) (ServesNamed r.names) r.runs keys → slice_get r.runs number ≡ Some run
+    → HasKey keys name number → run.from ≤ t → t ≤ run.to → is_served (content_of r).stretches name t ≡ true
+served_on r keys name number t run formed are there key lo hi =
+    let path = path_is (content_of r) r.names r.runs t number run formed refl there lo hi in
+    let serves_it : serves name (stretch_of r.names run).path ≡ true = are.sound number run name there key in
+    sym (served_is (content_of r) name t) ∙ ap (serves name) path ∙ serves_it
+
+served_mark : (r : Report) (keys : Keys) (name : Text) (t : ℕ) → IsContent (content_of r)
+    → AreKeys (Serves r.names) (ServesNamed r.names) r.runs keys → is_served (content_of r).stretches name t ≡ true
+    → HasMark r.runs keys name t
+served_mark r keys name t formed are on =
+    let thread = has_thread (content_of r) name t on in
+    let run = has_run r.names r.runs t thread.names thread.path in
+    let path = path_is (content_of r) r.names r.runs t run.number run.run formed refl run.there run.since run.until in
+    let serves_it : serves name (stretch_of r.names run.run).path ≡ true =
+    sym (ap (serves name) path) ∙ served_is (content_of r) name t ∙ on in
+    let named : ServesNamed r.names run.run name =
+    (no_name (content_of r) t thread.names name formed thread.path thread.thread, serves_it) in record {
+      run = run.run;
+      number = run.number;
+      there = run.there;
+      key = are.all run.number run.run name run.there named;
+      since = run.since;
+      until = run.until;
+    }
 
 -- runs end below the horizon
 run_ends : (names : List Text) (from : ℕ) (last : Option (Option (List Text))) (runs : List Run) (end at : ℕ)
@@ -289,24 +128,171 @@ run_ends names from last (r ∷ runs) end (suc at) run cover there =
     let le = rest.0 in
     (omega (arith, ahead, le), rest.1)
 
-pub runs_end : (r : Report) (runs : List Run) → IsContent (content_of r) → runs ≡ r.runs
-    → (k : ℕ) (run : Run) → slice_get runs k ≡ Some run → EndsBefore r.horizon run
-runs_end r runs formed same k run there =
-    let at : slice_get r.runs k ≡ Some run = subst (λ (l : List Run). slice_get l k ≡ Some run) same there in
-    record {
-      order = (run_since r.names 0 None r.runs r.horizon k run formed.cover at).1;
-      within = (run_ends r.names 0 None r.runs r.horizon k run formed.cover at).1;
-    }
+-- and come one after the other
+runs_apart : (names : List Text) (from : ℕ) (last : Option (Option (List Text))) (runs : List Run) (end i j : ℕ)
+    (a b : Run) → Cover from last (map (stretch_of names) runs) end → slice_get runs i ≡ Some a
+    → slice_get runs j ≡ Some b → i < j → a.to < b.from
+runs_apart names from last [] end i j a b cover one other lt = absurd (cc)
+runs_apart names from last (r ∷ runs) end i zero a b cover one other lt = absurd (omega (arith, lt))
+runs_apart names from last (r ∷ runs) end zero (suc j) a b cover one other lt =
+    let same : r ≡ a = cc in
+    let rest = (run_since names (r.to + 1) (Some (stretch_of names r).path) runs end j b cover.4 other).0 in
+    subst (λ (x : Run). x.to < b.from) same (omega (arith, rest))
+runs_apart names from last (r ∷ runs) end (suc i) (suc j) a b cover one other lt =
+    runs_apart names (r.to + 1) (Some (stretch_of names r).path) runs end i j a b cover.4 one other
+    (omega (arith, lt))
+
+-- what is known of a run of a report
+record HasRoom (r : Report) (at : ℕ) (run : Run) : Type 0 where
+  order : run.from ≤ run.to
+  within : run.to < r.horizon
+  past : (k : ℕ) (other : Run) → k < at → slice_get r.runs k ≡ Some other → other.to < run.from
+  ahead : (k : ℕ) (other : Run) → at < k → slice_get r.runs k ≡ Some other → run.to < other.from
+
+room : (r : Report) (at : ℕ) (run : Run) → IsContent (content_of r) → slice_get r.runs at ≡ Some run → HasRoom r at run
+room r at run formed there = record {
+  order = (run_since r.names 0 None r.runs r.horizon at run formed.cover there).1;
+  within = (run_ends r.names 0 None r.runs r.horizon at run formed.cover there).1;
+  past = λ k other lt one. runs_apart r.names 0 None r.runs r.horizon k at other run formed.cover one there lt;
+  ahead = λ k other lt one. runs_apart r.names 0 None r.runs r.horizon at k run other formed.cover there one lt;
+}
+
+-- ---- a walk along the runs of a thread
+
+pub record IsServing (r : Report) (keys : Keys) (name : Text) (spans : List Span) (next : Option ℕ) : Type 0 where
+  pub upto : ℕ
+  pub reached : ℕ
+  pub next_is : IsNext keys name upto next
+  pub tell : Tell (is_served (content_of r).stretches name) spans reached
+  pub within : reached ≤ r.horizon
+  pub past : (k : ℕ) (run : Run) → k < upto → slice_get r.runs k ≡ Some run → run.to < reached
+  pub ahead : (k : ℕ) (run : Run) → upto ≤ k → slice_get r.runs k ≡ Some run → reached ≤ run.from
+
+pub serving_none : (r : Report) (keys : Keys) (name : Text) (spans : List Span) (next : Option ℕ) → spans ≡ []
+    → IsNext keys name 0 next → IsServing r keys name spans next
+serving_none r keys name spans next none is = record {
+  upto = 0;
+  reached = 0;
+  next_is = is;
+  tell = subst (λ (l : List Span). Tell (is_served (content_of r).stretches name) l 0) (sym none)
+      (tell_none (is_served (content_of r).stretches name));
+  within = omega arith;
+  past = λ k run lt. absurd (omega (arith, lt));
+  ahead = λ k run le there. omega arith;
+}
 
 -- the run that comes next
-pub marking_within : (runs : List Run) (keys : Keys) (name : Text) (old now : List Bool) (at : ℕ)
-    → length keys ≡ length runs → IsMarking runs keys name old now (Some at) → at < length runs
-marking_within runs keys name old now at long going =
+pub serving_there : (r : Report) (keys : Keys) (name : Text) (spans : List Span) (at : ℕ)
+    → AreKeys (Serves r.names) (ServesNamed r.names) r.runs keys → IsServing r keys name spans (Some at)
+    → at < length r.runs
+serving_there r keys name spans at are going =
     let here : IsNextAt keys name going.upto at = going.next_is in
     let lt = slice_get_within keys at (Some name) here.here in
-    omega (arith, lt, long)
+    let long = are.long in omega (arith, lt, long)
 
-pub marking_next : (runs : List Run) (keys : Keys) (chains : Chains) (name : Text) (old now : List Bool) (at : ℕ)
-    → AreChains keys chains → IsMarking runs keys name old now (Some at) → IsNext keys name (at + 1) (next_of chains at)
-marking_next runs keys chains name old now at linked going =
+pub serving_next : (r : Report) (keys : Keys) (chains : Chains) (name : Text) (spans : List Span) (at : ℕ)
+    → AreChains keys chains → IsServing r keys name spans (Some at) → IsNext keys name (at + 1) (next_of chains at)
+serving_next r keys chains name spans at linked going =
     let here : IsNextAt keys name going.upto at = going.next_is in linked.next at name (omega arith) here.here
+
+-- the run as it is read
+pub run_there : (r : Report) (items : List Run) (at : ℕ) (d : Run) → items ≡ r.runs → at < length r.runs
+    → slice_get r.runs at ≡ Some (get_or items at d)
+run_there r items at d same lt =
+    subst (λ (l : List Run). slice_get l at ≡ Some (get_or items at d)) same
+    (slice_get-get_or items at d (subst (λ (l : List Run). at < length l) (sym same) lt))
+
+pub run_order : (r : Report) (items : List Run) (at : ℕ) (d : Run) → IsContent (content_of r) → items ≡ r.runs
+    → at < length r.runs → (get_or items at d).from ≤ (get_or items at d).to
+run_order r items at d formed same lt =
+    (room r at (get_or items at d) formed (run_there r items at d same lt)).order
+
+pub run_few : (r : Report) (items : List Run) (at : ℕ) (d : Run) → IsContent (content_of r) → items ≡ r.runs
+    → at < length r.runs → (get_or items at d).to < 100000
+run_few r items at d formed same lt =
+    let within = (room r at (get_or items at d) formed (run_there r items at d same lt)).within in
+    let most = formed.horizon.1 in omega (arith, within, most)
+
+-- none is served before it
+off_before : (r : Report) (keys : Keys) (name : Text) (spans : List Span) (at : ℕ) (run : Run)
+    → IsContent (content_of r) → AreKeys (Serves r.names) (ServesNamed r.names) r.runs keys
+    → slice_get r.runs at ≡ Some run → (going : IsServing r keys name spans (Some at))
+    → (t : ℕ) → going.reached ≤ t → t < run.from → is_served (content_of r).stretches name t ≡ false
+off_before r keys name spans at run formed are there going t lo hi =
+    elim (cases_Bool (is_served (content_of r).stretches name t)) [
+      | inr off ↦ off
+      | inl on ↦ absurd (never (served_mark r keys name t formed are on))
+    ]
+  where
+    never : ¬ HasMark r.runs keys name t
+    never m =
+        let since = m.since in
+        let until = m.until in
+        let has = room r at run formed there in
+        let here : IsNextAt keys name going.upto at = going.next_is in
+        elim (cases_lt m.number going.upto) [
+          | inl old ↦ let past = going.past m.number m.run old m.there in omega (arith, past, lo, until)
+          | inr new ↦ elim (cases_lt m.number at) [
+            | inl between ↦ here.none m.number new between m.key
+            | inr later ↦ elim (cases_eq m.number at) [
+              | inl same ↦
+                  let one : Some run ≡ Some m.run = sym there ∙ ap (slice_get r.runs) (sym same) ∙ m.there in
+                  let is : run ≡ m.run = cc in
+                  let begins = subst (λ (x : Run). x.from ≤ t) (sym is) m.since in omega (arith, begins, hi)
+              | inr ne ↦
+                  let order = has.order in
+                  let ahead = has.ahead m.number m.run (omega (arith, later, ne)) m.there in
+                  omega (arith, ahead, order, since, hi)
+            ]
+          ]
+        ]
+
+pub serving_more : (r : Report) (keys : Keys) (name : Text) (old new : List Span) (at : ℕ) (run : Run)
+    (next : Option ℕ) → IsContent (content_of r) → AreKeys (Serves r.names) (ServesNamed r.names) r.runs keys
+    → slice_get r.runs at ≡ Some run
+    → ((f : ℕ → Bool) → Tell f old run.from → ((t : ℕ) → run.from ≤ t → t < run.to + 1 → f t ≡ true)
+    → Tell f new (run.to + 1))
+    → IsNext keys name (at + 1) next → IsServing r keys name old (Some at) → IsServing r keys name new next
+serving_more r keys name old new at run next formed are there adds behind going =
+    let has = room r at run formed there in
+    let order = has.order in
+    let within = has.within in
+    let here : IsNextAt keys name going.upto at = going.next_is in
+    let f = is_served (content_of r).stretches name in
+    let begins = going.ahead at run here.behind there in
+    record {
+      upto = at + 1;
+      reached = run.to + 1;
+      next_is = behind;
+      tell = adds f
+          (tell_wider f old going.reached run.from begins (off_before r keys name old at run formed are there going)
+          going.tell)
+          (λ t lo hi. served_on r keys name at t run formed are there here.here lo (omega (arith, hi)));
+      within = omega (arith, within);
+      past = λ k other lt one. elim (cases_eq k at) [
+        | inl same ↦
+            let both : Some run ≡ Some other = sym there ∙ ap (slice_get r.runs) (sym same) ∙ one in
+            let is : run ≡ other = cc in
+            subst (λ (x : Run). x.to < run.to + 1) is (omega arith)
+        | inr ne ↦ let past = has.past k other (omega (arith, lt, ne)) one in omega (arith, past, order)
+      ];
+      ahead = λ k other le one. let ahead = has.ahead k other (omega (arith, le)) one in omega (arith, ahead);
+    }
+
+pub serving_all : (r : Report) (keys : Keys) (name : Text) (spans : List Span) → IsContent (content_of r)
+    → AreKeys (Serves r.names) (ServesNamed r.names) r.runs keys → IsServing r keys name spans None
+    → TellsServed (content_of r) name spans
+serving_all r keys name spans formed are going =
+    tell_wider (is_served (content_of r).stretches name) spans going.reached r.horizon going.within
+    (λ t lo hi. elim (cases_Bool (is_served (content_of r).stretches name t)) [
+      | inr off ↦ off
+      | inl on ↦ absurd (never t lo (served_mark r keys name t formed are on))
+    ]) going.tell
+  where
+    never : (t : ℕ) → going.reached ≤ t → ¬ HasMark r.runs keys name t
+    never t lo m =
+        let until = m.until in
+        elim (cases_lt m.number going.upto) [
+          | inl old ↦ let past = going.past m.number m.run old m.there in omega (arith, past, lo, until)
+          | inr new ↦ going.next_is m.number new m.key
+        ]

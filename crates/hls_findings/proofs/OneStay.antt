@@ -11,21 +11,13 @@ use Rattle.hls_guarantee.proofs.Promises.{satisfies-agree, keeps_cap-agree}
 use Rattle.hls_guarantee.proofs.Windows.{satisfies-earlier, satisfies-later, keeps_cap-earlier, keeps_cap-later}
 use Rattle.hls_watch.specs.First.{IsFirstAt}
 use Rattle.hls_watch.specs.Shortages.{IsShort, IsOver}
+use Rattle.hls_spans.specs.Spans.{AreTicks}
 use Rattle.hls_report_text.specs.Content.{Content}
 use Rattle.hls_accounts.specs.declared.stay.Stay.{Stay}
 use Rattle.hls_accounts.specs.Accounts.{end_of}
 use Rattle.hls_accounts.specs.Ready.{is_ready}
 use Rattle.hls_accounts.specs.Schedule.{is_served}
 use Rattle.hls_findings.specs.Inside.Sites.{Starves, Exceeds}
-use Rattle.hls_findings.specs.Inside.Ticks.{TellsReady, TellsServed, IsPart}
-
--- a test on ticks in a part of a list
-part_tells : (f : ℕ → Bool) (from until : ℕ) (all part : List Bool) → until ≤ length all →
-    ((t : ℕ) → t < length all → schedule_of all t ≡ f t) → IsPart from until all part →
-    (t : ℕ) → t < length part → schedule_of part t ≡ f (t + from)
-part_tells f from until all part within tells p t lt =
-    let long = p.long in
-    p.same t lt ∙ tells (t + from) (omega arith)
 
 inside : (l : List Bool) (t : ℕ) → schedule_of l t ≡ true → t < length l
 inside l t on = elim (cases_lt t (length l)) [
@@ -62,8 +54,8 @@ capped_part g f from l lo hi within tells s =
     keeps_cap-later g f from lo hi
     (keeps_cap-agree g (schedule_of l) (λ t. f (t + from)) lo hi (λ t a b. tells t (omega arith)) s)
 
--- the two lists of the ticks of a stay
-record IsStayIn (c : Content) (stay : Stay) (until : ℕ) (ready served : List Bool) : Type 0 where
+-- the two lists tell the ticks of a stay
+pub record IsStayIn (c : Content) (stay : Stay) (until : ℕ) (ready served : List Bool) : Type 0 where
   pub end : end_of c stay ≡ until
   pub long_ready : stay.since + length ready ≡ until
   pub long_served : stay.since + length served ≡ until
@@ -210,59 +202,50 @@ exceeds_over c stay until served t end long tells s =
           (capped_part stay.kept f stay.since served 0 (i + 1) (omega arith) tells kept)));
     }
 
--- the first tick of the stay, from the first place in the lists
-stay_in : (c : Content) (stay : Stay) (until : ℕ) (ready served r s : List Bool) → end_of c stay ≡ until →
-    until ≤ length ready → until ≤ length served → TellsReady c stay.name ready →
-    TellsServed c stay.name served → IsPart stay.since until ready r → IsPart stay.since until served s →
-    IsStayIn c stay until r s
-stay_in c stay until ready served r s end lr ls tr ts pr ps = record {
+-- the two lists of the ticks of a stay
+pub stay_in : (c : Content) (stay : Stay) (until : ℕ) (ready served : List Bool) → end_of c stay ≡ until
+    → stay.since + length ready ≡ until → stay.since + length served ≡ until
+    → AreTicks (is_ready c stay.name) stay.since ready → AreTicks (is_served c.stretches stay.name) stay.since served
+    → IsStayIn c stay until ready served
+stay_in c stay until ready served end lr ls tr ts = record {
   end = end;
-  long_ready = pr.long;
-  long_served = ps.long;
-  ready_is = part_tells (is_ready c stay.name) stay.since until ready r lr tr.is pr;
-  served_is = part_tells (is_served c.stretches stay.name) stay.since until served s ls ts.is ps;
+  long_ready = lr;
+  long_served = ls;
+  ready_is = tr.each;
+  served_is = ts.each;
 }
 
-pub starving_never : (c : Content) (stay : Stay) (until : ℕ) (ready served r s : List Bool) → end_of c stay ≡ until →
-    until ≤ length ready → until ≤ length served → TellsReady c stay.name ready →
-    TellsServed c stay.name served → IsPart stay.since until ready r → IsPart stay.since until served s →
-    ((i : ℕ) → ¬ IsShort stay.kept r s i) → (t : ℕ) → ¬ Starves c t stay
-starving_never c stay until ready served r s end lr ls tr ts pr ps never t starves =
-    never (t - stay.since)
-    (starves_short c stay until r s t (stay_in c stay until ready served r s end lr ls tr ts pr ps) starves)
+pub starving_never : (c : Content) (stay : Stay) (until : ℕ) (r s : List Bool) → IsStayIn c stay until r s
+    → ((i : ℕ) → ¬ IsShort stay.kept r s i) → (t : ℕ) → ¬ Starves c t stay
+starving_never c stay until r s in_stay never t starves =
+    never (t - stay.since) (starves_short c stay until r s t in_stay starves)
 
-pub starving_first : (c : Content) (stay : Stay) (until : ℕ) (ready served r s : List Bool) (i : ℕ) →
-    end_of c stay ≡ until → until ≤ length ready → until ≤ length served → TellsReady c stay.name ready →
-    TellsServed c stay.name served → IsPart stay.since until ready r → IsPart stay.since until served s →
-    IsFirstAt (IsShort stay.kept r s) i → IsFirstAt (λ t. Starves c t stay) (stay.since + i)
-starving_first c stay until ready served r s i end lr ls tr ts pr ps first =
-    let in_stay = stay_in c stay until ready served r s end lr ls tr ts pr ps in
+pub starving_first : (c : Content) (stay : Stay) (until : ℕ) (r s : List Bool) (i : ℕ) → IsStayIn c stay until r s
+    → IsFirstAt (IsShort stay.kept r s) i → IsFirstAt (λ t. Starves c t stay) (stay.since + i)
+starving_first c stay until r s i in_stay first =
     let e : i + stay.since ≡ stay.since + i = omega arith in
     record {
       here = subst (λ t. Starves c t stay) e (short_starves c stay until r s i in_stay first.here);
       earliest = λ t lt starves.
           let since = starves.now.since in
-          first.earliest (t - stay.since) (omega arith) (starves_short c stay until r s t in_stay starves);
+          first.earliest (t - stay.since) (omega (arith, since, lt)) (starves_short c stay until r s t in_stay starves);
     }
 
-pub exceeding_never : (c : Content) (stay : Stay) (until : ℕ) (served s : List Bool) → end_of c stay ≡ until →
-    until ≤ length served → TellsServed c stay.name served → IsPart stay.since until served s →
-    ((i : ℕ) → ¬ IsOver stay.kept s i) → (t : ℕ) → ¬ Exceeds c t stay
-exceeding_never c stay until served s end ls ts ps never t exceeds =
-    never (t - stay.since)
-    (exceeds_over c stay until s t end ps.long
-    (part_tells (is_served c.stretches stay.name) stay.since until served s ls ts.is ps) exceeds)
+pub exceeding_never : (c : Content) (stay : Stay) (until : ℕ) (s : List Bool) → end_of c stay ≡ until
+    → stay.since + length s ≡ until → AreTicks (is_served c.stretches stay.name) stay.since s
+    → ((i : ℕ) → ¬ IsOver stay.kept s i) → (t : ℕ) → ¬ Exceeds c t stay
+exceeding_never c stay until s end long ticks never t exceeds =
+    never (t - stay.since) (exceeds_over c stay until s t end long ticks.each exceeds)
 
-pub exceeding_first : (c : Content) (stay : Stay) (until : ℕ) (served s : List Bool) (i : ℕ) →
-    end_of c stay ≡ until → until ≤ length served → TellsServed c stay.name served →
-    IsPart stay.since until served s → IsFirstAt (IsOver stay.kept s) i →
-    IsFirstAt (λ t. Exceeds c t stay) (stay.since + i)
-exceeding_first c stay until served s i end ls ts ps first =
-    let tells = part_tells (is_served c.stretches stay.name) stay.since until served s ls ts.is ps in
+pub exceeding_first : (c : Content) (stay : Stay) (until : ℕ) (s : List Bool) (i : ℕ) → end_of c stay ≡ until
+    → stay.since + length s ≡ until → AreTicks (is_served c.stretches stay.name) stay.since s
+    → IsFirstAt (IsOver stay.kept s) i → IsFirstAt (λ t. Exceeds c t stay) (stay.since + i)
+exceeding_first c stay until s i end long ticks first =
     let e : i + stay.since ≡ stay.since + i = omega arith in
     record {
-      here = subst (λ t. Exceeds c t stay) e (over_exceeds c stay until s i end ps.long tells first.here);
+      here = subst (λ t. Exceeds c t stay) e (over_exceeds c stay until s i end long ticks.each first.here);
       earliest = λ t lt exceeds.
           let since = exceeds.now.since in
-          first.earliest (t - stay.since) (omega arith) (exceeds_over c stay until s t end ps.long tells exceeds);
+          first.earliest (t - stay.since) (omega (arith, since, lt))
+          (exceeds_over c stay until s t end long ticks.each exceeds);
     }

@@ -20,6 +20,7 @@ use crate::threads::{ready_ticks, served_ticks};
 use hls_accounts::Stay;
 use hls_chron::Name;
 use hls_report_text::{Account, Report};
+use hls_spans::Spans;
 use std::alloc::{AllocError, Global};
 
 /// Of stays: the first tick at which one starves, the first at which one is over its cap, and the account of each that
@@ -46,15 +47,15 @@ impl StayFindings {
         })
     }
 
-    /// Takes in what becomes of a stay. The lists tell of the ticks below the horizon.
+    /// Takes in what becomes of a stay.
     fn visit(
         &mut self,
         alloc: Global,
         report: &Report,
         stay: &Stay,
         at: usize,
-        ready: &[bool],
-        served: &[bool],
+        ready: &Spans,
+        served: &Spans,
     ) -> Result<(), AllocError>
         requires formed { IsWellFormed report.now }
         requires listed { slice_get (told.stays report.now.answered) at ≡ Some stay.now }
@@ -62,10 +63,8 @@ impl StayFindings {
         requires within { at < length self.old.accounts.items }
         requires kept { IsValid stay.now.kept }
         requires ends { ends.end_of (content_of report.now) stay.now ≤ report.now.horizon }
-        requires ready { length ready.now ≡ report.now.horizon }
-        requires tells_ready { TellsReady (content_of report.now) stay.now.name ready.now }
-        requires served { length served.now ≡ report.now.horizon }
-        requires tells_served { TellsServed (content_of report.now) stay.now.name served.now }
+        requires ready { TellsReady (content_of report.now) stay.now.name ready.now.spans.items }
+        requires served { TellsServed (content_of report.now) stay.now.name served.now.spans.items }
         ensures { OnOk result (Adds (content_of report.now) (told.stays report.now.answered) (λ k. k ≡ at)
             self.old self.new) }
     {
@@ -77,7 +76,7 @@ impl StayFindings {
         Ok(())
     }
 
-    /// Takes in what becomes of all stays of a name. The lists tell of the ticks below the horizon.
+    /// Takes in what becomes of all stays of a name.
     fn visit_chain(
         &mut self,
         alloc: Global,
@@ -85,17 +84,15 @@ impl StayFindings {
         stays: &[Stay],
         chains: &Chains,
         name: &Name,
-        ready: &[bool],
-        served: &[bool],
+        ready: &Spans,
+        served: &Spans,
     ) -> Result<(), AllocError>
         requires formed { IsWellFormed report.now }
         requires stays { stays.now ≡ told.stays report.now.answered }
         requires chains { AreChains (map named (told.stays report.now.answered)) chains.now }
         requires long { length self.old.accounts.items ≡ length (told.stays report.now.answered) }
-        requires ready { length ready.now ≡ report.now.horizon }
-        requires tells_ready { TellsReady (content_of report.now) name.now ready.now }
-        requires served { length served.now ≡ report.now.horizon }
-        requires tells_served { TellsServed (content_of report.now) name.now served.now }
+        requires ready { TellsReady (content_of report.now) name.now ready.now.spans.items }
+        requires served { TellsServed (content_of report.now) name.now served.now.spans.items }
         ensures { OnOk result (IsGoing (content_of report.now) (told.stays report.now.answered) name.now
             self.old self.new None) }
     {

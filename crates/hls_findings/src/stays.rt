@@ -1,5 +1,5 @@
 // What stays are guaranteed, and what they get.
-ghost use Rattle.std.specs.Prelude.{◌≡◌, ◌≤◌, IfOk, length};
+ghost use Rattle.std.specs.Prelude.{◌≡◌, ◌≤◌, IfOk};
 ghost use Rattle.hls_guarantee.specs.Limits.{IsValid};
 ghost use Rattle.hls_report_text.specs.Content.{content_of};
 ghost use Rattle.hls_report_text.specs.WellFormed.{IsWellFormed};
@@ -12,6 +12,7 @@ ghost use Rattle.hls_findings.specs.Inside.Ticks.{TellsReady, TellsServed};
 use crate::starving::{first_exceeding, first_starving};
 use hls_accounts::Stay;
 use hls_report_text::Report;
+use hls_spans::Spans;
 use std::alloc::{AllocError, Global};
 
 /// The sooner of two first ticks.
@@ -35,22 +36,19 @@ pub(crate) fn end_of(report: &Report, stay: &Stay) -> u32
     }
 }
 
-/// The first tick of a stay at which its thread is ready, and the longest window that ends with it lacks service. The
-/// lists tell of the ticks below the horizon.
+/// The first tick of a stay at which its thread is ready, and the longest window that ends with it lacks service.
 pub(crate) fn first_lack(
     alloc: Global,
     report: &Report,
     stay: &Stay,
-    ready: &[bool],
-    served: &[bool],
+    ready: &Spans,
+    served: &Spans,
 ) -> Result<Option<u32>, AllocError>
     requires formed { IsWellFormed report.now }
     requires kept { IsValid stay.now.kept }
     requires ends { ends.end_of (content_of report.now) stay.now ≤ report.now.horizon }
-    requires ready { length ready.now ≡ report.now.horizon }
-    requires tells_ready { TellsReady (content_of report.now) stay.now.name ready.now }
-    requires served { length served.now ≡ report.now.horizon }
-    requires tells_served { TellsServed (content_of report.now) stay.now.name served.now }
+    requires ready { TellsReady (content_of report.now) stay.now.name ready.now.spans.items }
+    requires served { TellsServed (content_of report.now) stay.now.name served.now.spans.items }
     ensures { IfOk result (FirstAt (λ t. Starves (content_of report.now) t stay.now)) }
 {
     let until = end_of(report, stay);
@@ -60,19 +58,17 @@ pub(crate) fn first_lack(
     first_starving(alloc, stay, until, ready, served)
 }
 
-/// The first tick of a stay at which its thread is served, and the ticks up to this one are over its cap. The list
-/// tells of the ticks below the horizon.
+/// The first tick of a stay at which its thread is served, and the ticks up to this one are over its cap.
 pub(crate) fn first_excess(
     alloc: Global,
     report: &Report,
     stay: &Stay,
-    served: &[bool],
+    served: &Spans,
 ) -> Result<Option<u32>, AllocError>
     requires formed { IsWellFormed report.now }
     requires kept { IsValid stay.now.kept }
     requires ends { ends.end_of (content_of report.now) stay.now ≤ report.now.horizon }
-    requires served { length served.now ≡ report.now.horizon }
-    requires tells_served { TellsServed (content_of report.now) stay.now.name served.now }
+    requires served { TellsServed (content_of report.now) stay.now.name served.now.spans.items }
     ensures { IfOk result (FirstAt (λ t. Exceeds (content_of report.now) t stay.now)) }
 {
     let until = end_of(report, stay);

@@ -1,7 +1,6 @@
 -- Who is served in each run of a report, and whom each command rouses.
-use Rattle.std.specs.Prelude.{◌≡◌, ℕ, ◌<◌, ◌≤◌, ◌⊎◌, Some, List, [], Bool, true, length, slice_get}
+use Rattle.std.specs.Prelude.{◌≡◌, ℕ, Some, List, [], true, length, slice_get}
 use Rattle.hls_text.specs.Lines.{Text}
-use Rattle.hls_guarantee.specs.Service.{schedule_of}
 use Rattle.hls_report_text.specs.declared.report.Answered.{Answered}
 use Rattle.hls_report_text.specs.declared.report.Run.{Run}
 use Rattle.hls_report_text.specs.declared.report.Report.{Report}
@@ -33,30 +32,3 @@ pub record IsLookup (r : Report) (lookup : Lookup) : Type 0 where
   pub runs : AreChains lookup.served.items lookup.runs
   pub roused : AreKeys Rouses Rouses r.answered lookup.roused.items
   pub commands : AreChains lookup.roused.items lookup.commands
-
--- a tick of one of the first so many runs of a name
-pub record IsMarkedAt (runs : List Run) (keys : Keys) (name : Text) (upto t : ℕ) : Type 0 where
-  pub run : Run
-  pub number : ℕ
-  pub before : number < upto
-  pub there : slice_get runs number ≡ Some run
-  pub key : HasKey keys name number
-  pub since : run.from ≤ t
-  pub until : t ≤ run.to
-
--- these ticks are marked, and no others
-pub record AreMarked (runs : List Run) (keys : Keys) (name : Text) (upto : ℕ) (ticks : List Bool) : Type 0 where
-  pub on : (t : ℕ) → IsMarkedAt runs keys name upto t → schedule_of ticks t ≡ true
-  pub off : (t : ℕ) → schedule_of ticks t ≡ true → IsMarkedAt runs keys name upto t
-
--- the ticks of a run before one are marked
-pub record Marks (run : Run) (upto : ℕ) (old new : List Bool) : Type 0 where
-  pub long : length new ≡ length old
-  pub on : (t : ℕ) → run.from ≤ t → t < upto → schedule_of new t ≡ true
-  pub kept : (t : ℕ) → schedule_of old t ≡ true → schedule_of new t ≡ true
-  pub off : (t : ℕ) → schedule_of new t ≡ true → (schedule_of old t ≡ true) ⊎ ((run.from ≤ t) × (t < upto))
-
--- a run has a tick, and its last one is before an end
-pub record EndsBefore (end : ℕ) (run : Run) : Type 0 where
-  pub order : run.from ≤ run.to
-  pub within : run.to < end

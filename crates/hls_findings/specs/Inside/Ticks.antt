@@ -1,20 +1,16 @@
--- The ticks of one thread in a report, as lists.
-use Rattle.std.specs.Prelude.{◌≡◌, ℕ, ◌+◌, ◌<◌, Bool, List, length}
+-- The ticks of one thread in a report, as spans.
+use Rattle.std.specs.Prelude.{List}
 use Rattle.hls_text.specs.Lines.{Text}
-use Rattle.hls_guarantee.specs.Service.{schedule_of}
+use Rattle.hls_spans.specs.declared.span.Span.{Span}
+use Rattle.hls_spans.specs.Spans.{Tell}
 use Rattle.hls_report_text.specs.Content.{Content}
 use Rattle.hls_accounts.specs.Schedule.{is_served}
 use Rattle.hls_accounts.specs.Ready.{is_ready}
 
 -- in which ticks the thread of a name is ready
-pub record TellsReady (c : Content) (name : Text) (ready : List Bool) : Type 0 where
-  pub is : (t : ℕ) → t < length ready → schedule_of ready t ≡ is_ready c name t
+abbrev pub TellsReady : Content → (name : Text) → List Span → Type 0
+TellsReady c name ready = Tell (is_ready c name) ready c.horizon
 
 -- in which it is served
-pub record TellsServed (c : Content) (name : Text) (served : List Bool) : Type 0 where
-  pub is : (t : ℕ) → t < length served → schedule_of served t ≡ is_served c.stretches name t
-
--- the ticks from one on and before another
-pub record IsPart (from until : ℕ) (all part : List Bool) : Type 0 where
-  pub long : from + length part ≡ until
-  pub same : (t : ℕ) → t < length part → schedule_of part t ≡ schedule_of all (t + from)
+abbrev pub TellsServed : Content → (name : Text) → List Span → Type 0
+TellsServed c name served = Tell (is_served c.stretches name) served c.horizon

@@ -3,9 +3,8 @@ use Rattle.hls_report_text.specs.Content.{content_of}
 use Rattle.hls_accounts.specs.Accounts.{end_of, ticks_in}
 use Rattle.hls_accounts.specs.Ready.{is_ready}
 use Rattle.hls_accounts.specs.Schedule.{is_served}
-use Rattle.hls_findings.proofs.Counted.{served_counted, ready_counted}
+use Rattle.hls_findings.proofs.Counted.{counted_in, account_by}
 use Rattle.hls_findings.proofs.Found.{if_some}
-use Rattle.hls_findings.proofs.Counted.{account_by}
 use Rattle.hls_findings.proofs.accounts.account_of.Goals as goal
 
 pub returns : goal.returns
@@ -21,12 +20,10 @@ returns c =
     let within : end ≤ content.horizon = omega (arith, is, ends) in
     if_some content stay end _ is (omega (arith, some))
     (account_by stay.name stay.name stay.since stay.since c.saturating_sub.result (end_of content stay - 1) stay.kept
-    stay.kept c.count_in.result (ticks_in content stay (is_ready content stay.name)) c.count_in-2.result
+    stay.kept c.count.result (ticks_in content stay (is_ready content stay.name)) c.count-2.result
     (ticks_in content stay (is_served content.stretches stay.name)) refl refl
     (c.saturating_sub.ensures ∙ ap (λ (m : ℕ). m - 1) is) refl
-    (ready_counted content stay c.args.ready.now c.args.ready.now c.count_in.result end n
-    c.requires.tells_ready refl c.requires.ready is
-    c.saturating_sub-ticks.ensures order within c.count_in.ensures)
-    (served_counted content stay c.args.served.now c.args.served.now c.count_in-2.result end n
-    c.requires.tells_served refl c.requires.served is
-    c.saturating_sub-ticks.ensures order within c.count_in-2.ensures))
+    (counted_in content stay (is_ready content stay.name) c.args.ready.now.spans.items c.count.result end n
+    c.requires.ready is c.saturating_sub-ticks.ensures order within c.count.ensures)
+    (counted_in content stay (is_served content.stretches stay.name) c.args.served.now.spans.items c.count-2.result
+    end n c.requires.served is c.saturating_sub-ticks.ensures order within c.count-2.ensures))

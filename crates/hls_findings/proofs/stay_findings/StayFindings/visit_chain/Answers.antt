@@ -70,15 +70,15 @@ visit-requires-clause-ends c =
     ends_early (content_of c.args.report.now) c.args.stays.now c.in-Some.at c.index-stays-at.result
     c.requires.formed.content c.requires.stays (within c) c.index-stays-at.is
 
-pub visit-requires-clause-tells_ready : goal.visit-requires-clause-tells_ready
-visit-requires-clause-tells_ready c =
-    subst (λ (n : Text). TellsReady (content_of c.args.report.now) n c.args.ready.now) (sym (name_is c))
-    c.requires.tells_ready
+pub visit-requires-clause-ready : goal.visit-requires-clause-ready
+visit-requires-clause-ready c =
+    subst (λ (n : Text). TellsReady (content_of c.args.report.now) n c.args.ready.now.spans.items) (sym (name_is c))
+    c.requires.ready
 
-pub visit-requires-clause-tells_served : goal.visit-requires-clause-tells_served
-visit-requires-clause-tells_served c =
-    subst (λ (n : Text). TellsServed (content_of c.args.report.now) n c.args.served.now) (sym (name_is c))
-    c.requires.tells_served
+pub visit-requires-clause-served : goal.visit-requires-clause-served
+visit-requires-clause-served c =
+    subst (λ (n : Text). TellsServed (content_of c.args.report.now) n c.args.served.now.spans.items)
+    (sym (name_is c)) c.requires.served
 
 pub loop-next-smaller : goal.loop-next-smaller
 loop-next-smaller c =
