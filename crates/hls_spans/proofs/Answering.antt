@@ -1,12 +1,12 @@
 -- What spans answer.
-use Rattle.std.proofs.Common.{◌≡◌, ℕ, zero, suc, ◌+◌, ◌-◌, ◌<◌, ◌≤◌, List, Bool, true, false, length, get_or, inl, inr}
-use Rattle.std.proofs.Common.{refl, sym, ap, ◌∙◌, subst, arith}
+use Rattle.std.proofs.Common.{◌≡◌, ℕ, ◌+◌, ◌-◌, ◌<◌, ◌≤◌, List, Bool, true, false, length, get_or, inl, inr}
+use Rattle.std.proofs.Common.{refl, sym, subst, arith}
 use Rattle.std.specs.Prelude.{Option, Some, None, slice_get}
 use Rattle.std.proofs.lemmas.Bool.{cases_lt}
 use Rattle.std.proofs.lemmas.Option.{slice_get_read}
 use Rattle.hls_chron.specs.Ticks.{count}
 use Rattle.hls_spans.specs.declared.span.Span.{Span}
-use Rattle.hls_spans.specs.Spans.{IsSpan, start, IsQuiet, Tell, IsNextAt, IsNext, IsNthAt, IsNth, IsReach}
+use Rattle.hls_spans.specs.Spans.{IsSpan, start, IsQuiet, Tell, IsNextAt, IsNthAt, IsReach}
 use Rattle.hls_spans.specs.Inside.Places.{IsBegun, IsPassed, is_in}
 use Rattle.hls_spans.proofs.Counts.{count_apart, count_same, count_up, count_next, count_first, count_few}
 use Rattle.hls_spans.proofs.SpanLaws.{upto_in, in_here, out_between}

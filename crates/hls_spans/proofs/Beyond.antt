@@ -1,11 +1,11 @@
 -- Ticks that are not among others.
 use Rattle.std.proofs.Common.{◌≡◌, ℕ, ◌+◌, ◌<◌, ◌≤◌, List, Bool, true, false, length, get_or, inl, inr}
-use Rattle.std.proofs.Common.{refl, sym, ap, ◌∙◌, subst, arith}
+use Rattle.std.proofs.Common.{refl, sym, ◌∙◌, subst, arith}
 use Rattle.std.specs.Prelude.{Option, Some, None, slice_get, is_some}
-use Rattle.std.proofs.lemmas.Bool.{cases_lt, cases_Bool}
+use Rattle.std.proofs.lemmas.Bool.{cases_lt}
 use Rattle.std.proofs.lemmas.Option.{slice_get_read, slice_get_past}
 use Rattle.hls_spans.specs.declared.span.Span.{Span}
-use Rattle.hls_spans.specs.Spans.{start, IsQuiet, Tell, IsNextAt, IsNext, IsBeyondAt, IsBeyond}
+use Rattle.hls_spans.specs.Spans.{IsQuiet, Tell, IsNextAt, IsNext, IsBeyondAt, IsBeyond}
 
 -- ---- before an end
 

@@ -1,5 +1,5 @@
 -- Counts of ticks from the first one on.
-use Rattle.std.proofs.Common.{◌≡◌, ℕ, zero, suc, ◌+◌, ◌-◌, ◌<◌, ◌≤◌, Bool, true, false, refl, sym, ap, ◌∙◌, arith}
+use Rattle.std.proofs.Common.{◌≡◌, ℕ, zero, suc, ◌+◌, ◌-◌, ◌<◌, ◌≤◌, Bool, true, false, sym, ap, ◌∙◌, arith}
 use Rattle.hls_chron.specs.Ticks.{count, one_if}
 use Rattle.hls_chron.proofs.CountLaws.{count-none, count-push, count-add, count-le}
 

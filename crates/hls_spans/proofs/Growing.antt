@@ -1,11 +1,10 @@
 -- Spans that grow.
-use Rattle.std.proofs.Common.{◌≡◌, ℕ, zero, suc, ◌+◌, ◌-◌, ◌<◌, ◌≤◌, List, [], ◌∷◌, ◌++◌, Bool, true, false, length}
+use Rattle.std.proofs.Common.{◌≡◌, ℕ, zero, suc, ◌+◌, ◌<◌, ◌≤◌, List, [], ◌∷◌, ◌++◌, Bool, false}
 use Rattle.std.proofs.Common.{refl, sym, ap, ◌∙◌, subst, arith, inl, inr}
 use Rattle.std.specs.Prelude.{Option, Some, None, slice_get}
 use Rattle.std.proofs.lemmas.Bool.{cases_lt}
-use Rattle.hls_chron.specs.Ticks.{count}
 use Rattle.hls_spans.specs.declared.span.Span.{Span}
-use Rattle.hls_spans.specs.Spans.{IsSpan, start, IsQuiet, Tell}
+use Rattle.hls_spans.specs.Spans.{IsSpan, IsQuiet, Tell}
 
 pub tell_none : (f : ℕ → Bool) → Tell f [] 0
 tell_none f = record {

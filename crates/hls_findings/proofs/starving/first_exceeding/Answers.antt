@@ -1,4 +1,4 @@
-use Rattle.std.proofs.Common.{◌≡◌, ◌+◌, ◌≤◌, List, Bool, sym, subst, length}
+use Rattle.std.proofs.Common.{◌≡◌, ◌+◌, List, Bool, sym, subst, length}
 use Rattle.hls_spans.specs.Spans.{AreTicks}
 use Rattle.hls_accounts.specs.Schedule.{is_served}
 use Rattle.hls_findings.proofs.OneStay.{exceeding_first, exceeding_never}

@@ -1,4 +1,4 @@
-use Rattle.std.proofs.Common.{ℕ, ◌-◌, refl, sym, subst, arith}
+use Rattle.std.proofs.Common.{◌-◌, refl, subst, arith}
 use Rattle.hls_spans.specs.Inside.Places.{IsBegun}
 use Rattle.hls_spans.proofs.SpanLaws.{last_span, last_read, before_none, before_some}
 use Rattle.hls_spans.proofs.spans.Spans.before.Goals as goal

@@ -1,5 +1,5 @@
 use Rattle.std.proofs.Common.{◌≡◌, ◌<◌, ◌≤◌, sym, ◌∙◌, arith, length}
-use Rattle.hls_spans.proofs.Beyond.{within_none, within_more, some_beyond, none_beyond, beyond_end, starts_within}
+use Rattle.hls_spans.proofs.Beyond.{within_more, some_beyond, none_beyond, beyond_end, starts_within}
 use Rattle.hls_spans.proofs.Beyond.{since_early, last_early}
 use Rattle.hls_spans.proofs.spans.Spans.first_beyond.Goals as goal
 

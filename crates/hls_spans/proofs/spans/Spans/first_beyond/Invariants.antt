@@ -1,4 +1,4 @@
-use Rattle.std.proofs.Common.{◌≡◌, ℕ, Bool}
+use Rattle.std.proofs.Common.{ℕ, Bool}
 use Rattle.std.specs.Prelude.{slice_get}
 use Rattle.hls_spans.specs.Spans.{Tell}
 use Rattle.hls_spans.proofs.Beyond.{IsWithin}

@@ -1,6 +1,6 @@
-use Rattle.std.proofs.Common.{◌≡◌, ◌+◌, length, sym, ap, ◌∙◌, arith, refl}
+use Rattle.std.proofs.Common.{◌≡◌, ◌+◌, length, sym, ap, ◌∙◌, arith}
 use Rattle.std.proofs.lemmas.List.{length-append}
-use Rattle.std.specs.Prelude.{List, Bool, ◌++◌, ◌∷◌, []}
+use Rattle.std.specs.Prelude.{List, Bool, ◌∷◌, []}
 use Rattle.hls_spans.proofs.SpanLaws.{near_next, in_is, ticks_more}
 use Rattle.hls_spans.proofs.spans.Spans.list.Goals as goal
 

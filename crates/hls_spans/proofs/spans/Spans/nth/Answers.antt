@@ -1,4 +1,4 @@
-use Rattle.std.proofs.Common.{◌≡◌, ℕ, ◌+◌, ◌-◌, refl, subst, arith}
+use Rattle.std.proofs.Common.{◌≡◌, ◌+◌, ◌-◌, refl, subst, arith}
 use Rattle.hls_spans.specs.Spans.{IsNthAt}
 use Rattle.hls_spans.proofs.Answering.{nth_none, passed_read, nth_here, nth_past}
 use Rattle.hls_spans.proofs.spans.Spans.nth.Goals as goal

@@ -1,4 +1,4 @@
-use Rattle.std.proofs.Common.{refl, arith}
+use Rattle.std.proofs.Common.{arith}
 use Rattle.hls_spans.proofs.Answering.{reach_never, reach_by, reach_late, reach_none}
 use Rattle.hls_spans.proofs.spans.Spans.reach.Goals as goal
 
