@@ -17,7 +17,8 @@ use Rattle.hls_clauses.specs.Clauses.{IsStarved, IsOverCap}
 use Rattle.hls_findings.specs.declared.chains.Chains.{Chains}
 use Rattle.hls_findings.specs.declared.stay_findings.StayFindings.{StayFindings}
 use Rattle.hls_findings.specs.Inside.Chains.{HasKey, IsNextAt, IsNext, first_of, next_of, AreChains}
-use Rattle.hls_findings.specs.Inside.StayFindings.{account_if, those_in, named, HasDone, IsFound, AreMore, Adds, IsGoing}
+use Rattle.hls_findings.specs.Inside.StayFindings.{account_if, those_in, named, HasDone, IsFound, AreMore, Adds}
+use Rattle.hls_findings.specs.Inside.StayFindings.{IsGoing}
 use Rattle.hls_findings.specs.Inside.StayFindings.{IsInGroup}
 use Rattle.hls_watch.specs.First.{FirstAt}
 use Rattle.hls_findings.specs.Inside.Least.{sooner_of}
@@ -473,7 +474,8 @@ all_early c all chains such first linked =
       is = has.is;
     })
 
-pub starved_all : (c : Content) (all : List Stay) (chains : Chains) (f : StayFindings) → AreChains (map named all) chains
+pub starved_all : (c : Content) (all : List Stay) (chains : Chains) (f : StayFindings)
+    → AreChains (map named all) chains
     → all ≡ stays c.answered → IsFound c all (early_groups all chains (length all)) f
     → FirstAt (IsStarved c) f.starved
 starved_all c all chains f linked e found =

@@ -193,7 +193,8 @@ ready_more xs name f end i since ready new r a order lt e on early fills so_far 
     }
 
 -- what is between the commands that rouse the thread
-module _ (xs : List Answered) (name : Text) (f : ℕ → Bool) (end since : ℕ) (keys : Keys) (are : AreKeys Rouses Rouses xs keys)
+module _ (xs : List Answered) (name : Text) (f : ℕ → Bool) (end since : ℕ) (keys : Keys)
+    (are : AreKeys Rouses Rouses xs keys)
   where
     off_here : (k : ℕ) (a : Answered) → slice_get xs k ≡ Some a → ¬ HasKey keys name k
         → has_done (rouses name) a ≡ false

@@ -53,7 +53,8 @@ pub record Adds (c : Content) (stays : List Stay) (More : ℕ → Type 0) (old n
   pub found : (done after : ℕ → Bool) → AreMore More done after → IsFound c stays done old → IsFound c stays after new
 
 -- a walk along the stays of a name
-pub record IsGoing (c : Content) (all : List Stay) (name : Text) (old now : StayFindings) (next : Option ℕ) : Type 0 where
+pub record IsGoing (c : Content) (all : List Stay) (name : Text) (old now : StayFindings) (next : Option ℕ)
+    : Type 0 where
   pub upto : ℕ
   pub next_is : IsNext (map named all) name upto next
   pub adds : Adds c all (λ k. (k < upto) × HasKey (map named all) name k) old now

@@ -16,8 +16,10 @@ returns c =
     let ends = c.requires.ends in
     IfOk-weaker c.first_starving.result
     (λ (first : Option ℕ). (content : Content) → end_of content stay ≡ until → until ≤ content.horizon →
-    TellsReady content stay.name c.args.ready.now.spans.items → TellsServed content stay.name c.args.served.now.spans.items →
+    TellsReady content stay.name c.args.ready.now.spans.items →
+    TellsServed content stay.name c.args.served.now.spans.items →
     FirstAt (λ t. Starves content t stay) first)
     (λ (first : Option ℕ). FirstAt (λ t. Starves (content_of c.args.report.now) t stay) first)
-    (λ first told. told (content_of c.args.report.now) (sym is) (omega (arith, is, ends)) c.requires.ready c.requires.served)
+    (λ first told. told (content_of c.args.report.now) (sym is) (omega (arith, is, ends)) c.requires.ready
+    c.requires.served)
     c.first_starving.ensures
