@@ -6,3 +6,4 @@ pub mod Ticks
 pub mod Totals
 pub mod Few
 pub mod Formed
+pub mod Pairs

@@ -1,6 +1,7 @@
 //! What a run of a scenario tells while it goes on, and the report that comes of it.
 #![tactic(auto)]
 
+mod answered;
 mod guesses;
 mod journal;
 mod report;

@@ -2,35 +2,16 @@
 ghost use Rattle.std.specs.Prelude.{◌≡◌, ◌≤◌, IfOk};
 ghost use Rattle.hls_accounts.specs.Accounts.{accounts_of, idle_of};
 ghost use Rattle.hls_scenario.specs.Grammar.{IsScenario};
-ghost use Rattle.hls_journal.specs.Told.{answered_by, told, IsReportOf, IsTotalled};
+ghost use Rattle.hls_journal.specs.Told.{told, IsReportOf, IsTotalled};
 ghost use Rattle.hls_journal.specs.Kept.{IsKept};
 
+use crate::answered::answered;
 use crate::journal::Journal;
 use hls_chron::{List, Name};
-use hls_report_text::{Account, Answer, Answered, Report};
-use hls_scenario::{Item, Scenario};
+use hls_report_text::{Account, Report};
+use hls_scenario::Scenario;
 use indexmap::IndexSet;
 use std::alloc::{AllocError, Global};
-
-/// The commands with their answers.
-fn answered(
-    alloc: Global,
-    items: List<Item>,
-    answers: Vec<Answer>,
-) -> Result<Vec<Answered>, AllocError>
-    ensures { IfOk result (λ all. all.items ≡ answered_by items answers.items) }
-{
-    items
-        .into_items()
-        .into_iter()
-        .zip(answers)
-        .map(|(item, answer)| Answered {
-            tick: item.tick,
-            command: item.command,
-            answer,
-        })
-        .collect(alloc)
-}
 
 fn names_of(alloc: Global, names: &IndexSet<Name>) -> Result<Vec<Name>, AllocError>
     ensures { IfOk result (λ all. all.items ≡ names.now.keys) }
