@@ -8,7 +8,7 @@ use hls_scenario::Item;
 use std::alloc::{AllocError, Global};
 
 /// How many places that are vacant there may be before their memory is given back.
-const SPARE: usize = 16384;
+const SPARE: usize = 1024;
 
 /// Takes the last item away. The memory of those that were taken is given back now and then.
 fn take_last<T: Drop>(items: &mut Vec<T>) -> Option<T>
