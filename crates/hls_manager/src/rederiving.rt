@@ -47,7 +47,8 @@ pub fn rederive(
     ensures { IfOk result (λ told. (h : Hierarchy) → IsTreeOf seen tree.now h → IsReached h →
         AreRederived depth (dues_on h have.now (Some id)) told) }
 {
-    let mut seats = Vec::with_capacity(alloc, tree.seats_taken(id) as usize)?;
+    // A place more, for the seat of a moved node itself, which comes first.
+    let mut seats = Vec::with_capacity(alloc, tree.seats_taken(id) as usize + 1)?;
     for at in 0..tree.seats_taken(id) {
         let (child, port) = tree.child(id, at);
         let name = tree.name(child);

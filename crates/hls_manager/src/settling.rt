@@ -73,7 +73,7 @@ fn settle_on(
         AreRederived depth (dues_on h seat.now.kept (Some id)) told) }
 {
     match tree.sort(id) {
-        Sort::Thread => Ok(Rederived::All(List::of(Vec::new(alloc)))),
+        Sort::Thread => Ok(Rederived::All(List::of(Vec::with_capacity(alloc, 1)?))),
         Sort::Sched(_) => rederive(alloc, tree, rules, depth, id, &seat.kept),
     }
 }
