@@ -7,6 +7,11 @@ PROGRAM is crates/hls_prog/out/hls_prog, which ./hls builds, if no other is give
 for scenarios, or check, for reports. A run in which an allocation was refused has to end with status 6 and nothing
 written, or with the output that is written where none is. The last line of each text counts them; the status is 1
 where one run ended otherwise. It needs a C compiler and glibc.
+
+The calls of the manager have a program of their own, which reads no text: it carries a command out once more where
+memory was wanting for it, and writes something else if the tree or the kit had changed. `rt run` in its folder builds it.
+
+    bench/memory.py --program crates/hls_manager_tests/out/hls_manager_tests /dev/null
 """
 import argparse
 import collections
