@@ -1,3 +1,4 @@
+pub mod Equal
 pub mod NameLemmas
 pub mod BookLaws
 pub mod CountLaws

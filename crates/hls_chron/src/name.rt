@@ -2,6 +2,9 @@
 ghost use Rattle.std.specs.Prelude.{◌≡◌, ◌≤◌, ◌↔◌, IsSome, IfSome, length, true};
 ghost use Rattle.std.specs.List.{list_all};
 ghost use Rattle.hls_chron.specs.Name.{is_letter, may_follow, is_name, IsName};
+ghost use Rattle.std.specs.Str.{bytes_eq};
+ghost use Rattle.std.specs.Cmp.{partial_equiv_from_equiv};
+ghost use Rattle.std.specs.Cmp.Lexicographic.{nat_list_eq_equiv};
 
 use std::marker::Model;
 
@@ -10,7 +13,7 @@ const MOST: usize = 16;
 
 /// The name of a scheduler or a thread: a lower-case letter and up to 15 more lower-case
 /// letters, digits or `_`, and not `cpu`. Contracts see a name as its text.
-#[derive(Clone, Copy, Debug, PartialEq, Eq, Hash)]
+#[derive(Clone, Copy, Debug, Hash)]
 pub struct Name {
     len: u8,
     text: [u8; 16],
@@ -31,6 +34,21 @@ impl Model for Name {
     ghost inverse = { λ text. record { len = length text; text = text ++ replicate (16 - length text) 0 } };
 
     ghost inverse_ok = { name_gives_back };
+}
+
+impl PartialEq for Name {
+    ghost eq = { bytes_eq };
+
+    ghost laws = { partial_equiv_from_equiv nat_list_eq_equiv };
+
+    #[inline(always)]
+    fn eq(&self, other: &Name) -> bool {
+        self.len == other.len && are_same(self.text, other.text)
+    }
+}
+
+impl Eq for Name {
+    ghost laws = { nat_list_eq_equiv };
 }
 
 impl Name {
@@ -57,6 +75,14 @@ impl Name {
     {
         &self.text[..self.len as usize]
     }
+}
+
+// Sixteen bytes are read as one number, which is far quicker than a test byte by byte.
+#[inline(always)]
+fn are_same(left: [u8; 16], right: [u8; 16]) -> bool
+    ensures { result ≡ bytes_eq left right }
+{
+    u128::from_le_bytes(left) == u128::from_le_bytes(right)
 }
 
 fn is_letter_byte(byte: u8) -> bool

@@ -7,8 +7,7 @@ use Rattle.std.specs.Str.{bytes_eq}
 use Rattle.std.proofs.lemmas.List.Quantifiers.{position-Some}
 use Rattle.std.proofs.lemmas.List.{get_or-map, length-map}
 use Rattle.hls_text.specs.Lines.{Text}
-use Rattle.hls_chron.specs.contracts.name.NamePartialEq.TheImpl.{eq-value}
-use Rattle.hls_report_text.proofs.NameLaws.{equal-same, any_is}
+use Rattle.hls_report_text.proofs.NameLaws.{equal-same}
 
 -- lists that a function makes the same of, item by item
 pub same_all : (f : ℕ → Text) (xs ys : List ℕ) → length xs ≡ length ys
@@ -33,14 +32,14 @@ unlike_at f xs ys k in_xs in_ys other same =
 
 -- ---- the place of a name
 
-pub found_at : (name : Text) (known : List Text) (at : Option ℕ) → at ≡ position (eq-value.it name) known
+pub found_at : (name : Text) (known : List Text) (at : Option ℕ) → at ≡ position (bytes_eq name) known
     → IfSome at (λ place. (place < length known) × (get_or known place [] ≡ name))
 found_at name known None e = tt
 found_at name known (Some place) e =
-    let is = position-Some (eq-value.it name) known place [] (sym e) in
+    let is = position-Some (bytes_eq name) known place [] (sym e) in
     (is.0, sym (equal-same name (get_or known place []) is.1))
 
 pub not_there : (name : Text) (known : List Text) (at : Option ℕ)
-    → is_some at ≡ list_any (eq-value.it name) known → IsNone at → list_any (bytes_eq name) known ≡ false
-not_there name known None e none = sym (any_is name known) ∙ sym e
+    → is_some at ≡ list_any (bytes_eq name) known → IsNone at → list_any (bytes_eq name) known ≡ false
+not_there name known None e none = sym e
 not_there name known (Some place) e none = cc

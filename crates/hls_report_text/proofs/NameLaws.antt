@@ -10,62 +10,19 @@ use Rattle.std.proofs.lemmas.Option.{get_or_from_slice_get}
 use Rattle.std.proofs.lemmas.Slice.Eq.{bytes_eq-Decides}
 use Rattle.hls_text.specs.Lines.{Text}
 use Rattle.hls_chron.specs.Name.{IsName}
-use Rattle.hls_chron.specs.contracts.name.NamePartialEq.TheImpl.{eq-value}
 use Rattle.hls_report_text.specs.WellFormed.{with_name, with_names}
 use Rattle.hls_text.proofs.Marks.{both}
 
 -- ---- equality
 
-front_same : (a b r s : Text) → length a ≡ length b → a ++ r ≡ b ++ s → a ≡ b
-front_same [] [] r s n e = refl
-front_same [] (y ∷ b) r s n e = absurd (omega arith)
-front_same (x ∷ a) [] r s n e = absurd (omega arith)
-front_same (x ∷ a) (y ∷ b) r s n e =
-    ap (λ (c : ℕ). c ∷ a) (ap (λ (t : Text). get_or t 0 0) e)
-    ∙ ap (λ (t : Text). y ∷ t) (front_same a b r s (omega arith) (ap behind e))
-  where
-    behind : Text → Text
-    behind [] = []
-    behind (c ∷ cs) = cs
+pub equal-same : (a b : Text) → bytes_eq a b ≡ true → a ≡ b
+equal-same a b = (bytes_eq-Decides a b).0
 
-pub equal-same : (a b : Text) → eq-value.it a b ≡ true → a ≡ b
-equal-same a b e =
-    let h = both (length a == length b) _ e in
-    front_same a b (replicate (16 - length a) 0) (replicate (16 - length b) 0)
-    (eqb-true (length a) (length b) h.0)
-    ((bytes_eq-Decides (a ++ replicate (16 - length a) 0) (b ++ replicate (16 - length b) 0)).0 h.1)
-
-and_true : (a b : Bool) → a ≡ true → b ≡ true → (a && b) ≡ true
-and_true true b e f = f
-and_true false b e f = absurd cc
-
-pub equal-self : (a : Text) → eq-value.it a a ≡ true
-equal-self a =
-    let text = a ++ replicate (16 - length a) 0 in
-    and_true (length a == length a) (bytes_eq text text) (eq-eqb (length a) (length a) refl)
-    ((bytes_eq-Decides text text).1 refl)
-
-same_truth : (p q : Bool) → (p ≡ true → q ≡ true) → (q ≡ true → p ≡ true) → p ≡ q
-same_truth true q f g = sym (f refl)
-same_truth false true f g = g refl
-same_truth false false f g = refl
-
-pub equal_is : (a b : Text) → eq-value.it a b ≡ bytes_eq a b
-equal_is a b =
-    same_truth (eq-value.it a b) (bytes_eq a b) (λ e. (bytes_eq-Decides a b).1 (equal-same a b e))
-    (λ e. subst (λ (t : Text). eq-value.it a t ≡ true) ((bytes_eq-Decides a b).0 e) (equal-self a))
-
-pub any_is : (name : Text) (known : List Text)
-    → list_any (eq-value.it name) known ≡ list_any (bytes_eq name) known
-any_is name [] = refl
-any_is name (k ∷ known) = rw (equal_is name k) (rw (any_is name known) refl)
-
-pub known_is : (name : Text) (known new : List Text)
-    → new ≡ cond (list_any (eq-value.it name) known) known (known ++ name ∷ []) → new ≡ with_name known name
-known_is name known new e = e ∙ ap (λ (b : Bool). cond b known (known ++ name ∷ [])) (any_is name known)
+pub equal-self : (a : Text) → bytes_eq a a ≡ true
+equal-self a = (bytes_eq-Decides a a).1 refl
 
 pub place_is : (name : Text) (known : List Text) (place : ℕ)
-    → (k : Text) × (slice_get known place ≡ Some k) × (eq-value.it name k ≡ true)
+    → (k : Text) × (slice_get known place ≡ Some k) × (bytes_eq name k ≡ true)
     → get_or known place [] ≡ name
 place_is name known place h = get_or_from_slice_get known place h.0 [] h.1 ∙ sym (equal-same name h.0 h.2)
 
