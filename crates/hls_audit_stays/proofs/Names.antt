@@ -4,15 +4,10 @@ use Rattle.std.specs.Str.{bytes_eq}
 use Rattle.std.proofs.lemmas.Bool.{cases_Bool}
 use Rattle.std.proofs.lemmas.Slice.Eq.{bytes_eq-Decides}
 use Rattle.hls_text.specs.Lines.{Text}
-use Rattle.hls_report_text.proofs.NameLaws.{equal-same, equal-self}
-use Rattle.hls_audit_stays.specs.Places.{same_name}
 
-pub same_self : (name : Text) → same_name name name ≡ true
-same_self name = equal-self name
-
-pub same_apart : (one other : Text) → other ≢ one → same_name one other ≡ false
-same_apart one other ne = elim (cases_Bool (same_name one other)) [
-  | inl t ↦ absurd (ne (sym (equal-same one other t)))
+pub same_apart : (one other : Text) → other ≢ one → bytes_eq one other ≡ false
+same_apart one other ne = elim (cases_Bool (bytes_eq one other)) [
+  | inl t ↦ absurd (ne (sym ((bytes_eq-Decides one other).0 t)))
   | inr f ↦ f
 ]
 

@@ -1,18 +1,13 @@
 -- The places of names.
-use Rattle.std.specs.Prelude.{◌≡◌, ◌≢◌, ℕ, ◌-◌, ◌++◌, Bool, ◌==◌, ◌&&◌, Option, Some, None, length, replicate}
+use Rattle.std.specs.Prelude.{◌≡◌, ◌≢◌, ℕ, Option, Some, None}
 use Rattle.std.specs.Prelude.{if◌then◌else◌}
 use Rattle.std.specs.Str.{bytes_eq}
 use Rattle.indexmap.specs.IndexMap.{get, spare}
 use Rattle.hls_text.specs.Lines.{Text}
 use Rattle.hls_audit_stays.specs.declared.places.Places.{Places}
 
--- two names are the same, as they are kept: filled up with zeros
-abbrev pub same_name : Text → Text → Bool
-same_name one other = length one == length other
-    && bytes_eq (one ++ replicate (16 - length one) 0) (other ++ replicate (16 - length other) 0)
-
 abbrev pub place_in : Places → (name : Text) → Option ℕ
-place_in places name = get same_name places.places name
+place_in places name = get bytes_eq places.places name
 
 -- room for more names
 abbrev pub spare_of : Places → ℕ

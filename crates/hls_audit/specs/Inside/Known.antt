@@ -1,15 +1,15 @@
 -- An index of names.
 use Rattle.std.specs.Prelude.{◌≡◌, ℕ, List, Option}
+use Rattle.std.specs.Str.{bytes_eq}
 use Rattle.indexmap.specs.IndexMap.{get, spare}
 use Rattle.hls_text.specs.Lines.{Text}
-use Rattle.hls_audit_stays.specs.Places.{same_name}
 use Rattle.hls_clauses.specs.declared.member.Member.{Member}
 use Rattle.hls_clauses.specs.Names.{member_of}
 use Rattle.hls_audit.specs.declared.known.Known.{Known}
 
 -- who has a name by the index, and room for more names
 abbrev pub known_as : Known → (name : Text) → Option Member
-known_as known name = get same_name known.members name
+known_as known name = get bytes_eq known.members name
 
 abbrev pub spare_of : Known → ℕ
 spare_of known = spare known.members
