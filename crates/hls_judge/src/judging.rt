@@ -1,11 +1,13 @@
 // What is found of the text of a report.
+ghost use Rattle.hls_guarantee.specs.Limits.{IsValid};
 ghost use Rattle.hls_report_text.specs.WellFormed.{IsWellFormed};
 
 use crate::ways::first_other_path;
 use hls_answer_tests::first_other_answer;
+use hls_guarantee::{Guarantee, RuleName};
 use hls_plain_accounts::{accounts_of, idle_of};
 use hls_report::{Report, read_report, write_report};
-use hls_rules::RuleBook;
+use hls_rules::{Rule, RuleBook, answer};
 use std::alloc::{AllocError, Global};
 
 /// The longest text that is judged.
@@ -16,6 +18,18 @@ const BOXES: u32 = 64;
 
 /// The most ticks of a report whose paths are looked at, which takes long.
 const TICKS: u32 = 500;
+
+const RULES: [RuleName; 9] = [
+    RuleName::R1,
+    RuleName::R2,
+    RuleName::R3,
+    RuleName::R4,
+    RuleName::R5,
+    RuleName::R6,
+    RuleName::R7,
+    RuleName::R8,
+    RuleName::R9,
+];
 
 /// What is found of a report: the first thing in this order that is not as it should be.
 #[derive(Clone, Copy, PartialEq, Eq)]
@@ -84,8 +98,20 @@ fn found(
 /// # Errors
 ///
 /// Want of memory.
+#[tactic(auto, using(crate::proofs::Named::map_push))]
 pub fn judged(alloc: Global, text: &[u8]) -> Result<Finding, AllocError> {
-    let book = RuleBook::nine(alloc)?;
+    let mut rules = Vec::new(alloc);
+    for name in RULES {
+        let step = Box::new(
+            alloc,
+            move |have: Guarantee, want: Guarantee| -> Option<Guarantee>
+                requires have { IsValid have }
+                requires want { IsValid want }
+            { answer(name, have, want) },
+        )?;
+        rules.push(Rule::new(name, step))?;
+    }
+    let book = RuleBook::new(rules);
     if text.len() > LONGEST {
         return Ok(Finding::NoReport);
     }

@@ -1,4 +1,5 @@
 // The boxes, the rules and the commands.
+ghost use Rattle.hls_guarantee.specs.Limits.{IsValid};
 ghost use Rattle.hls_sched.specs.GoodKit.{IsGood};
 ghost use Rattle.hls_walks.specs.Views.{boxed};
 
@@ -7,14 +8,27 @@ use crate::showing::shown;
 use hls_chron::Kind;
 use hls_edf::Edf;
 use hls_fp::Fp;
+use hls_guarantee::{Guarantee, RuleName};
 use hls_join::Join;
 use hls_lang::read_scenario;
 use hls_rr::Rr;
-use hls_rules::RuleBook;
+use hls_rules::{Rule, RuleBook, answer};
 use hls_sched::{Kit, Scheduler};
 use hls_text::put;
 use hls_tree::Tree;
 use std::alloc::{AllocError, Global};
+
+const RULES: [RuleName; 9] = [
+    RuleName::R1,
+    RuleName::R2,
+    RuleName::R3,
+    RuleName::R4,
+    RuleName::R5,
+    RuleName::R6,
+    RuleName::R7,
+    RuleName::R8,
+    RuleName::R9,
+];
 
 /// Loads, admissions, moves and withdrawals, done and refused.
 const SCENARIO: &str = "hls 1\nhorizon 1\n\
@@ -64,7 +78,18 @@ fn trial_by_rules(alloc: Global, kit: Kit, rules: &RuleBook) -> Result<Vec<u8>, 
 fn trial_by_boxes(alloc: Global, kit: Kit) -> Result<Vec<u8>, AllocError>
     requires { IsGood (boxed seen) kit }
 {
-    trial_by_rules(alloc, kit, &RuleBook::nine(alloc)?)
+    let mut rules = Vec::new(alloc);
+    for name in RULES {
+        let step = Box::new(
+            alloc,
+            move |have: Guarantee, want: Guarantee| -> Option<Guarantee>
+                requires have { IsValid have }
+                requires want { IsValid want }
+            { answer(name, have, want) },
+        )?;
+        rules.push(Rule::new(name, step))?;
+    }
+    trial_by_rules(alloc, kit, &RuleBook::new(rules))
 }
 
 /// What the commands come to.

@@ -4,4 +4,3 @@ pub mod Equal
 pub mod Answering
 pub mod Decided
 pub mod Once
-mod Nine

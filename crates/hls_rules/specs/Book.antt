@@ -1,5 +1,5 @@
 -- A book of rules.
-use Rattle.std.specs.Prelude.{◌≡◌, ℕ, ◌==◌, List, [], ◌∷◌, count_by}
+use Rattle.std.specs.Prelude.{◌≡◌, ℕ, ◌==◌, List, count_by}
 use Rattle.hls_guarantee.specs.declared.rule.RuleName.{RuleName}
 use Rattle.hls_guarantee.specs.declared.rule.RuleName.TheVariants.{R1, R2, R3, R4, R5, R6, R7, R8, R9}
 
@@ -21,7 +21,3 @@ times_named names name = count_by (λ other. rule_number other == rule_number na
 -- each of R1 to R9 is named once
 abbrev pub EachOnce : List RuleName → Type 0
 EachOnce names = (name : RuleName) → times_named names name ≡ 1
-
--- all names of rules, in their order
-abbrev pub nine : List RuleName
-nine = R1 ∷ R2 ∷ R3 ∷ R4 ∷ R5 ∷ R6 ∷ R7 ∷ R8 ∷ R9 ∷ []

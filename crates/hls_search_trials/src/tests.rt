@@ -1,7 +1,7 @@
 //! Searches, held against worked derivations, and against all chains over small guarantees.
 ghost use Rattle.std.specs.Prelude.{◌≡◌, ◌<◌, IfOk};
 ghost use Rattle.hls_chron.specs.Ranges.{ConfigInRange, IsWithin, TermsInRange};
-ghost use Rattle.hls_guarantee.specs.Limits.{IsNarrow};
+ghost use Rattle.hls_guarantee.specs.Limits.{IsNarrow, IsValid};
 ghost use Rattle.hls_chron.specs.Kinds.{port_count};
 
 use crate::chains::differences;
@@ -9,7 +9,7 @@ use hls_check::lent;
 use hls_chron::{Config, Terms};
 use hls_derive::{Derivation, Place, read_derivation};
 use hls_guarantee::{Guarantee, RuleName, narrow, read_guarantee, valid};
-use hls_rules::{RuleBook, strongest};
+use hls_rules::{Rule, RuleBook, answer, strongest};
 use hls_search::search;
 use std::alloc::{AllocError, Global};
 use std::process::Abort;
@@ -361,7 +361,80 @@ fn small_chains(rt: &impl Abort, alloc: Global, book: &RuleBook) -> Result<(), F
 #[test]
 fn searches_by_stored_rules(rt: HostRuntime) -> Result<(), Fail> {
     let alloc = rt.alloc();
-    let book = RuleBook::nine(alloc)?;
+    let r1 = Box::new(
+        alloc,
+        |have: Guarantee, want: Guarantee| -> Option<Guarantee>
+            requires have { IsValid have }
+            requires want { IsValid want }
+        { answer(RuleName::R1, have, want) },
+    )?;
+    let r2 = Box::new(
+        alloc,
+        |have: Guarantee, want: Guarantee| -> Option<Guarantee>
+            requires have { IsValid have }
+            requires want { IsValid want }
+        { answer(RuleName::R2, have, want) },
+    )?;
+    let r3 = Box::new(
+        alloc,
+        |have: Guarantee, want: Guarantee| -> Option<Guarantee>
+            requires have { IsValid have }
+            requires want { IsValid want }
+        { answer(RuleName::R3, have, want) },
+    )?;
+    let r4 = Box::new(
+        alloc,
+        |have: Guarantee, want: Guarantee| -> Option<Guarantee>
+            requires have { IsValid have }
+            requires want { IsValid want }
+        { answer(RuleName::R4, have, want) },
+    )?;
+    let r5 = Box::new(
+        alloc,
+        |have: Guarantee, want: Guarantee| -> Option<Guarantee>
+            requires have { IsValid have }
+            requires want { IsValid want }
+        { answer(RuleName::R5, have, want) },
+    )?;
+    let r6 = Box::new(
+        alloc,
+        |have: Guarantee, want: Guarantee| -> Option<Guarantee>
+            requires have { IsValid have }
+            requires want { IsValid want }
+        { answer(RuleName::R6, have, want) },
+    )?;
+    let r7 = Box::new(
+        alloc,
+        |have: Guarantee, want: Guarantee| -> Option<Guarantee>
+            requires have { IsValid have }
+            requires want { IsValid want }
+        { answer(RuleName::R7, have, want) },
+    )?;
+    let r8 = Box::new(
+        alloc,
+        |have: Guarantee, want: Guarantee| -> Option<Guarantee>
+            requires have { IsValid have }
+            requires want { IsValid want }
+        { answer(RuleName::R8, have, want) },
+    )?;
+    let r9 = Box::new(
+        alloc,
+        |have: Guarantee, want: Guarantee| -> Option<Guarantee>
+            requires have { IsValid have }
+            requires want { IsValid want }
+        { answer(RuleName::R9, have, want) },
+    )?;
+    let mut rules = Vec::new(alloc);
+    rules.push(Rule::new(RuleName::R1, r1))?;
+    rules.push(Rule::new(RuleName::R2, r2))?;
+    rules.push(Rule::new(RuleName::R3, r3))?;
+    rules.push(Rule::new(RuleName::R4, r4))?;
+    rules.push(Rule::new(RuleName::R5, r5))?;
+    rules.push(Rule::new(RuleName::R6, r6))?;
+    rules.push(Rule::new(RuleName::R7, r7))?;
+    rules.push(Rule::new(RuleName::R8, r8))?;
+    rules.push(Rule::new(RuleName::R9, r9))?;
+    let book = RuleBook::new(rules);
     assert_eq!(rt; not_from_depth(alloc, &book)?, None);
     worked_derivations(&rt, alloc, &book)?;
     joins(&rt, alloc, &book)?;

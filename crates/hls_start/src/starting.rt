@@ -1,5 +1,6 @@
 // The boxes and the rules that the program runs with.
 ghost use Rattle.std.specs.Prelude.{◌≡◌, map, string_bytes, IfOk, OnErr};
+ghost use Rattle.hls_guarantee.specs.Limits.{IsValid};
 ghost use Rattle.hls_sched.specs.GoodKit.{IsGood};
 ghost use Rattle.hls_walks.specs.Views.{boxed};
 ghost use Rattle.hls_manager.specs.Outcomes.{boxes_in};
@@ -11,10 +12,11 @@ ghost use Rattle.hls_start.specs.FullKit.{full_kit};
 use hls_chron::Kind;
 use hls_edf::Edf;
 use hls_fp::Fp;
+use hls_guarantee::Guarantee;
 use hls_io::{Sink, Source, Status};
 use hls_join::Join;
 use hls_rr::Rr;
-use hls_rules::RuleBook;
+use hls_rules::{Rule, RuleBook, RuleName, answer};
 use hls_sched::{Kit, Scheduler};
 use hls_sfq::Sfq;
 use hls_top::hls_run;
@@ -23,6 +25,18 @@ use std::alloc::{AllocError, Global};
 
 /// How many schedulers of each kind can be loaded in a run.
 const BOXES: usize = 64;
+
+const NAMES: [RuleName; 9] = [
+    RuleName::R1,
+    RuleName::R2,
+    RuleName::R3,
+    RuleName::R4,
+    RuleName::R5,
+    RuleName::R6,
+    RuleName::R7,
+    RuleName::R8,
+    RuleName::R9,
+];
 
 /// Runs the program with these boxes and the nine rules.
 fn run_with_rules<S: Source, K: Sink>(
@@ -41,7 +55,18 @@ fn run_with_rules<S: Source, K: Sink>(
     ensures unread { OnErr result (source.new ≡ source.old) }
     ensures unwritten { OnErr result (sink.new ≡ sink.old) }
 {
-    Ok(hls_run(alloc, words, source, sink, kit, RuleBook::nine(alloc)?))
+    let mut rules = Vec::new(alloc);
+    for name in NAMES {
+        let step = Box::new(
+            alloc,
+            move |have: Guarantee, want: Guarantee| -> Option<Guarantee>
+                requires have { IsValid have }
+                requires want { IsValid want }
+            { answer(name, have, want) },
+        )?;
+        rules.push(Rule::new(name, step))?;
+    }
+    Ok(hls_run(alloc, words, source, sink, kit, RuleBook::new(rules)))
 }
 
 /// Runs the program with blank boxes of each kind and the nine rules.

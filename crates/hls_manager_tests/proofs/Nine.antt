@@ -1,10 +1,13 @@
 -- The nine names of rules.
-use Rattle.std.proofs.Common.{◌≡◌, ℕ, List, take, refl, ap, sym, ◌∙◌, subst}
+use Rattle.std.proofs.Common.{◌≡◌, ℕ, List, [], ◌∷◌, take, refl, ap, sym, ◌∙◌, subst}
 use Rattle.hls_guarantee.specs.declared.rule.RuleName.{RuleName}
 use Rattle.hls_guarantee.specs.declared.rule.RuleName.TheVariants.{R1, R2, R3, R4, R5, R6, R7, R8, R9}
-use Rattle.hls_rules.specs.Book.{EachOnce, nine}
+use Rattle.hls_rules.specs.Book.{EachOnce}
 
-each_once : EachOnce nine
+abbrev pub nine : List RuleName
+nine = R1 ∷ R2 ∷ R3 ∷ R4 ∷ R5 ∷ R6 ∷ R7 ∷ R8 ∷ R9 ∷ []
+
+pub each_once : EachOnce nine
 each_once R1 = refl
 each_once R2 = refl
 each_once R3 = refl
@@ -15,8 +18,5 @@ each_once R7 = refl
 each_once R8 = refl
 each_once R9 = refl
 
-pub whole : (names : List RuleName) (n : ℕ) → names ≡ take n nine → n ≡ 9 → names ≡ nine
-whole names n is all = is ∙ ap (λ k. take k nine) all
-
 pub once : (names : List RuleName) (n : ℕ) → names ≡ take n nine → n ≡ 9 → EachOnce names
-once names n is all = subst (λ l. EachOnce l) (sym (whole names n is all)) each_once
+once names n is all = subst (λ l. EachOnce l) (sym (is ∙ ap (λ k. take k nine) all)) each_once
