@@ -28,12 +28,16 @@ unfolding replenished
 silent_none Budget server seat now = refl
 silent_none Soft server seat now = refl
 
+-- a slot that does not ask has no deadline
+pub silent : (need : Need) (servers : List Server) (b : Ledger) (mask slot : ℕ) → slot_asks mask slot ≡ false
+    → deadline_asking need servers b mask slot ≡ None
+silent need servers b mask slot off =
+    ap (λ asks. deadline_if need (replenished all_parts (server_in servers slot) asks (now_of b)) (terms_at b slot)) off
+    ∙ silent_none need (server_in servers slot) (terms_at b slot) (now_of b)
+
 -- one slot more, which does not ask
 pub best_silent : (need : Need) (servers : List Server) (b : Ledger) (mask n : ℕ) (best : Option Candidate)
     → keyed best ≡ best_below (deadline_asking need servers b mask) n → slot_asks mask n ≡ false
     → keyed best ≡ best_below (deadline_asking need servers b mask) (n + 1)
 best_silent need servers b mask n best is off =
-    let none : deadline_asking need servers b mask n ≡ None =
-    ap (λ asks. deadline_if need (replenished all_parts (server_in servers n) asks (now_of b)) (terms_at b n)) off
-    ∙ silent_none need (server_in servers n) (terms_at b n) (now_of b) in
-    best_more (deadline_asking need servers b mask) n best best None is (sym none) refl
+    best_more (deadline_asking need servers b mask) n best best None is (sym (silent need servers b mask n off)) refl

@@ -6,7 +6,7 @@ ghost use Rattle.hls_edf.specs.Inside.Candidates.{keyed};
 
 use crate::server::replenished;
 use crate::servers::{Need, SLOTS, Servers, deadline_where};
-use hls_box::{BoxState, has_slot};
+use hls_box::{BoxState, has_slot, none_from};
 
 /// A slot that may be served, and its deadline.
 #[derive(Clone, Copy, Debug, PartialEq, Eq)]
@@ -43,6 +43,9 @@ fn first(servers: &Servers, state: &BoxState, need: Need) -> Option<u32>
     let mask = state.mask();
     let mut best: Option<Candidate> = None;
     for slot in 0..SLOTS {
+        if none_from(mask, slot) {
+            break;
+        }
         if has_slot(mask, slot) {
             let server = replenished(servers[slot as usize], true, now);
             best = better(
