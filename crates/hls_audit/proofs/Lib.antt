@@ -1,5 +1,5 @@
 pub mod Lists
-pub mod MarkLaws
+pub mod UnderLaws
 pub mod FitLaws
 pub mod PathLaws
 pub mod DueLaws
@@ -8,5 +8,6 @@ pub mod Orders
 pub mod Totals
 pub mod Firsts
 pub mod KnownLaws
-pub mod PlaceLaws
+pub mod RisingLaws
+pub mod WayLaws
 pub mod Abreast

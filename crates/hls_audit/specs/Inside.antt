@@ -1,10 +1,9 @@
 pub mod Members
-pub mod Marks
 pub mod Steps
 pub mod Told
 pub mod Fits
 pub mod Sites
 pub mod Failing
 pub mod Known
-pub mod Places
+pub mod Rising
 pub mod Leading

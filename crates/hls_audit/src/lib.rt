@@ -9,6 +9,7 @@ mod dues;
 mod known;
 mod leading;
 mod placing;
+mod rising;
 mod tree;
 mod ways;
 

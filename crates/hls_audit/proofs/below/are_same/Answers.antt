@@ -1,6 +1,0 @@
-use Rattle.std.proofs.lemmas.Slice.Eq.{slice_eq-Decides}
-use Rattle.hls_audit.proofs.MarkLaws.{mark-Decides}
-use Rattle.hls_audit.proofs.below.are_same.Goals as goal
-
-pub returns : goal.returns
-returns c = slice_eq-Decides mark-Decides c.args.marks.now c.args.other.now c.eq.result c.eq.ensures
