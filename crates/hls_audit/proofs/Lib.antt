@@ -4,6 +4,7 @@ pub mod FitLaws
 pub mod PathLaws
 pub mod DueLaws
 pub mod TreeLaws
+pub mod Misplacing
 pub mod Orders
 pub mod Totals
 pub mod Firsts

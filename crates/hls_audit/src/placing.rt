@@ -1,9 +1,8 @@
 // What a tree of names does not allow.
-ghost use Rattle.std.specs.Prelude.{◌≡◌, IfOk};
+ghost use Rattle.std.specs.Prelude.{◌≡◌, ◌||◌, ◌&&◌, not, IfOk};
 ghost use Rattle.std.specs.List.{list_any};
 ghost use Rattle.std.specs.Str.{bytes_eq};
 ghost use Rattle.hls_accounts.specs.Under as under;
-ghost use Rattle.hls_answers.specs.Moment.{new_name, old_name, spots_of};
 ghost use Rattle.hls_clauses.specs.Names as names;
 ghost use Rattle.hls_clauses.specs.Misplaced as clause;
 
@@ -21,13 +20,39 @@ impl Tree {
     pub(crate) fn is_misplaced(&self, alloc: Global, command: &Command) -> Result<bool, AllocError>
         ensures { IfOk result (λ misplaced. misplaced ≡ clause.is_misplaced self.now.members.items command.now) }
     {
-        if self.is_taken(command) || self.is_unknown(command) || self.is_of_wrong_sort(command) {
+        match command {
+            Command::Load { name, perches, .. } => {
+                Ok(self.is_there(name) || self.has_wrong_perch(command, perches.items()))
+            }
+            Command::Thread { name, perch } => {
+                Ok(self.is_there(name) || self.is_wrong_spot(command, &perch.spot))
+            }
+            Command::Move { name, perch } => self.is_unmovable(alloc, command, name, &perch.spot),
+            Command::Unload { name } => Ok(!self.is_scheduler(name) || self.has_seats_on(name)),
+            Command::End { name } => Ok(!self.is_thread(name)),
+            Command::Wake { name, .. } => Ok(!self.is_thread(name)),
+            Command::Block { name } => Ok(!self.is_thread(name)),
+        }
+    }
+
+    /// Whether a command cannot move a name to a place.
+    fn is_unmovable(
+        &self,
+        alloc: Global,
+        command: &Command,
+        name: &Name,
+        spot: &Spot,
+    ) -> Result<bool, AllocError>
+        ensures { IfOk result (λ unmovable. unmovable ≡ (not (names.is_there self.now.members.items name.now)
+            || names.is_join self.now.members.items name.now
+            || (names.is_scheduler self.now.members.items name.now
+            && under.is_on (names.is_under self.now.members.items name.now) spot.now)
+            || clause.is_wrong_spot self.now.members.items command.now spot.now)) }
+    {
+        if !self.is_there(name) || self.is_join(name) || self.closes_cycle(alloc, name, spot)? {
             return Ok(true);
         }
-        if self.is_occupied(command) || self.is_cycle(alloc, command)? {
-            return Ok(true);
-        }
-        Ok(self.has_wrong_spot(command))
+        Ok(self.is_wrong_spot(command, spot))
     }
 
     fn is_there(&self, name: &Name) -> bool
@@ -67,83 +92,14 @@ impl Tree {
         }
     }
 
-    /// Whether a new name is somebody's.
-    fn is_taken(&self, command: &Command) -> bool
-        ensures { result ≡ clause.is_taken self.now.members.items (new_name command.now) }
-    {
-        match command {
-            Command::Load { name, .. } => self.is_there(name),
-            Command::Thread { name, .. } => self.is_there(name),
-            _ => false,
-        }
-    }
-
-    /// Whether an old name is nobody's.
-    fn is_unknown(&self, command: &Command) -> bool
-        ensures { result ≡ clause.is_unknown self.now.members.items (old_name command.now) }
-    {
-        match command {
-            Command::End { name } => !self.is_there(name),
-            Command::Unload { name } => !self.is_there(name),
-            Command::Move { name, .. } => !self.is_there(name),
-            Command::Wake { name, .. } => !self.is_there(name),
-            Command::Block { name } => !self.is_there(name),
-            _ => false,
-        }
-    }
-
-    fn is_of_wrong_sort(&self, command: &Command) -> bool
-        ensures { result ≡ clause.is_of_wrong_sort self.now.members.items command.now }
-    {
-        match command {
-            Command::End { name } => self.is_scheduler(name),
-            Command::Wake { name, .. } => self.is_scheduler(name),
-            Command::Block { name } => self.is_scheduler(name),
-            Command::Unload { name } => self.is_thread(name),
-            Command::Move { name, .. } => self.is_join(name),
-            _ => false,
-        }
-    }
-
-    /// Whether somebody sits on a scheduler that is to be unloaded.
-    fn is_occupied(&self, command: &Command) -> bool
-        ensures { result ≡ clause.is_occupied self.now.members.items command.now }
-    {
-        match command {
-            Command::Unload { name } => self.has_seats_on(name),
-            _ => false,
-        }
-    }
-
+    /// Whether somebody sits on the scheduler of a name.
     fn has_seats_on(&self, name: &Name) -> bool
         ensures { result ≡ list_any (names.sits_on name.now) self.now.members.items }
     {
         self.members.iter().any(|member| sits_on(name, member))
     }
 
-    /// Whether a scheduler is to be moved onto itself or below it.
-    fn is_cycle(&self, alloc: Global, command: &Command) -> Result<bool, AllocError>
-        ensures { IfOk result (λ cycle. cycle ≡ clause.is_cycle self.now.members.items command.now) }
-    {
-        match command {
-            Command::Move { name, perch } => self.closes_cycle(alloc, name, &perch.spot),
-            _ => Ok(false),
-        }
-    }
-
-    /// Whether a seat may be taken on none of the places of a command.
-    fn has_wrong_spot(&self, command: &Command) -> bool
-        ensures { result ≡ list_any (clause.is_wrong_spot self.now.members.items command.now)
-            (spots_of command.now) }
-    {
-        match command {
-            Command::Load { perches, .. } => self.has_wrong_perch(command, perches.items()),
-            Command::Thread { perch, .. } => self.is_wrong_spot(command, &perch.spot),
-            Command::Move { perch, .. } => self.is_wrong_spot(command, &perch.spot),
-            _ => false,
-        }
-    }
-
+    /// Whether a command cannot take one of these seats.
     fn has_wrong_perch(&self, command: &Command, perches: &[Perch]) -> bool
         ensures { result ≡ list_any (λ (perch : Perch).
             clause.is_wrong_spot self.now.members.items command.now perch.spot) perches.now }

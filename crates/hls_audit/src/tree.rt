@@ -146,7 +146,7 @@ impl Tree {
 pub(crate) fn is_same(name: &Name, other: &Name) -> bool
     ensures { result ≡ bytes_eq name.now other.now }
 {
-    name.bytes() == other.bytes()
+    name == other
 }
 
 fn new_member(
