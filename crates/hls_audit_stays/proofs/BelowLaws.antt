@@ -1,6 +1,6 @@
 -- Rounds over marks of schedulers are the steps of the test of what is below.
 use Rattle.std.proofs.Common.{◌≡◌, ℕ, zero, suc, ◌+◌, ◌-◌, ◌≤◌, List, [], ◌∷◌, Bool, true, false, ◌||◌}
-use Rattle.std.proofs.Common.{length, refl, sym, ap, ◌∙◌, arith, map, take}
+use Rattle.std.proofs.Common.{length, refl, sym, ap, ◌∙◌, arith, map, take, get_or}
 use Rattle.std.specs.Prelude.{Option, Some, None, slice_get, is_some, option_map}
 use Rattle.std.specs.List.{list_any}
 use Rattle.std.specs.Bool.{Decides}
@@ -195,3 +195,30 @@ next_none s all above name =
     (fun_ext (λ (n : Text). mark_none (place_in s.places n)))
     ∙ ap (λ b. bytes_eq name above || b) (sits_none (seated s.last all name))
     ∙ or_none (bytes_eq name above)
+
+mark_off : (marks : List Bool) → list_any (λ (mark : Bool). mark) marks ≡ false → (place : ℕ)
+    → get_or marks place false ≡ false
+mark_off [] off place = refl
+mark_off (true ∷ marks) off place = absurd (let wrong : true ≡ false = off in cc)
+mark_off (false ∷ marks) off zero = refl
+mark_off (false ∷ marks) off (suc place) = mark_off marks off place
+
+at_off : (marks : List Bool) → list_any (λ (mark : Bool). mark) marks ≡ false → (place : Option ℕ)
+    → mark_at marks place ≡ false
+at_off marks off None = refl
+at_off marks off (Some place) = mark_off marks off place
+
+-- marks of which none is set tell as much as no marks
+pub below-none : (s : Seats) (all : List Answered) (came : ℕ) (above : Text) (marks : List Bool)
+    → list_any (λ (mark : Bool). mark) marks ≡ false → AreBelow s all came marks above → AreBelow s all came [] above
+below-none s all came above marks off are name =
+    ap (λ (test : Text → Bool). bytes_eq name above || sits_on test (seated s.last all name))
+    (fun_ext (λ (n : Text). mark_none (place_in s.places n) ∙ sym (at_off marks off (place_in s.places n))))
+    ∙ are name
+
+pub sits-empty : (s : Seats) (marks : List Bool) → length marks ≡ 0 → (found : Option Answered)
+    → false ≡ sits_on (mark_in s.places marks) found
+sits-empty s [] e found =
+    sym (ap (λ (test : Text → Bool). sits_on test found)
+    (fun_ext (λ (n : Text). mark_none (place_in s.places n))) ∙ sits_none found)
+sits-empty s (mark ∷ marks) e found = absurd (omega (arith, e))

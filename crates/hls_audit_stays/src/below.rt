@@ -9,19 +9,38 @@ ghost use Rattle.hls_audit_stays.specs.Inside.Seats.{seated, AreSeats};
 ghost use Rattle.hls_audit_stays.specs.Inside.Marks.{mark_in, next_mark, next_marks, AreBelow};
 
 use crate::seats::Seats;
-use crate::spells::{are_same, is_marked, is_same};
+use crate::spells::{are_same, is_any, is_marked, is_same};
 use hls_chron::Name;
 use hls_report_text::Answered;
 use hls_scenario::{Command, Perch, Spot};
 use std::alloc::{AllocError, Global};
 
 impl Seats {
-    /// Marks of the schedulers, by which a name is at or below another before the command at a place. They are made in
-    /// rounds, until one changes nothing.
+    /// Marks of the schedulers, by which a name is at or below another before the command at a place; no marks at all
+    /// where none is marked.
     ///
     /// # Errors
     /// Returns `AllocError` for want of memory.
     pub(crate) fn below(
+        &self,
+        alloc: Global,
+        answered: &[Answered],
+        place: usize,
+        above: &Name,
+    ) -> Result<Vec<bool>, AllocError>
+        requires seats { AreSeats self.now answered.now place }
+        requires within { place ≤ length answered.now }
+        ensures { IfOk result (λ marks. AreBelow self.now answered.now place marks.items above.now) }
+    {
+        let marks = self.marks_below(alloc, answered, place, above)?;
+        if is_any(&marks) {
+            return Ok(marks);
+        }
+        Ok(Vec::new(alloc))
+    }
+
+    // They are made in rounds, until one changes nothing.
+    fn marks_below(
         &self,
         alloc: Global,
         answered: &[Answered],
@@ -84,6 +103,16 @@ impl Seats {
     }
 
     fn sits_on_marked(&self, answered: &[Answered], marks: &[bool], name: &Name) -> bool
+        ensures { result ≡ under.sits_on (mark_in self.now.places marks.now)
+            (seated self.now.last answered.now name.now) }
+    {
+        if marks.is_empty() {
+            return false;
+        }
+        self.sits_by(answered, marks, name)
+    }
+
+    fn sits_by(&self, answered: &[Answered], marks: &[bool], name: &Name) -> bool
         ensures { result ≡ under.sits_on (mark_in self.now.places marks.now)
             (seated self.now.last answered.now name.now) }
     {

@@ -1,5 +1,6 @@
 // Names, commands and marks, one by one.
-ghost use Rattle.std.specs.Prelude.{◌≡◌, ◌↔◌, IsTrue, get_or, false};
+ghost use Rattle.std.specs.Prelude.{◌≡◌, ◌↔◌, Bool, IsTrue, get_or, false};
+ghost use Rattle.std.specs.List.{list_any};
 ghost use Rattle.std.specs.Str.{bytes_eq};
 ghost use Rattle.hls_accounts.specs.Stays.{want_in};
 
@@ -33,6 +34,13 @@ pub(crate) fn is_marked(marks: &[bool], place: usize) -> bool
         Some(mark) => *mark,
         None => false,
     }
+}
+
+/// Whether one of the places is marked.
+pub(crate) fn is_any(marks: &[bool]) -> bool
+    ensures { result ≡ list_any (λ (mark : Bool). mark) marks.now }
+{
+    marks.iter().any(|mark| *mark)
 }
 
 /// Whether the marks are the same.

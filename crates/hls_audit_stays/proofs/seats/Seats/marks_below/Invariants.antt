@@ -1,6 +1,6 @@
 use Rattle.std.proofs.Common.{◌≡◌, ◌-◌, ◌≤◌, take}
 use Rattle.hls_audit_stays.proofs.BelowLaws.{within_marks}
-use Rattle.hls_audit_stays.proofs.seats.Seats.below.Given as goal
+use Rattle.hls_audit_stays.proofs.seats.Seats.marks_below.Given as goal
 
 abbrev pub invariant-loop-round : goal.invariant-loop-round
 invariant-loop-round l = record {
