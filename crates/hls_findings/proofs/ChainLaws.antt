@@ -114,3 +114,8 @@ none_between keys name from place k next lt has = elim (cases_lt k from) [
   | inl before ↦ before
   | inr behind ↦ absurd (next.none k behind lt has)
 ]
+
+pub chain_smaller : (keys : List (Option Text)) (name : Text) (at count : ℕ) (next : Option ℕ) → at < count
+    → IsNext keys name (at + 1) next → left_behind count next < left_behind count (Some at)
+chain_smaller keys name at count None lt is = omega (arith, lt)
+chain_smaller keys name at count (Some place) lt is = let behind = is.behind in omega (arith, lt, behind)

@@ -10,6 +10,7 @@ pub mod LineLaws
 pub mod Linked
 pub mod EachName
 pub mod Found
+pub mod KnownLaws
 pub mod LookupLaws
 pub mod MarkedLaws
 pub mod Counted

@@ -5,5 +5,6 @@ pub mod Ticks
 pub mod Lines
 pub mod Least
 pub mod StayFindings
+pub mod KnownThreads
 pub mod Lookups
 pub mod Unready

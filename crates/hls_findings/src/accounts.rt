@@ -1,17 +1,15 @@
 // The accounts of stays.
-ghost use Rattle.std.specs.Prelude.{◌≡◌, ◌≤◌, IfOk, map};
+ghost use Rattle.std.specs.Prelude.{◌≡◌, ◌≤◌};
 ghost use Rattle.hls_report_text.specs.Content.{content_of};
 ghost use Rattle.hls_report_text.specs.WellFormed.{IsWellFormed};
 ghost use Rattle.hls_accounts.specs.Accounts as told;
-ghost use Rattle.hls_accounts.specs.Stays as listed;
 ghost use Rattle.hls_findings.specs.Inside.Ticks.{TellsReady, TellsServed};
-ghost use Rattle.hls_findings.specs.Inside.StayFindings.{account_if, those_in};
+ghost use Rattle.hls_findings.specs.Inside.StayFindings.{account_if};
 
 use crate::stays::end_of;
 use hls_accounts::Stay;
 use hls_report_text::{Account, Report};
 use hls_spans::Spans;
-use std::alloc::{AllocError, Global};
 
 /// The account of a stay, if it has a tick.
 pub(crate) fn account_of(
@@ -39,30 +37,4 @@ pub(crate) fn account_of(
         ready: ready.count(stay.since, ticks),
         served: served.count(stay.since, ticks),
     })
-}
-
-/// Those accounts that are there.
-fn accounts_in(alloc: Global, found: &[Option<Account>]) -> Result<Vec<Account>, AllocError>
-    ensures { IfOk result (λ accounts. accounts.items ≡ those_in found.now) }
-{
-    let mut accounts = Vec::new(alloc);
-    for account in found {
-        if let Some(account) = account {
-            accounts.push(*account)?;
-        }
-    }
-    Ok(accounts)
-}
-
-/// The accounts of all stays that have a tick.
-pub(crate) fn accounts_of(
-    alloc: Global,
-    report: &Report,
-    found: &[Option<Account>],
-) -> Result<Vec<Account>, AllocError>
-    requires { found.now ≡ map (account_if (content_of report.now)) (listed.stays report.now.answered) }
-    ensures { IfOk result (λ accounts. accounts.items ≡ told.accounts_of (content_of report.now)) }
-{
-    let _ = report;
-    accounts_in(alloc, found)
 }

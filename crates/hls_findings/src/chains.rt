@@ -1,5 +1,5 @@
 // Items of a list by their names.
-ghost use Rattle.std.specs.Prelude.{◌≡◌, ◌≢◌, ◌+◌, ◌<◌, Some, true, false, IfOk, OnOk, length};
+ghost use Rattle.std.specs.Prelude.{◌≡◌, ◌+◌, ◌<◌, IfOk, OnOk, length};
 ghost use Rattle.hls_findings.specs.Inside.Chains.{first_of, next_of, AreChains, AreChainsFrom};
 
 use hls_audit_stays::Places;
@@ -61,17 +61,6 @@ impl Chains {
         ensures { result ≡ first_of self.now name.now }
     {
         self.first.find(name)
-    }
-
-    /// Whether a name comes first at a place.
-    pub(crate) fn is_first(&self, name: &Name, place: usize) -> bool
-        ensures yes { result ≡ true → first_of self.now name.now ≡ Some place }
-        ensures no { result ≡ false → first_of self.now name.now ≢ Some place }
-    {
-        match self.first(name) {
-            Some(first) => first == place,
-            None => false,
-        }
     }
 
     /// Where the name of an item comes next.

@@ -6,7 +6,6 @@ ghost use Rattle.hls_accounts.specs.Accounts as told;
 ghost use Rattle.hls_clauses.specs.Clauses.{RunsUnready, IsStarved, IsOverCap};
 ghost use Rattle.hls_watch.specs.First.{FirstAt};
 
-use crate::accounts::accounts_of;
 use crate::lookup::Lookup;
 use crate::paths::first_unready;
 use crate::stay_findings::StayFindings;
@@ -43,12 +42,11 @@ impl Findings {
         let lookup = Lookup::of(alloc, report)?;
         let unready = first_unready(alloc, report, &lookup)?;
         let of_stays = StayFindings::of(alloc, report, &lookup, &stays)?;
-        let accounts = accounts_of(alloc, report, &of_stays.accounts)?;
         Ok(Findings {
             unready,
             starved: of_stays.starved,
             over_cap: of_stays.over_cap,
-            accounts,
+            accounts: of_stays.accounts,
         })
     }
 }

@@ -4,6 +4,7 @@
 mod accounts;
 mod chains;
 mod findings;
+mod known_threads;
 mod lines;
 mod lookup;
 mod paths;

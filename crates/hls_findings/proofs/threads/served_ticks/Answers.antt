@@ -1,8 +1,7 @@
 use Rattle.std.proofs.Common.{ℕ, ◌+◌, ◌<◌, sym, subst, length}
 use Rattle.std.specs.Prelude.{Option}
 use Rattle.hls_findings.specs.Inside.Chains.{IsNext, next_of}
-use Rattle.hls_findings.proofs.ChainLaws.{left_behind}
-use Rattle.hls_findings.proofs.Found.{chain_smaller}
+use Rattle.hls_findings.proofs.ChainLaws.{left_behind, chain_smaller}
 use Rattle.hls_findings.proofs.MarkedLaws.{IsServing, serving_there, serving_next, serving_more, serving_all}
 use Rattle.hls_findings.proofs.MarkedLaws.{run_there, run_order, run_few}
 use Rattle.hls_findings.proofs.threads.served_ticks.Goals as goal

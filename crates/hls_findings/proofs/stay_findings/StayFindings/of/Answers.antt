@@ -1,57 +1,71 @@
-use Rattle.std.proofs.Common.{◌∙◌, refl, ap, subst, length, map}
-use Rattle.std.specs.Prelude.{List, false}
+use Rattle.std.proofs.Common.{◌≡◌, ◌<◌, Some, length, slice_get, refl, sym, subst}
+use Rattle.std.proofs.lemmas.Option.{slice_get_read}
 use Rattle.hls_report_text.specs.Content.{content_of}
-use Rattle.hls_accounts.specs.declared.stay.Stay.{Stay}
-use Rattle.hls_accounts.specs.Stays.{stays}
-use Rattle.hls_findings.specs.Inside.Chains.{Keys, AreChains}
-use Rattle.hls_findings.specs.Inside.StayFindings.{IsFound, named}
-use Rattle.hls_findings.proofs.Found.{groups_none, groups_more, groups_end, starved_all, over_all, accounts_found}
+use Rattle.hls_findings.proofs.EachStay.{kept_valid, ends_early, starved_first, over_first}
+use Rattle.hls_findings.proofs.Found.{found_none, found_more, found_accounts}
+use Rattle.hls_findings.proofs.KnownLaws.{known_within, known_ready, known_served}
 use Rattle.hls_findings.proofs.stay_findings.StayFindings.of.Goals as goal
 
-pub loop-head-init : goal.loop-head-init
-loop-head-init c = record {
-  long = c.in_ok-findings.ensures.long ∙ ap (λ (l : List Stay). length l) c.requires.stays;
-  found = groups_none (content_of c.args.report.now) (stays c.args.report.now.answered) c.in_ok-chains.chains
-      c.in_ok-findings.findings
-      (subst (λ (l : List Stay). IsFound (content_of c.args.report.now) l (λ k. false) c.in_ok-findings.findings)
-      c.requires.stays (c.in_ok-findings.ensures.none (content_of c.args.report.now)));
+pub loop-stay-init : goal.loop-stay-init
+loop-stay-init c = record {
+  known = c.new-known.ensures c.args.report.now;
+  found = found_none (content_of c.args.report.now) c.args.stays.now _ c.new-findings.ensures.starved
+      c.new-findings.ensures.over_cap c.new-findings.ensures.accounts;
 }
 
-pub loop-head-preserved : goal.loop-head-preserved
-loop-head-preserved c = record {
-  long = c.in_ok-visit_group.ensures.long ∙ c.loop-head.invariant.long;
-  found = groups_more (content_of c.args.report.now) (stays c.args.report.now.answered) c.in_ok-chains.chains
-      c.loop-head.head c.loop-head.findings c.visit_group.new.self c.in_ok-visit_group.ensures
-      c.loop-head.invariant.found;
+pub visit-requires-clause-kept : goal.visit-requires-clause-kept
+visit-requires-clause-kept c =
+    kept_valid (content_of c.args.report.now) c.args.stays.now c.loop-stay.stay-index c.stay-item.result
+    c.requires.formed.content c.requires.stays c.loop-stay-test.true c.stay-item.is
+
+pub visit-requires-clause-ends : goal.visit-requires-clause-ends
+visit-requires-clause-ends c =
+    ends_early (content_of c.args.report.now) c.args.stays.now c.loop-stay.stay-index c.stay-item.result
+    c.requires.formed.content c.requires.stays c.loop-stay-test.true c.stay-item.is
+
+pub index-requires : goal.index-requires
+index-requires c =
+    subst (λ n. c.in_ok-place.place < n) (sym c.place_of.new.self.ticks.ok.0)
+    (known_within (content_of c.args.report.now) c.place_of.new.self c.stay-item.result.name c.in_ok-place.place
+    c.in_ok-place.ensures.place)
+
+there : (c : goal.After-index) → slice_get c.place_of.new.self.ticks.items c.in_ok-place.place
+    ≡ Some c.index.result.now
+there c =
+    let items = c.place_of.new.self.ticks.items in
+    slice_get_read items (length items) c.in_ok-place.place c.index.result.now refl
+    (known_within (content_of c.args.report.now) c.place_of.new.self c.stay-item.result.name c.in_ok-place.place
+    c.in_ok-place.ensures.place) c.index.ensures
+
+pub visit-requires-clause-ready : goal.visit-requires-clause-ready
+visit-requires-clause-ready c =
+    known_ready (content_of c.args.report.now) c.place_of.new.self c.stay-item.result.name c.in_ok-place.place
+    c.index.result.now c.in_ok-place.ensures.place (there c)
+
+pub visit-requires-clause-served : goal.visit-requires-clause-served
+visit-requires-clause-served c =
+    known_served (content_of c.args.report.now) c.place_of.new.self c.stay-item.result.name c.in_ok-place.place
+    c.index.result.now c.in_ok-place.ensures.place (there c)
+
+pub loop-stay-preserved : goal.loop-stay-preserved
+loop-stay-preserved c = record {
+  known = c.in_ok-place.ensures.known;
+  found = found_more (content_of c.args.report.now) c.args.stays.now c.loop-stay.stay-index c.stay-item.result
+      c.loop-stay.findings c.visit.new.self c.loop-stay-test.true c.stay-item.is c.in_ok-visit.ensures
+      c.loop-stay.invariant.found;
 }
 
 pub returns-clause-starved : goal.returns-clause-starved
 returns-clause-starved c =
-    starved_all (content_of c.args.report.now) (stays c.args.report.now.answered) c.in_ok-chains.chains
-    c.loop-head.findings
-    (subst (λ (k : Keys). AreChains k c.in_ok-chains.chains)
-    (c.deref.ensures.value ∙ c.in_ok-names.ensures ∙ ap (map named) c.requires.stays) c.in_ok-chains.ensures) refl
-    (groups_end (content_of c.args.report.now) (stays c.args.report.now.answered) c.args.stays.now
-    c.in_ok-chains.chains c.loop-head.head c.loop-head.findings c.requires.stays c.loop-head.auto.head-end
-    c.loop-head-test.false c.loop-head.invariant.found)
+    starved_first (content_of c.args.report.now) c.args.stays.now c.loop-stay.stay-index c.loop-stay.findings.starved
+    c.loop-stay-test.false c.requires.stays c.loop-stay.invariant.found.starved
 
 pub returns-clause-over_cap : goal.returns-clause-over_cap
 returns-clause-over_cap c =
-    over_all (content_of c.args.report.now) (stays c.args.report.now.answered) c.in_ok-chains.chains
-    c.loop-head.findings
-    (subst (λ (k : Keys). AreChains k c.in_ok-chains.chains)
-    (c.deref.ensures.value ∙ c.in_ok-names.ensures ∙ ap (map named) c.requires.stays) c.in_ok-chains.ensures) refl
-    (groups_end (content_of c.args.report.now) (stays c.args.report.now.answered) c.args.stays.now
-    c.in_ok-chains.chains c.loop-head.head c.loop-head.findings c.requires.stays c.loop-head.auto.head-end
-    c.loop-head-test.false c.loop-head.invariant.found)
+    over_first (content_of c.args.report.now) c.args.stays.now c.loop-stay.stay-index c.loop-stay.findings.over_cap
+    c.loop-stay-test.false c.requires.stays c.loop-stay.invariant.found.over_cap
 
 pub returns-clause-accounts : goal.returns-clause-accounts
 returns-clause-accounts c =
-    accounts_found (content_of c.args.report.now) (stays c.args.report.now.answered) c.in_ok-chains.chains
-    c.loop-head.findings
-    (subst (λ (k : Keys). AreChains k c.in_ok-chains.chains)
-    (c.deref.ensures.value ∙ c.in_ok-names.ensures ∙ ap (map named) c.requires.stays) c.in_ok-chains.ensures) refl
-    c.loop-head.invariant.long
-    (groups_end (content_of c.args.report.now) (stays c.args.report.now.answered) c.args.stays.now
-    c.in_ok-chains.chains c.loop-head.head c.loop-head.findings c.requires.stays c.loop-head.auto.head-end
-    c.loop-head-test.false c.loop-head.invariant.found)
+    found_accounts (content_of c.args.report.now) c.args.stays.now c.loop-stay.stay-index c.loop-stay.findings
+    c.loop-stay-test.false c.requires.stays c.loop-stay.invariant.found

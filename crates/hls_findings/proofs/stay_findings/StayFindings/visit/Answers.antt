@@ -1,12 +1,18 @@
-use Rattle.std.proofs.Common.{ap, set}
-use Rattle.hls_report_text.specs.Content.{content_of}
-use Rattle.hls_accounts.specs.Stays.{stays}
-use Rattle.hls_findings.proofs.Found.{visited}
+use Rattle.std.proofs.lemmas.Result.{on_ok_weaker}
+use Rattle.std.proofs.Common.{◌∙◌, ◌++◌, ap}
+use Rattle.hls_findings.specs.Inside.StayFindings.{listed}
 use Rattle.hls_findings.proofs.stay_findings.StayFindings.visit.Goals as goal
 
 pub returns : goal.returns
 returns c =
-    visited (content_of c.args.report.now) (stays c.args.report.now.answered) c.args.at c.args.stay.now
-    c.in_ok-lack.lack c.in_ok-excess.excess c.args.self.now _ c.requires.listed c.requires.long
-    c.in_ok-lack.ensures c.in_ok-excess.ensures c.sooner_of-self.ensures c.sooner_of-self-2.ensures
-    (ap (set c.args.self.now.accounts.items c.args.at) c.account_of.ensures)
+    on_ok_weaker c.push_some.result
+    (λ pushed. record {
+      lack = c.in_ok-lack.lack;
+      lacks = c.in_ok-lack.ensures;
+      starved = c.sooner_of-self.ensures;
+      excess = c.in_ok-excess.excess;
+      exceeds = c.in_ok-excess.ensures;
+      over_cap = c.sooner_of-self-2.ensures;
+      accounts = pushed ∙ ap (λ a. c.args.self.now.accounts.items ++ listed a) c.account_of.ensures;
+    })
+    c.push_some.ensures
