@@ -12,3 +12,4 @@ pub mod HeadLaws
 pub mod ScenarioLaws
 pub mod FaultLaws
 pub mod OneText
+pub mod PlainLaws

@@ -1,11 +1,13 @@
 // Commands and items.
-ghost use Rattle.std.specs.Prelude.{◌≡◌, ◌∷◌, [], IfOk, IfSome, Some};
+ghost use Rattle.std.specs.Prelude.{◌≡◌, ◌∷◌, ◌++◌, [], IfOk, IfSome, Some, Ok};
 ghost use Rattle.hls_scenario.specs.Grammar.{IsItemLine};
 ghost use Rattle.hls_text.specs.Tokens.{tokens_of};
 ghost use Rattle.hls_lang.specs.Words.{Gives, Keeps};
 ghost use Rattle.hls_lang.specs.Reading.{join_at, one_perch_at, load_by, load_at, thread_at, move_at};
 ghost use Rattle.hls_lang.specs.Reading.{last_name_at};
 ghost use Rattle.hls_lang.specs.Reading.{burst_at, wake_at, command_by, command_at, item_at};
+ghost use Rattle.hls_lang.specs.Inside.Steps.{kept_at, stamp_at};
+ghost use Rattle.hls_scenario.specs.declared.scenario.Command.TheVariants.{Wake};
 
 use crate::line_error::LineError;
 use crate::ports::ports;
@@ -136,13 +138,13 @@ fn burst(line: &[u8]) -> Result<Option<u32>, Cause>
 }
 
 #[tactic(auto, unfolding(crate::specs::Reading::wake_at))]
-fn wake(line: &[u8]) -> Result<Command, Cause>
-    ensures { Gives (λ command. command) result (wake_at (tokens_of line.now)) }
+fn wake(line: &[u8]) -> Result<(Name, Option<u32>), Cause>
+    ensures { Gives (λ p. Wake p.0 p.1) result (wake_at (tokens_of line.now)) }
 {
     match name(line) {
         Ok((name, rest)) => {
             let burst = burst(rest)?;
-            Ok(Command::Wake { name, burst })
+            Ok((name, burst))
         }
         Err(cause) => Err(cause),
     }
@@ -167,7 +169,8 @@ fn command_after(alloc: Global, word: &[u8], line: &[u8]) -> Result<Command, Lin
     } else if word == b"move".as_slice() {
         Ok(moving(line)?)
     } else if word == b"wake".as_slice() {
-        Ok(wake(line)?)
+        let (name, burst) = wake(line)?;
+        Ok(Command::Wake { name, burst })
     } else if word == b"block".as_slice() {
         Ok(Command::Block {
             name: last_name(line)?,
@@ -185,13 +188,56 @@ fn command(alloc: Global, line: &[u8]) -> Result<Command, LineError>
     command_after(alloc, found, rest)
 }
 
+fn keep_item(items: &mut Vec<Item>, item: Item) -> Result<(), LineError>
+    ensures { Keeps (λ u. items.new.items) result (Ok (items.old.items ++ item ∷ [])) }
+{
+    match items.push(item) {
+        Ok(()) => Ok(()),
+        Err(wanting) => Err(LineError::Memory(AllocError::from(wanting))),
+    }
+}
+
+/// Reads a command, all of a line, and keeps it with the items.
+// The commands that come most often are kept at once: a command is large, and each step between costs a copy.
+#[tactic(auto, unfolding(crate::specs::Reading::command_at, crate::specs::Reading::command_by))]
+pub fn keep_command(
+    alloc: Global,
+    items: &mut Vec<Item>,
+    tick: u32,
+    line: &[u8],
+) -> Result<(), LineError>
+    ensures { Keeps (λ u. items.new.items) result (kept_at items.old.items tick (tokens_of line.now)) }
+{
+    let (found, rest) = token(line)?;
+    if found == b"wake".as_slice() {
+        let (name, burst) = wake(rest)?;
+        let command = Command::Wake { name, burst };
+        keep_item(items, Item { tick, command })
+    } else if found == b"block".as_slice() {
+        let command = Command::Block {
+            name: last_name(rest)?,
+        };
+        keep_item(items, Item { tick, command })
+    } else {
+        let command = command_after(alloc, found, rest)?;
+        keep_item(items, Item { tick, command })
+    }
+}
+
+/// The tick before a command, and what stands after it.
+pub fn stamp(line: &[u8], horizon: u32, last: u32) -> Result<(u32, &[u8]), Cause>
+    ensures { Gives (λ p. (p.0, tokens_of p.1.now)) result (stamp_at horizon last (tokens_of line.now)) }
+{
+    let rest = word(line, b"at")?;
+    tick(rest, horizon, last)
+}
+
 /// An item, all of a line.
 #[tactic(auto, unfolding(crate::specs::Reading::item_at))]
 pub fn item(alloc: Global, line: &[u8], horizon: u32, last: u32) -> Result<Item, LineError>
     ensures { Keeps (λ item. item) result (item_at horizon last (tokens_of line.now)) }
 {
-    let rest = word(line, b"at")?;
-    let (tick, rest) = tick(rest, horizon, last)?;
+    let (tick, rest) = stamp(line, horizon, last)?;
     let command = command(alloc, rest)?;
     Ok(Item { tick, command })
 }

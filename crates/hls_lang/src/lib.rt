@@ -6,6 +6,7 @@ mod fault;
 mod fractions;
 pub mod laws;
 mod line_error;
+mod plain;
 mod ports;
 #[cfg(test)]
 mod printing_tests;

@@ -5,17 +5,19 @@ ghost use Rattle.hls_text.specs.Tokens.{tokens_of};
 ghost use Rattle.hls_lang.specs.Words.{Gives, Keeps};
 ghost use Rattle.hls_lang.specs.ReadingLines.{header_at, horizon_at, depth_at, begins_with, is_full};
 ghost use Rattle.hls_lang.specs.ReadingLines.{item_step};
-ghost use Rattle.hls_lang.specs.ReadingLines.{depth_step, stage_step, line_step, with_item, with_depth};
+ghost use Rattle.hls_lang.specs.ReadingLines.{depth_step, stage_step, line_step, tokens_step};
+ghost use Rattle.hls_lang.specs.ReadingLines.{with_item, with_depth};
 ghost use Rattle.hls_lang.specs.ReadingLines.{state_of};
 ghost use Rattle.hls_lang.specs.ReadingLines.{StepGives, ReadGives, finish_at, fault_of, scenario_of};
 
-use crate::commands::item;
+use crate::commands::{keep_command, stamp};
 use crate::line_error::LineError;
+use crate::plain::{is_blank, is_plain};
 use crate::words::{end, number, word};
 use crate::{Cause, Item, Scenario, ScenarioFault};
 use hls_chron::List;
 use hls_text::{is_clean, next_line, next_token, shown};
-use std::alloc::{AllocError, Global};
+use std::alloc::Global;
 
 /// How many items a scenario has at most.
 const MOST_ITEMS: usize = 65_536;
@@ -84,24 +86,16 @@ fn begins_with(line: &[u8], word: &[u8]) -> bool
     }
 }
 
-fn keep_item(items: &mut Vec<Item>, item: Item) -> Result<(), AllocError>
-    ensures { OnOk result (items.new.items ≡ items.old.items ++ item ∷ []) }
-{
-    items.push(item)?;
-    Ok(())
-}
-
 impl Reader {
-    #[tactic(auto, unfolding(crate::specs::ReadingLines::item_step))]
+    #[tactic(auto, unfolding(crate::specs::ReadingLines::item_step, crate::specs::Reading::item_at))]
     fn item(&mut self, alloc: Global, line: &[u8]) -> Result<(), LineError>
         ensures { StepGives result (state_of self.new) (item_step (state_of self.old) (tokens_of line.now)) }
     {
         if self.items.len() >= MOST_ITEMS && begins_with(line, b"at") {
             return Err(LineError::Fault(Cause::Many));
         }
-        let item = item(alloc, line, self.horizon, self.last)?;
-        let tick = item.tick;
-        keep_item(&mut self.items, item)?;
+        let (tick, rest) = stamp(line, self.horizon, self.last)?;
+        keep_command(alloc, &mut self.items, tick, rest)?;
         self.last = tick;
         self.stage = Stage::AtItems;
         Ok(())
@@ -146,18 +140,27 @@ impl Reader {
         }
     }
 
+    /// Reads what counts of the next line.
+    fn shown(&mut self, alloc: Global, line: &[u8]) -> Result<(), LineError>
+        ensures { StepGives result (state_of self.new) (tokens_step (state_of self.old) (tokens_of line.now)) }
+    {
+        if is_blank(line) {
+            return Ok(());
+        }
+        self.tokens(alloc, line)
+    }
+
     #[tactic(auto, unfolding(crate::specs::ReadingLines::line_step))]
     fn line(&mut self, alloc: Global, line: &[u8]) -> Result<(), LineError>
         ensures { StepGives result (state_of self.new) (line_step (state_of self.old) line.now) }
     {
+        if is_plain(line) {
+            return self.shown(alloc, line);
+        }
         if !is_clean(line) {
             return Err(LineError::Fault(Cause::Byte));
         }
-        let shown = shown(line);
-        if next_token(shown).is_none() {
-            return Ok(());
-        }
-        self.tokens(alloc, shown)
+        self.shown(alloc, shown(line))
     }
 }
 

@@ -1,0 +1,27 @@
+-- What the reader's private functions do.
+use Rattle.std.specs.Prelude.{ℕ, ◌==◌, ◌&&◌, Bool, true, not, fold, List, [], ◌∷◌, ◌++◌, codes, Result, Ok}
+use Rattle.hls_text.specs.Lines.{Text, may_stand}
+use Rattle.hls_scenario.specs.declared.scenario.Command.{Command}
+use Rattle.hls_scenario.specs.declared.scenario.Item.{Item}
+use Rattle.hls_lang.specs.declared.fault.Cause.{Cause}
+use Rattle.hls_lang.specs.Words.{◌>>=◌, Found, word_at, tick_at}
+use Rattle.hls_lang.specs.Reading.{command_at}
+
+-- a byte that may stand in a line and begins no comment
+abbrev pub is_plain : ℕ → Bool
+is_plain b = may_stand b && not (b == 35)
+
+abbrev pub are_plain : Text → Bool
+are_plain line = fold (λ all b. all && is_plain b) true line
+
+-- the tick before a command
+abbrev pub stamp_at : (horizon last : ℕ) → List Text → Found ℕ
+stamp_at horizon last ts = word_at (codes "at") ts >>= λ r. tick_at horizon last r
+
+-- the items with one more
+abbrev pub with_command : List Item → ℕ → Command → Result (List Item) Cause
+with_command items tick command = Ok (items ++ record { tick = tick; command = command } ∷ [])
+
+-- the items with a command more, which is read behind its tick
+abbrev pub kept_at : List Item → ℕ → List Text → Result (List Item) Cause
+kept_at items tick ts = command_at ts >>= with_command items tick
