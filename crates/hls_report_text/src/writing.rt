@@ -2,6 +2,7 @@
 ghost use Rattle.std.specs.Prelude.{◌≡◌, ◌≤◌, ◌++◌, ◌∷◌, [], OnOk, IfOk, codes, decimal, flat_map, get_or};
 ghost use Rattle.std.specs.List.{AllByRecursion};
 ghost use Rattle.hls_guarantee.specs.Limits.{IsValid};
+ghost use Rattle.hls_scenario.specs.Forms.{burst_forms, command_text, spaced};
 ghost use Rattle.hls_scenario.specs.Grammar.{IsCommand};
 ghost use Rattle.hls_report_text.specs.Content.{path_names, stretch_of};
 ghost use Rattle.hls_report_text.specs.ReportText.{item_of, item_text, seat_text, answer_lines};
@@ -11,7 +12,7 @@ ghost use Rattle.hls_report_text.specs.ReportText.{ticks_text, head_lines, end_l
 ghost use Rattle.hls_report_text.specs.ReportText.{report_text};
 ghost use Rattle.hls_report_text.specs.WellFormed.{IsWellFormed, IsSeated, IsAnswer, HasShort, IsReportText};
 
-use crate::refusals::put_refusal;
+use crate::refusals::{put_named, put_refusal};
 use crate::{Account, Answer, Answered, Path, Report, Run, Seated};
 use hls_chron::Name;
 use hls_derive::write_derivation;
@@ -88,11 +89,37 @@ pub fn put_command(
     ensures { OnOk result (out.new.items
         ≡ out.old.items ++ item_text (record { tick = tick; command = command.now })) }
 {
-    let command = print_command(alloc, command)?;
     put(out, b"at ")?;
     put_number(out, u128::from(tick))?;
+    match command {
+        Command::Wake { name, burst } => {
+            put_named(out, b" wake ", name)?;
+            put_burst(out, *burst)
+        }
+        Command::Block { name } => put_named(out, b" block ", name),
+        _ => put_printed(alloc, out, command),
+    }
+}
+
+/// Appends a space and a command that is printed apart.
+fn put_printed(alloc: Global, out: &mut Vec<u8>, command: &Command) -> Result<(), AllocError>
+    requires { IsCommand command.now }
+    ensures { OnOk result (out.new.items ≡ out.old.items ++ (32 ∷ command_text command.now)) }
+{
+    let command = print_command(alloc, command)?;
     put(out, b" ")?;
     put(out, &command)
+}
+
+/// Appends the burst of a wake, where it has one.
+fn put_burst(out: &mut Vec<u8>, burst: Option<u32>) -> Result<(), AllocError>
+    ensures { OnOk result (out.new.items ≡ out.old.items ++ spaced (burst_forms burst)) }
+{
+    let Some(ticks) = burst else {
+        return Ok(());
+    };
+    put(out, b" for ")?;
+    put_number(out, u128::from(ticks))
 }
 
 fn put_answer(out: &mut Vec<u8>, answered: &Answered) -> Result<(), AllocError>
