@@ -19,6 +19,13 @@ use Rattle.hls_tree.specs.Seating.{marked_bare}
 use Rattle.hls_tree.specs.Inside.Below.{at_level, plain, begun, HasRoomToSettle}
 use Rattle.hls_tree.specs.Inside.Below.{SitsBelow, SitsAbove, IsBegun, IsFresh, with_one}
 
+pub some_there : {A : Type 0} {x : A} → Some x ≢ None
+some_there e = cc
+
+pub begun_to : (new old : Option Shown) (level other : ℕ) → level ≡ other → new ≡ begun true level old
+    → new ≡ begun true other old
+begun_to new old level other e is = is ∙ ap (λ n. begun true n old) e
+
 -- of the seats the first so many are on nodes that were not found
 pub record AreAbove (s : Nodes) (seats : List Seat) (n : ℕ) : Type 0 where
   pub none : (port p slot : ℕ) → port < n
@@ -36,6 +43,16 @@ above_more s seats n seat a at not = record {
         sym (ap (option_map (λ (x : Seat). x.place)) (ap (slice_get seats) same ∙ at)) ∙ e in cc)
     | inr ne ↦ a.none port p slot (omega (arith, lt, ne)) e
   ];
+}
+
+pub sits_here : (s : Nodes) (seats : List Seat) (n : ℕ) (seat : Seat) → slice_get seats n ≡ Some seat
+    → (p : ℕ) × (slot : ℕ) × (seat.place ≡ At p slot) × (32 ≤ level_in (s p)) → SitsBelow s seats
+sits_here s seats n seat at on = record {
+  port = n;
+  on = on.0;
+  slot = on.1;
+  sits = ap (option_map (λ (x : Seat). x.place)) at ∙ ap (λ (place : Place). Some place) on.2;
+  found = on.3;
 }
 
 pub above_end : (s : Nodes) (seats : List Seat) (n : ℕ) → length seats ≡ n → AreAbove s seats n → SitsAbove s seats

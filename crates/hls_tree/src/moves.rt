@@ -1,6 +1,6 @@
 // Nodes that take another seat.
 ghost use Rattle.std.specs.Prelude.{◌≡◌, ◌≢◌, ◌≤◌, ◌<◌, ◌+◌, ℕ, true, false, Bool, Option, List, length, map, [], ◌∷◌};
-ghost use Rattle.std.specs.Prelude.{slice_index};
+ghost use Rattle.std.specs.Prelude.{slice_index, None, IfSome, IsNone};
 ghost use Rattle.hls_legal.specs.Hierarchy.{Hierarchy, At};
 ghost use Rattle.hls_legal.specs.Steps.{root_with, root_without};
 ghost use Rattle.hls_walks.specs.Shown.{Shown, PostedIn, level_in, seats_in, with_seat};
@@ -70,15 +70,13 @@ fn plain_at(nodes: &Slab<Node>, key: usize) -> u8
 }
 
 /// Begins the accounts of a node anew, and notes its new level, and that it was found.
-fn begin_at(nodes: &mut Slab<Node>, key: usize)
+fn begin_to(nodes: &mut Slab<Node>, key: usize, level: u8)
     requires posted { PostedIn (shown_at (boxed seen) nodes.old key) }
     requires room { HasRoomToSettle (shown_at (boxed seen) nodes.old key) }
-    ensures here { shown_at (boxed seen) nodes.new key ≡ begun true
-        (level_over (plain (shown_at (boxed seen) nodes.old)) (seats_in (shown_at (boxed seen) nodes.old key)))
-        (shown_at (boxed seen) nodes.old key) }
+    requires most { level ≤ 32 }
+    ensures here { shown_at (boxed seen) nodes.new key ≡ begun true level (shown_at (boxed seen) nodes.old key) }
     ensures others { (k : ℕ) → k ≢ key → shown_at (boxed seen) nodes.new k ≡ shown_at (boxed seen) nodes.old k }
 {
-    let level = plain_at(nodes, key);
     match nodes.get_mut(key) {
         Some(node) => {
             node.level = level + BELOW;
@@ -89,6 +87,19 @@ fn begin_at(nodes: &mut Slab<Node>, key: usize)
         }
         None => {}
     }
+}
+
+/// The same at the level that its seats give it.
+fn begin_at(nodes: &mut Slab<Node>, key: usize)
+    requires posted { PostedIn (shown_at (boxed seen) nodes.old key) }
+    requires room { HasRoomToSettle (shown_at (boxed seen) nodes.old key) }
+    ensures here { shown_at (boxed seen) nodes.new key ≡ begun true
+        (level_over (plain (shown_at (boxed seen) nodes.old)) (seats_in (shown_at (boxed seen) nodes.old key)))
+        (shown_at (boxed seen) nodes.old key) }
+    ensures others { (k : ℕ) → k ≢ key → shown_at (boxed seen) nodes.new k ≡ shown_at (boxed seen) nodes.old k }
+{
+    let level = plain_at(nodes, key);
+    begin_to(nodes, key, level);
 }
 
 /// Whether a place is on a node that was found.
@@ -104,29 +115,41 @@ fn is_below(nodes: &Slab<Node>, place: Place) -> bool
     }
 }
 
-/// Whether one of these seats is on a node that was found.
-fn are_below(nodes: &Slab<Node>, seats: &[TakenSeat]) -> bool
-    ensures yes { result ≡ true → SitsBelow (shown_at (boxed seen) nodes.now) (map seat_view seats.now) }
-    ensures no { result ≡ false → SitsAbove (shown_at (boxed seen) nodes.now) (map seat_view seats.now) }
+/// The new level of one who sits at these seats, if one of them is on a node that was found.
+fn level_below(nodes: &Slab<Node>, seats: &[TakenSeat]) -> Option<u8>
+    ensures level { IfSome result (λ level. level ≡ level_over (plain (shown_at (boxed seen) nodes.now))
+        (map seat_view seats.now)) }
+    ensures most { IfSome result (λ level. level ≤ 32) }
+    ensures yes { result ≢ None → SitsBelow (shown_at (boxed seen) nodes.now) (map seat_view seats.now) }
+    ensures no { IsNone result → SitsAbove (shown_at (boxed seen) nodes.now) (map seat_view seats.now) }
 {
+    let mut level = 0u8;
+    let mut found = false;
     for seat in seats {
+        level = level.max(plain_on(nodes, seat.place));
         if is_below(nodes, seat.place) {
-            return true;
+            found = true;
         }
     }
-    false
+    if found {
+        return Some(level);
+    }
+    None
 }
 
-/// Whether a node sits on one that was found.
-fn sits_below(nodes: &Slab<Node>, key: usize) -> bool
-    ensures yes { result ≡ true → SitsBelow (shown_at (boxed seen) nodes.now)
+/// The new level of a node, if it sits on one that was found.
+fn level_found(nodes: &Slab<Node>, key: usize) -> Option<u8>
+    ensures level { IfSome result (λ level. level ≡ level_over (plain (shown_at (boxed seen) nodes.now))
+        (seats_in (shown_at (boxed seen) nodes.now key))) }
+    ensures most { IfSome result (λ level. level ≤ 32) }
+    ensures yes { result ≢ None → SitsBelow (shown_at (boxed seen) nodes.now)
         (seats_in (shown_at (boxed seen) nodes.now key)) }
-    ensures no { result ≡ false → SitsAbove (shown_at (boxed seen) nodes.now)
+    ensures no { IsNone result → SitsAbove (shown_at (boxed seen) nodes.now)
         (seats_in (shown_at (boxed seen) nodes.now key)) }
 {
     match nodes.get(key) {
-        Some(node) => are_below(nodes, &node.seats),
-        None => false,
+        Some(node) => level_below(nodes, &node.seats),
+        None => None,
     }
 }
 
@@ -141,8 +164,8 @@ fn begin_node(nodes: &mut Slab<Node>, key: usize)
     if level_at(nodes, key) >= BELOW {
         return;
     }
-    if sits_below(nodes, key) {
-        begin_at(nodes, key);
+    if let Some(level) = level_found(nodes, key) {
+        begin_to(nodes, key, level);
     }
 }
 
