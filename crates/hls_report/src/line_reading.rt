@@ -47,7 +47,7 @@ fn spells(alloc: Global, line: &[u8], item: &Item) -> Result<bool, AllocError>
     ensures { IfOk result (λ is. IsTrue is ↔ (line.now ≡ item_text item.now)) }
 {
     let mut text = Vec::new(alloc);
-    put_command(alloc, &mut text, item.tick, &item.command)?;
+    put_command(&mut text, item.tick, &item.command)?;
     Ok(line == text.as_slice())
 }
 

@@ -42,8 +42,7 @@ pub fn put_refusal(out: &mut Vec<u8>, refusal: &Refusal) -> Result<(), AllocErro
     }
 }
 
-/// Appends words and a name.
-pub fn put_named(out: &mut Vec<u8>, words: &[u8], name: &Name) -> Result<(), AllocError>
+fn put_named(out: &mut Vec<u8>, words: &[u8], name: &Name) -> Result<(), AllocError>
     ensures { OnOk result (out.new.items ≡ out.old.items ++ (words.now ++ name.now)) }
 {
     put(out, words)?;

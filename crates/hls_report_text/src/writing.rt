@@ -2,7 +2,6 @@
 ghost use Rattle.std.specs.Prelude.{◌≡◌, ◌≤◌, ◌++◌, ◌∷◌, [], OnOk, IfOk, codes, decimal, flat_map, get_or};
 ghost use Rattle.std.specs.List.{AllByRecursion};
 ghost use Rattle.hls_guarantee.specs.Limits.{IsValid};
-ghost use Rattle.hls_scenario.specs.Forms.{burst_forms, command_text, spaced};
 ghost use Rattle.hls_scenario.specs.Grammar.{IsCommand};
 ghost use Rattle.hls_report_text.specs.Content.{path_names, stretch_of};
 ghost use Rattle.hls_report_text.specs.ReportText.{item_of, item_text, seat_text, answer_lines};
@@ -12,12 +11,12 @@ ghost use Rattle.hls_report_text.specs.ReportText.{ticks_text, head_lines, end_l
 ghost use Rattle.hls_report_text.specs.ReportText.{report_text};
 ghost use Rattle.hls_report_text.specs.WellFormed.{IsWellFormed, IsSeated, IsAnswer, HasShort, IsReportText};
 
-use crate::refusals::{put_named, put_refusal};
+use crate::refusals::put_refusal;
 use crate::{Account, Answer, Answered, Path, Report, Run, Seated};
 use hls_chron::Name;
 use hls_derive::write_derivation;
 use hls_guarantee::write_guarantee;
-use hls_scenario::{Command, print_command};
+use hls_scenario::Command;
 use hls_text::{put, put_number};
 use std::alloc::{AllocError, Global};
 
@@ -32,7 +31,7 @@ pub fn write_report(alloc: Global, report: &Report) -> Result<Vec<u8>, AllocErro
 {
     let mut out = Vec::new(alloc);
     put_head(&mut out, report.horizon, report.depth)?;
-    put_all_answered(alloc, &mut out, report.answered.items())?;
+    put_all_answered(&mut out, report.answered.items())?;
     put(&mut out, b"schedule\n")?;
     put_runs(&mut out, report.names.items(), report.runs.items())?;
     put(&mut out, b"accounts\n")?;
@@ -51,27 +50,23 @@ pub fn put_head(out: &mut Vec<u8>, horizon: u32, depth: u8) -> Result<(), AllocE
     put(out, b"\n")
 }
 
-fn put_all_answered(
-    alloc: Global,
-    out: &mut Vec<u8>,
-    answered: &[Answered],
-) -> Result<(), AllocError>
+fn put_all_answered(out: &mut Vec<u8>, answered: &[Answered]) -> Result<(), AllocError>
     requires { AllByRecursion (λ a. IsCommand a.command × IsAnswer a.command a.answer) answered.now }
     ensures { OnOk result (out.new.items
         ≡ out.old.items ++ flat_map (λ a. ended (answered_lines a)) answered.now) }
 {
     for one in answered {
-        put_item(alloc, out, one)?;
+        put_item(out, one)?;
         put_answer(out, one)?;
     }
     Ok(())
 }
 
-fn put_item(alloc: Global, out: &mut Vec<u8>, answered: &Answered) -> Result<(), AllocError>
+fn put_item(out: &mut Vec<u8>, answered: &Answered) -> Result<(), AllocError>
     requires { IsCommand answered.now.command }
     ensures { OnOk result (out.new.items ≡ out.old.items ++ with_end (item_text (item_of answered.now))) }
 {
-    put_command(alloc, out, answered.tick, &answered.command)?;
+    put_command(out, answered.tick, &answered.command)?;
     put(out, b"\n")
 }
 
@@ -79,47 +74,15 @@ fn put_item(alloc: Global, out: &mut Vec<u8>, answered: &Answered) -> Result<(),
 ///
 /// # Errors
 /// Returns `AllocError` for want of memory.
-pub fn put_command(
-    alloc: Global,
-    out: &mut Vec<u8>,
-    tick: u32,
-    command: &Command,
-) -> Result<(), AllocError>
+pub fn put_command(out: &mut Vec<u8>, tick: u32, command: &Command) -> Result<(), AllocError>
     requires { IsCommand command.now }
     ensures { OnOk result (out.new.items
         ≡ out.old.items ++ item_text (record { tick = tick; command = command.now })) }
 {
     put(out, b"at ")?;
     put_number(out, u128::from(tick))?;
-    match command {
-        Command::Wake { name, burst } => {
-            put_named(out, b" wake ", name)?;
-            put_burst(out, *burst)
-        }
-        Command::Block { name } => put_named(out, b" block ", name),
-        _ => put_printed(alloc, out, command),
-    }
-}
-
-/// Appends a space and a command that is printed apart.
-fn put_printed(alloc: Global, out: &mut Vec<u8>, command: &Command) -> Result<(), AllocError>
-    requires { IsCommand command.now }
-    ensures { OnOk result (out.new.items ≡ out.old.items ++ (32 ∷ command_text command.now)) }
-{
-    let command = print_command(alloc, command)?;
     put(out, b" ")?;
-    put(out, &command)
-}
-
-/// Appends the burst of a wake, where it has one.
-fn put_burst(out: &mut Vec<u8>, burst: Option<u32>) -> Result<(), AllocError>
-    ensures { OnOk result (out.new.items ≡ out.old.items ++ spaced (burst_forms burst)) }
-{
-    let Some(ticks) = burst else {
-        return Ok(());
-    };
-    put(out, b" for ")?;
-    put_number(out, u128::from(ticks))
+    hls_scenario::put_command(out, command)
 }
 
 fn put_answer(out: &mut Vec<u8>, answered: &Answered) -> Result<(), AllocError>

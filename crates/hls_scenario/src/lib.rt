@@ -5,5 +5,5 @@ pub mod laws;
 mod printing;
 mod scenario;
 
-pub use printing::{print_command, print_scenario};
+pub use printing::{print_command, print_scenario, put_command};
 pub use scenario::{Command, Item, Perch, Scenario, Spot};

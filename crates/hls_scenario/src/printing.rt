@@ -90,7 +90,11 @@ fn put_item(out: &mut Vec<u8>, item: &Item) -> Result<(), AllocError>
     put(out, b"\n")
 }
 
-fn put_command(out: &mut Vec<u8>, command: &Command) -> Result<(), AllocError>
+/// Appends the canonical text of a command without its tick.
+///
+/// # Errors
+/// Returns `AllocError` for want of memory.
+pub fn put_command(out: &mut Vec<u8>, command: &Command) -> Result<(), AllocError>
     requires { IsCommand command.now }
     ensures { OnOk result (out.new.items ≡ out.old.items ++ command_text command.now) }
 {
