@@ -28,3 +28,4 @@ mod NamedNodes
 mod ShiftSteps
 mod ShiftDues
 mod Shifted
+mod Haves

@@ -3,9 +3,10 @@ ghost use Rattle.std.specs.Prelude.{◌≡◌, ◌≤◌, ℕ, IfOk, IfSome, IsN
 ghost use Rattle.hls_text.specs.Lines.{Text};
 ghost use Rattle.hls_chron.specs.Ranges.{TermsInRange};
 ghost use Rattle.hls_guarantee.specs.Limits.{IsNarrow};
-ghost use Rattle.hls_legal.specs.Hierarchy.{Hierarchy};
+ghost use Rattle.hls_chron.specs.Kinds.{port_count};
+ghost use Rattle.hls_legal.specs.Hierarchy.{Hierarchy, haves_of};
 ghost use Rattle.hls_answers.specs.Dues.{Derives, IsUnderivable};
-ghost use Rattle.hls_tree.specs.Reads.{IsParent};
+ghost use Rattle.hls_tree.specs.Reads.{IsLoaded, IsParent};
 ghost use Rattle.hls_tree.specs.Trees.{IsTreeOf, Stands};
 ghost use Rattle.hls_manager.specs.Outcomes.{IsReached};
 ghost use Rattle.hls_manager.specs.Seats.{config_at, haves_at, due_for};
@@ -30,6 +31,29 @@ fn config_at(tree: &Tree, parent: Option<NodeId>) -> Config
     }
 }
 
+/// How many ports a scheduler of this configuration has.
+fn port_count(config: &Config) -> u8
+    ensures { result ≡ port_count config.now }
+{
+    match config {
+        Config::Join { ports } => *ports,
+        _ => 1,
+    }
+}
+
+/// What the ports of a scheduler are guaranteed, in their order.
+fn haves_of(alloc: Global, tree: &Tree, id: NodeId) -> Result<Vec<Guarantee>, AllocError>
+    requires { Stands seen tree.now (λ h. IsLoaded (h.nodes id)) }
+    ensures { IfOk result (λ haves. (h : Hierarchy) → IsTreeOf seen tree.now h →
+        haves.items ≡ haves_of (h.nodes id)) }
+{
+    let mut haves = Vec::new(alloc);
+    for port in 0..port_count(&tree.config(id)) {
+        haves.push(tree.kept(id, port))?;
+    }
+    Ok(haves)
+}
+
 /// What the ports of a scheduler are guaranteed or, where there is none, the processor.
 fn haves_at(
     alloc: Global,
@@ -41,7 +65,7 @@ fn haves_at(
         haves.items ≡ haves_at h parent) }
 {
     match parent {
-        Some(id) => tree.haves(alloc, id),
+        Some(id) => haves_of(alloc, tree, id),
         None => {
             let mut haves = Vec::new(alloc);
             haves.push(Guarantee::All)?;
