@@ -47,9 +47,10 @@ pub fn rederive(
     ensures { IfOk result (λ told. (h : Hierarchy) → IsTreeOf seen tree.now h → IsReached h →
         AreRederived depth (dues_on h have.now (Some id)) told) }
 {
+    let taken = tree.seats_taken(id);
     // A place more, for the seat of a moved node itself, which comes first.
-    let mut seats = Vec::with_capacity(alloc, tree.seats_taken(id) as usize + 1)?;
-    for at in 0..tree.seats_taken(id) {
+    let mut seats = Vec::with_capacity(alloc, taken as usize + 1)?;
+    for at in 0..taken {
         let (child, port) = tree.child(id, at);
         let name = tree.name(child);
         match rederive_one(alloc, tree, rules, depth, id, have, child, port) {

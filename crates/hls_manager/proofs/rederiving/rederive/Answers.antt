@@ -38,8 +38,8 @@ loop-at-preserved g c =
 
 pub returns : goal.returns
 returns g c =
-    let at_end : c.loop-at.at ≡ c.seats_taken-at-end.result = omega arith in
+    let at_end : c.loop-at.at ≡ c.seats_taken-taken.result = omega arith in
     λ h tree reached.
     rw c.of.ensures
     (told_all h c.args.id c.args.have.now c.args.depth c.loop-at.seats.items (c.loop-at.invariant.first h tree)
-    (c.loop-at.invariant.count ∙ at_end ∙ c.seats_taken-at-end.ensures h tree))
+    (c.loop-at.invariant.count ∙ at_end ∙ c.seats_taken-taken.ensures h tree))
