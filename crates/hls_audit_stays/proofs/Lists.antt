@@ -141,3 +141,8 @@ map_same f g (x ∷ xs) same = ap (λ y. y ∷ map f xs) (same x) ∙ ap (λ l. 
 pub map_all : {X : Type 0} (f : X → X) (xs : List X) → ((x : X) → f x ≡ x) → map f xs ≡ xs
 map_all f [] same = refl
 map_all f (x ∷ xs) same = ap (λ y. y ∷ map f xs) (same x) ∙ ap (λ l. x ∷ l) (map_all f xs same)
+
+pub map_twice : {X Y Z : Type 0} (f : Y → Z) (g : X → Y) (h : X → Z) (xs : List X) → ((x : X) → f (g x) ≡ h x)
+    → map f (map g xs) ≡ map h xs
+map_twice f g h [] same = refl
+map_twice f g h (x ∷ xs) same = ap (λ z. z ∷ map f (map g xs)) (same x) ∙ ap (λ l. h x ∷ l) (map_twice f g h xs same)

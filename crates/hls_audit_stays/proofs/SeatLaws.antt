@@ -15,8 +15,9 @@ use Rattle.hls_accounts.specs.Commands.{is_done, has_done, seats, last_seating}
 use Rattle.hls_accounts.proofs.Seatings.{seating_hit, seating_miss}
 use Rattle.hls_audit_stays.specs.declared.places.Places.{Places}
 use Rattle.hls_audit_stays.specs.declared.seats.Seats.{Seats}
+use Rattle.hls_audit_stays.specs.Found.{command_at}
 use Rattle.hls_audit_stays.specs.Places.{place_in, Sets}
-use Rattle.hls_audit_stays.specs.Inside.Seats.{command_at, seated, IsKnown, SeatsOnKnown, SitsOnKnown}
+use Rattle.hls_audit_stays.specs.Inside.Seats.{seated, IsKnown, SeatsOnKnown, SitsOnKnown}
 use Rattle.hls_audit_stays.specs.Inside.Seats.{AreNamed, AreSeats, Learns, LearnsSched, LearnsSpot, LearnsSpots}
 use Rattle.hls_audit_stays.specs.Inside.Seats.{LearnsSeats}
 use Rattle.hls_audit_stays.proofs.Lists.{take_next, get_front, get_last, get_within}

@@ -1,38 +1,52 @@
 // The stays of threads, carried along the commands.
-ghost use Rattle.std.specs.Prelude.{◌≡◌, ◌+◌, ◌<◌, ◌∷◌, [], List, IfOk, OnOk, Some, true, map, filter};
-ghost use Rattle.std.specs.Prelude.{length, slice_get, slice_set};
+ghost use Rattle.std.specs.Prelude.{◌≡◌, ◌+◌, ◌<◌, ◌∷◌, ◌++◌, [], List, IfOk, OnOk, Some, true, map, filter};
+ghost use Rattle.std.specs.Prelude.{length, not, slice_get, slice_set};
 ghost use Rattle.hls_scenario.specs.declared.scenario.Perch as asked;
 ghost use Rattle.hls_scenario.specs.declared.scenario.Command.TheVariants as command;
 ghost use Rattle.hls_report_text.specs.declared.report.Answered as report;
-ghost use Rattle.hls_accounts.specs.declared.stay.Stay as accounts;
 ghost use Rattle.hls_accounts.specs.Stays as told;
 ghost use Rattle.hls_accounts.specs.Commands as said;
+ghost use Rattle.hls_audit_stays.specs.declared.found.FoundStay as found;
+ghost use Rattle.hls_audit_stays.specs.Found.{stay_by, has_lasted, lasts};
 ghost use Rattle.hls_audit_stays.specs.Inside.Marks.{next_mark};
-ghost use Rattle.hls_audit_stays.specs.Inside.Carried.{IsCarried, AreOpen, Closes, Opens, begun, begun_by, ended_at};
+ghost use Rattle.hls_audit_stays.specs.Inside.Carried.{IsCarried, AreOpen, AreFresh, Settles, Closes, ClosesGoing, Opens};
+ghost use Rattle.hls_audit_stays.specs.Inside.Carried.{found_from, found_by, ended_at};
 
+use crate::found::FoundStay;
 use crate::seats::Seats;
 use crate::spells::is_same;
-use hls_accounts::Stay;
 use hls_chron::Name;
-use hls_guarantee::Guarantee;
 use hls_report_text::{Answer, Answered};
-use hls_scenario::{Command, Perch};
+use hls_scenario::Command;
 use std::alloc::{AllocError, Global};
 
-/// The stays that the commands so far make, the places of those that go on, the threads in the order of their
-/// admissions, and who was seated where.
+/// The stays that the commands so far make, and the places of those that go on. Those that began in the present tick
+/// and go on are apart: one that ends with the tick in which it began has no ticks, and is let go. Besides, the threads
+/// in the order of their admissions, and who was seated where.
 #[derive(Drop)]
 pub(crate) struct Carried {
-    pub(crate) stays: Vec<Stay>,
+    pub(crate) stays: Vec<FoundStay>,
     pub(crate) going: Vec<usize>,
+    pub(crate) fresh: Vec<FoundStay>,
+    pub(crate) tick: u32,
     pub(crate) threads: Vec<Name>,
     pub(crate) seats: Seats,
 }
 
+/// Appends stays.
+fn append(stays: &mut Vec<FoundStay>, more: &[FoundStay]) -> Result<(), AllocError>
+    ensures { OnOk result (stays.new.items ≡ stays.old.items ++ more.now) }
+{
+    for found in more {
+        stays.push(*found)?;
+    }
+    Ok(())
+}
+
 /// Notes that the stay at a place ends.
-fn end_at(stays: &mut Vec<Stay>, place: usize, tick: u32)
+fn end_at(stays: &mut Vec<FoundStay>, place: usize, tick: u32)
     requires { place < length stays.old.items }
-    ensures { (stay : accounts.Stay) → slice_get stays.old.items place ≡ Some stay →
+    ensures { (stay : found.FoundStay) → slice_get stays.old.items place ≡ Some stay →
         stays.new.items ≡ slice_set stays.old.items place (ended_at tick stay) }
 {
     let mut stay = stays[place];
@@ -48,6 +62,8 @@ impl Carried {
         Carried {
             stays: Vec::new(alloc),
             going: Vec::new(alloc),
+            fresh: Vec::new(alloc),
+            tick: 0,
             threads: Vec::new(alloc),
             seats: Seats::new(alloc),
         }
@@ -85,7 +101,7 @@ impl Carried {
     {
         match &a.command {
             Command::Load { name, .. } => self.seats.note(answered, place, a, name),
-            Command::Thread { name, perch } => self.admit(answered, place, a, name, perch),
+            Command::Thread { name, .. } => self.admit(answered, place, a, name),
             Command::End { name } => self.end(alloc, answered, place, a, name),
             Command::Move { name, .. } => self.reseat(alloc, answered, place, a, name),
             Command::Unload { .. } => Ok(()),
@@ -101,15 +117,15 @@ impl Carried {
         place: usize,
         a: &Answered,
         name: &Name,
-        perch: &Perch,
     ) -> Result<(), AllocError>
         requires there { slice_get answered.now place ≡ Some a.now }
         requires done { said.is_done a.now.answer ≡ true }
-        requires command { a.now.command ≡ command.Thread name.now perch.now }
+        requires command { (perch : asked.Perch) × (a.now.command ≡ command.Thread name.now perch) }
         requires carried { IsCarried self.old answered.now place }
         ensures { OnOk result (IsCarried self.new answered.now (place + 1)) }
     {
-        self.begin(name, perch.want, a.tick)?;
+        self.settle(a.tick)?;
+        self.begin(name, Some(place))?;
         self.threads.push(*name)?;
         self.seats.note(answered, place, a, name)?;
         Ok(())
@@ -130,7 +146,8 @@ impl Carried {
         requires carried { IsCarried self.old answered.now place }
         ensures { OnOk result (IsCarried self.new answered.now (place + 1)) }
     {
-        self.close(alloc, answered, name, &[], a.tick)?;
+        self.settle(a.tick)?;
+        self.close(alloc, answered, name, &[])?;
         self.threads.retain(|thread| !is_same(name, thread));
         Ok(())
     }
@@ -152,9 +169,10 @@ impl Carried {
     {
         let marks = self.seats.below(alloc, answered, place, name)?;
         let moved = self.moved(alloc, answered, name, &marks)?;
-        self.close(alloc, answered, name, &marks, a.tick)?;
+        self.settle(a.tick)?;
+        self.close(alloc, answered, name, &marks)?;
         self.seats.note(answered, place, a, name)?;
-        self.begin_all(answered, &moved, a.tick)?;
+        self.begin_all(&moved)?;
         Ok(())
     }
 
@@ -176,6 +194,36 @@ impl Carried {
             .collect(alloc)
     }
 
+    /// Goes on to a tick. Stays that began in another one have had ticks.
+    fn settle(&mut self, tick: u32) -> Result<(), AllocError>
+        requires { AreFresh self.old.fresh.items self.old.tick }
+        ensures { OnOk result (Settles self.old self.new tick) }
+    {
+        if tick == self.tick {
+            return Ok(());
+        }
+        for at in 0..self.fresh.len() {
+            let found = self.fresh[at];
+            let place = self.stays.len();
+            self.stays.push(found)?;
+            self.going.push(place)?;
+        }
+        self.fresh.clear();
+        self.tick = tick;
+        Ok(())
+    }
+
+    /// All stays that have a tick, or go on.
+    fn settled(self) -> Result<Vec<FoundStay>, AllocError>
+        ensures { IfOk result (λ all. all.items
+            ≡ filter has_lasted (self.stays.items ++ self.fresh.items)) }
+    {
+        let mut all = self.stays;
+        append(&mut all, &self.fresh)?;
+        all.retain(|found| found.has_lasted());
+        Ok(all)
+    }
+
     /// Ends the open stays of whoever is below, by the marks of the schedulers.
     fn close(
         &mut self,
@@ -183,12 +231,29 @@ impl Carried {
         answered: &[Answered],
         above: &Name,
         marks: &[bool],
-        tick: u32,
     ) -> Result<(), AllocError>
         requires { AreOpen self.old.stays.items self.old.going.items }
-        ensures { OnOk result (Closes self.old self.new
-            (next_mark self.old.seats answered.now marks.now above.now) tick) }
+        ensures { OnOk result (Closes self.old self.new (next_mark self.old.seats answered.now marks.now above.now)) }
     {
+        self.close_going(alloc, answered, above, marks)?;
+        let seats = &self.seats;
+        self.fresh.retain(|found| !seats.is_below(answered, above, marks, &found.name));
+        Ok(())
+    }
+
+    /// Ends those that have ticks.
+    fn close_going(
+        &mut self,
+        alloc: Global,
+        answered: &[Answered],
+        above: &Name,
+        marks: &[bool],
+    ) -> Result<(), AllocError>
+        requires { AreOpen self.old.stays.items self.old.going.items }
+        ensures { OnOk result (ClosesGoing self.old self.new
+            (next_mark self.old.seats answered.now marks.now above.now)) }
+    {
+        let tick = self.tick;
         let mut still = Vec::new(alloc);
         for at in 0..self.going.len() {
             let place = self.going[at];
@@ -204,48 +269,41 @@ impl Carried {
     }
 
     /// Begins the stays of threads that were seated.
-    fn begin_all(
-        &mut self,
-        answered: &[Answered],
-        names: &[Name],
-        since: u32,
-    ) -> Result<(), AllocError>
-        ensures { OnOk result (Opens self.old self.new
-            (map (begun_by self.old.seats answered.now since) names.now)) }
+    fn begin_all(&mut self, names: &[Name]) -> Result<(), AllocError>
+        ensures { OnOk result (Opens self.old self.new (map (found_by self.old.seats self.old.tick) names.now)) }
     {
         for name in names {
-            let kept = self.seats.want(answered, name);
-            self.begin(name, kept, since)?;
+            let seated = self.seats.last.find(name);
+            self.begin(name, seated)?;
         }
         Ok(())
     }
 
     /// Begins a stay.
-    fn begin(&mut self, name: &Name, kept: Guarantee, since: u32) -> Result<(), AllocError>
-        ensures { OnOk result (Opens self.old self.new (begun name.now kept since ∷ [])) }
+    fn begin(&mut self, name: &Name, seated: Option<usize>) -> Result<(), AllocError>
+        ensures { OnOk result (Opens self.old self.new (found_from name.now seated self.old.tick ∷ [])) }
     {
-        let place = self.stays.len();
-        self.stays.push(Stay {
+        self.fresh.push(FoundStay {
             name: *name,
-            kept,
-            since,
+            seated,
+            since: self.tick,
             until: None,
         })?;
-        self.going.push(place)?;
         Ok(())
     }
 }
 
-/// All stays that the commands of a report make, in the order in which they are opened.
+/// The stays that the commands of a report make, in the order in which they are opened, but for those that a command
+/// ended before they had a tick.
 ///
 /// # Errors
 /// Returns `AllocError` where there is no memory for what is kept beside the commands.
-pub fn stays_of(alloc: Global, answered: &[Answered]) -> Result<Vec<Stay>, AllocError>
-    ensures { IfOk result (λ all. all.items ≡ told.stays answered.now) }
+pub fn stays_of(alloc: Global, answered: &[Answered]) -> Result<Vec<FoundStay>, AllocError>
+    ensures { IfOk result (λ all. map (stay_by answered.now) all.items ≡ filter lasts (told.stays answered.now)) }
 {
     let mut carried = Carried::new(alloc);
     for place in 0..answered.len() {
         carried.follow(alloc, answered, place)?;
     }
-    Ok(carried.stays)
+    carried.settled()
 }

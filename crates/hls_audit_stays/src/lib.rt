@@ -3,9 +3,11 @@
 
 mod below;
 mod carrying;
+mod found;
 mod places;
 mod seats;
 mod spells;
 
 pub use carrying::stays_of;
+pub use found::FoundStay;
 pub use places::Places;

@@ -2,14 +2,11 @@
 ghost use Rattle.std.specs.Prelude.{◌≡◌, ◌+◌, List, OnOk, Some, true, slice_get};
 ghost use Rattle.hls_report_text.specs.declared.report.Answered as report;
 ghost use Rattle.hls_accounts.specs.Commands as said;
-ghost use Rattle.hls_accounts.specs.Stays.{want_of};
-ghost use Rattle.hls_audit_stays.specs.Inside.Seats.{seated, AreSeats};
+ghost use Rattle.hls_audit_stays.specs.Inside.Seats.{AreSeats};
 ghost use Rattle.hls_audit_stays.specs.Inside.Seats.{LearnsSched, LearnsSpot, LearnsSpots, LearnsSeats};
 
 use crate::places::Places;
-use crate::spells::want_in;
 use hls_chron::Name;
-use hls_guarantee::Guarantee;
 use hls_report_text::Answered;
 use hls_scenario::{Command, Perch, Spot};
 use std::alloc::{AllocError, Global};
@@ -32,19 +29,6 @@ impl Seats {
             last: Places::new(alloc),
             scheds: Vec::new(alloc),
             places: Places::new(alloc),
-        }
-    }
-
-    /// What the command that seated a name last wanted for it.
-    pub(crate) fn want(&self, answered: &[Answered], name: &Name) -> Guarantee
-        ensures { result ≡ want_of (seated self.now.last answered.now name.now) }
-    {
-        match self.last.find(name) {
-            Some(place) => match answered.get(place) {
-                Some(a) => want_in(&a.command),
-                None => Guarantee::Null,
-            },
-            None => Guarantee::Null,
         }
     }
 

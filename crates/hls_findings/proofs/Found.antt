@@ -1,15 +1,17 @@
 -- What is found of stays, one by one.
 use Rattle.std.proofs.Common.{◌≡◌, ℕ, ◌+◌, ◌<◌, ◌≤◌, List, [], ◌∷◌, ◌++◌, length, map, filter, take, get_or}
-use Rattle.std.proofs.Common.{sym, ap, ◌∙◌, subst, arith, cond}
-use Rattle.std.specs.Prelude.{Bool, Some, None}
+use Rattle.std.proofs.Common.{refl, sym, ap, ◌∙◌, subst, arith, cond}
+use Rattle.std.specs.Prelude.{Bool, true, false, Option, Some, None, nat_lt, slice_get}
+use Rattle.std.proofs.lemmas.Option.{slice_get_within, get_or_from_slice_get}
 use Rattle.std.proofs.lemmas.Bool.{cases_Bool, lt-ltb, le-ltb}
-use Rattle.std.proofs.lemmas.List.{take_more, map-append}
+use Rattle.std.proofs.lemmas.List.{length-map, take_more, map-append}
 use Rattle.std.proofs.Common.{inl, inr}
 use Rattle.hls_report_text.specs.declared.report.Account.{Account}
 use Rattle.hls_report_text.specs.Content.{Content}
 use Rattle.hls_accounts.specs.declared.stay.Stay.{Stay}
-use Rattle.hls_accounts.specs.Accounts.{end_of, account_of, accounts_of}
+use Rattle.hls_accounts.specs.Accounts.{end_by, end_of, account_of, accounts_of}
 use Rattle.hls_accounts.specs.Stays.{stays}
+use Rattle.hls_audit_stays.specs.Found.{is_later, lasts}
 use Rattle.hls_audit_stays.proofs.Lists.{filter_append, take_all}
 use Rattle.hls_findings.specs.declared.stay_findings.StayFindings.{StayFindings}
 use Rattle.hls_findings.specs.Inside.StayFindings.{has_tick, account_if, listed, Adds}
@@ -63,10 +65,41 @@ found_more c all i stay old new lt here adds found = record {
       ∙ sym (accounts_more c all i stay lt here);
 }
 
+no_tick : (c : Content) (stay : Stay) (until : Option ℕ) → is_later stay.since until ≡ false
+    → nat_lt stay.since (end_by c.horizon until) ≡ false
+no_tick c stay None off = absurd (let wrong : true ≡ false = off in cc)
+no_tick c stay (Some end) off = off
+
+-- those that do not last have no tick
+ticks_lasting : (c : Content) (all : List Stay) → filter (has_tick c) (filter lasts all) ≡ filter (has_tick c) all
+ticks_lasting c [] = refl
+ticks_lasting c (stay ∷ all) = elim (cases_Bool (lasts stay)) [
+  | inl on ↦
+      ap (λ (b : Bool). filter (has_tick c) (cond b (stay ∷ filter lasts all) (filter lasts all))) on
+      ∙ ap (λ l. cond (has_tick c stay) (stay ∷ l) l) (ticks_lasting c all)
+  | inr off ↦
+      ap (λ (b : Bool). filter (has_tick c) (cond b (stay ∷ filter lasts all) (filter lasts all))) off
+      ∙ ticks_lasting c all
+      ∙ sym (ap (λ (b : Bool). cond b (stay ∷ filter (has_tick c) all) (filter (has_tick c) all))
+      (no_tick c stay stay.until off))
+]
+
 pub found_accounts : (c : Content) (all : List Stay) (i : ℕ) (f : StayFindings) → length all ≤ i
-    → all ≡ stays c.answered → IsFound c all i f → f.accounts.items ≡ accounts_of c
+    → all ≡ filter lasts (stays c.answered) → IsFound c all i f → f.accounts.items ≡ accounts_of c
 found_accounts c all i f end e found =
     found.accounts ∙ ap (λ (l : List Stay). map (account_of c) (filter (has_tick c) l)) (take_all all i end ∙ e)
+    ∙ ap (map (account_of c)) (ticks_lasting c (stays c.answered))
+
+-- ---- stays as they are found
+
+pub found_next : (c : Content) (all : List Stay) (i : ℕ) (stay : Stay) (old new : StayFindings)
+    → slice_get all i ≡ Some stay → Adds c stay old new → IsFound c all i old → IsFound c all (i + 1) new
+found_next c all i stay old new there adds found =
+    found_more c all i stay old new (slice_get_within all i stay there)
+    (sym (get_or_from_slice_get all i stay stay there)) adds found
+
+pub told_length : {A B : Type 0} (f : A → B) (xs : List A) (i : ℕ) → length xs ≤ i → length (map f xs) ≤ i
+told_length f xs i le = let long = length-map xs f in omega (arith, le, long)
 
 -- ---- the account of one stay
 

@@ -1,10 +1,11 @@
 // What becomes of all stays, one after another.
-ghost use Rattle.std.specs.Prelude.{◌≡◌, ◌≤◌, ◌++◌, [], IfOk, OnOk, None};
+ghost use Rattle.std.specs.Prelude.{◌≡◌, ◌≤◌, ◌++◌, [], IfOk, OnOk, None, map, filter};
 ghost use Rattle.hls_guarantee.specs.Limits.{IsValid};
 ghost use Rattle.hls_report_text.specs.Content.{content_of};
 ghost use Rattle.hls_report_text.specs.WellFormed.{IsWellFormed};
 ghost use Rattle.hls_accounts.specs.Accounts as ends;
 ghost use Rattle.hls_accounts.specs.Stays as told;
+ghost use Rattle.hls_audit_stays.specs.Found.{stay_by, lasts};
 ghost use Rattle.hls_clauses.specs.Clauses.{IsStarved, IsOverCap};
 ghost use Rattle.hls_watch.specs.First.{FirstAt};
 ghost use Rattle.hls_findings.specs.Inside.Lookups.{IsLookup};
@@ -17,6 +18,7 @@ use crate::known_threads::{KnownThreads, ThreadTicks};
 use crate::lookup::Lookup;
 use crate::stays::{first_excess, first_lack, sooner_of};
 use hls_accounts::Stay;
+use hls_audit_stays::FoundStay;
 use hls_report_text::{Account, Report};
 use std::alloc::{AllocError, Global};
 
@@ -76,20 +78,21 @@ impl StayFindings {
         alloc: Global,
         report: &Report,
         lookup: &Lookup,
-        stays: &[Stay],
+        stays: &[FoundStay],
     ) -> Result<StayFindings, AllocError>
         requires formed { IsWellFormed report.now }
         requires lookup { IsLookup report.now lookup.now }
-        requires stays { stays.now ≡ told.stays report.now.answered }
+        requires stays { map (stay_by report.now.answered) stays.now ≡ filter lasts (told.stays report.now.answered) }
         ensures starved { IfOk result (λ f. FirstAt (IsStarved (content_of report.now)) f.starved) }
         ensures over_cap { IfOk result (λ f. FirstAt (IsOverCap (content_of report.now)) f.over_cap) }
         ensures accounts { IfOk result (λ f. f.accounts.items ≡ ends.accounts_of (content_of report.now)) }
     {
         let mut known = KnownThreads::new(alloc);
         let mut findings = StayFindings::new(alloc);
-        for stay in stays {
+        for found in stays {
+            let stay = found.stay(report.answered.items());
             let place = known.place_of(alloc, report, lookup, &stay.name)?;
-            findings.visit(alloc, report, stay, &known.ticks[place])?;
+            findings.visit(alloc, report, &stay, &known.ticks[place])?;
         }
         Ok(findings)
     }

@@ -10,11 +10,8 @@ use Rattle.hls_report_text.specs.declared.report.Answered.{Answered}
 use Rattle.hls_accounts.specs.Commands.{last_seating}
 use Rattle.hls_audit_stays.specs.declared.places.Places.{Places}
 use Rattle.hls_audit_stays.specs.declared.seats.Seats.{Seats}
+use Rattle.hls_audit_stays.specs.Found.{command_at}
 use Rattle.hls_audit_stays.specs.Places.{place_in}
-
-abbrev pub command_at : List Answered → Option ℕ → Option Answered
-command_at all None = None
-command_at all (Some place) = slice_get all place
 
 -- the command that seated a name last
 abbrev pub seated : Places → List Answered → (name : Text) → Option Answered

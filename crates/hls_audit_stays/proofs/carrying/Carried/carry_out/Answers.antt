@@ -11,7 +11,7 @@ returns-in-Load c =
     let command = Load c.in-Load.name c.in-Load.config c.in-Load.perches in
     ok_then c.note.result (λ seats. carried_quiet c.args.self.now _ all c.args.place a c.requires.there
     (quiet_load (take c.args.place all) a command c.requires.done c.in-Load.is (λ n. refl) refl (λ n. refl) refl)
-    refl refl refl seats c.requires.carried) c.note.ensures
+    refl c.requires.carried.open_at c.requires.carried.fresh refl seats c.requires.carried) c.note.ensures
 
 pub returns-in-Unload : goal.returns-in-Unload
 returns-in-Unload c =
@@ -20,7 +20,8 @@ returns-in-Unload c =
     let done = c.requires.done in
     let command = Unload c.in-Unload.name in
     carried_quiet c.args.self.now c.args.self.now all c.args.place a c.requires.there
-    (quiet_load (take c.args.place all) a command done c.in-Unload.is (λ n. refl) refl (λ n. refl) refl) refl refl refl
+    (quiet_load (take c.args.place all) a command done c.in-Unload.is (λ n. refl) refl (λ n. refl) refl) refl c.requires.carried.open_at
+    c.requires.carried.fresh refl
     (seats_pass c.args.self.now.seats all c.args.place a c.requires.there
     (other_seats a command done c.in-Unload.is (λ n. refl)) c.requires.carried.seats)
     c.requires.carried
@@ -32,7 +33,8 @@ returns-in-Wake c =
     let done = c.requires.done in
     let command = Wake c.in-Wake.name c.in-Wake.burst in
     carried_quiet c.args.self.now c.args.self.now all c.args.place a c.requires.there
-    (quiet_load (take c.args.place all) a command done c.in-Wake.is (λ n. refl) refl (λ n. refl) refl) refl refl refl
+    (quiet_load (take c.args.place all) a command done c.in-Wake.is (λ n. refl) refl (λ n. refl) refl) refl c.requires.carried.open_at
+    c.requires.carried.fresh refl
     (seats_pass c.args.self.now.seats all c.args.place a c.requires.there
     (other_seats a command done c.in-Wake.is (λ n. refl)) c.requires.carried.seats)
     c.requires.carried
@@ -44,7 +46,8 @@ returns-in-Block c =
     let done = c.requires.done in
     let command = Block c.in-Block.name in
     carried_quiet c.args.self.now c.args.self.now all c.args.place a c.requires.there
-    (quiet_load (take c.args.place all) a command done c.in-Block.is (λ n. refl) refl (λ n. refl) refl) refl refl refl
+    (quiet_load (take c.args.place all) a command done c.in-Block.is (λ n. refl) refl (λ n. refl) refl) refl c.requires.carried.open_at
+    c.requires.carried.fresh refl
     (seats_pass c.args.self.now.seats all c.args.place a c.requires.there
     (other_seats a command done c.in-Block.is (λ n. refl)) c.requires.carried.seats)
     c.requires.carried

@@ -13,6 +13,7 @@ returns-in-Refused c =
     let there : slice_get all c.args.place ≡ Some a =
     slice_get_read all _ c.args.place a refl c.requires.place c.index-answered-place.is in
     let off : is_done a.answer ≡ false = ap is_done c.in-Refused.is in
-    carried_quiet old old all c.args.place a there (quiet_refused (take c.args.place all) a off) refl refl refl
+    carried_quiet old old all c.args.place a there (quiet_refused (take c.args.place all) a off) refl
+    c.requires.carried.open_at c.requires.carried.fresh refl
     (seats_pass old.seats all c.args.place a there (refused_seats a off) c.requires.carried.seats)
     c.requires.carried
