@@ -46,7 +46,7 @@ fn spells(alloc: Global, line: &[u8], item: &Item) -> Result<bool, AllocError>
     requires { IsCommand item.now.command }
     ensures { IfOk result (λ is. IsTrue is ↔ (line.now ≡ item_text item.now)) }
 {
-    let mut text = Vec::new(alloc);
+    let mut text = Vec::with_capacity(alloc, line.len())?;
     put_command(&mut text, item.tick, &item.command)?;
     Ok(line == text.as_slice())
 }

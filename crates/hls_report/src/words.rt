@@ -7,14 +7,14 @@ ghost use Rattle.hls_text.specs.Decimals.{number_below};
 ghost use Rattle.hls_report_text.specs.ReportText.{place_text, kind_text};
 
 use hls_chron::{Kind, Name};
-use hls_text::decimal_number;
+use hls_text::{decimal_number, number};
 
 /// A number of 32 bits.
 pub fn count(text: &[u8]) -> Option<u32>
     ensures read { result ≡ count_at text.now }
     ensures found { IfSome result (λ n. text.now ≡ decimal n) }
 {
-    match decimal_number(text) {
+    match number(text) {
         Some(n) if n < 4_294_967_296 => Some(n as u32),
         _ => None,
     }
