@@ -1,7 +1,7 @@
 -- Commands and runs, tick by tick.
 use Rattle.std.proofs.Common.{◌≡◌, ℕ, zero, suc, ◌+◌, ◌<◌, ◌≤◌, List, [], ◌∷◌, inl, inr}
 use Rattle.std.proofs.Common.{refl, sym, ap, ◌∙◌, subst, arith, cond, length, get_or, take, map}
-use Rattle.std.specs.Prelude.{Bool, true, false, Option, Some, None, ◌&&◌, nat_le, slice_get, filter, option_map}
+use Rattle.std.specs.Prelude.{Bool, Some, None, nat_le, slice_get, filter, option_map}
 use Rattle.std.proofs.lemmas.Bool.{cases_eq, le-leb, lt-leb}
 use Rattle.std.proofs.lemmas.List.Sums.{fold_more}
 use Rattle.std.proofs.lemmas.Option.{slice_get_read, slice_get_within, get_or_from_slice_get}
@@ -11,7 +11,7 @@ use Rattle.hls_report_text.specs.declared.report.Run.{Run}
 use Rattle.hls_report_text.specs.declared.stretch.Stretch.{Stretch}
 use Rattle.hls_report_text.specs.Content.{Content, path_names, stretch_of}
 use Rattle.hls_report_text.specs.WellFormed.{Cover, IsContent}
-use Rattle.hls_accounts.specs.Schedule.{has_tick, path_at}
+use Rattle.hls_accounts.specs.Schedule.{path_at}
 use Rattle.hls_clauses.specs.declared.member.Member.{Member}
 use Rattle.hls_clauses.specs.Names.{after_answer, tree_of, tree_at}
 use Rattle.hls_clauses.specs.Ways.{leads_down}
@@ -180,13 +180,13 @@ reach_next c names runs items t at run formed e same found early past reached =
       until = omega (arith, since, until, over, ahead);
     }
 
--- where neither run nor commands are new, nothing leads astray that did not before
-pub same_before : (c : Content) (names : List Text) (runs : List Run) (t next at : ℕ) (old new : List Member)
-    → IsContent c → c.stretches ≡ map (stretch_of names) runs → 0 < t → IsAbreast c.answered t next old
-    → IsAbreast c.answered (t + 1) next new → IsReached runs t at → IsReached runs (t + 1) at
+-- where neither run nor tree are new, nothing leads astray that did not before
+pub same_before : (c : Content) (names : List Text) (runs : List Run) (t next later at : ℕ) (old new : List Member)
+    → IsContent c → new ≡ old → c.stretches ≡ map (stretch_of names) runs → 0 < t → IsAbreast c.answered t next old
+    → IsAbreast c.answered (t + 1) later new → IsReached runs t at → IsReached runs (t + 1) at
     → ((k : ℕ) → k < t → ¬ IsAstray c k) → ¬ IsAstray c t
-same_before c names runs zero next at old new formed e some tree more was is none now = absurd (omega (arith, some))
-same_before c names runs (suc t) next at old new formed e some tree more was is none now =
+same_before c names runs zero next later at old new formed trees e some tree more was is none now = absurd (omega (arith, some))
+same_before c names runs (suc t) next later at old new formed equal e some tree more was is none now =
     let since = was.since in
     let until = was.until in
     let one : is.run ≡ was.run = one_run is.run was.run (sym is.there ∙ was.there) in
@@ -196,10 +196,10 @@ same_before c names runs (suc t) next at old new formed e some tree more was is 
     let before = path_is c names runs t at was.run formed e was.there (omega (arith, since)) (omega (arith, until)) in
     let same = before ∙ ap (λ (x : Run). option_map (path_names names) x.path) (sym one) ∙ sym here in
     let then : old ≡ tree_at t c.answered = tree_here c.answered t (suc t) next old (omega arith) tree in
-    let later : new ≡ tree_at (suc t) c.answered =
-    tree_here c.answered (suc t) (suc t + 1) next new refl more in
+    let after : new ≡ tree_at (suc t) c.answered =
+    tree_here c.answered (suc t) (suc t + 1) later new refl more in
     let trees : tree_at (suc t) c.answered ≡ tree_at t c.answered =
-    sym later ∙ more.tree_is ∙ sym tree.tree_is ∙ then in
+    sym after ∙ equal ∙ then in
     none t (omega arith) (record {
       names = now.names;
       path = same ∙ now.path;

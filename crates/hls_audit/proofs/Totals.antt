@@ -4,8 +4,6 @@ use Rattle.std.specs.Prelude.{Decides, Bool, true, false, ◌&&◌, ◌==◌}
 use Rattle.std.specs.Str.{bytes_eq}
 use Rattle.std.proofs.lemmas.Bool.{eq-eqb, eqb-true}
 use Rattle.std.proofs.lemmas.Slice.Eq.{bytes_eq-Decides}
-use Rattle.hls_text.specs.Lines.{Text}
-use Rattle.hls_guarantee.specs.declared.Guarantee.{Guarantee}
 use Rattle.hls_report_text.specs.declared.report.Account.{Account}
 use Rattle.hls_findings.proofs.Counted.{account_by}
 

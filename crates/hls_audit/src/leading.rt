@@ -1,5 +1,6 @@
 // Paths that lead nowhere, by a tree that follows the commands from tick to tick.
-ghost use Rattle.std.specs.Prelude.{◌≡◌, ◌+◌, ◌<◌, IfOk, Decides, option_map, true};
+ghost use Rattle.std.specs.Prelude.{◌≡◌, ◌+◌, ◌<◌, List, IfOk, Decides, option_map, true};
+ghost use Rattle.hls_clauses.specs.declared.member.Member.{Member};
 ghost use Rattle.hls_report_text.specs.Content.{content_of, path_names};
 ghost use Rattle.hls_report_text.specs.WellFormed.{HasShort, IsWellFormed};
 ghost use Rattle.hls_accounts.specs.Schedule as spelled;
@@ -10,29 +11,61 @@ ghost use Rattle.hls_audit.specs.Inside.Leading.{IsAbreast, IsReached};
 ghost use Rattle.hls_findings.specs.Inside.Order.{AreInOrder};
 
 use crate::tree::Tree;
-use hls_report_text::{Answered, Path, Report};
+use hls_report_text::{Answer, Answered, Path, Report};
+use hls_scenario::Command;
 use std::alloc::{AllocError, Global};
 
-/// Lets the tree follow the commands of a tick. Returns the place of the first one after it.
+/// Whether a command surely leaves every tree as it is: where it was refused, and where it wakes or blocks.
+fn leaves_names(a: &Answered) -> bool
+    ensures { result ≡ true → (tree : List Member) → told.after_answer tree a.now ≡ tree }
+{
+    match &a.answer {
+        Answer::Done(_) => is_rousing(&a.command),
+        Answer::Refused(_) => true,
+    }
+}
+
+fn is_rousing(command: &Command) -> bool
+    ensures { result ≡ true → (tree : List Member) → told.after tree command.now ≡ tree }
+{
+    match command {
+        Command::Wake { .. } => true,
+        Command::Block { .. } => true,
+        _ => false,
+    }
+}
+
+/// Whether a tree surely is as before behind a command, from whether it was so in front of it.
+fn stays_same(is_same: bool, a: &Answered) -> bool
+    ensures { result ≡ true → (is_same ≡ true) × ((tree : List Member) → told.after_answer tree a.now ≡ tree) }
+{
+    is_same && leaves_names(a)
+}
+
+/// Lets the tree follow the commands of a tick. Returns the place of the first one after it, and whether the tree
+/// surely is as before.
 fn follow_tick(
     alloc: Global,
     tree: &mut Tree,
     answered: &[Answered],
     from: usize,
     tick: u32,
-) -> Result<usize, AllocError>
+) -> Result<(usize, bool), AllocError>
     requires order { AreInOrder answered.now }
     requires abreast { IsAbreast answered.now tick from tree.old.members.items }
-    ensures { IfOk result (λ next. IsAbreast answered.now (tick + 1) next tree.new.members.items) }
+    ensures { IfOk result (λ p. IsAbreast answered.now (tick + 1) p.0 tree.new.members.items
+        × (p.1 ≡ true → tree.new.members.items ≡ tree.old.members.items)) }
 {
+    let mut is_same = true;
     for at in from..answered.len() {
         let a = &answered[at];
         if tick < a.tick {
-            return Ok(at);
+            return Ok((at, is_same));
         }
         tree.follow(alloc, a)?;
+        is_same = stays_same(is_same, a);
     }
-    Ok(answered.len())
+    Ok((answered.len(), is_same))
 }
 
 /// The place of the run that has a tick, from the place of the one that has the tick before it.
@@ -75,15 +108,15 @@ fn is_astray(report: &Report, tree: &Tree, at: usize, tick: u32) -> bool
     }
 }
 
-/// Whether a tick is not the first, and neither commands nor a run came with it, by the places before it and in it.
-fn is_as_before(tick: u32, known: usize, next: usize, last: usize, at: usize) -> bool
-    ensures { result ≡ true → (0 < tick) × (next ≡ known) × (at ≡ last) }
+/// Whether a tick is not the first, and neither the tree nor the run is new in it.
+fn is_as_before(tick: u32, is_same: bool, last: usize, at: usize) -> bool
+    ensures { result ≡ true → (0 < tick) × (is_same ≡ true) × (at ≡ last) }
 {
-    0 < tick && next == known && at == last
+    0 < tick && is_same && at == last
 }
 
 /// The first tick at which the second clause fails. A path is looked at where its run begins, and where commands
-/// came: in between neither the path nor the tree changes.
+/// changed the tree.
 pub(crate) fn first_astray(alloc: Global, report: &Report) -> Result<Option<u32>, AllocError>
     requires { IsWellFormed report.now }
     ensures { IfOk result (FirstAt (IsAstray (content_of report.now))) }
@@ -92,10 +125,11 @@ pub(crate) fn first_astray(alloc: Global, report: &Report) -> Result<Option<u32>
     let mut next = 0;
     let mut at = 0;
     for tick in 0..report.horizon {
-        let (known, last) = (next, at);
-        next = follow_tick(alloc, &mut tree, report.answered.items(), known, tick)?;
+        let last = at;
+        let (upto, is_same) = follow_tick(alloc, &mut tree, report.answered.items(), next, tick)?;
+        next = upto;
         at = run_of(report, last, tick);
-        if !is_as_before(tick, known, next, last, at) && is_astray(report, &tree, at, tick) {
+        if !is_as_before(tick, is_same, last, at) && is_astray(report, &tree, at, tick) {
             return Ok(Some(tick));
         }
     }

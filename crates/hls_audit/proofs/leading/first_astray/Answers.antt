@@ -1,4 +1,4 @@
-use Rattle.std.proofs.Common.{refl, ◌+◌, subst, List, ℕ, arith}
+use Rattle.std.proofs.Common.{refl, ◌+◌, subst, List, arith}
 use Rattle.hls_report_text.specs.declared.report.Answered.{Answered}
 use Rattle.hls_report_text.specs.Content.{content_of}
 use Rattle.hls_clauses.specs.Clauses.{IsAstray}
@@ -28,10 +28,10 @@ follow_tick-requires-clause-order c =
 
 pub is_astray-requires-clause-tree : goal.is_astray-requires-clause-tree
 is_astray-requires-clause-tree c =
-    tree_here c.args.report.now.answered c.loop-tick.tick (c.loop-tick.tick + 1) c.in_ok-next.next
+    tree_here c.args.report.now.answered c.loop-tick.tick (c.loop-tick.tick + 1) c.in_ok-upto.upto
     c.follow_tick.new.tree.members.items refl
-    (subst (λ (l : List Answered). IsAbreast l (c.loop-tick.tick + 1) c.in_ok-next.next
-    c.follow_tick.new.tree.members.items) c.items.ensures c.in_ok-next.ensures)
+    (subst (λ (l : List Answered). IsAbreast l (c.loop-tick.tick + 1) c.in_ok-upto.upto
+    c.follow_tick.new.tree.members.items) c.items.ensures c.in_ok-upto.ensures.0)
 
 pub returns-then-is_astray : goal.returns-then-is_astray
 returns-then-is_astray c = record {
@@ -49,8 +49,8 @@ pub loop-tick-preserved : goal.loop-tick-preserved
 loop-tick-preserved c =
     let content = content_of c.args.report.now in
     let tick = c.loop-tick.tick in
-    let more = subst (λ (l : List Answered). IsAbreast l (tick + 1) c.in_ok-next.next
-    c.follow_tick.new.tree.members.items) c.items.ensures c.in_ok-next.ensures in
+    let more = subst (λ (l : List Answered). IsAbreast l (tick + 1) c.in_ok-upto.upto
+    c.follow_tick.new.tree.members.items) c.items.ensures c.in_ok-upto.ensures.0 in
     let so_far = c.loop-tick.invariant in record {
       abreast = more;
       reached = c.run_of-at.ensures;
@@ -59,11 +59,9 @@ loop-tick-preserved c =
             is_not w.is_astray.result w.is_astray.ensures w.if-is_astray.false
         | else-not-is_as_before-via-else-not-is_as_before w ↦
             let same = c.is_as_before.ensures w.if-not-is_as_before.false in
-            same_before content c.args.report.now.names c.args.report.now.runs tick c.loop-tick.next c.loop-tick.at
-            c.loop-tick.tree.members.items c.follow_tick.new.tree.members.items c.requires.content refl same.0
-            so_far.abreast
-            (subst (λ (n : ℕ). IsAbreast content.answered (tick + 1) n c.follow_tick.new.tree.members.items)
-            same.1 more)
+            same_before content c.args.report.now.names c.args.report.now.runs tick c.loop-tick.next c.in_ok-upto.upto c.loop-tick.at
+            c.loop-tick.tree.members.items c.follow_tick.new.tree.members.items c.requires.content
+            (c.in_ok-upto.ensures.1 same.1) refl same.0 so_far.abreast more
             so_far.reached (subst (IsReached c.args.report.now.runs (tick + 1)) same.2 c.run_of-at.ensures)
             so_far.none
       ]);
