@@ -61,6 +61,10 @@ fn next_seat(
 fn keep_seat(seats: &mut Vec<Seated>, seat: Seated) -> Result<(), AllocError>
     ensures { OnOk result (seats.new.items ≡ seats.old.items ++ seat ∷ []) }
 {
+    // Most commands tell one seat, and a seat is large: the first takes room for one.
+    if seats.is_empty() {
+        seats.reserve_exact(1)?;
+    }
     seats.push(seat)?;
     Ok(())
 }
