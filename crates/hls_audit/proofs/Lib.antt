@@ -6,7 +6,6 @@ pub mod DueLaws
 pub mod TreeLaws
 pub mod Misplacing
 pub mod Orders
-pub mod Totals
 pub mod Firsts
 pub mod KnownLaws
 pub mod RisingLaws

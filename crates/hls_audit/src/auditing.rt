@@ -67,5 +67,5 @@ pub fn audit(alloc: Global, report: &Report) -> Result<Outcome, AllocError>
         6,
         first_underived(alloc, report, bound(over_cap, report.horizon))?,
     );
-    Ok(sooner(underived, 7, first_miscounted(report, &found.accounts)))
+    Ok(sooner(underived, 7, first_miscounted(report, found.is_counted)))
 }

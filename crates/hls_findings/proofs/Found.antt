@@ -14,23 +14,25 @@ use Rattle.hls_accounts.specs.Stays.{stays}
 use Rattle.hls_audit_stays.specs.Found.{is_later, lasts}
 use Rattle.hls_audit_stays.proofs.Lists.{filter_append, take_all}
 use Rattle.hls_findings.specs.declared.stay_findings.StayFindings.{StayFindings}
-use Rattle.hls_findings.specs.Inside.StayFindings.{has_tick, account_if, listed, Adds}
+use Rattle.hls_findings.specs.Inside.Meeting.{listed, AreMet}
+use Rattle.hls_findings.specs.Inside.StayFindings.{has_tick, account_if, Adds}
 use Rattle.hls_findings.specs.Inside.Sites.{Starves, Exceeds}
 use Rattle.hls_watch.specs.First.{FirstAt}
 use Rattle.hls_findings.proofs.EachStay.{HasEarly, early_none, early_more}
+use Rattle.hls_findings.proofs.MeetingLaws.{met_none}
 
 -- what is found of the first so many
 pub record IsFound (c : Content) (all : List Stay) (i : ℕ) (f : StayFindings) : Type 0 where
   pub starved : FirstAt (λ t. HasEarly (Starves c t) all i) f.starved
   pub over_cap : FirstAt (λ t. HasEarly (Exceeds c t) all i) f.over_cap
-  pub accounts : f.accounts.items ≡ map (account_of c) (filter (has_tick c) (take i all))
+  pub accounts : AreMet c.accounts (map (account_of c) (filter (has_tick c) (take i all))) f.met
 
 pub found_none : (c : Content) (all : List Stay) (f : StayFindings) → f.starved ≡ None → f.over_cap ≡ None
-    → f.accounts.items ≡ [] → IsFound c all 0 f
-found_none c all f starved over accounts = record {
+    → f.met ≡ Some 0 → IsFound c all 0 f
+found_none c all f starved over met = record {
   starved = subst (FirstAt (λ t. HasEarly (Starves c t) all 0)) (sym starved) (early_none (Starves c) all);
   over_cap = subst (FirstAt (λ t. HasEarly (Exceeds c t) all 0)) (sym over) (early_none (Exceeds c) all);
-  accounts = accounts;
+  accounts = met_none c.accounts f.met met;
 }
 
 listed_one : (c : Content) (stay : Stay)
@@ -61,8 +63,8 @@ found_more c all i stay old new lt here adds found = record {
       adds.lacks;
   over_cap = early_more (Exceeds c) all i stay old.over_cap adds.excess new.over_cap lt here adds.over_cap
       found.over_cap adds.exceeds;
-  accounts = adds.accounts ∙ ap (λ l. l ++ listed (account_if c stay)) found.accounts
-      ∙ sym (accounts_more c all i stay lt here);
+  accounts = subst (λ l. AreMet c.accounts l new.met) (sym (accounts_more c all i stay lt here))
+      (adds.accounts (map (account_of c) (filter (has_tick c) (take i all))) found.accounts);
 }
 
 no_tick : (c : Content) (stay : Stay) (until : Option ℕ) → is_later stay.since until ≡ false
@@ -85,10 +87,12 @@ ticks_lasting c (stay ∷ all) = elim (cases_Bool (lasts stay)) [
 ]
 
 pub found_accounts : (c : Content) (all : List Stay) (i : ℕ) (f : StayFindings) → length all ≤ i
-    → all ≡ filter lasts (stays c.answered) → IsFound c all i f → f.accounts.items ≡ accounts_of c
+    → all ≡ filter lasts (stays c.answered) → IsFound c all i f → AreMet c.accounts (accounts_of c) f.met
 found_accounts c all i f end e found =
-    found.accounts ∙ ap (λ (l : List Stay). map (account_of c) (filter (has_tick c) l)) (take_all all i end ∙ e)
-    ∙ ap (map (account_of c)) (ticks_lasting c (stays c.answered))
+    subst (λ l. AreMet c.accounts l f.met)
+    (ap (λ (l : List Stay). map (account_of c) (filter (has_tick c) l)) (take_all all i end ∙ e)
+    ∙ ap (map (account_of c)) (ticks_lasting c (stays c.answered)))
+    found.accounts
 
 -- ---- stays as they are found
 

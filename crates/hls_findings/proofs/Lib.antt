@@ -9,8 +9,10 @@ pub mod OneStay
 pub mod LineLaws
 pub mod Linked
 pub mod EachName
+pub mod MeetingLaws
 pub mod Found
 pub mod KnownLaws
 pub mod LookupLaws
 pub mod MarkedLaws
 pub mod Counted
+pub mod SameAccounts

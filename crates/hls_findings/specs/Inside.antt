@@ -4,6 +4,7 @@ pub mod Chains
 pub mod Ticks
 pub mod Lines
 pub mod Least
+pub mod Meeting
 pub mod StayFindings
 pub mod KnownThreads
 pub mod Lookups

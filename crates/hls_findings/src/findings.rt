@@ -1,5 +1,5 @@
 // What becomes of the threads of a report.
-ghost use Rattle.std.specs.Prelude.{◌≡◌, IfOk};
+ghost use Rattle.std.specs.Prelude.{◌≡◌, Decides, IfOk};
 ghost use Rattle.hls_report_text.specs.Content.{content_of};
 ghost use Rattle.hls_report_text.specs.WellFormed.{IsWellFormed};
 ghost use Rattle.hls_accounts.specs.Accounts as told;
@@ -7,10 +7,11 @@ ghost use Rattle.hls_clauses.specs.Clauses.{RunsUnready, IsStarved, IsOverCap};
 ghost use Rattle.hls_watch.specs.First.{FirstAt};
 
 use crate::lookup::Lookup;
+use crate::meeting::are_all_met;
 use crate::paths::first_unready;
 use crate::stay_findings::StayFindings;
 use hls_audit_stays::stays_of;
-use hls_report_text::{Account, Report};
+use hls_report_text::Report;
 use std::alloc::{AllocError, Global};
 
 /// What the commands and the schedule of a report show of its threads.
@@ -22,8 +23,8 @@ pub struct Findings {
     pub starved: Option<u32>,
     /// The first tick in which a thread runs and exceeds the cap of its stay.
     pub over_cap: Option<u32>,
-    /// The account of each stay that has a tick.
-    pub accounts: Vec<Account>,
+    /// Whether the accounts of the report are those of the stays that have a tick.
+    pub is_counted: bool,
 }
 
 impl Findings {
@@ -36,7 +37,8 @@ impl Findings {
         ensures unready { IfOk result (λ f. FirstAt (RunsUnready (content_of report.now)) f.unready) }
         ensures starved { IfOk result (λ f. FirstAt (IsStarved (content_of report.now)) f.starved) }
         ensures over_cap { IfOk result (λ f. FirstAt (IsOverCap (content_of report.now)) f.over_cap) }
-        ensures accounts { IfOk result (λ f. f.accounts.items ≡ told.accounts_of (content_of report.now)) }
+        ensures counted { IfOk result (λ f.
+            Decides f.is_counted (report.now.accounts ≡ told.accounts_of (content_of report.now))) }
     {
         let stays = stays_of(alloc, report.answered.items())?;
         let lookup = Lookup::of(alloc, report)?;
@@ -46,7 +48,7 @@ impl Findings {
             unready,
             starved: of_stays.starved,
             over_cap: of_stays.over_cap,
-            accounts: of_stays.accounts,
+            is_counted: are_all_met(report.accounts.items(), of_stays.met),
         })
     }
 }

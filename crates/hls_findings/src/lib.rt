@@ -7,6 +7,7 @@ mod findings;
 mod known_threads;
 mod lines;
 mod lookup;
+mod meeting;
 mod paths;
 mod starving;
 mod stay_findings;

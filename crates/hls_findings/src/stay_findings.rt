@@ -1,5 +1,5 @@
 // What becomes of all stays, one after another.
-ghost use Rattle.std.specs.Prelude.{◌≡◌, ◌≤◌, ◌++◌, [], IfOk, OnOk, None, map, filter};
+ghost use Rattle.std.specs.Prelude.{◌≡◌, ◌≤◌, IfOk, OnOk, None, Some, map, filter};
 ghost use Rattle.hls_guarantee.specs.Limits.{IsValid};
 ghost use Rattle.hls_report_text.specs.Content.{content_of};
 ghost use Rattle.hls_report_text.specs.WellFormed.{IsWellFormed};
@@ -11,37 +11,39 @@ ghost use Rattle.hls_watch.specs.First.{FirstAt};
 ghost use Rattle.hls_findings.specs.Inside.Lookups.{IsLookup};
 ghost use Rattle.hls_findings.specs.Inside.KnownThreads.{AreKnown};
 ghost use Rattle.hls_findings.specs.Inside.Ticks.{TellsReady, TellsServed};
-ghost use Rattle.hls_findings.specs.Inside.StayFindings.{account_if, listed, Adds};
+ghost use Rattle.hls_findings.specs.Inside.Meeting.{AreMet};
+ghost use Rattle.hls_findings.specs.Inside.StayFindings.{Adds};
 
 use crate::accounts::account_of;
 use crate::known_threads::{KnownThreads, ThreadTicks};
 use crate::lookup::Lookup;
+use crate::meeting::meet;
 use crate::stays::{first_excess, first_lack, sooner_of};
 use hls_accounts::Stay;
 use hls_audit_stays::FoundStay;
-use hls_report_text::{Account, Report};
+use hls_report_text::Report;
 use std::alloc::{AllocError, Global};
 
-/// Of stays: the first tick at which one starves, the first at which one is over its cap, and the account of each that
-/// has a tick, in their order.
+/// Of stays: the first tick at which one starves, the first at which one is over its cap, and how many accounts of the
+/// report are those of the stays that have a tick, in their order; `None` where one is not.
 #[derive(Drop)]
 pub(crate) struct StayFindings {
     pub(crate) starved: Option<u32>,
     pub(crate) over_cap: Option<u32>,
-    pub(crate) accounts: Vec<Account>,
+    pub(crate) met: Option<usize>,
 }
 
 impl StayFindings {
     /// Nothing is found of any stay yet.
-    fn new(alloc: Global) -> StayFindings
+    fn new() -> StayFindings
         ensures starved { result.starved ≡ None }
         ensures over_cap { result.over_cap ≡ None }
-        ensures accounts { result.accounts.items ≡ [] }
+        ensures met { result.met ≡ Some 0 }
     {
         StayFindings {
             starved: None,
             over_cap: None,
-            accounts: Vec::new(alloc),
+            met: Some(0),
         }
     }
 
@@ -64,10 +66,9 @@ impl StayFindings {
         let excess = first_excess(alloc, report, stay, &ticks.served)?;
         self.starved = sooner_of(self.starved, lack);
         self.over_cap = sooner_of(self.over_cap, excess);
-        push_some(
-            &mut self.accounts,
-            account_of(report, stay, &ticks.ready, &ticks.served),
-        )
+        let found = account_of(report, stay, &ticks.ready, &ticks.served);
+        self.met = meet(report.accounts.items(), self.met, found);
+        Ok(())
     }
 
     /// What becomes of all stays.
@@ -85,10 +86,11 @@ impl StayFindings {
         requires stays { map (stay_by report.now.answered) stays.now ≡ filter lasts (told.stays report.now.answered) }
         ensures starved { IfOk result (λ f. FirstAt (IsStarved (content_of report.now)) f.starved) }
         ensures over_cap { IfOk result (λ f. FirstAt (IsOverCap (content_of report.now)) f.over_cap) }
-        ensures accounts { IfOk result (λ f. f.accounts.items ≡ ends.accounts_of (content_of report.now)) }
+        ensures accounts { IfOk result (λ f.
+            AreMet report.now.accounts (ends.accounts_of (content_of report.now)) f.met) }
     {
         let mut known = KnownThreads::new(alloc);
-        let mut findings = StayFindings::new(alloc);
+        let mut findings = StayFindings::new();
         for found in stays {
             let stay = found.stay(report.answered.items());
             let place = known.place_of(alloc, report, lookup, &stay.name)?;
@@ -96,14 +98,4 @@ impl StayFindings {
         }
         Ok(findings)
     }
-}
-
-/// Appends an account that is there.
-fn push_some(accounts: &mut Vec<Account>, found: Option<Account>) -> Result<(), AllocError>
-    ensures { OnOk result (accounts.new.items ≡ accounts.old.items ++ listed found) }
-{
-    if let Some(account) = found {
-        accounts.push(account)?;
-    }
-    Ok(())
 }

@@ -1,5 +1,5 @@
 -- What is found of stays, one by one.
-use Rattle.std.specs.Prelude.{◌≡◌, ℕ, List, [], ◌∷◌, ◌++◌, Option, Some, None, Bool, nat_lt}
+use Rattle.std.specs.Prelude.{◌≡◌, ℕ, List, ◌++◌, Option, Some, None, Bool, nat_lt}
 use Rattle.std.specs.Prelude.{if◌then◌else◌}
 use Rattle.hls_report_text.specs.declared.report.Account.{Account}
 use Rattle.hls_report_text.specs.Content.{Content}
@@ -8,6 +8,7 @@ use Rattle.hls_accounts.specs.Accounts.{end_of, account_of}
 use Rattle.hls_findings.specs.declared.stay_findings.StayFindings.{StayFindings}
 use Rattle.hls_watch.specs.First.{FirstAt}
 use Rattle.hls_findings.specs.Inside.Least.{sooner_of}
+use Rattle.hls_findings.specs.Inside.Meeting.{listed, AreMet}
 use Rattle.hls_findings.specs.Inside.Sites.{Starves, Exceeds}
 
 abbrev pub has_tick : Content → Stay → Bool
@@ -17,10 +18,6 @@ has_tick c stay = nat_lt stay.since (end_of c stay)
 abbrev pub account_if : Content → Stay → Option Account
 account_if c stay = if has_tick c stay then Some (account_of c stay) else None
 
-abbrev pub listed : Option Account → List Account
-listed None = []
-listed (Some account) = account ∷ []
-
 -- what is found of one stay more
 pub record Adds (c : Content) (stay : Stay) (old new : StayFindings) : Type 0 where
   pub lack : Option ℕ
@@ -29,4 +26,5 @@ pub record Adds (c : Content) (stay : Stay) (old new : StayFindings) : Type 0 wh
   pub excess : Option ℕ
   pub exceeds : FirstAt (λ t. Exceeds c t stay) excess
   pub over_cap : new.over_cap ≡ sooner_of old.over_cap excess
-  pub accounts : new.accounts.items ≡ old.accounts.items ++ listed (account_if c stay)
+  pub accounts : (before : List Account) → AreMet c.accounts before old.met
+      → AreMet c.accounts (before ++ listed (account_if c stay)) new.met

@@ -12,7 +12,7 @@ pub loop-found-init : goal.loop-found-init
 loop-found-init c = record {
   known = c.new-known.ensures c.args.report.now;
   found = found_none (content_of c.args.report.now) (map (stay_by c.args.report.now.answered) c.args.stays.now) _
-      c.new-findings.ensures.starved c.new-findings.ensures.over_cap c.new-findings.ensures.accounts;
+      c.new-findings.ensures.starved c.new-findings.ensures.over_cap c.new-findings.ensures.met;
 }
 
 pub visit-requires-clause-kept : goal.visit-requires-clause-kept

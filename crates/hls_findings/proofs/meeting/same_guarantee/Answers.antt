@@ -1,7 +1,7 @@
 use Rattle.std.proofs.Common.{◌≡◌, ◌∙◌, sym, true, subst}
 use Rattle.hls_guarantee.specs.contracts.GuaranteePartialEq.TheImpl.{eq-value}
 use Rattle.hls_rules.proofs.Equal.{equal-same, equal-self}
-use Rattle.hls_audit.proofs.counts.same_guarantee.Goals as goal
+use Rattle.hls_findings.proofs.meeting.same_guarantee.Goals as goal
 
 pub returns : goal.returns
 returns c =

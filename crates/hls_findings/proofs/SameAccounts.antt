@@ -41,7 +41,3 @@ by_ticks a b r named kept is = (
       ((bytes_eq-Decides a.name b.name).0 named) ticks.0 ticks.1 kept ticks.2 ticks.3,
   λ e. is ∙ subst (λ (x : Account). same_ticks a x ≡ true) e (ticks_self a.from a.to a.ready a.served),
 )
-
--- ---- lists of accounts
-
--- ---- the seventh clause
