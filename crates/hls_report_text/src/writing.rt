@@ -2,10 +2,10 @@
 ghost use Rattle.std.specs.Prelude.{◌≡◌, ◌≤◌, ◌++◌, ◌∷◌, [], OnOk, IfOk, codes, decimal, flat_map, get_or};
 ghost use Rattle.std.specs.List.{AllByRecursion};
 ghost use Rattle.hls_guarantee.specs.Limits.{IsValid};
+ghost use Rattle.hls_scenario.specs.declared.scenario.Command.{Command as CommandSeen};
 ghost use Rattle.hls_scenario.specs.Grammar.{IsCommand};
 ghost use Rattle.hls_report_text.specs.Content.{path_names, stretch_of};
-ghost use Rattle.hls_report_text.specs.ReportText.{item_of, item_text, seat_text, answer_lines};
-ghost use Rattle.hls_report_text.specs.ReportText.{answered_lines};
+ghost use Rattle.hls_report_text.specs.ReportText.{item_text, seat_text, answer_lines, answered_lines};
 ghost use Rattle.hls_report_text.specs.ReportText.{span_text, path_text, stretch_text, account_text};
 ghost use Rattle.hls_report_text.specs.ReportText.{ticks_text, head_lines, end_lines, with_end, ended};
 ghost use Rattle.hls_report_text.specs.ReportText.{report_text};
@@ -40,6 +40,10 @@ pub fn write_report(alloc: Global, report: &Report) -> Result<Vec<u8>, AllocErro
     Ok(out)
 }
 
+/// Appends the head of a report.
+///
+/// # Errors
+/// Returns `AllocError` for want of memory.
 pub fn put_head(out: &mut Vec<u8>, horizon: u32, depth: u8) -> Result<(), AllocError>
     ensures { OnOk result (out.new.items ≡ out.old.items ++ ended (head_lines horizon depth)) }
 {
@@ -56,18 +60,29 @@ fn put_all_answered(out: &mut Vec<u8>, answered: &[Answered]) -> Result<(), Allo
         ≡ out.old.items ++ flat_map (λ a. ended (answered_lines a)) answered.now) }
 {
     for one in answered {
-        put_item(out, one)?;
-        put_answer(out, one)?;
+        put_answered(out, one.tick, &one.command, &one.answer)?;
     }
     Ok(())
 }
 
-fn put_item(out: &mut Vec<u8>, answered: &Answered) -> Result<(), AllocError>
-    requires { IsCommand answered.now.command }
-    ensures { OnOk result (out.new.items ≡ out.old.items ++ with_end (item_text (item_of answered.now))) }
+/// Appends the lines of a command at its tick, and of its answer.
+///
+/// # Errors
+/// Returns `AllocError` for want of memory.
+pub fn put_answered(
+    out: &mut Vec<u8>,
+    tick: u32,
+    command: &Command,
+    answer: &Answer,
+) -> Result<(), AllocError>
+    requires command { IsCommand command.now }
+    requires answer { IsAnswer command.now answer.now }
+    ensures { OnOk result (out.new.items ≡ out.old.items
+        ++ ended (answered_lines (record { tick = tick; command = command.now; answer = answer.now }))) }
 {
-    put_command(out, answered.tick, &answered.command)?;
-    put(out, b"\n")
+    put_command(out, tick, command)?;
+    put(out, b"\n")?;
+    put_answer(out, answer)
 }
 
 /// Appends a tick and a command.
@@ -85,11 +100,11 @@ pub fn put_command(out: &mut Vec<u8>, tick: u32, command: &Command) -> Result<()
     hls_scenario::put_command(out, command)
 }
 
-fn put_answer(out: &mut Vec<u8>, answered: &Answered) -> Result<(), AllocError>
-    requires { IsAnswer answered.now.command answered.now.answer }
-    ensures { OnOk result (out.new.items ≡ out.old.items ++ ended (answer_lines answered.now.answer)) }
+fn put_answer(out: &mut Vec<u8>, answer: &Answer) -> Result<(), AllocError>
+    requires { (command : CommandSeen) × IsAnswer command answer.now }
+    ensures { OnOk result (out.new.items ≡ out.old.items ++ ended (answer_lines answer.now)) }
 {
-    match &answered.answer {
+    match answer {
         Answer::Done(seats) => {
             put(out, b"= done\n")?;
             put_seats(out, seats.items())
@@ -126,6 +141,10 @@ fn put_seat(out: &mut Vec<u8>, seat: &Seated) -> Result<(), AllocError>
     put(out, b"\n")
 }
 
+/// Appends the lines of a schedule. The places of paths are those of the names.
+///
+/// # Errors
+/// Returns `AllocError` for want of memory.
 pub fn put_runs(out: &mut Vec<u8>, names: &[Name], runs: &[Run]) -> Result<(), AllocError>
     requires { AllByRecursion (λ run. HasShort run.path) runs.now }
     ensures { OnOk result (out.new.items ≡ out.old.items
@@ -201,7 +220,11 @@ fn put_accounts(out: &mut Vec<u8>, accounts: &[Account]) -> Result<(), AllocErro
     Ok(())
 }
 
-fn put_account(out: &mut Vec<u8>, account: &Account) -> Result<(), AllocError>
+/// Appends the line of an account.
+///
+/// # Errors
+/// Returns `AllocError` for want of memory.
+pub fn put_account(out: &mut Vec<u8>, account: &Account) -> Result<(), AllocError>
     requires { IsValid account.now.kept }
     ensures { OnOk result (out.new.items ≡ out.old.items ++ with_end (account_text account.now)) }
 {
@@ -223,6 +246,10 @@ fn put_ticks(out: &mut Vec<u8>, ready: u32, served: u32) -> Result<(), AllocErro
     put_number(out, u128::from(served))
 }
 
+/// Appends the number of idle ticks and the last line of a report.
+///
+/// # Errors
+/// Returns `AllocError` for want of memory.
 pub fn put_end(out: &mut Vec<u8>, idle: u32) -> Result<(), AllocError>
     ensures { OnOk result (out.new.items ≡ out.old.items ++ ended (end_lines idle)) }
 {
