@@ -7,3 +7,4 @@ pub mod Totals
 pub mod Few
 pub mod Formed
 pub mod Pairs
+pub mod Spelled

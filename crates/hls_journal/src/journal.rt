@@ -1,12 +1,13 @@
 // A journal.
 ghost use Rattle.std.specs.Prelude.{◌≡◌, ◌↔◌, ◌+◌, ◌-◌, ◌^◌, ◌<◌, ◌≤◌, [], ◌∷◌, ◌++◌, List, Some, true, All};
 ghost use Rattle.std.specs.Prelude.{IfOk, IfSome, IsNone, IsTrue, false, get_or, length, slice_get};
-ghost use Rattle.std.specs.Prelude.{option_copied, vec_capacity};
+ghost use Rattle.std.specs.Prelude.{OnOk, codes, flat_map, option_copied, option_to_list, vec_capacity};
 ghost use Rattle.std.specs.List.{list_any};
 ghost use Rattle.std.specs.Str.{bytes_eq};
 ghost use Rattle.indexmap.specs.IndexSet.{spare};
 ghost use Rattle.hls_report_text.specs.declared.report.Run.{Run};
 ghost use Rattle.hls_report_text.specs.Content.{path_names};
+ghost use Rattle.hls_report_text.specs.ReportText.{stretch_text, with_end};
 ghost use Rattle.hls_report_text.specs.WellFormed.{HasShort};
 ghost use Rattle.hls_accounts.specs.Commands.{is_done};
 ghost use Rattle.hls_answers.specs.Moment.{new_name};
@@ -15,8 +16,9 @@ use crate::guesses::Guesses;
 use crate::runs::{last_place, put_tick};
 use crate::ways::{insert, is_at, place_of, push};
 use hls_chron::Name;
-use hls_report_text::{Answer, Path, Run};
+use hls_report_text::{Answer, Path, Run, put_runs};
 use hls_scenario::Command;
+use hls_text::put;
 use indexmap::IndexSet;
 use std::alloc::{AllocError, Global};
 
@@ -53,6 +55,7 @@ fn is_done(answer: &Answer) -> bool
 }
 
 impl Journal {
+    ghost use Rattle.hls_journal.specs.Told.{stretches_of};
     ghost use Rattle.hls_journal.specs.Kept.{IsNew, MayNote, MayTick, AreWithin, has_name, IsNoted, IsTicked};
     ghost use Rattle.hls_journal.specs.Ways.{names_by, last_names};
 
@@ -84,6 +87,15 @@ impl Journal {
         ensures { option_copied result ≡ slice_get self.now.answers.items (length self.now.answers.items - 1) }
     {
         self.answers.last()
+    }
+
+    /// Takes the answer away that was noted last.
+    pub fn take_last(&mut self) -> Option<Answer>
+        ensures taken { self.old.answers.items ≡ self.new.answers.items ++ option_to_list result }
+        ensures room { vec_capacity self.new.answers ≡ vec_capacity self.old.answers }
+        ensures others { self.new ≡ record self.old { answers = self.new.answers } }
+    {
+        self.answers.pop()
     }
 
     /// Notes the answer to the next command.
@@ -139,5 +151,18 @@ impl Journal {
     {
         put_tick(&self.names, &mut self.runs, self.ticks, path);
         self.ticks += 1;
+    }
+
+    /// Appends the schedule of the ticks that have passed.
+    ///
+    /// # Errors
+    /// Returns `AllocError` for want of memory.
+    pub fn put_schedule(&self, out: &mut Vec<u8>) -> Result<(), AllocError>
+        requires { All (λ (run : Run). HasShort run.path) self.now.runs.items }
+        ensures { OnOk result (out.new.items ≡ out.old.items
+            ++ (codes "schedule\n" ++ flat_map (λ s. with_end (stretch_text s)) (stretches_of self.now))) }
+    {
+        put(out, b"schedule\n")?;
+        put_runs(out, self.names.as_slice(), &self.runs)
     }
 }
