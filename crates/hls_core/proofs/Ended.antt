@@ -42,7 +42,7 @@ use Rattle.hls_core.proofs.Standings.{run_standing}
 use Rattle.hls_core.proofs.Seats.{ticked_name}
 
 -- where a run leads it is the present tick
-state_now : (c : Content) (steps : List Step) (h : Hierarchy) (left : List Answered) → TellsFrom c h steps left
+pub state_now : (c : Content) (steps : List Step) (h : Hierarchy) (left : List Answered) → TellsFrom c h steps left
     → (state h steps).now ≡ c.horizon
 state_now c [] h [] told = told
 state_now c [] h (b ∷ left) told = absurd told

@@ -10,3 +10,7 @@ pub mod Elapsing
 pub mod Ended
 pub mod Standings
 pub mod Following
+pub mod Pushed
+pub mod Sparing
+pub mod Tellings
+pub mod Texts

@@ -29,7 +29,7 @@ use Rattle.hls_manager.specs.Outcomes.{boxes_in}
 use Rattle.hls_core.specs.Cores.{IsCoreOf}
 use Rattle.hls_core.specs.declared.cores.Core.{Core}
 
-none_answered : (items : List Item) → answered_by items [] ≡ []
+pub none_answered : (items : List Item) → answered_by items [] ≡ []
 none_answered [] = refl
 none_answered (item ∷ items) = refl
 

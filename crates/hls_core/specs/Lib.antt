@@ -4,3 +4,4 @@ pub mod Marks
 pub mod Standing
 pub mod Cores
 pub mod Inside
+pub mod Texts

@@ -1,5 +1,5 @@
 // A core.
-ghost use Rattle.std.specs.Prelude.{◌≡◌, ◌≤◌, ◌<◌, ◌+◌, ◌-◌, ℕ, true, false, IfOk, OnErr, length, slice_get};
+ghost use Rattle.std.specs.Prelude.{◌≡◌, ◌≤◌, ◌<◌, ◌+◌, ◌-◌, ℕ, true, false, IfOk, OnErr, length, slice_get, []};
 ghost use Rattle.std.specs.Prelude.{option_copied};
 ghost use Rattle.hls_scenario.specs.declared.scenario.Scenario.{Scenario};
 ghost use Rattle.hls_scenario.specs.Grammar.{IsScenario};
@@ -9,9 +9,6 @@ ghost use Rattle.hls_answers.specs.Moment.{Boxes};
 ghost use Rattle.hls_legal_report.specs.Legal.{depth_in_force, IsLegalReport};
 
 use crate::bursts::Bursts;
-use crate::commands::carry_along;
-use crate::ticks::elapse;
-use crate::ways::way_of;
 use hls_clock::Agenda;
 use hls_journal::Journal;
 use hls_report_text::{Answer, Report};
@@ -66,7 +63,8 @@ impl Core {
         requires scenario { IsScenario scenario }
         requires depth { depth ≤ 6 }
         requires kit { IsGood (boxed seen) kit }
-        ensures { IfOk result (λ core. IsCoreOf seen core scenario depth (boxes_in kit)) }
+        ensures is { IfOk result (λ core. IsCoreOf seen core scenario depth (boxes_in kit)) }
+        ensures unanswered { IfOk result (λ core. core.journal.answers.items ≡ []) }
     {
         let journal = Journal::open(alloc, scenario.items.items().len(), scenario.horizon)?;
         let depth = depth_in_force(depth, scenario.depth);
@@ -118,25 +116,7 @@ impl Core {
         ensures scenario { self.new.scenario ≡ self.old.scenario }
         ensures ticks { self.new.journal.ticks ≡ self.old.journal.ticks }
     {
-        let now = self.journal.ticks();
-        let commands = self.scenario.items.items().len() as u32;
-        let Some(command) = self.agenda.due(&self.scenario, now) else {
-            return Ok(false);
-        };
-        let answer = carry_along(
-            self.alloc,
-            &mut self.tree,
-            &mut self.kit,
-            &mut self.bursts,
-            &mut self.stays,
-            &self.rules,
-            self.depth,
-            commands,
-            command,
-        )?;
-        self.journal.note(command, answer);
-        self.agenda.advance();
-        Ok(true)
+        self.carry_next()
     }
 
     /// Lets one tick pass, once the commands of the present tick have their answers.
@@ -150,13 +130,7 @@ impl Core {
         ensures scenario { self.new.scenario ≡ self.old.scenario }
         ensures agenda { self.new.agenda ≡ self.old.agenda }
     {
-        let path = elapse(
-            &mut self.tree,
-            &mut self.bursts,
-            &mut self.stays,
-            &self.journal,
-        );
-        self.journal.tick(path);
+        self.pass_tick()
     }
 
     /// The report of the scenario, once all its ticks have passed.

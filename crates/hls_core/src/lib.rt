@@ -4,6 +4,8 @@
 mod bursts;
 mod commands;
 mod cores;
+mod stepping;
+mod telling;
 mod ticks;
 mod ways;
 

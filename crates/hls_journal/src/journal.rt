@@ -92,6 +92,7 @@ impl Journal {
     /// Takes the answer away that was noted last.
     pub fn take_last(&mut self) -> Option<Answer>
         ensures taken { self.old.answers.items ≡ self.new.answers.items ++ option_to_list result }
+        ensures fewer { length self.new.answers.items ≡ length self.old.answers.items - 1 }
         ensures room { vec_capacity self.new.answers ≡ vec_capacity self.old.answers }
         ensures others { self.new ≡ record self.old { answers = self.new.answers } }
     {

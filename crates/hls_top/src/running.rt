@@ -7,12 +7,11 @@ ghost use Rattle.hls_scenario.specs.Grammar.{IsScenarioText};
 ghost use Rattle.hls_top.specs.Exchange.{scenario_limit};
 ghost use Rattle.hls_top.specs.Outputs.{IsReportOf, IsOfRun};
 
-use crate::carrying::carry_out;
 use crate::outputs::Output;
 use crate::refusing::{cause_word, refusal_line};
+use hls_core::Core;
 use hls_io::Status;
 use hls_lang::{Scenario, ScenarioFault, read_scenario};
-use hls_report_text::write_report;
 use hls_rules::RuleBook;
 use hls_sched::{Kit, Scheduler};
 use std::alloc::{AllocError, Global};
@@ -32,8 +31,7 @@ fn report_on(
     ensures { IfOk result (λ bytes. IsReportOf depth (boxes_in kit) text.items bytes.items) }
 {
     drop(text);
-    let report = carry_out(alloc, scenario, depth, kit, rules)?;
-    write_report(alloc, &report)
+    Core::tell(alloc, scenario, depth, kit, rules)
 }
 
 /// The report on a text, or the line that refuses it.
