@@ -1,6 +1,8 @@
 mod Lists
 mod Lasting
 mod Swept
+mod Equal
+mod Rows
 mod Opened
 mod Ends
 mod Renewed

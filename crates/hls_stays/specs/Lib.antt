@@ -1,3 +1,4 @@
+pub mod Store
 pub mod Tallies
 pub mod Turnovers
 pub mod Inside

@@ -1,5 +1,5 @@
 // The accounts of stays.
-ghost use Rattle.std.specs.Prelude.{◌≡◌, ◌-◌, ◌++◌, ◌∷◌, [], IfOk, OnOk, length, option_to_list, reverse};
+ghost use Rattle.std.specs.Prelude.{◌≡◌, ◌-◌, ◌++◌, ◌∷◌, [], IfOk, OnOk, length, reverse};
 ghost use Rattle.hls_legal.specs.Hierarchy.{Hierarchy};
 ghost use Rattle.hls_legal.specs.Supplied.{end_of};
 ghost use Rattle.hls_accounts.specs.Agrees.{accounts_in, idle_in};
@@ -7,12 +7,10 @@ ghost use Rattle.hls_stays.specs.Tallies.{AreStays, waited};
 ghost use Rattle.hls_stays.specs.Inside.Accounts.{account_by, accounts_by};
 
 use crate::Stays;
+use crate::tallies::Tallies;
 use crate::tally::Tally;
 use hls_report_text::Account;
 use std::alloc::{AllocError, Global};
-
-/// How many tallies that were taken there may be before their memory is given back.
-const SPARE: usize = 16384;
 
 /// How many ticks have passed since a thread became ready, where it is.
 fn waited(now: u32, ready_since: Option<u32>) -> u32
@@ -50,18 +48,6 @@ impl Tally {
     }
 }
 
-/// Takes the last tally away. The memory of those that were taken is given back now and then.
-fn take_last(tallies: &mut Vec<Tally>) -> Option<Tally>
-    ensures items { tallies.old.items ≡ tallies.new.items ++ option_to_list result }
-    ensures fewer { length tallies.new.items ≡ length tallies.old.items - 1 }
-{
-    let last = tallies.pop();
-    if tallies.capacity().saturating_sub(tallies.len()) > SPARE {
-        tallies.shrink_to_fit();
-    }
-    last
-}
-
 /// Puts the account of a tally on a list, where it had a tick.
 fn put_account(accounts: &mut Vec<Account>, tally: &Tally, now: u32) -> Result<(), AllocError>
     ensures { OnOk result (reverse accounts.new.items
@@ -74,23 +60,19 @@ fn put_account(accounts: &mut Vec<Account>, tally: &Tally, now: u32) -> Result<(
 }
 
 /// Makes an account of the last tally that is left.
-fn move_last(left: &mut Vec<Tally>, accounts: &mut Vec<Account>, now: u32) -> Result<(), AllocError>
+fn move_last(left: &mut Tallies, accounts: &mut Vec<Account>, now: u32) -> Result<(), AllocError>
     ensures told { OnOk result (accounts_by now left.new.items ++ reverse accounts.new.items
         ≡ accounts_by now left.old.items ++ reverse accounts.old.items) }
     ensures fewer { length left.new.items ≡ length left.old.items - 1 }
 {
-    match take_last(left) {
+    match left.take_last() {
         Some(tally) => put_account(accounts, &tally, now),
         None => Ok(()),
     }
 }
 
 /// The accounts of tallies, the last first.
-fn accounts_from_last(
-    alloc: Global,
-    tallies: Vec<Tally>,
-    now: u32,
-) -> Result<Vec<Account>, AllocError>
+fn accounts_from_last(alloc: Global, tallies: Tallies, now: u32) -> Result<Vec<Account>, AllocError>
     ensures { IfOk result (λ accounts. reverse accounts.items ≡ accounts_by now tallies.items) }
 {
     let mut left = tallies;
