@@ -12,4 +12,5 @@ mod Ticked
 mod Turned
 mod Begins
 mod Told
+mod Worded
 mod Under

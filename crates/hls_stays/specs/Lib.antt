@@ -3,3 +3,4 @@ pub mod Tallies
 pub mod Turnovers
 pub mod Inside
 pub mod Changes
+pub mod Told

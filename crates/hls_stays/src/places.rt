@@ -7,7 +7,7 @@ use std::alloc::{AllocError, Global};
 /// How many keys there may be beyond the number of stays: schedulers have keys too.
 const SPARE: usize = 66;
 
-/// How many keys have a place at most. Keys are used again, and a place is but a guess.
+/// How many keys have a place at most: keys are used again, so that there are some hundreds, and a place is a guess.
 const MOST: usize = 1024;
 
 /// The place of the last stay of each thread, by the thread's key. It is a guess, and the stay there tells

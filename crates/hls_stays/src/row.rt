@@ -19,14 +19,17 @@ pub(crate) struct Seating {
 /// A tally without what its seating has.
 #[derive(Clone, Copy, Debug)]
 pub(crate) struct Row {
-    pub(crate) thread: NodeId,
     pub(crate) seating: usize,
+    pub(crate) thread: NodeId,
     pub(crate) since: u32,
     pub(crate) until: Option<u32>,
     pub(crate) ready: u32,
     pub(crate) ready_since: Option<u32>,
     pub(crate) served: u32,
 }
+
+// There may be a million rows.
+const _: () = prove!(size_of::<Row>() == 40);
 
 impl Row {
     /// Whether the stay is an open one of this thread.

@@ -1,6 +1,6 @@
 // Tallies in little room.
 ghost use Rattle.std.specs.Prelude.{◌≡◌, ◌+◌, ◌-◌, ◌<◌, ◌≤◌, ◌++◌, ◌∷◌, [], ℕ, true, length, slice_get, slice_set};
-ghost use Rattle.std.specs.Prelude.{Some, IfSome, OnOk, option_to_list};
+ghost use Rattle.std.specs.Prelude.{Some, IfSome, OnOk, option_to_list, reverse};
 ghost use Rattle.hls_stays.specs.Tallies.{waited, opened_at};
 ghost use Rattle.hls_stays.specs.Inside.Rows.{seating_at, seating_of, spare_of, tally_by};
 ghost use Rattle.hls_stays.specs.Inside.Steps.{closed_tally, noted_tally, served_tally, swept, swept_rows};
@@ -218,6 +218,13 @@ impl Tallies {
             ready_since: tally.ready_since,
             served: tally.served,
         });
+    }
+
+    /// Turns the tallies round.
+    pub(crate) fn reverse(&mut self)
+        ensures { self.new.items ≡ reverse self.old.items }
+    {
+        self.rows.reverse();
     }
 
     /// Takes the last tally away. The memory of those that were taken is given back now and then.
