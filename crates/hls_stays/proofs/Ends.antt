@@ -161,13 +161,6 @@ close_one s new h stays k place now are has at_now finds set idle = record {
         (are.single i has.at x has.stay there has.there none has.is_open (same ∙ sym has.thread) ∙ sym at_place)))))
         (are.each i x tally there e)
 
-pub close_count : (s : Stays) (new : List Tally) (k place now : ℕ) → MayClose s k → Finds s k place
-    → ((tally : Tally) → slice_get s.tallies.items place ≡ Some tally
-    → new ≡ slice_set s.tallies.items place (closed_tally now tally)) → length new ≡ length s.tallies.items
-close_count s new k place now may finds set =
-    let t = tally_found s may.h may.stays k place may.are may.has finds in
-    ap length (set t.tally t.there) ∙ length-set s.tallies.items place (closed_tally now t.tally)
-
 -- where the stay of a thread has ended it has no other
 pub ended_none : (h : Hierarchy) (stays : List Stay) (k : ℕ) → HasNone (without h.now k stays) k
 ended_none h stays k at stay e none is =

@@ -1,6 +1,8 @@
 mod Lists
 mod Lasting
 mod Swept
+mod Equal
+mod Rows
 mod Opened
 mod Ends
 mod Renewed
@@ -10,4 +12,5 @@ mod Ticked
 mod Turned
 mod Begins
 mod Told
+mod Worded
 mod Under

@@ -1,9 +1,10 @@
 -- Lists by their places.
 use Rattle.std.proofs.Common.{◌≡◌, ◌≢◌, ℕ, zero, suc, inl, inr, ◌+◌, ◌≤◌, List, [], ◌∷◌, ◌++◌, Bool, true, false}
-use Rattle.std.proofs.Common.{length, refl, sym, ap, ◌∙◌, arith, map, filter, take, cond, ◌==◌, ◌||◌}
+use Rattle.std.proofs.Common.{length, refl, sym, ap, ◌∙◌, arith, map, filter, take, reverse, cond, ◌==◌, ◌||◌}
 use Rattle.std.specs.Prelude.{Some, slice_get, slice_set, Contains, AllPairs}
 use Rattle.std.specs.List.{list_any}
 use Rattle.std.proofs.lemmas.Bool.{cases_lt, cases_eq, ne_eqb, eq-eqb}
+use Rattle.std.proofs.lemmas.List.{reverse-append}
 use Rattle.std.proofs.lemmas.Option.{slice_get_within, slice_get-get_or, get_or_from_slice_get}
 use Rattle.hls_stays.specs.Inside.Renewals.{IsApart}
 
@@ -106,6 +107,12 @@ map_map f g (x ∷ xs) = ap (λ zs. f (g x) ∷ zs) (map_map f g xs)
 pub map_append : {X Y : Type 0} (f : X → Y) (xs ys : List X) → map f (xs ++ ys) ≡ map f xs ++ map f ys
 map_append f [] ys = refl
 map_append f (x ∷ xs) ys = ap (λ zs. f x ∷ zs) (map_append f xs ys)
+
+pub map_reverse : {X Y : Type 0} (f : X → Y) (xs : List X) → map f (reverse xs) ≡ reverse (map f xs)
+map_reverse f [] = refl
+map_reverse f (x ∷ xs) =
+    ap (map f) (reverse-append (x ∷ []) xs) ∙ map_append f (reverse xs) (x ∷ [])
+    ∙ ap (λ l. l ++ f x ∷ []) (map_reverse f xs) ∙ sym (reverse-append (f x ∷ []) (map f xs))
 
 -- a number that comes later only is not on the first part of a list
 pub not_in : (ks : List ℕ) (n k : ℕ) → ((j : ℕ) → slice_get ks j ≡ Some k → n ≤ j) → is_in (take n ks) k ≡ false

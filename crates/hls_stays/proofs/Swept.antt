@@ -141,7 +141,7 @@ single_of stays pairs i j one other e f none shut same =
         (ap (λ (s : Stay). s.until) b ∙ shut)
         (ap (λ (s : Stay). s.thread) a ∙ same ∙ sym (ap (λ (s : Stay). s.thread) b))
 
-all_swept : {X : Type 0} (P : X → Type 0) (p : X → Bool) (n : ℕ) (xs : List X) → All P xs
+pub all_swept : {X : Type 0} (P : X → Type 0) (p : X → Bool) (n : ℕ) (xs : List X) → All P xs
     → All P (take n xs ++ filter p (drop n xs))
 all_swept P p zero xs all = All-filter p P xs all
 all_swept P p (suc n) [] all = all

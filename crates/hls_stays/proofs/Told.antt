@@ -17,7 +17,7 @@ use Rattle.hls_stays.specs.declared.tally.Tally.{Tally}
 use Rattle.hls_stays.proofs.Lists.{filter_alike, map_append}
 use Rattle.hls_stays.proofs.Lasting.{filter_within}
 
-abbrev lasts_at : (now : ℕ) → Tally → Bool
+abbrev pub lasts_at : (now : ℕ) → Tally → Bool
 lasts_at now t = nat_lt t.since (end_of now t.until)
 
 -- a stay had at least one tick
@@ -74,7 +74,7 @@ accounts_told s h now accounts are same small is =
 
 -- ---- tallies that are taken away, the last first
 
-accounts_append : (now : ℕ) (xs ys : List Tally)
+pub accounts_append : (now : ℕ) (xs ys : List Tally)
     → accounts_by now (xs ++ ys) ≡ accounts_by now xs ++ accounts_by now ys
 accounts_append now xs ys =
     ap (map (account_by now)) (filter-append (lasts_at now) xs ys)

@@ -6,7 +6,7 @@ use Rattle.std.proofs.lemmas.Bool.{cases_Bool}
 use Rattle.std.proofs.lemmas.List.{append-nil}
 use Rattle.std.proofs.lemmas.List.Elements.{filter-append}
 use Rattle.hls_sched.specs.Seen.{Seen}
-use Rattle.hls_legal.specs.Hierarchy.{Hierarchy, Node}
+use Rattle.hls_legal.specs.Hierarchy.{Hierarchy}
 use Rattle.hls_legal.specs.Readings.{IsUnder}
 use Rattle.hls_tree.specs.Trees.{Stands, Any}
 use Rattle.hls_tree.specs.declared.tree.Tree.{Tree}
@@ -15,7 +15,7 @@ use Rattle.hls_scenario.specs.declared.scenario.Command.{Command}
 use Rattle.hls_scenario.specs.declared.scenario.Command.TheVariants as said
 use Rattle.hls_stays.specs.Turnovers.{Tells, IsRoused, IsTurnover}
 use Rattle.hls_stays.specs.declared.turnover.Turnover.{Turnover}
-use Rattle.hls_stays.proofs.Lists.{take_next, take_all, contains_at}
+use Rattle.hls_stays.proofs.Lists.{take_next, take_all}
 
 -- V and P are what the checker knows a box by
 pub any_stands : {V : Type 0} {P : V → Type 0} (seen : (x : V) × P x → Seen) (t : Tree V P) (id : ℕ)

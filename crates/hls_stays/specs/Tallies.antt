@@ -1,7 +1,6 @@
 -- What tallies say of the stays of a hierarchy.
 use Rattle.std.specs.Prelude.{◌≡◌, ℕ, ◌+◌, ◌-◌, ◌≤◌, ◌==◌, ◌&&◌, List, Option, Some, None, Bool, true, false}
 use Rattle.std.specs.Prelude.{length, slice_get, is_some, is_none, filter, nat_lt}
-use Rattle.std.specs.Vec.{vec_capacity}
 use Rattle.hls_legal.specs.Hierarchy.{Hierarchy, Stay, Thread, Admitted, is_ready, was_served}
 use Rattle.hls_legal.specs.Steps.{is_thread}
 use Rattle.hls_legal.specs.Supplied.{end_of, ready_ticks, served_ticks}
@@ -69,7 +68,7 @@ pub record IsStanding (h : Hierarchy) : Type 0 where
 
 -- there is room for so many stays more
 abbrev pub HasRoom : Stays → (more : ℕ) → Type 0
-HasRoom s more = length s.tallies.items + more ≤ vec_capacity s.tallies
+HasRoom s more = more ≤ s.tallies.spare
 
 -- the tally at a place is that of an open stay of a thread
 abbrev pub open_by : Option Tally → (k : ℕ) → Bool

@@ -1,18 +1,18 @@
 // The accounts of stays.
-ghost use Rattle.std.specs.Prelude.{◌≡◌, ◌-◌, ◌++◌, ◌∷◌, [], IfOk, OnOk, length, option_to_list, reverse};
+ghost use Rattle.std.specs.Prelude.{◌≡◌, ◌-◌, ◌++◌, ◌∷◌, [], IfOk, OnOk, flat_map, length, nat_lt, reverse};
+ghost use Rattle.hls_report_text.specs.ReportText.{account_text, with_end};
 ghost use Rattle.hls_legal.specs.Hierarchy.{Hierarchy};
 ghost use Rattle.hls_legal.specs.Supplied.{end_of};
 ghost use Rattle.hls_accounts.specs.Agrees.{accounts_in, idle_in};
 ghost use Rattle.hls_stays.specs.Tallies.{AreStays, waited};
+ghost use Rattle.hls_stays.specs.Told.{AreValid, MayTell, lines_of};
 ghost use Rattle.hls_stays.specs.Inside.Accounts.{account_by, accounts_by};
 
 use crate::Stays;
+use crate::tallies::Tallies;
 use crate::tally::Tally;
-use hls_report_text::Account;
+use hls_report_text::{Account, put_account};
 use std::alloc::{AllocError, Global};
-
-/// How many tallies that were taken there may be before their memory is given back.
-const SPARE: usize = 16384;
 
 /// How many ticks have passed since a thread became ready, where it is.
 fn waited(now: u32, ready_since: Option<u32>) -> u32
@@ -35,6 +35,13 @@ impl Tally {
         }
     }
 
+    /// Whether the stay had a tick.
+    fn had_tick(&self, now: u32) -> bool
+        ensures { result ≡ nat_lt self.now.since (end_of now self.now.until) }
+    {
+        self.since < self.end(now)
+    }
+
     fn account(&self, now: u32) -> Account
         ensures { result ≡ account_by now self.now }
     {
@@ -50,47 +57,31 @@ impl Tally {
     }
 }
 
-/// Takes the last tally away. The memory of those that were taken is given back now and then.
-fn take_last(tallies: &mut Vec<Tally>) -> Option<Tally>
-    ensures items { tallies.old.items ≡ tallies.new.items ++ option_to_list result }
-    ensures fewer { length tallies.new.items ≡ length tallies.old.items - 1 }
-{
-    let last = tallies.pop();
-    if tallies.capacity().saturating_sub(tallies.len()) > SPARE {
-        tallies.shrink_to_fit();
-    }
-    last
-}
-
 /// Puts the account of a tally on a list, where it had a tick.
-fn put_account(accounts: &mut Vec<Account>, tally: &Tally, now: u32) -> Result<(), AllocError>
+fn push_account(accounts: &mut Vec<Account>, tally: &Tally, now: u32) -> Result<(), AllocError>
     ensures { OnOk result (reverse accounts.new.items
         ≡ accounts_by now (tally.now ∷ []) ++ reverse accounts.old.items) }
 {
-    if tally.since < tally.end(now) {
+    if tally.had_tick(now) {
         accounts.push(tally.account(now))?;
     }
     Ok(())
 }
 
 /// Makes an account of the last tally that is left.
-fn move_last(left: &mut Vec<Tally>, accounts: &mut Vec<Account>, now: u32) -> Result<(), AllocError>
+fn move_last(left: &mut Tallies, accounts: &mut Vec<Account>, now: u32) -> Result<(), AllocError>
     ensures told { OnOk result (accounts_by now left.new.items ++ reverse accounts.new.items
         ≡ accounts_by now left.old.items ++ reverse accounts.old.items) }
     ensures fewer { length left.new.items ≡ length left.old.items - 1 }
 {
-    match take_last(left) {
-        Some(tally) => put_account(accounts, &tally, now),
+    match left.take_last() {
+        Some(tally) => push_account(accounts, &tally, now),
         None => Ok(()),
     }
 }
 
 /// The accounts of tallies, the last first.
-fn accounts_from_last(
-    alloc: Global,
-    tallies: Vec<Tally>,
-    now: u32,
-) -> Result<Vec<Account>, AllocError>
+fn accounts_from_last(alloc: Global, tallies: Tallies, now: u32) -> Result<Vec<Account>, AllocError>
     ensures { IfOk result (λ accounts. reverse accounts.items ≡ accounts_by now tallies.items) }
 {
     let mut left = tallies;
@@ -99,6 +90,44 @@ fn accounts_from_last(
         move_last(&mut left, &mut accounts, now)?;
     }
     Ok(accounts)
+}
+
+/// Appends the account line of a tally, where it had a tick.
+fn put_line(out: &mut Vec<u8>, tally: &Tally, now: u32) -> Result<(), AllocError>
+    requires { AreValid (accounts_by now (tally.now ∷ [])) }
+    ensures { OnOk result (out.new.items ≡ out.old.items ++ lines_of (accounts_by now (tally.now ∷ []))) }
+{
+    if tally.had_tick(now) {
+        put_account(out, &tally.account(now))?;
+    }
+    Ok(())
+}
+
+/// Appends the account line of the last tally that is left.
+fn tell_last(left: &mut Tallies, out: &mut Vec<u8>, now: u32) -> Result<(), AllocError>
+    requires { AreValid (accounts_by now (reverse left.old.items)) }
+    ensures told { OnOk result (out.new.items ++ lines_of (accounts_by now (reverse left.new.items))
+        ≡ out.old.items ++ lines_of (accounts_by now (reverse left.old.items))) }
+    ensures valid { AreValid (accounts_by now (reverse left.new.items)) }
+    ensures fewer { length left.new.items ≡ length left.old.items - 1 }
+{
+    match left.take_last() {
+        Some(tally) => put_line(out, &tally, now),
+        None => Ok(()),
+    }
+}
+
+/// Appends the account lines of tallies.
+fn put_lines(out: &mut Vec<u8>, tallies: Tallies, now: u32) -> Result<(), AllocError>
+    requires { AreValid (accounts_by now tallies.items) }
+    ensures { OnOk result (out.new.items ≡ out.old.items ++ lines_of (accounts_by now tallies.items)) }
+{
+    let mut left = tallies;
+    left.reverse();
+    for _at in 0..left.len() {
+        tell_last(&mut left, out, now)?;
+    }
+    Ok(())
 }
 
 impl Stays {
@@ -114,6 +143,20 @@ impl Stays {
         let mut accounts = accounts_from_last(alloc, tallies, now)?;
         accounts.reverse();
         Ok(accounts)
+    }
+
+    /// Appends the account lines of the stays of at least one tick, in the order in which they were opened. The
+    /// memory of stays that were told is given back while the text grows.
+    ///
+    /// # Errors
+    /// Returns `AllocError` for want of memory.
+    pub fn put_accounts(self, out: &mut Vec<u8>, now: u32) -> Result<(), AllocError>
+        requires { MayTell self now }
+        ensures { OnOk result ((h : Hierarchy) → AreStays self h → h.now ≡ now →
+            out.new.items ≡ out.old.items ++ flat_map (λ a. with_end (account_text a)) (accounts_in h)) }
+    {
+        let Stays { tallies, .. } = self;
+        put_lines(out, tallies, now)
     }
 
     /// How many ticks were idle.

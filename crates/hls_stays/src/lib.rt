@@ -3,7 +3,9 @@
 
 mod accounts;
 mod places;
+mod row;
 mod stays;
+mod tallies;
 mod tally;
 mod turnover;
 

@@ -7,6 +7,9 @@ use std::alloc::{AllocError, Global};
 /// How many keys there may be beyond the number of stays: schedulers have keys too.
 const SPARE: usize = 66;
 
+/// How many keys have a place at most: keys are used again, so that there are some hundreds, and a place is a guess.
+const MOST: usize = 1024;
+
 /// The place of the last stay of each thread, by the thread's key. It is a guess, and the stay there tells
 /// whether it is right.
 #[derive(Drop)]
@@ -26,7 +29,7 @@ impl Places {
 
     /// Makes room for the threads that there may be where there are so many stays.
     pub(crate) fn reserve(&mut self, stays: usize) -> Result<(), AllocError> {
-        for _key in self.places.len()..stays.saturating_add(SPARE) {
+        for _key in self.places.len()..stays.saturating_add(SPARE).min(MOST) {
             self.places.push(0)?;
         }
         Ok(())

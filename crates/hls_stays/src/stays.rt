@@ -1,7 +1,6 @@
 // The stays of threads.
-ghost use Rattle.std.specs.Prelude.{◌≡◌, ◌+◌, ◌<◌, ◌≤◌, ◌++◌, ◌^◌, ℕ, Bool, true, OnOk, Option, Some, [], ◌∷◌};
+ghost use Rattle.std.specs.Prelude.{◌≡◌, ◌+◌, ◌≤◌, ◌++◌, ◌^◌, ℕ, Bool, true, OnOk, Option, Some, [], ◌∷◌};
 ghost use Rattle.std.specs.Prelude.{List, length};
-ghost use Rattle.std.specs.Vec.{vec_capacity};
 ghost use Rattle.hls_legal.specs.Hierarchy.{Hierarchy, Stay, Wake, start};
 ghost use Rattle.hls_legal.specs.Legal.{IsThread};
 ghost use Rattle.hls_legal.specs.Steps.{Step, Elapse, Path, after, stay_of, with_wake};
@@ -15,7 +14,8 @@ ghost use Rattle.hls_stays.specs.Inside.Renewals.{AreRenewable, renewed_one, ren
 
 use crate::Turnover;
 use crate::places::Places;
-use crate::tally::{Tally, close_at, is_open_at, note_at, search, serve_at, sweep};
+use crate::tallies::Tallies;
+use crate::tally::Tally;
 use hls_tree::{NodeId, Tree};
 use std::alloc::{AllocError, Global};
 
@@ -24,7 +24,7 @@ use std::alloc::{AllocError, Global};
 /// began are dropped: soon, where there are many, and else before the next tick.
 #[derive(Drop)]
 pub struct Stays {
-    pub(crate) tallies: Vec<Tally>,
+    pub(crate) tallies: Tallies,
     pub(crate) places: Places,
     pub(crate) idle: u32,
     /// The place from which on the stays began in the present tick, and how many of these have ended. Only how
@@ -51,7 +51,7 @@ impl Stays {
         ensures { AreStays result start }
     {
         Stays {
-            tallies: Vec::new(alloc),
+            tallies: Tallies::new(alloc),
             places: Places::new(alloc),
             idle: 0,
             fresh: 0,
@@ -64,7 +64,7 @@ impl Stays {
         ensures { (h : Hierarchy) → AreStays self.old h → AreStays self.new h }
     {
         if self.spent > most {
-            sweep(&mut self.tallies, &mut self.places, self.fresh);
+            self.tallies.sweep(&mut self.places, self.fresh);
             self.spent = 0;
         }
     }
@@ -91,43 +91,48 @@ impl Stays {
         self.places.reserve(self.tallies.len())
     }
 
+    /// The place of the last stay of a thread: a guess.
+    fn last_place(&self, id: NodeId) -> usize {
+        self.places.guess(id)
+    }
+
     /// The place of the open stay of a thread.
     fn place(&self, id: NodeId) -> usize
         ensures { (at : ℕ) → opened_at self.now.tallies.items at id ≡ true →
             opened_at self.now.tallies.items result id ≡ true }
     {
-        let guess = self.places.guess(id);
-        if is_open_at(&self.tallies, guess, id) {
+        let guess = self.last_place(id);
+        if self.tallies.is_open_at(guess, id) {
             return guess;
         }
-        search(&self.tallies, id)
+        self.tallies.search(id)
     }
 
-    /// Ends the open stay of a thread.
-    fn close(&mut self, id: NodeId, now: u32)
+    /// Ends the open stay of a thread, and tells its place.
+    fn close(&mut self, id: NodeId, now: u32) -> usize
         requires { MayClose self.old id }
         ensures closed { (h : Hierarchy) (stays : List Stay) → h.now ≡ now → AreTallies self.old h stays →
             HasOpen stays id → AreTallies self.new h (without h.now id stays) }
-        ensures count { length self.new.tallies.items ≡ length self.old.tallies.items }
-        ensures capacity { vec_capacity self.new.tallies ≡ vec_capacity self.old.tallies }
+        ensures spare { self.new.tallies.spare ≡ self.old.tallies.spare }
     {
         let place = self.place(id);
-        close_at(&mut self.tallies, place, now);
+        self.tallies.close_at(place, now);
         self.spent = self.spent.saturating_add(usize::from(place >= self.fresh));
+        place
     }
 
-    /// Begins a stay of a thread that has none that is open, into room that is there.
-    fn open(&mut self, tree: &Tree, id: NodeId)
+    /// Begins a stay of a thread that has none that is open, into room that is there. The stay at that place
+    /// may have the same name and guarantee.
+    fn open(&mut self, tree: &Tree, id: NodeId, like: usize)
         requires thread { Stands seen tree.now (λ h. IsThread (h.nodes id)) }
-        requires room { length self.old.tallies.items < vec_capacity self.old.tallies }
+        requires room { HasRoom self.old 1 }
         ensures opened { (h : Hierarchy) (stays : List Stay) → IsTreeOf seen tree.now h → IsReadyOf seen tree.now h →
             IsThread (h.nodes id) → AreTallies self.old h stays → HasNone stays id →
             AreTallies self.new h (stays ++ stay_of h.now id (h.nodes id)) }
-        ensures count { length self.new.tallies.items ≡ length self.old.tallies.items + 1 }
-        ensures capacity { vec_capacity self.new.tallies ≡ vec_capacity self.old.tallies }
+        ensures spare { self.old.tallies.spare ≤ self.new.tallies.spare + 1 }
     {
         let place = self.tallies.len();
-        self.tallies.push_reserved(Tally {
+        let tally = Tally {
             thread: id,
             name: tree.name(id),
             kept: tree.kept(id, 0),
@@ -136,30 +141,30 @@ impl Stays {
             ready: 0,
             ready_since: ready_since(tree, id),
             served: 0,
-        });
+        };
+        self.tallies.push(tally, like);
         self.places.put(id, place);
     }
 
     /// Ends the open stay of a thread, and begins another.
     fn renew(&mut self, tree: &Tree, id: NodeId)
         requires thread { Stands seen tree.now (λ h. IsThread (h.nodes id)) }
-        requires room { length self.old.tallies.items < vec_capacity self.old.tallies }
+        requires room { HasRoom self.old 1 }
         requires close { MayClose self.old id }
         ensures renewed { (h : Hierarchy) (stays : List Stay) → IsTreeOf seen tree.now h →
             IsReadyOf seen tree.now h → IsThread (h.nodes id) → AreTallies self.old h stays → HasOpen stays id →
             AreTallies self.new h (renewed_one h stays id) }
-        ensures count { length self.new.tallies.items ≡ length self.old.tallies.items + 1 }
-        ensures capacity { vec_capacity self.new.tallies ≡ vec_capacity self.old.tallies }
+        ensures spare { self.old.tallies.spare ≤ self.new.tallies.spare + 1 }
     {
-        self.close(id, tree.now());
-        self.open(tree, id);
+        let place = self.close(id, tree.now());
+        self.open(tree, id, place);
     }
 
     /// Ends the open stays of threads, and begins others.
     fn renew_all(&mut self, tree: &Tree, ids: &[NodeId])
         requires may { Stands seen tree.now (λ h. IsReadyOf seen tree.now h ×
             ((stays : List Stay) × AreRenewable self.old h stays ids.now)) }
-        requires room { length self.old.tallies.items + length ids.now ≤ vec_capacity self.old.tallies }
+        requires room { HasRoom self.old (length ids.now) }
         ensures { (h : Hierarchy) (stays : List Stay) → IsTreeOf seen tree.now h → IsReadyOf seen tree.now h →
             AreRenewable self.old h stays ids.now → AreTallies self.new h (renewed_all h stays ids.now) }
     {
@@ -179,7 +184,9 @@ impl Stays {
             AreTallies self.new h (stays ++ stay_of h.now k (h.nodes k)) }
     {
         let last = tree.threads() - 1;
-        self.open(tree, tree.thread(last));
+        let id = tree.thread(last);
+        let like = self.last_place(id);
+        self.open(tree, id, like);
     }
 
     /// Notes whether a thread that was woken or blocked is ready from now on.
@@ -189,7 +196,7 @@ impl Stays {
             AreStays self.new (with_wake h id how) }
     {
         let place = self.place(id);
-        note_at(&mut self.tallies, place, tree.is_ready(id), tree.now());
+        self.tallies.note_at(place, tree.is_ready(id), tree.now());
     }
 
     /// Ends and begins stays, after a command was carried out, into room that is there.
@@ -202,7 +209,9 @@ impl Stays {
         match turnover {
             Turnover::Nothing => {}
             Turnover::Begins => self.begin(tree),
-            Turnover::Ends(id) => self.close(id, tree.now()),
+            Turnover::Ends(id) => {
+                self.close(id, tree.now());
+            }
             Turnover::Renews(ids) => self.renew_all(tree, &ids),
             Turnover::Rouses(id) => self.note(tree, id),
         }
@@ -216,7 +225,7 @@ impl Stays {
             AreStays self.new (after h (Elapse asking masks path)) }
     {
         let place = self.place(id);
-        serve_at(&mut self.tallies, place, tree.is_ready(id), tree.now());
+        self.tallies.serve_at(place, tree.is_ready(id), tree.now());
     }
 
     /// Counts a tick that has elapsed, in which this thread was served, or none.

@@ -5,6 +5,7 @@ use Rattle.hls_legal.specs.Hierarchy.{Hierarchy, Stay}
 use Rattle.hls_legal.specs.Steps.{closed}
 use Rattle.hls_stays.specs.Tallies.{AreTallies, lasts}
 use Rattle.hls_stays.specs.declared.stays.Stays.{Stays}
+use Rattle.hls_stays.specs.declared.row.Row.{Row}
 use Rattle.hls_stays.specs.declared.tally.Tally.{Tally}
 
 abbrev pub closed_tally : (now : ℕ) → Tally → Tally
@@ -25,6 +26,10 @@ noted_tally ready now tally = noted_by tally.ready_since ready now tally
 -- the tallies, without those of stays of no tick from a place on
 abbrev pub swept : (from : ℕ) → List Tally → List Tally
 swept from tallies = take from tallies ++ filter (λ (t : Tally). lasts t.since t.until) (drop from tallies)
+
+-- the same of the rows in which they are kept
+abbrev pub swept_rows : (from : ℕ) → List Row → List Row
+swept_rows from rows = take from rows ++ filter (λ (row : Row). lasts row.since row.until) (drop from rows)
 
 -- the stays, where those of a thread end now
 abbrev pub without : (now k : ℕ) → List Stay → List Stay

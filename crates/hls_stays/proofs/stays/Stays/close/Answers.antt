@@ -1,5 +1,5 @@
 use Rattle.std.proofs.Common.{refl}
-use Rattle.hls_stays.proofs.Ends.{close_one, close_count, found_within}
+use Rattle.hls_stays.proofs.Ends.{close_one, found_within}
 use Rattle.hls_stays.proofs.stays.Stays.close.Goals as goal
 
 pub close_at-requires : goal.close_at-requires
@@ -10,8 +10,3 @@ pub returns-clause-closed : goal.returns-clause-closed
 returns-clause-closed c = λ h stays same are has.
     close_one c.args.self.now _ h stays c.args.id c.place-place.result c.args.now are has same c.place-place.ensures
     c.close_at.ensures.items refl
-
-pub returns-clause-count : goal.returns-clause-count
-returns-clause-count c =
-    close_count c.args.self.now c.close_at.new.tallies.items c.args.id c.place-place.result c.args.now c.requires
-    c.place-place.ensures c.close_at.ensures.items

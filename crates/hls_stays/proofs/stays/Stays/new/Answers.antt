@@ -7,7 +7,7 @@ pub returns : goal.returns
 returns c = record {
   kept = [];
   are = record {
-    many = ap length c.new.ensures.items;
+    many = ap length c.new.ensures;
     each = λ at stay tally e f. absurd (cc);
     single = λ i j one other e f p q same. absurd (cc);
     idle = sym (count-none (λ t. is_none (start.past t).to) 0);

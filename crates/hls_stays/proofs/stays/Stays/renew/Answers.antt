@@ -6,4 +6,4 @@ use Rattle.hls_stays.proofs.stays.Stays.renew.Goals as goal
 pub returns-clause-renewed : goal.returns-clause-renewed
 returns-clause-renewed g c = λ h stays tree ready thread are has.
     c.open.ensures.opened h (without h.now c.args.id stays) tree ready thread
-    (c.close.ensures.closed h stays (sym (c.now.ensures h tree)) are has) (ended_none h stays c.args.id)
+    (c.close-place.ensures.closed h stays (sym (c.now.ensures h tree)) are has) (ended_none h stays c.args.id)

@@ -32,8 +32,7 @@ loop-id-preserved g c =
       room = omega (
         arith,
         c.loop-id.invariant.room,
-        c.renew.ensures.count,
-        c.renew.ensures.capacity,
+        c.renew.ensures.spare,
         c.loop-id-test.true,
       );
     }

@@ -1,5 +1,4 @@
-use Rattle.std.proofs.Common.{◌+◌, ◌-◌, ◌≤◌, List, length, take}
-use Rattle.std.specs.Vec.{vec_capacity}
+use Rattle.std.proofs.Common.{◌-◌, ◌≤◌, List, length, take}
 use Rattle.hls_legal.specs.Hierarchy.{Hierarchy, Stay}
 use Rattle.hls_tree.specs.Trees.{IsTreeOf, IsReadyOf}
 use Rattle.hls_stays.specs.Tallies.{AreTallies}
@@ -11,5 +10,5 @@ invariant-loop-id g l = record {
   are : (h : Hierarchy) (stays : List Stay) → IsTreeOf (λ z. (goal.Scheduler-dyn g z).seen z.1) l.tree h
       → IsReadyOf (λ z. (goal.Scheduler-dyn g z).seen z.1) l.tree h → AreRenewable l.fn.self h stays l.ids
       → AreTallies l.self h (renewed_all h stays (take l.id-index l.ids));
-  room : length l.self.tallies.items + (length l.ids - l.id-index) ≤ vec_capacity l.self.tallies;
+  room : length l.ids - l.id-index ≤ l.self.tallies.spare;
 }
