@@ -1,8 +1,7 @@
 -- The text that is told is that of a legal report.
-use Rattle.std.proofs.Common.{◌≡◌, ℕ, ◌+◌, ◌<◌, ◌≤◌, List, [], ◌∷◌, ◌++◌, length, map, refl, sym, ap, ◌∙◌, subst}
+use Rattle.std.proofs.Common.{◌≡◌, ℕ, List, [], ◌++◌, sym, ap, ◌∙◌, subst}
 use Rattle.std.proofs.Common.{arith, append_assoc}
 use Rattle.std.specs.Prelude.{Option, All, flat_map, codes}
-use Rattle.std.specs.List.{AllByRecursion}
 use Rattle.std.specs.Fn.{Mut}
 use Rattle.std.proofs.lemmas.List.{append-nil}
 use Rattle.std.proofs.lemmas.List.Elements.{All-weaker}
@@ -18,7 +17,7 @@ use Rattle.hls_report_text.specs.declared.stretch.Stretch.{Stretch}
 use Rattle.hls_report_text.specs.Content.{Content, content_of, stretch_of}
 use Rattle.hls_report_text.specs.ReportText.{head_lines, end_lines, answered_lines, stretch_text, account_text}
 use Rattle.hls_report_text.specs.ReportText.{with_end, ended, report_text}
-use Rattle.hls_report_text.specs.WellFormed.{HasShort, IsContent, IsWellFormed}
+use Rattle.hls_report_text.specs.WellFormed.{HasShort, IsContent}
 use Rattle.hls_report_text.proofs.Contents.{some_report}
 use Rattle.hls_report_text.proofs.Writings.{whole_report, accounts_kept}
 use Rattle.hls_sched.specs.Seen.{Seen}
@@ -28,17 +27,15 @@ use Rattle.hls_accounts.specs.Accounts.{accounts_of, idle_of}
 use Rattle.hls_accounts.specs.Agrees.{accounts_in, idle_in}
 use Rattle.hls_accounts.proofs.Agreements.{accounts_told, idle_told}
 use Rattle.hls_answers.specs.Moment.{Boxes}
-use Rattle.hls_journal.specs.declared.journal.Journal.{Journal}
-use Rattle.hls_journal.specs.Told.{answered_by, stretches_of, told, with_totals, IsReportOf}
+use Rattle.hls_journal.specs.Told.{answered_by, stretches_of, told, with_totals}
 use Rattle.hls_journal.specs.Kept.{IsWayOrIdle}
 use Rattle.hls_journal.proofs.Keeps.{way_short}
 use Rattle.hls_journal.proofs.Formed.{content_formed}
 use Rattle.hls_stays.specs.Tallies.{AreStays}
 use Rattle.hls_stays.specs.Told as stays
 use Rattle.hls_core.specs.Cores.{IsCoreOf}
-use Rattle.hls_core.specs.Texts.{IsLegalText}
 use Rattle.hls_core.specs.Inside.Sparing.{keeping}
-use Rattle.hls_core.specs.Inside.Tellings.{told_by, IsToldIn, MayTell, TellsRest}
+use Rattle.hls_core.specs.Inside.Tellings.{IsToldIn, MayTell, TellsRest}
 use Rattle.hls_core.specs.declared.cores.Core.{Core}
 use Rattle.hls_core.proofs.Opened.{none_answered}
 use Rattle.hls_core.proofs.Ended.{state_now, ends_legal}
@@ -63,6 +60,19 @@ parts_told r =
     ++ t) ++ codes "accounts\n") ++ account_lines r.accounts) ++ ended (end_lines r.idle)))
     (flat_map-map spelled (stretch_of r.names) r.runs)
     ∙ whole_report r
+
+-- the parts, as they are appended
+joined : (was scheduled accounted lined text first stretches accounts last : Text)
+    → scheduled ≡ was ++ (codes "schedule\n" ++ stretches) → accounted ≡ scheduled ++ codes "accounts\n"
+    → lined ≡ accounted ++ accounts → text ≡ lined ++ last → was ≡ first
+    → text ≡ (((((first ++ codes "schedule\n") ++ stretches) ++ codes "accounts\n") ++ accounts) ++ last)
+joined was scheduled accounted lined text first stretches accounts last one two three four begun =
+    four
+    ∙ ap (λ (x : Text). x ++ last)
+    (three ∙ ap (λ (x : Text). x ++ accounts)
+    (two ∙ ap (λ (x : Text). x ++ codes "accounts\n")
+    (one ∙ ap (λ (x : Text). x ++ (codes "schedule\n" ++ stretches)) begun
+    ∙ sym (append_assoc first (codes "schedule\n") stretches))))
 
 -- V and P are what the checker knows a box by, and W, Q and X a rule
 module _ {V W : Type 0} {P : V → Type 0} {Q : W → Type 0}
@@ -114,18 +124,6 @@ module _ {V W : Type 0} {P : V → Type 0} {Q : W → Type 0}
 
   -- ---- the text
 
-  joined : (was scheduled accounted told text first stretches accounts last : Text)
-      → scheduled ≡ was ++ (codes "schedule\n" ++ stretches) → accounted ≡ scheduled ++ codes "accounts\n"
-      → told ≡ accounted ++ accounts → text ≡ told ++ last → was ≡ first
-      → text ≡ (((((first ++ codes "schedule\n") ++ stretches) ++ codes "accounts\n") ++ accounts) ++ last)
-  joined was scheduled accounted told text first stretches accounts last one two three four begun =
-      four
-      ∙ ap (λ (x : Text). x ++ last)
-      (three ∙ ap (λ (x : Text). x ++ accounts)
-      (two ∙ ap (λ (x : Text). x ++ codes "accounts\n")
-      (one ∙ ap (λ (x : Text). x ++ (codes "schedule\n" ++ stretches)) begun
-      ∙ sym (append_assoc first (codes "schedule\n") stretches))))
-
   pub rest_told : (c : Core V W P Q X) (was scheduled accounted told_now text : Text) (now idle : ℕ)
       → c.journal.ticks ≡ c.scenario.horizon → now ≡ c.journal.ticks
       → scheduled ≡ was ++ (codes "schedule\n" ++ flat_map spelled (stretches_of c.journal))
@@ -166,17 +164,28 @@ module _ {V W : Type 0} {P : V → Type 0} {Q : W → Type 0}
 
   -- ---- the beginning
 
-  pub told_first : (c : Core V W P Q X) (s : Scenario) (given : ℕ) (boxes : Boxes) (text : Text)
-      → IsCoreOf seen c s given boxes → c.journal.answers.items ≡ []
-      → text ≡ [] ++ ended (head_lines c.scenario.horizon c.depth) → IsToldIn seen c s given boxes text
-  told_first c s given boxes text is none head = record {
+  pub told_first : (c : Core V W P Q X) (s : Scenario) (given : ℕ) (boxes : Boxes) (empty text : Text)
+      → IsCoreOf seen c s given boxes → c.journal.answers.items ≡ [] → empty ≡ []
+      → text ≡ empty ++ ended (head_lines c.scenario.horizon c.depth) → IsToldIn seen c s given boxes text
+  told_first c s given boxes empty text is unanswered none head = record {
     answers = c.journal.answers;
     is = is;
-    none = none;
+    none = unanswered;
     room = omega arith;
     spelled =
-        head ∙ ap (λ (x : Scenario). ended (head_lines x.horizon c.depth)) is.scenario
+        head ∙ ap (λ (t : Text). t ++ ended (head_lines c.scenario.horizon c.depth)) none
+        ∙ ap (λ (x : Scenario). ended (head_lines x.horizon c.depth)) is.scenario
         ∙ sym (append-nil (ended (head_lines s.horizon c.depth)))
         ∙ ap (λ (xs : List Answered). ended (head_lines s.horizon c.depth) ++ flat_map lines xs)
-        (sym (none_answered s.items) ∙ ap (answered_by s.items) (sym none));
+        (sym (none_answered s.items) ∙ ap (answered_by s.items) (sym unanswered));
+  }
+
+  pub may_begin : (c : Core V W P Q X) (s : Scenario) (given : ℕ) (boxes : Boxes) (empty text : Text)
+      → IsCoreOf seen c s given boxes → c.journal.answers.items ≡ [] → empty ≡ []
+      → text ≡ empty ++ ended (head_lines c.scenario.horizon c.depth) → MayTell seen c text
+  may_begin c s given boxes empty text is unanswered none head = record {
+    s = s;
+    given = given;
+    boxes = boxes;
+    is = told_first c s given boxes empty text is unanswered none head;
   }

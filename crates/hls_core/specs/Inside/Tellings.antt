@@ -1,5 +1,5 @@
 -- What a text tells of a scenario so far.
-use Rattle.std.specs.Prelude.{◌≡◌, ℕ, ◌+◌, ◌≤◌, List, [], ◌∷◌, ◌++◌, length, vec_capacity, flat_map, Option}
+use Rattle.std.specs.Prelude.{◌≡◌, ℕ, ◌≤◌, List, [], ◌∷◌, ◌++◌, vec_capacity, flat_map, Option}
 use Rattle.std.specs.Global.{Vec}
 use Rattle.std.specs.Fn.{Mut}
 use Rattle.hls_text.specs.Lines.{Text}

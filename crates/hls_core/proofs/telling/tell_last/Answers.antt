@@ -1,4 +1,4 @@
-use Rattle.std.proofs.Common.{◌<◌, ◌-◌, ap, ◌∙◌, arith, length, sym, subst}
+use Rattle.std.proofs.Common.{◌-◌, ap, arith}
 use Rattle.hls_core.proofs.Tellings.{may_put, told_last, on_done, item_at, untold_within}
 use Rattle.hls_core.proofs.telling.tell_last.Goals as goal
 

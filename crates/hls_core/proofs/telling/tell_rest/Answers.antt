@@ -1,4 +1,3 @@
-use Rattle.std.specs.Prelude.{IfOk}
 use Rattle.hls_core.proofs.Tellings.{on_done}
 use Rattle.hls_core.proofs.Texts.{runs_short, stays_told, rest_told}
 use Rattle.hls_core.proofs.telling.tell_rest.Goals as goal
