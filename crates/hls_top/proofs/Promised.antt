@@ -36,6 +36,7 @@ use Rattle.hls_legal_report.specs.Legal.{IsLegalContent, IsLegalReport}
 use Rattle.hls_legal_report.proofs.Keeping.{report_kept}
 use Rattle.hls_legal_report.proofs.Removal.{removed}
 use Rattle.hls_clauses.proofs.Kept.{report_kept as never_fails}
+use Rattle.hls_core.specs.Texts.{IsLegalText}
 use Rattle.hls_top.specs.Outputs.{IsReportOf}
 use Rattle.hls_top.specs.Promises.{IsRefusal, HasRoom, IsAnswerIn, AnswersEach, KeepsPromises}
 
@@ -182,16 +183,16 @@ promises_kept s given boxes c legal = record {
 }
 
 -- the text of a legal report is as promised
-pub report_if_ok : {B E : Type 0} (result : Result B E) (bytes_of : B → Text) (text : Text) (s : Scenario)
-    (given : ℕ) (boxes : Boxes) (report : Report) → IsScenarioText text s → IsLegalReport s given boxes report
-    → IfOk result (λ bytes. bytes_of bytes ≡ report_text report)
+pub text_if_ok : {B E : Type 0} (result : Result B E) (bytes_of : B → Text) (text : Text) (s : Scenario)
+    (given : ℕ) (boxes : Boxes) → IsScenarioText text s
+    → IfOk result (λ bytes. IsLegalText s given boxes (bytes_of bytes))
     → IfOk result (λ bytes. IsReportOf given boxes text (bytes_of bytes))
-report_if_ok (Ok bytes) bytes_of text s given boxes report read legal spelled = record {
+text_if_ok (Ok bytes) bytes_of text s given boxes read told = record {
   scenario = s;
-  report = report;
+  report = told.report;
   read = read;
-  legal = legal;
-  promises = promises_kept s given boxes (content_of report) legal.legal;
-  spelled = spelled;
+  legal = told.legal;
+  promises = promises_kept s given boxes (content_of told.report) told.legal.legal;
+  spelled = told.spelled;
 }
-report_if_ok (Err e) bytes_of text s given boxes report read legal spelled = tt
+text_if_ok (Err e) bytes_of text s given boxes read told = tt
