@@ -116,10 +116,10 @@ module _ {V W : Type 0} {P : V → Type 0} {Q : W → Type 0}
   }
 
   pub core_may_note : (c : Core V W P Q X) (s : Scenario) (given : ℕ) (boxes : Boxes) (command : Command)
-      → IsCoreOf seen c s given boxes → IsDue s.items c.agenda c.journal.ticks command → MayNote c.journal
+      → IsCoreOf seen c s given boxes → IsDue s.items c.agenda c.journal.ticks command → MayNote command c.journal
   core_may_note c s given boxes command is due =
-      let lt = slice_get_within s.items c.agenda due.item due.there in
-      let place = is.place in may_note s c.journal is.kept (omega (arith, lt, place))
+      subst (λ k. MayNote k c.journal) due.is
+      (may_note s c.journal due.item is.kept (ap (slice_get s.items) (sym is.place) ∙ due.there))
 
   pub carried : (old new : Core V W P Q X) (s : Scenario) (given : ℕ) (boxes : Boxes) (commands : ℕ) (command : Command)
       (answer : Answer) (is : IsCoreOf seen old s given boxes)

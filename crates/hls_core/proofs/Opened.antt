@@ -56,7 +56,7 @@ module _ {V W : Type 0} {P : V → Type 0} {Q : W → Type 0}
     (seen : (x : V) × P x → Seen) where
   pub opened : (c : Core V W P Q X) (s : Scenario) (given : ℕ) → c.scenario ≡ s → IsScenario s
       → c.depth ≡ depth_in_force given s.depth → given ≤ 6 → c.agenda ≡ 0
-      → IsNew (length s.items) s.horizon c.journal → IsGood (boxed seen) c.kit → IsTreeOf seen c.tree start
+      → IsNew s.items s.horizon c.journal → IsGood (boxed seen) c.kit → IsTreeOf seen c.tree start
       → IsReadyOf seen c.tree start → ((k : ℕ) → left_in c.bursts k ≡ None) → c.tree.horizon ≡ s.horizon
       → AreStays c.stays start
       → IsCoreOf seen c s given (boxes_in c.kit)

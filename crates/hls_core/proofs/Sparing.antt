@@ -52,9 +52,10 @@ ticked_kept old new v path is = record {
   room = is.room;
 }
 
-pub note_spared : (j : Journal) (v : Vec Answer) → length j.answers.items ≤ length v.items
-    → vec_capacity v ≤ vec_capacity j.answers → MayNote (with_answers v j) → MayNote j
-note_spared j v fewer room may = record {
+pub note_spared : (j : Journal) (v : Vec Answer) (command : Command) → length j.answers.items ≤ length v.items
+    → vec_capacity v ≤ vec_capacity j.answers → MayNote command (with_answers v j)
+    → MayNote command j
+note_spared j v command fewer room may = record {
   answers = (let lt = may.answers in omega (arith, fewer, room, lt));
   names = may.names;
 }

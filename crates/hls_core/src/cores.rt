@@ -66,7 +66,7 @@ impl Core {
         ensures is { IfOk result (λ core. IsCoreOf seen core scenario depth (boxes_in kit)) }
         ensures unanswered { IfOk result (λ core. core.journal.answers.items ≡ []) }
     {
-        let journal = Journal::open(alloc, scenario.items.items().len(), scenario.horizon)?;
+        let journal = Journal::open(alloc, scenario.items.items(), scenario.horizon)?;
         let depth = depth_in_force(depth, scenario.depth);
         let tree = Tree::new(alloc, scenario.horizon);
         Ok(Core {

@@ -1,6 +1,6 @@
 -- What a journal keeps while answers and ticks are noted.
-use Rattle.std.proofs.Common.{◌≡◌, ℕ, inl, inr, ◌+◌, ◌<◌, ◌≤◌, ◌⊎◌, Bool, true, false, List, []}
-use Rattle.std.proofs.Common.{◌∷◌, ◌++◌, length, take, get_or, map, refl, sym, ap, ◌∙◌, subst, arith, cond}
+use Rattle.std.proofs.Common.{◌≡◌, ℕ, zero, suc, inl, inr, ◌+◌, ◌<◌, ◌≤◌, ◌⊎◌, Bool, true, false, List, []}
+use Rattle.std.proofs.Common.{◌∷◌, ◌++◌, length, take, drop, get_or, map, refl, sym, ap, ◌∙◌, subst, arith, cond}
 use Rattle.std.specs.Prelude.{Option, Some, None, All, option_map, slice_get, vec_capacity, zip}
 use Rattle.std.specs.List.{AllByRecursion, list_any}
 use Rattle.std.specs.Str.{bytes_eq}
@@ -30,10 +30,23 @@ use Rattle.hls_legal_report.specs.Grown.{with_answer, IsTickMore}
 use Rattle.hls_journal.specs.declared.journal.Journal.{Journal}
 use Rattle.hls_journal.specs.Told.{answered_as, answered_by, stretches_of, told}
 use Rattle.hls_journal.specs.Ways.{names_by, last_names, IsLonger}
+use Rattle.hls_journal.specs.Kept.{named, naming}
 use Rattle.hls_journal.specs.Kept.{IsNew, named_by, AreWithin, IsWayOrIdle, IsNoted}
 use Rattle.hls_journal.specs.Kept.{IsTicked, MayNote, MayTick, IsKept}
 use Rattle.hls_journal.proofs.Lists.{HasLast, last_or_none, get_last, zip_push, all_front}
 use Rattle.hls_journal.proofs.Covers.{WayOf, stretch, last_way, last_way_is, IsOneMore, one_new, one_longer}
+
+-- ---- commands that give names
+
+pub naming_next : (items : List Item) (n : ℕ) (item : Item) → slice_get items n ≡ Some item
+    → naming (drop n items) ≡ named (new_name item.command) + naming (drop (n + 1) items)
+naming_next [] n item there = absurd (cc)
+naming_next (x ∷ items) zero item there =
+    let same : x ≡ item = cc in ap (λ (i : Item). named (new_name i.command) + naming items) same
+naming_next (x ∷ items) (suc n) item there =
+    let next : suc n + 1 ≡ suc (n + 1) = omega arith in
+    naming_next items n item there
+    ∙ ap (λ k. named (new_name item.command) + naming (drop k (x ∷ items))) (sym next)
 
 -- ---- names
 
@@ -162,7 +175,11 @@ kept_note s old new item answer kept there is fits n =
           subst (λ t. length new.runs.items ≤ t) (sym n.ticks)
           (subst (λ rs. length rs.items ≤ old.ticks) (sym n.runs) kept.count);
       answers_room = subst (λ c. length s.items ≤ c) (sym n.answers_room) kept.answers_room;
-      names_room = let room = kept.names_room in let spared = n.names_room in omega (arith, room, spared, count);
+      names_room =
+          (let rest = naming_next s.items (length old.answers.items) item there in
+          let room = kept.names_room in
+          let spared = n.names_room in
+          let same = ap (λ k. naming (drop k s.items)) count in omega (arith, rest, room, spared, same));
       runs_room = subst (λ rs. s.horizon ≤ vec_capacity rs) (sym n.runs) kept.runs_room;
     }
 
@@ -330,8 +347,8 @@ kept_tick s old new path kept lt way t =
           let count = kept.count in omega (arith, few, ticks, count);
       answers_room = subst (λ answers. length s.items ≤ vec_capacity answers) (sym t.answers) kept.answers_room;
       names_room =
-          subst (λ answers. length s.items ≤ length answers.items + spare new.names) (sym t.answers)
-          (subst (λ ns. length s.items ≤ length old.answers.items + spare ns) (sym t.names) kept.names_room);
+          subst (λ answers. naming (drop (length answers.items) s.items) ≤ spare new.names) (sym t.answers)
+          (subst (λ ns. naming (drop (length old.answers.items) s.items) ≤ spare ns) (sym t.names) kept.names_room);
       runs_room = subst (λ c. s.horizon ≤ c) (sym t.room) kept.runs_room;
     }
 
@@ -341,10 +358,15 @@ pub way_short : (j : Journal) (path : Option Path) → IsWayOrIdle j path → Ha
 way_short j None way = tt
 way_short j (Some path) way = way.short
 
-pub may_note : (s : Scenario) (j : Journal) → IsKept s j → length j.answers.items < length s.items → MayNote j
-may_note s j kept lt = record {
-  answers = let room = kept.answers_room in omega (arith, room, lt);
-  names = let room = kept.names_room in omega (arith, room, lt);
+pub may_note : (s : Scenario) (j : Journal) (item : Item) → IsKept s j
+    → slice_get s.items (length j.answers.items) ≡ Some item → MayNote item.command j
+may_note s j item kept there = record {
+  answers =
+      (let room = kept.answers_room in
+      let lt = slice_get_within s.items (length j.answers.items) item there in omega (arith, room, lt));
+  names =
+      (let rest = naming_next s.items (length j.answers.items) item there in
+      let room = kept.names_room in omega (arith, rest, room));
 }
 
 pub may_tick : (s : Scenario) (j : Journal) → IsKept s j → s.horizon ≤ 100000 → j.ticks < s.horizon → MayTick j
@@ -356,7 +378,7 @@ may_tick s j kept few lt = record {
   more = omega (arith, few, lt);
 }
 
-pub kept_new : (s : Scenario) (j : Journal) → IsNew (length s.items) s.horizon j → IsKept s j
+pub kept_new : (s : Scenario) (j : Journal) → IsNew s.items s.horizon j → IsKept s j
 kept_new s j new =
     let none : length j.answers.items ≡ 0 = ap (λ (xs : List Answer). length xs) new.answers in
     let unnamed : length j.names.keys ≡ 0 = ap (λ (xs : List Text). length xs) new.names in
@@ -377,7 +399,10 @@ kept_new s j new =
           (All-nil (λ (run : Run). IsWayOrIdle j run.path));
       count = omega (arith, idle);
       answers_room = new.answers_room;
-      names_room = let room = new.names_room in omega (arith, room);
+      names_room =
+          (let room = new.names_room in
+          let same = ap (λ (xs : List Answer). naming (drop (length xs) s.items)) new.answers in
+          omega (arith, room, same));
       runs_room = new.runs_room;
     }
   where

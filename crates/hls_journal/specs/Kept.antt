@@ -1,6 +1,6 @@
 -- What a journal keeps while a scenario is carried out.
 use Rattle.std.specs.Prelude.{◌≡◌, ℕ, ◌+◌, ◌^◌, ◌≤◌, ◌<◌, List, [], ◌∷◌, ◌++◌, Option, Some, None, Bool, All}
-use Rattle.std.specs.Prelude.{length, take}
+use Rattle.std.specs.Prelude.{length, take, drop}
 use Rattle.std.specs.Prelude.{vec_capacity, zip}
 use Rattle.std.specs.List.{list_any, AllByRecursion}
 use Rattle.std.specs.Str.{bytes_eq}
@@ -20,14 +20,23 @@ use Rattle.hls_journal.specs.declared.journal.Journal.{Journal}
 use Rattle.hls_journal.specs.Told.{stretches_of}
 use Rattle.hls_journal.specs.Ways.{IsLonger}
 
--- nothing was noted yet, and there is room for so many commands and ticks
-pub record IsNew (commands horizon : ℕ) (j : Journal) : Type 0 where
+abbrev pub named : Option Text → ℕ
+named None = 0
+named (Some name) = 1
+
+-- how many commands give a name to a node, where they are done
+abbrev pub naming : List Item → ℕ
+naming [] = 0
+naming (item ∷ items) = named (new_name item.command) + naming items
+
+-- nothing was noted yet, and there is room for these commands and so many ticks
+pub record IsNew (items : List Item) (horizon : ℕ) (j : Journal) : Type 0 where
   pub ticks : j.ticks ≡ 0
   pub answers : j.answers.items ≡ []
   pub names : j.names.keys ≡ []
   pub runs : j.runs.items ≡ []
-  pub answers_room : commands ≤ vec_capacity j.answers
-  pub names_room : commands ≤ spare j.names
+  pub answers_room : length items ≤ vec_capacity j.answers
+  pub names_room : naming items ≤ spare j.names
   pub runs_room : horizon ≤ vec_capacity j.runs
 
 -- the name of a node was noted
@@ -61,7 +70,7 @@ pub record IsNoted (command : Command) (answer : Answer) (old new : Journal) : T
   pub runs : new.runs ≡ old.runs
   pub ticks : new.ticks ≡ old.ticks
   pub answers_room : vec_capacity new.answers ≡ vec_capacity old.answers
-  pub names_room : spare old.names ≤ spare new.names + 1
+  pub names_room : spare old.names ≤ spare new.names + named (new_name command)
 
 -- a tick was noted
 pub record IsTicked (path : Option Path) (old new : Journal) : Type 0 where
@@ -71,9 +80,9 @@ pub record IsTicked (path : Option Path) (old new : Journal) : Type 0 where
   pub ticks : new.ticks ≡ old.ticks + 1
   pub room : vec_capacity new.runs ≡ vec_capacity old.runs
 
-pub record MayNote (j : Journal) : Type 0 where
+pub record MayNote (command : Command) (j : Journal) : Type 0 where
   pub answers : length j.answers.items < vec_capacity j.answers
-  pub names : 0 < spare j.names
+  pub names : named (new_name command) ≤ spare j.names
 
 pub record MayTick (j : Journal) : Type 0 where
   pub short : All (λ (run : Run). HasShort run.path) j.runs.items
@@ -92,5 +101,5 @@ pub record IsKept (s : Scenario) (j : Journal) : Type 0 where
   pub ways : All (λ (run : Run). IsWayOrIdle j run.path) j.runs.items
   pub count : length j.runs.items ≤ j.ticks
   pub answers_room : length s.items ≤ vec_capacity j.answers
-  pub names_room : length s.items ≤ length j.answers.items + spare j.names
+  pub names_room : naming (drop (length j.answers.items) s.items) ≤ spare j.names
   pub runs_room : s.horizon ≤ vec_capacity j.runs

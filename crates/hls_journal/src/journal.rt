@@ -11,13 +11,14 @@ ghost use Rattle.hls_report_text.specs.ReportText.{stretch_text, with_end};
 ghost use Rattle.hls_report_text.specs.WellFormed.{HasShort};
 ghost use Rattle.hls_accounts.specs.Commands.{is_done};
 ghost use Rattle.hls_answers.specs.Moment.{new_name};
+ghost use Rattle.hls_journal.specs.Kept.{naming};
 
 use crate::guesses::Guesses;
 use crate::runs::{last_place, put_tick};
 use crate::ways::{insert, is_at, place_of, push};
 use hls_chron::Name;
 use hls_report_text::{Answer, Path, Run, put_runs};
-use hls_scenario::Command;
+use hls_scenario::{Command, Item};
 use hls_text::put;
 use indexmap::IndexSet;
 use std::alloc::{AllocError, Global};
@@ -44,6 +45,20 @@ fn new_name(command: &Command) -> Option<Name>
     }
 }
 
+/// How many commands give a name to a node, where they are done.
+fn naming(items: &[Item]) -> usize
+    ensures counted { result ≡ naming items.now }
+    ensures few { result ≤ length items.now }
+{
+    let mut count = 0;
+    for item in items {
+        if new_name(&item.command).is_some() {
+            count += 1;
+        }
+    }
+    count
+}
+
 /// Whether a command was carried out.
 fn is_done(answer: &Answer) -> bool
     ensures { result ≡ is_done answer.now }
@@ -59,17 +74,17 @@ impl Journal {
     ghost use Rattle.hls_journal.specs.Kept.{IsNew, MayNote, MayTick, AreWithin, has_name, IsNoted, IsTicked};
     ghost use Rattle.hls_journal.specs.Ways.{names_by, last_names};
 
-    /// A journal of nothing yet, with room for so many commands and ticks.
+    /// A journal of nothing yet, with room for these commands and so many ticks.
     ///
     /// # Errors
     /// Returns `AllocError` for want of memory.
-    pub fn open(alloc: Global, commands: usize, horizon: u32) -> Result<Journal, AllocError>
-        ensures { IfOk result (IsNew commands horizon) }
+    pub fn open(alloc: Global, items: &[Item], horizon: u32) -> Result<Journal, AllocError>
+        ensures { IfOk result (IsNew items.now horizon) }
     {
         Ok(Journal {
             ticks: 0,
-            answers: Vec::with_capacity(alloc, commands)?,
-            names: IndexSet::with_capacity(alloc, commands)?,
+            answers: Vec::with_capacity(alloc, items.len())?,
+            names: IndexSet::with_capacity(alloc, naming(items))?,
             guesses: Guesses::new(alloc)?,
             runs: Vec::with_capacity(alloc, horizon as usize)?,
         })
@@ -101,7 +116,7 @@ impl Journal {
 
     /// Notes the answer to the next command.
     pub fn note(&mut self, command: &Command, answer: Answer)
-        requires { MayNote self.old }
+        requires { MayNote command.now self.old }
         ensures { IsNoted command.now answer self.old self.new }
     {
         if is_done(&answer) {

@@ -25,7 +25,7 @@ pub note-requires : goal.note-requires
 note-requires g c =
     let due = due_for c.args.self.now.scenario c.requires.s _ _ _ _ c.requires.is.scenario c.ticks-now.ensures
     c.in-Some.ensures in
-    note_spared c.args.self.now.journal c.requires.answers c.requires.fewer c.requires.room
+    note_spared c.args.self.now.journal c.requires.answers c.in-Some.command.now c.requires.fewer c.requires.room
     (core_may_note _ (keeping c.requires.answers c.args.self.now) c.requires.s c.requires.given c.requires.boxes
     c.in-Some.command.now c.requires.is due)
 

@@ -7,7 +7,7 @@ pub returns : goal.returns
 returns g c = record {
   is = opened _ _ c.args.scenario c.args.depth refl c.requires.scenario
       c.depth_in_force-depth.ensures c.requires.depth c.new.ensures
-      (subst (λ items. IsNew (length items) c.args.scenario.horizon c.in_ok-journal.journal) c.items.ensures
+      (subst (λ items. IsNew items c.args.scenario.horizon c.in_ok-journal.journal) c.items.ensures
       c.in_ok-journal.ensures) c.requires.kit c.new-tree.ensures.tree c.new-tree.ensures.ready c.new-2.ensures
       c.new-tree.ensures.horizon c.new-3.ensures;
   unanswered = c.in_ok-journal.ensures.answers;
