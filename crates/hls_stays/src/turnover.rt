@@ -31,10 +31,11 @@ fn threads_under(alloc: Global, tree: &Tree, id: NodeId) -> Result<Vec<NodeId>, 
         Tells h id below → threads.items ≡ filter below h.threads) }
 {
     let subtree = tree.subtree(id);
+    let mut near = 0;
     let mut threads = Vec::new(alloc);
     for at in 0..tree.threads() {
         let thread = tree.thread(at);
-        if !tree.is_in(&subtree, thread) {
+        if !tree.is_in_near(&subtree, thread, &mut near) {
             continue;
         }
         threads.push(thread)?;

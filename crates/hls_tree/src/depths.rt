@@ -1,6 +1,6 @@
 // How deep schedulers are, and how deep they would be elsewhere.
 ghost use Rattle.std.specs.Prelude.{◌≡◌, ◌≢◌, ◌<◌, ◌≤◌, ◌+◌, ◌⊎◌, ℕ, Some, None, true, false, length, set, map};
-ghost use Rattle.std.specs.Prelude.{slice_index, AllPairs};
+ghost use Rattle.std.specs.Prelude.{slice_index, get_or, AllPairs};
 ghost use Rattle.hls_legal.specs.Hierarchy.{Hierarchy, Seat as Taken};
 ghost use Rattle.hls_legal.specs.Legal.{scheduler_at, fair_queue};
 ghost use Rattle.hls_legal.specs.Readings.{IsUnder};
@@ -111,11 +111,42 @@ fn key_of(parent: Option<NodeId>) -> Option<usize>
     }
 }
 
-/// The sum of a scheduler, and 0 for what is none.
-fn sum_of(schedulers: &[NodeId], sums: &Sums, key: usize) -> u8
-    requires { length schedulers.now ≤ 64 }
+/// Whether a scheduler stands at a place.
+fn is_at(schedulers: &[NodeId], place: usize, key: usize) -> bool
+    ensures { result ≡ true → (place < length schedulers.now) × (get_or schedulers.now place 0 ≡ key) }
+{
+    match schedulers.get(place) {
+        Some(id) => id.key() == key,
+        None => false,
+    }
+}
+
+/// A place where the scheduler of a place is likely to stand: the one that is given, or else the one where it is
+/// found. Who uses it tests it.
+fn place_near(schedulers: &[NodeId], near: usize, place: Place) -> usize {
+    let Some(key) = scheduler_of(place) else {
+        return near;
+    };
+    if is_at(schedulers, near, key) {
+        return near;
+    }
+    for at in 0..schedulers.len() {
+        if schedulers[at].key() == key {
+            return at;
+        }
+    }
+    near
+}
+
+/// The sum of a scheduler, and 0 for what is none. It is likely to stand near this place.
+fn sum_of(schedulers: &[NodeId], sums: &Sums, near: usize, key: usize) -> u8
+    requires few { length schedulers.now ≤ 64 }
+    requires apart { AllPairs (λ (k c : ℕ). k ≢ c) schedulers.now }
     ensures { result ≡ sum_at schedulers.now sums.now key }
 {
+    if is_at(schedulers, near, key) {
+        return sums[near];
+    }
     for (at, id) in schedulers.iter().enumerate() {
         if id.key() == key {
             return sums[at];
@@ -125,24 +156,26 @@ fn sum_of(schedulers: &[NodeId], sums: &Sums, key: usize) -> u8
 }
 
 /// The sum of a parent, 0 for the processor.
-fn sum_under(schedulers: &[NodeId], sums: &Sums, parent: Option<usize>) -> u8
-    requires { length schedulers.now ≤ 64 }
+fn sum_under(schedulers: &[NodeId], sums: &Sums, near: usize, parent: Option<usize>) -> u8
+    requires few { length schedulers.now ≤ 64 }
+    requires apart { AllPairs (λ (k c : ℕ). k ≢ c) schedulers.now }
     ensures { result ≡ sum_under (sum_at schedulers.now sums.now) parent }
 {
     match parent {
-        Some(key) => sum_of(schedulers, sums, key),
+        Some(key) => sum_of(schedulers, sums, near, key),
         None => 0,
     }
 }
 
 /// The greatest sum of a parent.
-fn greatest_over(schedulers: &[NodeId], sums: &Sums, seats: &[TakenSeat]) -> u8
-    requires { length schedulers.now ≤ 64 }
+fn greatest_over(schedulers: &[NodeId], sums: &Sums, near: usize, seats: &[TakenSeat]) -> u8
+    requires few { length schedulers.now ≤ 64 }
+    requires apart { AllPairs (λ (k c : ℕ). k ≢ c) schedulers.now }
     ensures { result ≡ greatest_over (sum_at schedulers.now sums.now) (map seat_view seats.now) }
 {
     let mut greatest = 0u8;
     for seat in seats {
-        greatest = greatest.max(sum_under(schedulers, sums, scheduler_of(seat.place)));
+        greatest = greatest.max(sum_under(schedulers, sums, near, scheduler_of(seat.place)));
     }
     greatest
 }
@@ -163,38 +196,41 @@ fn greatest_of(sums: &Sums, count: usize) -> u8
 
 impl Tree {
     /// The greatest sum of those that a node sits on.
-    fn sum_seated(&self, sums: &Sums, key: usize) -> u8
-        requires { length self.now.schedulers.items ≤ 64 }
+    fn sum_seated(&self, sums: &Sums, near: usize, key: usize) -> u8
+        requires few { length self.now.schedulers.items ≤ 64 }
+        requires apart { AllPairs (λ (k c : ℕ). k ≢ c) self.now.schedulers.items }
         ensures { result ≡ greatest_over (sum_at self.now.schedulers.items sums.now)
             (seats_in (shown_at (boxed seen) self.now.nodes key)) }
     {
         match self.nodes.get(key) {
-            Some(node) => greatest_over(&self.schedulers, sums, &node.seats),
+            Some(node) => greatest_over(&self.schedulers, sums, near, &node.seats),
             None => 0,
         }
     }
 
     /// The greatest sum of those that a node is thought to sit on.
     fn sum_moved(&self, moved: &Option<Moved>, sums: &Sums, key: usize) -> u8
-        requires { length self.now.schedulers.items ≤ 64 }
+        requires few { length self.now.schedulers.items ≤ 64 }
+        requires apart { AllPairs (λ (k c : ℕ). k ≢ c) self.now.schedulers.items }
         ensures { result ≡ greatest_in moved.now (shown_at (boxed seen) self.now.nodes)
             (sum_at self.now.schedulers.items sums.now) key }
     {
         match moved {
             Some(moved) => {
                 if key == moved.key {
-                    sum_under(&self.schedulers, sums, moved.parent)
+                    sum_under(&self.schedulers, sums, 0, moved.parent)
                 } else {
-                    self.sum_seated(sums, key)
+                    self.sum_seated(sums, 0, key)
                 }
             }
-            None => self.sum_seated(sums, key),
+            None => self.sum_seated(sums, 0, key),
         }
     }
 
     /// What the sum of a node is, by those that it sits on. Sums stay far below the greatest of their type.
     fn next_sum(&self, question: &Question, sums: &Sums, key: usize) -> u8
-        requires { length self.now.schedulers.items ≤ 64 }
+        requires few { length self.now.schedulers.items ≤ 64 }
+        requires apart { AllPairs (λ (k c : ℕ). k ≢ c) self.now.schedulers.items }
         ensures { result ≡ next_in question.now (shown_at (boxed seen) self.now.nodes)
             (sum_at self.now.schedulers.items sums.now) key }
     {
@@ -205,6 +241,7 @@ impl Tree {
     /// Sets the sum of a scheduler by those that it sits on, and returns whether it has changed.
     fn raise(&self, question: &Question, at: usize, sums: &mut Sums) -> bool
         requires few { length self.now.schedulers.items ≤ 64 }
+        requires apart { AllPairs (λ (k c : ℕ). k ≢ c) self.now.schedulers.items }
         requires within { at < length self.now.schedulers.items }
         ensures raised { sums.new ≡ set sums.old at (next_in question.now (shown_at (boxed seen) self.now.nodes)
             (sum_at self.now.schedulers.items sums.old) (slice_index self.now.schedulers.items at)) }
@@ -282,10 +319,34 @@ impl Tree {
         ensures no { result ≡ false → (h : Hierarchy) (upper : ℕ) → IsTreeOf seen self.now h →
             IsSubtree h upper subtree.now → ¬ IsUnder h upper lower }
     {
+        self.is_in_near(subtree, lower, &mut 0)
+    }
+
+    /// The same. Those that sit on the same scheduler are quicker to tell one after another: the place at which the
+    /// last one's was found is kept between the calls, and is first 0.
+    pub fn is_in_near(&self, subtree: &Subtree, lower: NodeId, near: &mut usize) -> bool
+        requires { Stands seen self.now Any }
+        ensures yes { result ≡ true → (h : Hierarchy) (upper : ℕ) → IsTreeOf seen self.now h →
+            IsSubtree h upper subtree.now → IsUnder h upper lower }
+        ensures no { result ≡ false → (h : Hierarchy) (upper : ℕ) → IsTreeOf seen self.now h →
+            IsSubtree h upper subtree.now → ¬ IsUnder h upper lower }
+    {
         if lower.key() == subtree.upper.key() {
             return true;
         }
-        self.sum_seated(&subtree.sums, lower.key()) > 0
+        *near = self.place_of_parent(*near, lower.key());
+        self.sum_seated(&subtree.sums, *near, lower.key()) > 0
+    }
+
+    /// A place where the scheduler of a node's first seat is likely to stand.
+    fn place_of_parent(&self, near: usize, key: usize) -> usize {
+        match self.nodes.get(key) {
+            Some(node) => match node.seats.first() {
+                Some(seat) => place_near(&self.schedulers, near, seat.place),
+                None => near,
+            },
+            None => near,
+        }
     }
 
     /// Whether a node is another or below it.
@@ -307,7 +368,7 @@ impl Tree {
             moved: None,
         };
         let sums = self.sums(&question);
-        u32::from(sum_of(&self.schedulers, &sums, id.key()))
+        u32::from(sum_of(&self.schedulers, &sums, 0, id.key()))
     }
 
     /// The greatest sum of counts on a path, if this scheduler sat at that parent in place of its present
