@@ -50,8 +50,10 @@ pub fn rederive(
     let taken = tree.seats_taken(id);
     // A place more, for the seat of a moved node itself, which comes first.
     let mut seats = Vec::with_capacity(alloc, taken as usize + 1)?;
-    for at in 0..taken {
-        let (child, port) = tree.child(id, at);
+    let mut from = 0;
+    for _ in 0..taken {
+        let (child, port, next) = tree.next_child(id, from);
+        from = next;
         let name = tree.name(child);
         match rederive_one(alloc, tree, rules, depth, id, have, child, port) {
             Ok(Some(derivation)) => seats.push(Seated {

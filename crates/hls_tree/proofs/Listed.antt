@@ -4,8 +4,10 @@ use Rattle.std.proofs.Common.{Option, Some, None}
 use Rattle.std.proofs.Common.{Bool, true, false, not, ◌==◌, cond, filter, map, append_assoc, add-one}
 use Rattle.std.proofs.Common.{refl, sym}
 use Rattle.std.proofs.Common.{ap, ◌∙◌, arith, length-append, slice_get, drop, if◌then◌else◌, ◌^◌}
-use Rattle.std.specs.Prelude.{Contains}
-use Rattle.std.proofs.lemmas.List.{map-append, length-map}
+use Rattle.std.specs.Prelude.{Contains, option_map}
+use Rattle.std.proofs.Common.{slice_index_or}
+use Rattle.std.proofs.lemmas.List.{map-append, length-map, drop_all}
+use Rattle.std.proofs.lemmas.Option.{slice_get-map, slice_get_read}
 use Rattle.std.proofs.lemmas.Bool.{cases_eq, ne_eqb}
 use Rattle.hls_legal.specs.Hierarchy.{Hierarchy, Node, Loaded, Admitted, Seat, SeatHolder, seats_of}
 use Rattle.hls_legal.specs.Steps.{listed, sitters, is_scheduler, is_thread}
@@ -209,3 +211,15 @@ pub seat_later : {A : Type 0} (p : A → Bool) (xs : List A) (i left : ℕ) (x :
 seat_later p xs i left x whole e on some so =
     sym (get_next x (filter p (drop (i + 1) xs)) left some)
     ∙ sym (ap (λ l. slice_get l left) (take_step p xs i x e on)) ∙ so
+
+-- the next one that passes
+pub viewed_at : (xs : List Holder) (i : ℕ) (x : Holder) → i < length xs → x ≡ slice_index_or xs i x
+    → slice_get (map holder_view xs) i ≡ Some (holder_view x)
+viewed_at xs i x lt e =
+    slice_get-map holder_view xs i ∙ ap (option_map holder_view) (slice_get_read xs (length xs) i x refl lt e)
+
+pub none_behind : (p : SeatHolder → Bool) (xs : List Holder) (i : ℕ) → length xs ≤ i
+    → filter p (drop i (map holder_view xs)) ≡ []
+none_behind p xs i le =
+    let same : length (map holder_view xs) ≡ length xs = length-map xs holder_view in
+    ap (filter p) (drop_all i (map holder_view xs) (omega (arith, same, le)))

@@ -1,7 +1,7 @@
 -- What the read calls answer.
 use Rattle.std.proofs.Common.{◌≡◌, ◌≢◌, ℕ, ◌<◌, Bool, Option, Some, None, map, filter, length, slice_get, sym, ap}
 use Rattle.std.proofs.Common.{◌∙◌, subst}
-use Rattle.std.specs.Prelude.{option_map}
+use Rattle.std.specs.Prelude.{option_map, drop, List, [], ◌∷◌}
 use Rattle.std.specs.Prelude.{IfSome, IsNone}
 use Rattle.slab.specs.Slab.{get}
 use Rattle.hls_chron.specs.declared.plain.Kind.{Kind}
@@ -27,7 +27,7 @@ use Rattle.hls_tree.proofs.Attaches.{get_in}
 use Rattle.hls_tree.specs.Offers.{IsLevel}
 use Rattle.hls_tree.specs.Lists.{holder_view, is_on, is_on_key}
 use Rattle.hls_tree.specs.declared.lists.Holder.{Holder}
-use Rattle.hls_tree.specs.Reads.{IsLoaded, IsSort, IsSeatAnswer, taken_on}
+use Rattle.hls_tree.specs.Reads.{IsLoaded, IsSort, IsSeatAnswer, taken_among, taken_on, taken_behind}
 use Rattle.hls_tree.specs.Trees.{IsTreeOf, Stands}
 use Rattle.hls_tree.specs.declared.seat.Sort.TheVariants as sorts
 use Rattle.hls_tree.specs.declared.tree.Tree.{Tree}
@@ -97,17 +97,27 @@ module _ {V : Type 0} {P : V → Type 0} (seen : (x : V) × P x → Seen) where
       (level_is (shown_at (boxed seen) t.nodes) t.tick t.horizon t.root h tree.of seated id x.is.scheduler there)
 
   -- the seats on a scheduler, by the list of the tree and by the hierarchy
+  tests_same : (t : Tree V P) (h : Hierarchy) (p : ℕ) → IsTreeOf seen t h
+      → is_on_key (shown_at (boxed seen) t.nodes) p
+      ≡ (λ (s : SeatHolder). is_on (option_map (λ (seat : Seat). seat.place) (seat_of (h.nodes s.node) s.port)) p)
+  tests_same t h p tree =
+      λ i s. is_on (option_map (λ (seat : Seat). seat.place) (slice_get
+      (sym (seats_same (h.nodes s.node) (shown_at (boxed seen) t.nodes s.node) (tree.of.nodes s.node)) i) s.port)) p
+
   pub taken_same : (t : Tree V P) (h : Hierarchy) (p : ℕ) → IsTreeOf seen t h
       → filter (is_on_key (shown_at (boxed seen) t.nodes) p) (map holder_view t.seats.items) ≡ taken_on h p
   taken_same t h p tree =
-      let tests : is_on_key (shown_at (boxed seen) t.nodes) p
-      ≡ (λ (s : SeatHolder). is_on (option_map (λ (seat : Seat). seat.place) (seat_of (h.nodes s.node) s.port)) p) =
-      (λ i s. is_on (option_map (λ (seat : Seat). seat.place) (slice_get
-      (sym (seats_same (h.nodes s.node) (shown_at (boxed seen) t.nodes s.node) (tree.of.nodes s.node)) i) s.port)) p) in
-      ap (λ (test : SeatHolder → Bool). filter test (map holder_view t.seats.items)) tests
-      ∙ ap (filter (λ (s : SeatHolder). is_on
-      (option_map (λ (seat : Seat). seat.place) (seat_of (h.nodes s.node) s.port)) p))
-      (sym tree.seats)
+      ap (λ (test : SeatHolder → Bool). filter test (map holder_view t.seats.items)) (tests_same t h p tree)
+      ∙ ap (taken_among h p) (sym tree.seats)
+
+  behind_same : (t : Tree V P) (h : Hierarchy) (key id from : ℕ) → key ≡ id → IsTreeOf seen t h
+      → filter (is_on_key (shown_at (boxed seen) t.nodes) key) (drop from (map holder_view t.seats.items))
+      ≡ taken_behind h id from
+  behind_same t h key id from e tree =
+      ap (λ (test : SeatHolder → Bool). filter test (drop from (map holder_view t.seats.items)))
+      (tests_same t h key tree)
+      ∙ ap (λ (l : List SeatHolder). taken_among h key (drop from l)) (sym tree.seats)
+      ∙ ap (λ n. taken_behind h n from) e
 
   pub taken_read : (t : Tree V P) (key id count : ℕ) → key ≡ id
       → count ≡ length (filter (is_on_key (shown_at (boxed seen) t.nodes) key) (map holder_view t.seats.items))
@@ -135,3 +145,18 @@ module _ {V : Type 0} {P : V → Type 0} (seen : (x : V) × P x → Seen) where
       ∙ ap (option_map holder_view) none in
       let some = get_in (taken_on x.h id) at x.is in
       (let clash : Some some.0 ≡ None = sym some.1 ∙ past in cc)
+
+  pub next_read : (t : Tree V P) (key id from node port next : ℕ) → key ≡ id
+      → filter (is_on_key (shown_at (boxed seen) t.nodes) key) (drop from (map holder_view t.seats.items))
+      ≡ (record { node = node; port = port })
+      ∷ filter (is_on_key (shown_at (boxed seen) t.nodes) key) (drop next (map holder_view t.seats.items))
+      → (h : Hierarchy) → IsTreeOf seen t h
+      → taken_behind h id from ≡ (record { node = node; port = port }) ∷ taken_behind h id next
+  next_read t key id from node port next e is h tree =
+      sym (behind_same t h key id from e tree) ∙ is
+      ∙ ap (λ (l : List SeatHolder). (record { node = node; port = port }) ∷ l) (behind_same t h key id next e tree)
+
+  pub next_there : (t : Tree V P) (key id from : ℕ) → key ≡ id
+      → filter (is_on_key (shown_at (boxed seen) t.nodes) key) (drop from (map holder_view t.seats.items)) ≡ []
+      → Stands seen t (λ h. taken_behind h id from ≢ []) → ⊥
+  next_there t key id from e none x = x.is (sym (behind_same t x.h key id from e x.tree) ∙ none)

@@ -1,6 +1,6 @@
 -- What the read calls answer, each by the hierarchy.
 use Rattle.std.specs.Prelude.{◌≡◌, ◌≢◌, ℕ, ◌≤◌, List, ◌∷◌, [], ◌++◌, length, Option, Some, None}
-use Rattle.std.specs.Prelude.{filter, option_map}
+use Rattle.std.specs.Prelude.{filter, option_map, drop}
 use Rattle.hls_chron.specs.declared.plain.Kind.TheVariants as kinds
 use Rattle.hls_chron.specs.declared.plain.Terms.{Terms}
 use Rattle.hls_chron.specs.Kinds.{kind_of, terms_kind}
@@ -42,10 +42,18 @@ abbrev pub IsParent : Hierarchy → (parent : Option ℕ) → Type 0
 IsParent h None = Unit {0}
 IsParent h (Some p) = IsLoaded (h.nodes p)
 
+-- the seats on a scheduler, among some
+abbrev pub taken_among : Hierarchy → (p : ℕ) → List SeatHolder → List SeatHolder
+taken_among h p seats = filter (λ (s : SeatHolder).
+    is_on (option_map (λ (seat : Seat). seat.place) (seat_of (h.nodes s.node) s.port)) p) seats
+
 -- the seats that are taken on a scheduler, in the order of their taking
 abbrev pub taken_on : Hierarchy → (p : ℕ) → List SeatHolder
-taken_on h p = filter (λ (s : SeatHolder).
-    is_on (option_map (λ (seat : Seat). seat.place) (seat_of (h.nodes s.node) s.port)) p) h.seats
+taken_on h p = taken_among h p h.seats
+
+-- and those of them that come behind so many of all seats
+abbrev pub taken_behind : Hierarchy → (p from : ℕ) → List SeatHolder
+taken_behind h p from = taken_among h p (drop from h.seats)
 
 -- so many fair queueing schedulers are on a path to a scheduler, itself included, and on no path more
 pub record IsShares (h : Hierarchy) (k shares : ℕ) : Type 0 where

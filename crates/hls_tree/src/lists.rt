@@ -1,6 +1,6 @@
 // Lists of nodes and of seats, the oldest first.
 ghost use Rattle.std.specs.Prelude.{◌≡◌, ◌+◌, ◌<◌, ◌≤◌, ◌++◌, ◌==◌, not, false, length, map, filter, Some, ◌^◌};
-ghost use Rattle.std.specs.Prelude.{option_map, slice_get};
+ghost use Rattle.std.specs.Prelude.{option_map, slice_get, drop, IfSome, IsNone, ◌∷◌, []};
 ghost use Rattle.std.specs.Vec.{vec_capacity};
 ghost use Rattle.hls_legal.specs.Hierarchy.{SeatHolder};
 ghost use Rattle.hls_legal.specs.Steps.{listed};
@@ -129,6 +129,29 @@ pub(crate) fn seat_on(nodes: &Slab<Node>, seats: &[Holder], key: usize, at: u32)
             return Some(*seat);
         }
         left -= 1;
+    }
+    None
+}
+
+/// The node and the port of the first seat on a scheduler from a place of the list on, and the place behind it.
+pub(crate) fn next_on(
+    nodes: &Slab<Node>,
+    seats: &[Holder],
+    key: usize,
+    from: usize,
+) -> Option<(NodeId, u8, usize)>
+    ensures some { IfSome result (λ next.
+        filter (is_on_key (shown_at (boxed seen) nodes.now) key) (drop from (map holder_view seats.now))
+        ≡ (record { node = next.0; port = next.1 })
+        ∷ filter (is_on_key (shown_at (boxed seen) nodes.now) key) (drop next.2 (map holder_view seats.now))) }
+    ensures none { IsNone result →
+        filter (is_on_key (shown_at (boxed seen) nodes.now) key) (drop from (map holder_view seats.now)) ≡ [] }
+{
+    for place in from..seats.len() {
+        let seat = &seats[place];
+        if is_on(nodes, *seat, key) {
+            return Some((seat.node, seat.port, place + 1));
+        }
     }
     None
 }

@@ -1,4 +1,4 @@
-use Rattle.std.proofs.Common.{◌∙◌, false, true, refl, sym, ap, arith, length}
+use Rattle.std.proofs.Common.{◌∙◌, refl, sym, ap, arith, length}
 use Rattle.hls_chron.specs.declared.plain.Kind.{Kind}
 use Rattle.hls_sched.specs.GoodKit.{boxes_of}
 use Rattle.hls_manager.specs.Outcomes.{moment}
