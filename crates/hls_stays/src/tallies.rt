@@ -1,9 +1,9 @@
 // Tallies in little room.
 ghost use Rattle.std.specs.Prelude.{◌≡◌, ◌+◌, ◌-◌, ◌<◌, ◌≤◌, ◌++◌, ◌∷◌, [], ℕ, true, length, slice_get, slice_set};
-ghost use Rattle.std.specs.Prelude.{Some, IfSome, OnOk, option_to_list, reverse};
+ghost use Rattle.std.specs.Prelude.{Some, IfSome, OnOk, option_copied, option_map, option_to_list, reverse};
 ghost use Rattle.hls_stays.specs.Tallies.{waited, opened_at};
 ghost use Rattle.hls_stays.specs.Inside.Rows.{seating_at, seating_of, spare_of, tally_by};
-ghost use Rattle.hls_stays.specs.Inside.Steps.{closed_tally, noted_tally, served_tally, swept, swept_rows};
+ghost use Rattle.hls_stays.specs.Inside.Steps.{begun_tally, closed_tally, noted_tally, served_tally, swept, swept_rows};
 
 use crate::places::Places;
 use crate::row::{Row, Seating};
@@ -217,6 +217,43 @@ impl Tallies {
             ready: tally.ready,
             ready_since: tally.ready_since,
             served: tally.served,
+        });
+    }
+
+    /// The seating of the stay at a place, if there is one.
+    pub(crate) fn seating(&self, place: usize) -> Option<&Seating>
+        ensures { option_copied result ≡ option_map seating_of (slice_get self.now.items place) }
+    {
+        match self.rows.get(place) {
+            Some(row) => Some(&self.seatings[row.seating]),
+            None => None,
+        }
+    }
+
+    /// Appends the tally of a stay that begins, with the name and the guarantee of the stay at that place, into
+    /// room that is there.
+    pub(crate) fn push_like(
+        &mut self,
+        like: usize,
+        thread: NodeId,
+        since: u32,
+        ready_since: Option<u32>,
+    )
+        requires like { like < length self.old.items }
+        requires room { 0 < self.old.spare }
+        ensures items { (tally : Tally) → slice_get self.old.items like ≡ Some tally →
+            self.new.items ≡ self.old.items ++ begun_tally thread since ready_since (seating_of tally) ∷ [] }
+        ensures spare { self.old.spare ≤ self.new.spare + 1 }
+    {
+        let seating = self.rows[like].seating;
+        self.rows.push_reserved(Row {
+            thread,
+            seating,
+            since,
+            until: None,
+            ready: 0,
+            ready_since,
+            served: 0,
         });
     }
 
