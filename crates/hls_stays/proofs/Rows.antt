@@ -2,12 +2,9 @@
 use Rattle.std.proofs.Common.{◌≡◌, ℕ, ◌<◌, ◌≤◌, List, [], ◌∷◌, ◌++◌, Bool, true, false, cond}
 use Rattle.std.proofs.Common.{length, refl, sym, ap, ◌∙◌, subst, arith, map, filter, take, drop, get_or}
 use Rattle.std.specs.Prelude.{Option, Some, None, slice_get, slice_set}
-use Rattle.std.specs.Str.{bytes_eq}
 use Rattle.std.proofs.lemmas.List.{length-map, map-set, take-map, drop-map}
 use Rattle.std.proofs.lemmas.Option.{slice_get_read, slice_get_within, get_or_from_slice_get}
 use Rattle.std.proofs.lemmas.Option.{slice_get_past}
-use Rattle.std.proofs.lemmas.Slice.Eq.{bytes_eq-Decides}
-use Rattle.hls_guarantee.specs.contracts.GuaranteePartialEq.TheImpl.{eq-value}
 use Rattle.hls_stays.specs.Tallies.{open_by, opened_at, lasts}
 use Rattle.hls_stays.specs.Inside.Rows.{seating_at, seating_of, tally_by, tallies_by, AreSeated}
 use Rattle.hls_stays.specs.Inside.Steps.{begun_tally, swept, swept_rows}
@@ -16,7 +13,6 @@ use Rattle.hls_stays.specs.declared.row.Seating.{Seating}
 use Rattle.hls_stays.specs.declared.tally.Tally.{Tally}
 use Rattle.hls_stays.proofs.Lists.{inner, get_map, map_same, map_append}
 use Rattle.hls_stays.proofs.Swept.{all_swept}
-use Rattle.hls_tree.proofs.Equal.{equal-same}
 
 -- ---- one row
 
@@ -98,15 +94,6 @@ swept_seated seatings rows new from are e =
     (λ (row : Row). lasts row.since row.until) from rows are)
 
 -- ---- a row more
-
--- the seating that was found is that of the tally
-pub same_seating : (seatings : List Seating) (at : ℕ) (seating : Seating) (tally : Tally)
-    → slice_get seatings at ≡ Some seating → bytes_eq seating.name tally.name ≡ true
-    → eq-value.it seating.kept tally.kept ≡ true → slice_get seatings at ≡ Some (seating_of tally)
-same_seating seatings at seating tally there name kept =
-    let same_name = (bytes_eq-Decides seating.name tally.name).0 name in
-    let same_kept = equal-same seating.kept tally.kept kept in
-    there ∙ (λ i. Some (record { name = same_name i; kept = same_kept i }))
 
 -- rows keep their tallies where more seatings come
 same_rows : (seatings new : List Seating) (rows : List Row) → AreSeated seatings rows

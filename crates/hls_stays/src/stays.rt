@@ -132,8 +132,8 @@ impl Stays {
         }
     }
 
-    /// Begins a stay of a thread that has none that is open, into room that is there. The stay at that place
-    /// may have the same name and guarantee.
+    /// Begins a stay of a thread that has none that is open, into room that is there. Where the stay at that
+    /// place has the same name and guarantee, the two share them.
     fn open(&mut self, tree: &Tree, id: NodeId, like: usize)
         requires thread { Stands seen tree.now (λ h. IsThread (h.nodes id)) }
         requires room { HasRoom self.old 1 }
@@ -157,7 +157,7 @@ impl Stays {
                 ready_since: ready_since(tree, id),
                 served: 0,
             };
-            self.tallies.push(tally, like);
+            self.tallies.push(tally);
         }
         self.places.put(id, place);
     }
