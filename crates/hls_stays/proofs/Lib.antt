@@ -1,7 +1,6 @@
 mod Lists
 mod Lasting
 mod Swept
-mod Equal
 mod Rows
 mod Opened
 mod Ends

@@ -1,22 +1,18 @@
 -- Tallies that are kept in rows.
 use Rattle.std.proofs.Common.{◌≡◌, ℕ, ◌<◌, ◌≤◌, List, [], ◌∷◌, ◌++◌, Bool, true, false, cond}
 use Rattle.std.proofs.Common.{length, refl, sym, ap, ◌∙◌, subst, arith, map, filter, take, drop, get_or}
-use Rattle.std.specs.Prelude.{Some, slice_get, slice_set}
-use Rattle.std.specs.Str.{bytes_eq}
+use Rattle.std.specs.Prelude.{Option, Some, None, slice_get, slice_set}
 use Rattle.std.proofs.lemmas.List.{length-map, map-set, take-map, drop-map}
 use Rattle.std.proofs.lemmas.Option.{slice_get_read, slice_get_within, get_or_from_slice_get}
 use Rattle.std.proofs.lemmas.Option.{slice_get_past}
-use Rattle.std.proofs.lemmas.Slice.Eq.{bytes_eq-Decides}
-use Rattle.hls_guarantee.specs.contracts.GuaranteePartialEq.TheImpl.{eq-value}
 use Rattle.hls_stays.specs.Tallies.{open_by, opened_at, lasts}
 use Rattle.hls_stays.specs.Inside.Rows.{seating_at, seating_of, tally_by, tallies_by, AreSeated}
-use Rattle.hls_stays.specs.Inside.Steps.{swept, swept_rows}
+use Rattle.hls_stays.specs.Inside.Steps.{begun_tally, swept, swept_rows}
 use Rattle.hls_stays.specs.declared.row.Row.{Row}
 use Rattle.hls_stays.specs.declared.row.Seating.{Seating}
 use Rattle.hls_stays.specs.declared.tally.Tally.{Tally}
 use Rattle.hls_stays.proofs.Lists.{inner, get_map, map_same, map_append}
 use Rattle.hls_stays.proofs.Swept.{all_swept}
-use Rattle.hls_stays.proofs.Equal.{equal-same}
 
 -- ---- one row
 
@@ -99,15 +95,6 @@ swept_seated seatings rows new from are e =
 
 -- ---- a row more
 
--- the seating that was found is that of the tally
-pub same_seating : (seatings : List Seating) (at : ℕ) (seating : Seating) (tally : Tally)
-    → slice_get seatings at ≡ Some seating → bytes_eq seating.name tally.name ≡ true
-    → eq-value.it seating.kept tally.kept ≡ true → slice_get seatings at ≡ Some (seating_of tally)
-same_seating seatings at seating tally there name kept =
-    let same_name = (bytes_eq-Decides seating.name tally.name).0 name in
-    let same_kept = equal-same seating.kept tally.kept kept in
-    there ∙ (λ i. Some (record { name = same_name i; kept = same_kept i }))
-
 -- rows keep their tallies where more seatings come
 same_rows : (seatings new : List Seating) (rows : List Row) → AreSeated seatings rows
     → ((at : ℕ) → at < length seatings → seating_at new at ≡ seating_at seatings at)
@@ -167,3 +154,23 @@ pushed_row seatings new rows next items place tally is are before there push =
     ∙ map_append (tally_by new) rows (row_of place tally ∷ [])
     ∙ ap (λ l. l ++ tally_by new (row_of place tally) ∷ []) (same_rows seatings new rows are before ∙ is)
     ∙ ap (λ t. items ++ t ∷ []) (tally_is new place tally there)
+
+-- a row more that has the seating of another
+pub pushed_like : (seatings : List Seating) (rows next : List Row) (items : List Tally) (like : ℕ) (row : Row)
+    (thread since : ℕ) (ready_since : Option ℕ) → tallies_by seatings rows ≡ items → slice_get rows like ≡ Some row
+    → next ≡ rows ++ (record {
+      seating = row.seating;
+      thread = thread;
+      since = since;
+      until = None;
+      ready = 0;
+      ready_since = ready_since;
+      served = 0;
+    }) ∷ [] → (tally : Tally) → slice_get items like ≡ Some tally
+    → tallies_by seatings next ≡ items ++ begun_tally thread since ready_since (seating_of tally) ∷ []
+pushed_like seatings rows next items like row thread since ready_since is there push tally e =
+    ap (tallies_by seatings) push
+    ∙ map_append (tally_by seatings) rows _
+    ∙ ap (λ l. l ++ begun_tally thread since ready_since (seating_of (tally_by seatings row)) ∷ []) is
+    ∙ ap (λ (t : Tally). items ++ begun_tally thread since ready_since (seating_of t) ∷ [])
+    (inner (tally_by seatings row) tally (sym (tally_of_row seatings rows items like row is there) ∙ e))

@@ -10,7 +10,7 @@ ghost use Rattle.hls_stays.specs.Tallies.{AreStays, AreTallies, HasRoom, IsNoted
 ghost use Rattle.hls_stays.specs.Turnovers.{stays_begun};
 ghost use Rattle.hls_stays.specs.Changes.{Turns, MayTurn, Ticks, MayTick};
 ghost use Rattle.hls_stays.specs.Inside.Steps.{HasOpen, HasNone, MayClose, without};
-ghost use Rattle.hls_stays.specs.Inside.Renewals.{AreRenewable, renewed_one, renewed_all, IsRousing, MayNote};
+ghost use Rattle.hls_stays.specs.Inside.Renewals.{AreRenewable, renewed_one, renewed_all, IsLike, IsRousing, MayNote};
 
 use crate::Turnover;
 use crate::places::Places;
@@ -121,8 +121,19 @@ impl Stays {
         place
     }
 
-    /// Begins a stay of a thread that has none that is open, into room that is there. The stay at that place
-    /// may have the same name and guarantee.
+    /// Whether the stay at a place has the name and the guarantee of a thread.
+    fn is_like(&self, tree: &Tree, id: NodeId, like: usize) -> bool
+        requires { Stands seen tree.now (λ h. IsThread (h.nodes id)) }
+        ensures { result ≡ true → IsLike seen self.now tree.now id like }
+    {
+        match self.tallies.seating(like) {
+            Some(seating) => tree.keeps(id, &seating.name, &seating.kept),
+            None => false,
+        }
+    }
+
+    /// Begins a stay of a thread that has none that is open, into room that is there. Where the stay at that
+    /// place has the same name and guarantee, the two share them.
     fn open(&mut self, tree: &Tree, id: NodeId, like: usize)
         requires thread { Stands seen tree.now (λ h. IsThread (h.nodes id)) }
         requires room { HasRoom self.old 1 }
@@ -132,17 +143,22 @@ impl Stays {
         ensures spare { self.old.tallies.spare ≤ self.new.tallies.spare + 1 }
     {
         let place = self.tallies.len();
-        let tally = Tally {
-            thread: id,
-            name: tree.name(id),
-            kept: tree.kept(id, 0),
-            since: tree.now(),
-            until: None,
-            ready: 0,
-            ready_since: ready_since(tree, id),
-            served: 0,
-        };
-        self.tallies.push(tally, like);
+        if self.is_like(tree, id, like) {
+            self.tallies
+                .push_like(like, id, tree.now(), ready_since(tree, id));
+        } else {
+            let tally = Tally {
+                thread: id,
+                name: tree.name(id),
+                kept: tree.kept(id, 0),
+                since: tree.now(),
+                until: None,
+                ready: 0,
+                ready_since: ready_since(tree, id),
+                served: 0,
+            };
+            self.tallies.push(tally);
+        }
         self.places.put(id, place);
     }
 

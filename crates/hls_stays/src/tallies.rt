@@ -1,9 +1,9 @@
 // Tallies in little room.
 ghost use Rattle.std.specs.Prelude.{◌≡◌, ◌+◌, ◌-◌, ◌<◌, ◌≤◌, ◌++◌, ◌∷◌, [], ℕ, true, length, slice_get, slice_set};
-ghost use Rattle.std.specs.Prelude.{Some, IfSome, OnOk, option_to_list, reverse};
+ghost use Rattle.std.specs.Prelude.{Some, OnOk, option_copied, option_map, option_to_list, reverse};
 ghost use Rattle.hls_stays.specs.Tallies.{waited, opened_at};
 ghost use Rattle.hls_stays.specs.Inside.Rows.{seating_at, seating_of, spare_of, tally_by};
-ghost use Rattle.hls_stays.specs.Inside.Steps.{closed_tally, noted_tally, served_tally, swept, swept_rows};
+ghost use Rattle.hls_stays.specs.Inside.Steps.{begun_tally, closed_tally, noted_tally, served_tally, swept, swept_rows};
 
 use crate::places::Places;
 use crate::row::{Row, Seating};
@@ -52,32 +52,15 @@ fn tally_of(seatings: &[Seating], row: &Row) -> Tally
     }
 }
 
-/// The place of the seating of the row at a place, where it is that of a tally.
-fn find_seating(rows: &[Row], seatings: &[Seating], like: usize, tally: &Tally) -> Option<usize>
-    ensures { IfSome result (λ at. slice_get seatings.now at ≡ Some (seating_of tally.now)) }
-{
-    let at = rows.get(like)?.seating;
-    let seating = seatings.get(at)?;
-    if seating.name == tally.name && seating.kept == tally.kept {
-        Some(at)
-    } else {
-        None
-    }
-}
-
-/// The place of the seating of a tally: the one that was found, or a new one at the end.
-fn seat(seatings: &mut Vec<Seating>, found: Option<usize>, tally: &Tally) -> usize
-    requires found { IfSome found (λ at. slice_get seatings.old.items at ≡ Some (seating_of tally.now)) }
-    requires room { 0 < spare_of seatings.old }
+/// Appends a seating for a tally, and tells its place.
+fn seat(seatings: &mut Vec<Seating>, tally: &Tally) -> usize
+    requires { 0 < spare_of seatings.old }
     ensures seated { slice_get seatings.new.items result ≡ Some (seating_of tally.now) }
     ensures before { (at : ℕ) → at < length seatings.old.items →
         seating_at seatings.new.items at ≡ seating_at seatings.old.items at }
     ensures more { length seatings.old.items ≤ length seatings.new.items }
     ensures spare { spare_of seatings.old ≤ spare_of seatings.new + 1 }
 {
-    if let Some(at) = found {
-        return at;
-    }
     let place = seatings.len();
     seatings.push_reserved(Seating {
         name: tally.name,
@@ -200,15 +183,13 @@ impl Tallies {
         sweep_rows(&mut self.rows, places, from);
     }
 
-    /// Appends a tally, into room that is there. Where the stay at that place has the same name and guarantee,
-    /// the two share them.
-    pub(crate) fn push(&mut self, tally: Tally, like: usize)
+    /// Appends a tally that shares its name and guarantee with none before it, into room that is there.
+    pub(crate) fn push(&mut self, tally: Tally)
         requires { 0 < self.old.spare }
         ensures items { self.new.items ≡ self.old.items ++ tally ∷ [] }
         ensures spare { self.old.spare ≤ self.new.spare + 1 }
     {
-        let found = find_seating(&self.rows, &self.seatings, like, &tally);
-        let seating = seat(&mut self.seatings, found, &tally);
+        let seating = seat(&mut self.seatings, &tally);
         self.rows.push_reserved(Row {
             thread: tally.thread,
             seating,
@@ -217,6 +198,43 @@ impl Tallies {
             ready: tally.ready,
             ready_since: tally.ready_since,
             served: tally.served,
+        });
+    }
+
+    /// The seating of the stay at a place, if there is one.
+    pub(crate) fn seating(&self, place: usize) -> Option<&Seating>
+        ensures { option_copied result ≡ option_map seating_of (slice_get self.now.items place) }
+    {
+        match self.rows.get(place) {
+            Some(row) => Some(&self.seatings[row.seating]),
+            None => None,
+        }
+    }
+
+    /// Appends the tally of a stay that begins and shares the name and the guarantee of the stay at that place,
+    /// into room that is there.
+    pub(crate) fn push_like(
+        &mut self,
+        like: usize,
+        thread: NodeId,
+        since: u32,
+        ready_since: Option<u32>,
+    )
+        requires like { like < length self.old.items }
+        requires room { 0 < self.old.spare }
+        ensures items { (tally : Tally) → slice_get self.old.items like ≡ Some tally →
+            self.new.items ≡ self.old.items ++ begun_tally thread since ready_since (seating_of tally) ∷ [] }
+        ensures spare { self.old.spare ≤ self.new.spare + 1 }
+    {
+        let seating = self.rows[like].seating;
+        self.rows.push_reserved(Row {
+            thread,
+            seating,
+            since,
+            until: None,
+            ready: 0,
+            ready_since,
+            served: 0,
         });
     }
 

@@ -1,7 +1,7 @@
 -- What stays that are renewed, and threads that are woken or blocked, leave of tallies.
-use Rattle.std.specs.Prelude.{◌≡◌, ℕ, List, [], ◌∷◌, ◌++◌, Some, slice_get}
+use Rattle.std.specs.Prelude.{◌≡◌, ℕ, List, [], ◌∷◌, ◌++◌, Some, option_map, slice_get}
 use Rattle.hls_sched.specs.Seen.{Seen}
-use Rattle.hls_legal.specs.Hierarchy.{Hierarchy, Stay, Wake}
+use Rattle.hls_legal.specs.Hierarchy.{Hierarchy, Seat, Stay, Wake, name_of, seat_of}
 use Rattle.hls_legal.specs.Legal.{IsThread}
 use Rattle.hls_legal.specs.Steps.{stay_of, with_wake}
 use Rattle.hls_tree.specs.Trees.{IsTreeOf, IsReadyOf}
@@ -9,6 +9,7 @@ use Rattle.hls_tree.specs.declared.tree.Tree.{Tree}
 use Rattle.hls_stays.specs.Tallies.{AreTallies, AreStays}
 use Rattle.hls_stays.specs.Inside.Steps.{HasOpen, without}
 use Rattle.hls_stays.specs.declared.stays.Stays.{Stays}
+use Rattle.hls_stays.specs.declared.tally.Tally.{Tally}
 
 -- the stay of a thread ends, and another begins
 abbrev pub renewed_one : Hierarchy → List Stay → (k : ℕ) → List Stay
@@ -31,6 +32,14 @@ pub record AreRenewable (s : Stays) (h : Hierarchy) (stays : List Stay) (threads
 
 -- V and P are what the checker knows a box by
 module _ {V : Type 0} {P : V → Type 0} where
+  -- the tally at a place has the name and the guarantee of a thread
+  pub record IsLike (seen : (x : V) × P x → Seen) (s : Stays) (t : Tree V P) (k at : ℕ) : Type 0 where
+    pub tally : Tally
+    pub there : slice_get s.tallies.items at ≡ Some tally
+    pub name : (h : Hierarchy) → IsTreeOf seen t h → name_of (h.nodes k) ≡ Some tally.name
+    pub kept : (h : Hierarchy) → IsTreeOf seen t h
+        → option_map (λ (seat : Seat). seat.kept) (seat_of (h.nodes k) 0) ≡ Some tally.kept
+
   -- a thread with an open stay was woken or blocked, after which the tree is
   pub record IsRousing (seen : (x : V) × P x → Seen) (s : Stays) (t : Tree V P) (h : Hierarchy) (k : ℕ) (how : Wake)
       : Type 0 where

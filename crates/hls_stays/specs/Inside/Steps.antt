@@ -6,10 +6,24 @@ use Rattle.hls_legal.specs.Steps.{closed}
 use Rattle.hls_stays.specs.Tallies.{AreTallies, lasts}
 use Rattle.hls_stays.specs.declared.stays.Stays.{Stays}
 use Rattle.hls_stays.specs.declared.row.Row.{Row}
+use Rattle.hls_stays.specs.declared.row.Seating.{Seating}
 use Rattle.hls_stays.specs.declared.tally.Tally.{Tally}
 
 abbrev pub closed_tally : (now : ℕ) → Tally → Tally
 closed_tally now tally = record tally { until = Some now }
+
+-- the tally of a stay that begins
+abbrev pub begun_tally : (thread since : ℕ) → (ready_since : Option ℕ) → Seating → Tally
+begun_tally thread since ready_since seating = record {
+  thread = thread;
+  name = seating.name;
+  kept = seating.kept;
+  since = since;
+  until = None;
+  ready = 0;
+  ready_since = ready_since;
+  served = 0;
+}
 
 abbrev pub served_tally : Tally → Tally
 served_tally tally = record tally { served = tally.served + 1 }
