@@ -86,7 +86,7 @@ impl Stays {
         ensures same { (h : Hierarchy) → AreStays self.old h → AreStays self.new h }
     {
         let fresh = self.tallies.len().saturating_sub(self.fresh);
-        self.drop_spent(fresh / 2);
+        self.drop_spent(fresh - fresh / 8);
         self.tallies.reserve(turnover.begun())?;
         self.places.reserve(self.tallies.len())
     }
