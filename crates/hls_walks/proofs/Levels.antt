@@ -2,7 +2,7 @@
 use Rattle.std.proofs.Common.{◌≡◌, ◌≢◌, inl, inr, ℕ, ◌+◌, ◌<◌, ◌≤◌, List, Some, true, length, get_or, set, replicate}
 use Rattle.std.proofs.Common.{refl, sym, ap, ◌∙◌, subst, arith, slice_get, ◌^◌, ◌*◌, ◌%◌, w64}
 use Rattle.std.specs.Int.{bit_at, bit_not, trailing_zeros}
-use Rattle.std.specs.Prelude.{bit_and, bit_or, min}
+use Rattle.std.specs.Prelude.{bit_and, bit_or}
 use Rattle.std.proofs.lemmas.Bool.{cases_eq, cases_lt}
 use Rattle.std.proofs.lemmas.List.{length-set, get_or-set_same, get_or-set_other, get_or-replicate}
 use Rattle.std.proofs.lemmas.Option.{slice_get_within}
@@ -10,14 +10,14 @@ use Rattle.std.proofs.lemmas.Nat.{and_le_l}
 use Rattle.std.proofs.lemmas.Nat.Bits.{bit_at-zero, bit_at-lt, bit_at_and, bit_at-trailing_zeros}
 use Rattle.std.proofs.lemmas.Nat.Bits.{bit_at_set_same, bit_at_set_other, bit_at_clear_same, bit_at_clear_other}
 use Rattle.hls_walks.specs.Shown.{level_in, is_sched, PostedIn}
-use Rattle.hls_walks.specs.TreeOf.{IsAlike, IsLaid, IsTelling, Tells, IsRoll, AllFrom, AllUpTo}
-use Rattle.hls_walks.specs.Inside.Levels.{IsLevel}
+use Rattle.hls_walks.specs.TreeOf.{IsAlike, IsLaid, IsRanked, IsTelling, Tells, IsRoll, AllFrom, AllUpTo}
+use Rattle.hls_walks.specs.Inside.Levels.{IsLevel, AreByLevel}
 use Rattle.hls_walks.proofs.Snapshots.{Nodes, rise, alike_refl, alike_then, laid_alike}
-use Rattle.hls_walks.proofs.Tells.{tells_step, tells_fewer, sched_below, sched_alike, entry_at}
+use Rattle.hls_walks.proofs.Tells.{tells_step, tells_fewer, sched_below, sched_alike, entry_at, IsMost, low_level}
 
--- the places of a level before the place i of a list
+-- the places of a level before the place i of a list, and before the 64th
 pub record IsLevelTo (s : Nodes) (level : ℕ) (l : List ℕ) (i places : ℕ) : Type 0 where
-  pub all : (at c : ℕ) → at < i → slice_get l at ≡ Some c → level_in (s c) ≡ level → bit_at places at ≡ 1
+  pub all : (at c : ℕ) → at < i → at < 64 → slice_get l at ≡ Some c → level_in (s c) ≡ level → bit_at places at ≡ 1
   pub only : (at : ℕ) → bit_at places at ≡ 1 → (c : ℕ) × (slice_get l at ≡ Some c) × (level_in (s c) ≡ level)
 
 -- so far each level has its places
@@ -27,7 +27,7 @@ pub record AreLevels (s : Nodes) (l : List ℕ) (i : ℕ) (places : List ℕ) : 
 
 no_bits : (s : Nodes) (level : ℕ) (l : List ℕ) (places : ℕ) → places ≡ 0 → IsLevelTo s level l 0 places
 no_bits s level l places e = record {
-  all = λ at c lt f g. absurd (omega (arith, lt));
+  all = λ at c lt small f g. absurd (omega (arith, lt));
   only = λ at set. absurd (
       let off : bit_at places at ≡ 0 = ap (λ n. bit_at n at) e ∙ bit_at-zero at in
       omega (arith, set, off));
@@ -43,9 +43,9 @@ level_here : (s : Nodes) (level : ℕ) (l : List ℕ) (i key places : ℕ) → s
     → level_in (s key) ≡ level → IsLevelTo s level l i places
     → IsLevelTo s level l (i + 1) (bit_or places (1 * 2 ^ i % 2 ^ 64))
 level_here s level l i key places at in64 here so = record {
-  all = λ k c lt f g. elim (cases_eq k i) [
+  all = λ k c lt small f g. elim (cases_eq k i) [
     | inl e ↦ subst (λ n. bit_at (bit_or places (1 * 2 ^ i % 2 ^ 64)) n ≡ 1) (sym e) (bit_at_set_same w64 places i in64)
-    | inr ne ↦ bit_at_set_other w64 places i in64 k ne ∙ so.all k c (omega (arith, lt, ne)) f g
+    | inr ne ↦ bit_at_set_other w64 places i in64 k ne ∙ so.all k c (omega (arith, lt, ne)) small f g
   ];
   only = λ k on. elim (cases_eq k i) [
     | inl e ↦ (key, ap (slice_get l) e ∙ at, here)
@@ -56,17 +56,17 @@ level_here s level l i key places at in64 here so = record {
 level_elsewhere : (s : Nodes) (level : ℕ) (l : List ℕ) (i key places : ℕ) → slice_get l i ≡ Some key
     → level_in (s key) ≢ level → IsLevelTo s level l i places → IsLevelTo s level l (i + 1) places
 level_elsewhere s level l i key places at off so = record {
-  all = λ k c lt f g. elim (cases_eq k i) [
+  all = λ k c lt small f g. elim (cases_eq k i) [
     | inl e ↦ absurd (off (ap (λ n. level_in (s n)) (sym (entry_at l i c key at (ap (slice_get l) (sym e) ∙ f))) ∙ g))
-    | inr ne ↦ so.all k c (omega (arith, lt, ne)) f g
+    | inr ne ↦ so.all k c (omega (arith, lt, ne)) small f g
   ];
   only = so.only;
 }
 
-pub levels_step : (s : Nodes) (l : List ℕ) (i key here : ℕ) (places : List ℕ) → slice_get l i ≡ Some key → i < 64
+levels_set : (s : Nodes) (l : List ℕ) (i key here : ℕ) (places : List ℕ) → slice_get l i ≡ Some key → i < 64
     → here ≡ level_in (s key) → here < 10 → AreLevels s l i places
     → AreLevels s l (i + 1) (set places here (bit_or (get_or places here 0) (1 * 2 ^ i % 2 ^ 64)))
-levels_step s l i key here places at in64 is low so =
+levels_set s l i key here places at in64 is low so =
     let within : here < length places = (let many = so.many in omega (arith, low, many)) in
     record {
       many = length-set places here (bit_or (get_or places here 0) (1 * 2 ^ i % 2 ^ 64)) ∙ so.many;
@@ -83,12 +83,51 @@ levels_step s l i key here places at in64 is low so =
       ];
     }
 
-pub levels_all : (s : Nodes) (l : List ℕ) (i : ℕ) (places : List ℕ) → min (length l) 64 ≤ i → AreLevels s l i places
-    → (level : ℕ) → level < 10 → IsLevel s level l (get_or places level 0)
+pub levels_step : (s : Nodes) (l : List ℕ) (i key here : ℕ) (places new : List ℕ) → slice_get l i ≡ Some key → i < 64
+    → here ≡ level_in (s key) → here < 10
+    → new ≡ set places here (bit_or (get_or places here 0) (1 * 2 ^ i % 2 ^ 64))
+    → AreLevels s l i places → AreLevels s l (i + 1) new
+levels_step s l i key here places new at in64 is low e so =
+    subst (AreLevels s l (i + 1)) (sym e) (levels_set s l i key here places at in64 is low so)
+
+-- the 64th place and those behind it have no bit
+levels_far : (s : Nodes) (l : List ℕ) (i : ℕ) (places : List ℕ) → 64 ≤ i → AreLevels s l i places
+    → AreLevels s l (i + 1) places
+levels_far s l i places far so = record {
+  many = so.many;
+  each = λ level lt. record {
+    all = λ k c before small f g. (so.each level lt).all k c (omega (arith, small, far)) small f g;
+    only = (so.each level lt).only;
+  };
+}
+
+pub levels_past : (s : Nodes) (l : List ℕ) (i : ℕ) (places new : List ℕ) → 64 ≤ i → new ≡ places → AreLevels s l i places
+    → AreLevels s l (i + 1) new
+levels_past s l i places new far e so = subst (AreLevels s l (i + 1)) (sym e) (levels_far s l i places far so)
+
+pub levels_all : (s : Nodes) (l : List ℕ) (i : ℕ) (places : List ℕ) → length l ≤ i → AreLevels s l i places
+    → AreByLevel s l places
 levels_all s l i places long so level lt = record {
   all = λ at c in64 f g. (so.each level lt).all at c
-      (let within = slice_get_within l at c f in omega (arith, long, within, in64)) f g;
+      (let within = slice_get_within l at c f in omega (arith, long, within)) in64 f g;
   only = (so.each level lt).only;
+}
+
+-- the deepest level with a place before the level i
+pub record IsPlacedTo (places : List ℕ) (i deep : ℕ) : Type 0 where
+  pub within : deep < 10
+  pub each : (level : ℕ) → level < i → get_or places level 0 ≢ 0 → level ≤ deep
+
+-- so it is the greatest level of the first 64
+pub most_placed : (s : Nodes) (l : List ℕ) (places : List ℕ) (deep : ℕ) → IsRanked s → AreByLevel s l places
+    → deep < 10 → ((level : ℕ) → level < 10 → get_or places level 0 ≢ 0 → level ≤ deep) → IsMost s l 64 deep
+most_placed s l places deep ranked by within most = record {
+  within = within;
+  each = λ j c lt at. most (level_in (s c)) (low_level s c ranked) (λ none.
+      let on : bit_at (get_or places (level_in (s c)) 0) j ≡ 1 =
+      (by (level_in (s c)) (low_level s c ranked)).all j c lt at refl in
+      let off : bit_at (get_or places (level_in (s c)) 0) j ≡ 0 = ap (λ n. bit_at n j) none ∙ bit_at-zero j in
+      omega (arith, on, off));
 }
 
 pub level_alike : (old new : Nodes) (level : ℕ) (l : List ℕ) (places : ℕ) → IsAlike old new → IsLevel old level l places
@@ -97,6 +136,10 @@ level_alike old new level l places a so = record {
   all = λ at c lt f g. so.all at c lt f (sym (a.levels c) ∙ g);
   only = λ at on. let one = so.only at on in (one.0, one.1, a.levels one.0 ∙ one.2);
 }
+
+pub by_level_alike : (old new : Nodes) (l places : List ℕ) → IsAlike old new → AreByLevel old l places
+    → AreByLevel new l places
+by_level_alike old new l places a by level lt = level_alike old new level l (get_or places level 0) a (by level lt)
 
 -- a place that has not had its turn
 abbrev pub IsLeft : (left : ℕ) → List ℕ → ℕ → Type 0

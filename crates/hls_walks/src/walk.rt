@@ -10,7 +10,7 @@ ghost use Rattle.hls_walks.specs.Shown.{book_in, asks_in, level_in, place_in, se
 ghost use Rattle.hls_walks.specs.Shown.{grant_in, is_sched, on_post, post_revoked, post_granted, post_turned};
 ghost use Rattle.hls_walks.specs.Shown.{with_ready};
 ghost use Rattle.hls_walks.specs.Views.{shown_at, choice_at, told_place, is_place, place_view, seat_view};
-ghost use Rattle.hls_walks.specs.Inside.Levels.{IsLevel};
+ghost use Rattle.hls_walks.specs.Inside.Levels.{IsLevel, AreByLevel};
 ghost use Rattle.hls_walks.specs.TreeOf.{IsLaid, IsRanked, IsAlike, IsTelling, ToldBy, Sitter, Led, Ran, RootAt};
 ghost use Rattle.hls_walks.specs.TreeOf.{Passed, Tells, NoScheduler, IsNew, IsOn, IsRoll, AllFrom, AllUpTo, Each};
 ghost use Rattle.hls_walks.specs.TreeOf.{AreTold};
@@ -228,75 +228,87 @@ fn tell_level(nodes: &mut Slab<Node>, schedulers: &[NodeId], level: u8, places: 
     }
 }
 
-/// The deepest level of these nodes.
-fn deepest(nodes: &Slab<Node>, keys: &[NodeId]) -> u8
-    requires { IsRanked (shown_at seen nodes.now) }
-    ensures most { (c : ℕ) → IsOn keys.now c → level_in (shown_at seen nodes.now c) ≤ result }
+/// The deepest level with a place.
+fn deepest_placed(places: &[u64; 10]) -> u8
+    ensures most { (level : ℕ) → level < 10 → get_or places.now level 0 ≢ 0 → level ≤ result }
     ensures within { result < 10 }
 {
     let mut deep = 0u8;
-    for id in keys {
-        deep = deep.max(level_at(nodes, id.key()));
+    for level in 0..10u8 {
+        if places[usize::from(level)] != 0 {
+            deep = level;
+        }
     }
     deep
 }
 
-/// The places of these nodes by their levels, a bit for each of the first 64.
-fn places_by_level(nodes: &Slab<Node>, keys: &[NodeId]) -> [u64; 10]
-    requires { IsRanked (shown_at seen nodes.now) }
-    ensures { (level : ℕ) → level < 10 →
-        IsLevel (shown_at seen nodes.now) level keys.now (get_or result level 0) }
+/// The deepest level of these nodes. The first 64 stand at these places by their levels.
+fn deepest(nodes: &Slab<Node>, keys: &[NodeId], places: &[u64; 10]) -> u8
+    requires ranked { IsRanked (shown_at seen nodes.now) }
+    requires places { AreByLevel (shown_at seen nodes.now) keys.now places.now }
+    ensures most { (c : ℕ) → IsOn keys.now c → level_in (shown_at seen nodes.now c) ≤ result }
+    ensures within { result < 10 }
 {
-    let mut places = [0u64; 10];
-    for at in 0..keys.len().min(64) {
-        let level = level_at(nodes, keys[at].key());
-        places[usize::from(level)] |= 1 << at;
+    let mut deep = deepest_placed(places);
+    for at in 64..keys.len() {
+        deep = deep.max(level_at(nodes, keys[at].key()));
     }
-    places
+    deep
 }
 
 /// Tells what each scheduler asks, from the deepest level up. Those at level 1 sit at the processor alone.
-fn tell_schedulers(nodes: &mut Slab<Node>, schedulers: &[NodeId])
+fn tell_schedulers(nodes: &mut Slab<Node>, schedulers: &[NodeId], places: &[u64; 10])
     requires roll { IsRoll (shown_at seen nodes.old) schedulers.now }
+    requires places { AreByLevel (shown_at seen nodes.old) schedulers.now places.now }
     requires telling { IsTelling (shown_at seen nodes.old) (NoScheduler (shown_at seen nodes.old)) }
     ensures telling { IsTelling (shown_at seen nodes.new) Each }
     ensures alike { IsAlike (shown_at seen nodes.old) (shown_at seen nodes.new) }
 {
-    let deep = deepest(nodes, schedulers);
+    let deep = deepest(nodes, schedulers, places);
     if deep < 2 {
         return;
     }
-    let places = places_by_level(nodes, schedulers);
     for step in 1..deep {
         let level = deep - step + 1;
         tell_level(nodes, schedulers, level, places[usize::from(level)]);
     }
 }
 
-/// Takes the processor back from a node, if it has it.
-fn revoke_at(nodes: &mut Slab<Node>, key: usize)
+/// Takes the processor back from a node, if it has it, and tells the level of the node.
+fn revoke_at(nodes: &mut Slab<Node>, key: usize) -> u8
     requires posted { PostedIn (shown_at seen nodes.old key) }
+    ensures level { result ≡ level_in (shown_at seen nodes.old key) }
     ensures here { shown_at seen nodes.new key ≡ on_post post_revoked (shown_at seen nodes.old key) }
     ensures others { (k : ℕ) → k ≢ key → shown_at seen nodes.new k ≡ shown_at seen nodes.old k }
 {
     match nodes.get_mut(key) {
-        Some(node) => match &mut node.role {
-            Role::Sched(station) => station.revoke(),
-            Role::Thread { .. } => {}
-        },
-        None => {}
+        Some(node) => {
+            match &mut node.role {
+                Role::Sched(station) => station.revoke(),
+                Role::Thread { .. } => {}
+            }
+            node.level
+        }
+        None => 0,
     }
 }
 
-/// Takes the processor back from all.
-fn revoke_all(nodes: &mut Slab<Node>, schedulers: &[NodeId])
+/// Takes the processor back from all, and tells their places by their levels, a bit for each of the first 64.
+fn revoke_all(nodes: &mut Slab<Node>, schedulers: &[NodeId]) -> [u64; 10]
     requires roll { IsRoll (shown_at seen nodes.old) schedulers.now }
+    requires ranked { IsRanked (shown_at seen nodes.old) }
     requires posted { (k : ℕ) → PostedIn (shown_at seen nodes.old k) }
-    ensures { (k : ℕ) → shown_at seen nodes.new k ≡ on_post post_revoked (shown_at seen nodes.old k) }
+    ensures revoked { (k : ℕ) → shown_at seen nodes.new k ≡ on_post post_revoked (shown_at seen nodes.old k) }
+    ensures places { AreByLevel (shown_at seen nodes.old) schedulers.now result }
 {
-    for id in schedulers {
-        revoke_at(nodes, id.key());
+    let mut places = [0u64; 10];
+    for at in 0..schedulers.len() {
+        let level = revoke_at(nodes, schedulers[at].key());
+        if at < 64 {
+            places[usize::from(level)] |= 1 << at;
+        }
     }
+    places
 }
 
 /// Grants a scheduler through a port, and names the slot that it serves; nothing at a thread.
@@ -501,9 +513,9 @@ pub fn pass(
     requires root { RootAt (shown_at seen nodes.old) root }
     ensures { Passed (shown_at seen nodes.old) (shown_at seen nodes.new) (choice_at choice nodes.new) root route.new }
 {
-    revoke_all(nodes, schedulers);
+    let places = revoke_all(nodes, schedulers);
     tell_changed(nodes, changed);
-    tell_schedulers(nodes, schedulers);
+    tell_schedulers(nodes, schedulers, &places);
     grant_root(nodes, root, route);
 }
 

@@ -2,26 +2,33 @@ use Rattle.hls_walks.specs.Views.{shown_at}
 use Rattle.hls_walks.proofs.Snapshots.{alike_then, revoked_alike}
 use Rattle.hls_walks.proofs.Tells.{telling_start, roll_alike}
 use Rattle.hls_walks.proofs.Passes.{root_alike}
+use Rattle.hls_walks.proofs.Levels.{by_level_alike}
 use Rattle.hls_walks.proofs.walk.pass.Goals as goal
 
 pub tell_changed-requires : goal.tell_changed-requires
 tell_changed-requires g c = record {
-  telling = telling_start _ _ _ c.requires.laid c.requires.posted c.requires.told c.revoke_all.ensures;
+  telling = telling_start _ _ _ c.requires.laid c.requires.posted c.requires.told c.revoke_all-places.ensures.revoked;
 }
 
-pub tell_schedulers-requires-clause-roll : goal.tell_schedulers-requires-clause-roll
-tell_schedulers-requires-clause-roll g c = roll_alike _ _ _
-    (alike_then _ _ _ (revoked_alike _ _ c.revoke_all.ensures) c.tell_changed.ensures.alike) c.requires.roll
+pub tell_schedulers-requires : goal.tell_schedulers-requires
+tell_schedulers-requires g c =
+    let alike = alike_then _ _ _ (revoked_alike _ _ c.revoke_all-places.ensures.revoked)
+    c.tell_changed.ensures.alike in
+    record {
+      roll = roll_alike _ _ _ alike c.requires.roll;
+      places = by_level_alike _ _ _ _ alike c.revoke_all-places.ensures.places;
+      telling = c.tell_changed.ensures.telling;
+    }
 
 pub grant_root-requires-clause-root : goal.grant_root-requires-clause-root
 grant_root-requires-clause-root g c =
-    root_alike _ _ c.args.root (alike_then _ _ _ (alike_then _ _ _ (revoked_alike _ _ c.revoke_all.ensures)
+    root_alike _ _ c.args.root (alike_then _ _ _ (alike_then _ _ _ (revoked_alike _ _ c.revoke_all-places.ensures.revoked)
     c.tell_changed.ensures.alike) c.tell_schedulers.ensures.alike) c.requires.root
 
 pub returns : goal.returns
 returns g c = record {
   mid = shown_at (λ b. (goal.Scheduler-dyn g (b.vtable, b.value)).seen b.value) c.tell_schedulers.new.nodes;
-  alike = alike_then _ _ _ (alike_then _ _ _ (revoked_alike _ _ c.revoke_all.ensures) c.tell_changed.ensures.alike)
+  alike = alike_then _ _ _ (alike_then _ _ _ (revoked_alike _ _ c.revoke_all-places.ensures.revoked) c.tell_changed.ensures.alike)
       c.tell_schedulers.ensures.alike;
   telling = c.tell_schedulers.ensures.telling;
   ran = c.grant_root.ensures;
