@@ -67,16 +67,36 @@ fn slot_of(place: Place) -> Option<(usize, u32)>
     }
 }
 
+/// The scheduler and the slot where the seat of a port is.
+fn slot_on(seats: &[TakenSeat], port: u8) -> Option<(usize, u32)>
+    ensures { result ≡ told_place (option_map (λ (s : Seat). s.place) (slice_get (map seat_view seats.now) port)) }
+{
+    match seats.get(port as usize) {
+        Some(seat) => slot_of(seat.place),
+        None => None,
+    }
+}
+
 /// The scheduler and the slot where a port sits.
 fn slot_at(nodes: &Slab<Node>, key: usize, port: u8) -> Option<(usize, u32)>
     ensures { result ≡ told_place (place_in (shown_at seen nodes.now key) port) }
 {
     match nodes.get(key) {
-        Some(node) => match node.seats.get(port as usize) {
-            Some(seat) => slot_of(seat.place),
-            None => None,
-        },
+        Some(node) => slot_on(&node.seats, port),
         None => None,
+    }
+}
+
+/// Tells the scheduler where somebody sits whether that one asks.
+fn tell_slot(nodes: &mut Slab<Node>, at: Option<(usize, u32)>, asks: bool)
+    requires posted { (k : ℕ) → PostedIn (shown_at seen nodes.old k) }
+    requires taken { IfSome at (λ a. terms_at (book_in (shown_at seen nodes.old a.0)) a.1 ≢ None) }
+    requires within { IfSome at (λ a. a.1 < 32) }
+    ensures { ToldBy at asks (shown_at seen nodes.old) (shown_at seen nodes.new) }
+{
+    match at {
+        Some((scheduler, slot)) => tell_at(nodes, scheduler, slot, asks),
+        None => {}
     }
 }
 
@@ -87,33 +107,37 @@ fn tell_port(nodes: &mut Slab<Node>, key: usize, port: u8, asks: bool)
     ensures { ToldBy (told_place (place_in (shown_at seen nodes.old key) port)) asks
         (shown_at seen nodes.old) (shown_at seen nodes.new) }
 {
-    match slot_at(nodes, key, port) {
-        Some((scheduler, slot)) => tell_at(nodes, scheduler, slot, asks),
-        None => {}
-    }
+    let at = slot_at(nodes, key, port);
+    tell_slot(nodes, at, asks);
 }
 
-/// Whether a node asks, and how many ports it has.
-fn voice_at(nodes: &Slab<Node>, key: usize) -> (bool, u8)
+/// Whether a node asks, how many ports it has, and the scheduler and the slot where the first one sits.
+fn voice_at(nodes: &Slab<Node>, key: usize) -> (bool, u8, Option<(usize, u32)>)
     requires posted { PostedIn (shown_at seen nodes.now key) }
     requires few { length (seats_in (shown_at seen nodes.now key)) ≤ 4 }
     ensures asks { result.0 ≡ asks_in (shown_at seen nodes.now key) }
     ensures ports { result.1 ≡ length (seats_in (shown_at seen nodes.now key)) }
+    ensures first { result.2 ≡ told_place (place_in (shown_at seen nodes.now key) 0) }
 {
     match nodes.get(key) {
-        Some(node) => (node.role.asks(), node.seats.len() as u8),
-        None => (false, 0),
+        Some(node) => (
+            node.role.asks(),
+            node.seats.len() as u8,
+            slot_on(&node.seats, 0),
+        ),
+        None => (false, 0, None),
     }
 }
 
-/// Tells at each port of a node what it asks.
+/// Tells at each port of a node what it asks. Most have one, which is found with the node.
 fn tell_ports(nodes: &mut Slab<Node>, key: usize)
     requires laid { IsLaid (shown_at seen nodes.old) }
     requires posted { (k : ℕ) → PostedIn (shown_at seen nodes.old k) }
     ensures { Tells key (shown_at seen nodes.old) (shown_at seen nodes.new) }
 {
-    let (asks, ports) = voice_at(nodes, key);
-    for port in 0..ports {
+    let (asks, ports, first) = voice_at(nodes, key);
+    tell_slot(nodes, first, asks);
+    for port in 1..ports {
         tell_port(nodes, key, port, asks);
     }
 }
