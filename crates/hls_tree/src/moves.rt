@@ -1,13 +1,13 @@
 // Nodes that take another seat.
 ghost use Rattle.std.specs.Prelude.{◌≡◌, ◌≢◌, ◌≤◌, ◌<◌, ◌+◌, ℕ, true, false, Bool, Option, List, length, map, [], ◌∷◌};
-ghost use Rattle.std.specs.Prelude.{slice_index, None, IfSome, IsNone};
+ghost use Rattle.std.specs.Prelude.{◌⊎◌, slice_index, Contains, None, IfSome, IsNone};
 ghost use Rattle.hls_legal.specs.Hierarchy.{Hierarchy, At};
 ghost use Rattle.hls_legal.specs.Steps.{root_with, root_without};
 ghost use Rattle.hls_walks.specs.Shown.{Shown, PostedIn, level_in, seats_in, with_seat};
 ghost use Rattle.hls_walks.specs.Views.{boxed, shown_at, seat_view, place_view};
 ghost use Rattle.hls_walks.specs.TreeOf.{level_at, level_over};
-ghost use Rattle.hls_tree.specs.Inside.Below.{plain, begun, HasRoomToSettle, SitsBelow, SitsAbove, IsBegun};
-ghost use Rattle.hls_tree.specs.Inside.Below.{IsBegunTo, AreListed, IsFresh, with_one};
+ghost use Rattle.hls_tree.specs.Inside.Below.{at_level, plain, begun, HasRoomToSettle, SitsBelow, SitsAbove};
+ghost use Rattle.hls_tree.specs.Inside.Below.{IsBegun, IsBegunTo, AreListed, HasThreads, IsSettled};
 ghost use Rattle.hls_tree.specs.Offers.{MayMove};
 ghost use Rattle.hls_tree.specs.Trees.{IsTreeOf, Stands, HasPassed, Moves};
 
@@ -18,7 +18,8 @@ use hls_sched::Scheduler;
 use hls_walks::{Node, NodeId, Place, Role, TakenSeat, is_processor, level_at, note_changed};
 use slab::Slab;
 
-/// What is added to the level of a node that was found below the moved one, until all are found.
+/// What is added to the levels of the moved node and of the schedulers that were found below it, until all
+/// are found.
 const BELOW: u8 = 32;
 
 /// Puts a node that has one seat into another.
@@ -153,23 +154,29 @@ fn level_found(nodes: &Slab<Node>, key: usize) -> Option<u8>
     }
 }
 
-/// Begins the accounts of a node anew, if it was not found before and sits on one that was.
-fn begin_node(nodes: &mut Slab<Node>, key: usize)
-    requires { (h : Hierarchy) × (old : ℕ → Option Shown) × (k : ℕ) × (reached : ℕ → Bool) ×
-        IsBegun h old (shown_at (boxed seen) nodes.old) k reached }
-    ensures { (h : Hierarchy) (old : ℕ → Option Shown) (k : ℕ) (reached : ℕ → Bool) →
-        IsBegun h old (shown_at (boxed seen) nodes.old) k reached → IsFresh old k key reached →
-        IsBegun h old (shown_at (boxed seen) nodes.new) k (with_one key reached) }
+/// The same of a node that was at this level.
+fn level_found_from(nodes: &Slab<Node>, key: usize, from: u8) -> Option<u8>
+    ensures level { IfSome result (λ level. level ≡ level_over (plain (shown_at (boxed seen) nodes.now))
+        (seats_in (shown_at (boxed seen) nodes.now key))) }
+    ensures most { IfSome result (λ level. level ≤ 32) }
+    ensures was { result ≢ None → level_in (shown_at (boxed seen) nodes.now key) ≡ from }
+    ensures yes { result ≢ None → SitsBelow (shown_at (boxed seen) nodes.now)
+        (seats_in (shown_at (boxed seen) nodes.now key)) }
+    ensures no { IsNone result → level_in (shown_at (boxed seen) nodes.now key) ≡ from →
+        SitsAbove (shown_at (boxed seen) nodes.now) (seats_in (shown_at (boxed seen) nodes.now key)) }
 {
-    if level_at(nodes, key) >= BELOW {
-        return;
-    }
-    if let Some(level) = level_found(nodes, key) {
-        begin_to(nodes, key, level);
+    match nodes.get(key) {
+        Some(node) => {
+            if node.level != from {
+                return None;
+            }
+            level_below(nodes, &node.seats)
+        }
+        None => None,
     }
 }
 
-/// The same where the node was at this level.
+/// Begins the accounts of a node anew, if it was at this level and sits on one that was found.
 fn begin_leveled(nodes: &mut Slab<Node>, key: usize, level: u8)
     requires low { level ≤ 9 }
     requires begun { (h : Hierarchy) × (old : ℕ → Option Shown) × (k : ℕ) × (reached : ℕ → Bool) ×
@@ -179,8 +186,8 @@ fn begin_leveled(nodes: &mut Slab<Node>, key: usize, level: u8)
         IsBegunTo h old (shown_at (boxed seen) nodes.old) k order level at →
         IsBegunTo h old (shown_at (boxed seen) nodes.new) k order level (at + 1) }
 {
-    if level_at(nodes, key) == level {
-        begin_node(nodes, key);
+    if let Some(new_level) = level_found_from(nodes, key, level) {
+        begin_to(nodes, key, new_level);
     }
 }
 
@@ -211,30 +218,39 @@ fn begin_schedulers(nodes: &mut Slab<Node>, schedulers: &[NodeId])
     }
 }
 
-/// Begins the stays of the threads anew that sit on a scheduler that was found.
-fn begin_threads(nodes: &mut Slab<Node>, threads: &[NodeId])
-    requires { (h : Hierarchy) × (old : ℕ → Option Shown) × (k : ℕ) × (order : List ℕ) ×
-        AreListed old order threads.now × IsBegunTo h old (shown_at (boxed seen) nodes.old) k order 10 0 }
-    ensures { (h : Hierarchy) (old : ℕ → Option Shown) (k : ℕ) (order : List ℕ) →
-        AreListed old order threads.now → IsBegunTo h old (shown_at (boxed seen) nodes.old) k order 10 0 →
-        IsBegun h old (shown_at (boxed seen) nodes.new) k (λ c. true) }
+/// Notes the level of a node.
+fn set_level(nodes: &mut Slab<Node>, key: usize, level: u8)
+    ensures here { shown_at (boxed seen) nodes.new key ≡ at_level level (shown_at (boxed seen) nodes.old key) }
+    ensures others { (k : ℕ) → k ≢ key → shown_at (boxed seen) nodes.new k ≡ shown_at (boxed seen) nodes.old k }
 {
-    for id in threads {
-        begin_node(nodes, id.key());
+    match nodes.get_mut(key) {
+        Some(node) => node.level = level,
+        None => {}
     }
 }
 
-/// Begins the accounts of all anew that are below one that was found.
-fn begin_all(nodes: &mut Slab<Node>, schedulers: &[NodeId], threads: &[NodeId])
-    requires { (h : Hierarchy) × (old : ℕ → Option Shown) × (k : ℕ) ×
-        AreListed old schedulers.now threads.now ×
-        IsBegunTo h old (shown_at (boxed seen) nodes.old) k schedulers.now 1 0 }
-    ensures { (h : Hierarchy) (old : ℕ → Option Shown) (k : ℕ) → AreListed old schedulers.now threads.now →
-        IsBegunTo h old (shown_at (boxed seen) nodes.old) k schedulers.now 1 0 →
-        IsBegun h old (shown_at (boxed seen) nodes.new) k (λ c. true) }
+/// Notes the new level of a thread, if it sits on a scheduler that was found. That it was found is not
+/// noted, since nobody sits on a thread.
+fn begin_thread(nodes: &mut Slab<Node>, key: usize)
+    ensures { (h : Hierarchy) (old : ℕ → Option Shown) (k : ℕ) (order threads : List ℕ) (at : ℕ) →
+        AreListed old order threads → at < length threads → slice_index threads at ≡ key →
+        HasThreads h old (shown_at (boxed seen) nodes.old) k order threads at →
+        HasThreads h old (shown_at (boxed seen) nodes.new) k order threads (at + 1) }
 {
-    begin_schedulers(nodes, schedulers);
-    begin_threads(nodes, threads);
+    if let Some(level) = level_found(nodes, key) {
+        set_level(nodes, key, level);
+    }
+}
+
+/// Notes the new levels of the threads that sit on a scheduler that was found.
+fn begin_threads(nodes: &mut Slab<Node>, threads: &[NodeId])
+    ensures { (h : Hierarchy) (old : ℕ → Option Shown) (k : ℕ) (order : List ℕ) →
+        AreListed old order threads.now → IsBegunTo h old (shown_at (boxed seen) nodes.old) k order 10 0 →
+        HasThreads h old (shown_at (boxed seen) nodes.new) k order threads.now (length threads.now) }
+{
+    for id in threads {
+        begin_thread(nodes, id.key());
+    }
 }
 
 /// Forgets that a node was found.
@@ -248,14 +264,32 @@ fn forget_at(nodes: &mut Slab<Node>, key: usize)
     }
 }
 
-/// Forgets which nodes were found: their levels are the new ones.
-fn forget_all(nodes: &mut Slab<Node>)
-    ensures { (k : ℕ) → shown_at (boxed seen) nodes.new k ≡ plain (shown_at (boxed seen) nodes.old) k }
+/// Forgets that these schedulers were found.
+fn forget_schedulers(nodes: &mut Slab<Node>, schedulers: &[NodeId])
+    ensures listed { (k : ℕ) → Contains schedulers.now k →
+        shown_at (boxed seen) nodes.new k ≡ plain (shown_at (boxed seen) nodes.old) k }
+    ensures either { (k : ℕ) → (shown_at (boxed seen) nodes.new k ≡ shown_at (boxed seen) nodes.old k) ⊎
+        (shown_at (boxed seen) nodes.new k ≡ plain (shown_at (boxed seen) nodes.old) k) }
 {
-    let end = nodes.capacity();
-    for key in 0..end {
-        forget_at(nodes, key);
+    for id in schedulers {
+        forget_at(nodes, id.key());
     }
+}
+
+/// Begins the accounts of all anew that are below the moved node, which was found: their levels are the
+/// new ones, and that they were found is forgotten.
+fn begin_all(nodes: &mut Slab<Node>, schedulers: &[NodeId], threads: &[NodeId], moved: usize)
+    requires { (h : Hierarchy) × (old : ℕ → Option Shown) ×
+        AreListed old schedulers.now threads.now ×
+        IsBegunTo h old (shown_at (boxed seen) nodes.old) moved schedulers.now 1 0 }
+    ensures { (h : Hierarchy) (old : ℕ → Option Shown) → AreListed old schedulers.now threads.now →
+        IsBegunTo h old (shown_at (boxed seen) nodes.old) moved schedulers.now 1 0 →
+        IsSettled h old (shown_at (boxed seen) nodes.new) moved }
+{
+    begin_schedulers(nodes, schedulers);
+    begin_threads(nodes, threads);
+    forget_schedulers(nodes, schedulers);
+    forget_at(nodes, moved);
 }
 
 /// The root where a node leaves a seat and takes another.
@@ -291,8 +325,7 @@ impl Tree {
         let taken = take_seat(&mut self.nodes, &seat);
         put_seat(&mut self.nodes, key, taken);
         begin_at(&mut self.nodes, key);
-        begin_all(&mut self.nodes, &self.schedulers, &self.threads);
-        forget_all(&mut self.nodes);
+        begin_all(&mut self.nodes, &self.schedulers, &self.threads, key);
         list_last(&mut self.seats, id);
         self.root = root_moved(&left, &taken, id, self.root);
         note_changed(&mut self.changed, id);
