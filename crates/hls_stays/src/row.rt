@@ -2,7 +2,7 @@
 ghost use Rattle.std.specs.Prelude.{◌≡◌, ◌+◌, ◌≤◌, List, Some};
 ghost use Rattle.hls_stays.specs.Tallies.{waited, open_by, lasts};
 ghost use Rattle.hls_stays.specs.Inside.Rows.{tally_by};
-ghost use Rattle.hls_stays.specs.Inside.Steps.{noted_tally};
+ghost use Rattle.hls_stays.specs.Inside.Steps.{fresh_by, noted_tally};
 ghost use Rattle.hls_stays.specs.declared.row.Seating.{Seating as SeatingSeen};
 
 use hls_chron::Name;
@@ -37,6 +37,13 @@ impl Row {
         ensures { (seatings : List SeatingSeen) → result ≡ open_by (Some (tally_by seatings self.now)) id }
     {
         self.until.is_none() && self.thread == id
+    }
+
+    /// Whether the stay is an open one of this thread that began at this tick.
+    pub(crate) fn is_fresh(&self, id: NodeId, now: u32) -> bool
+        ensures { (seatings : List SeatingSeen) → result ≡ fresh_by (Some (tally_by seatings self.now)) id now }
+    {
+        self.is_open(id) && self.since == now
     }
 
     /// Notes whether the thread is ready from now on.

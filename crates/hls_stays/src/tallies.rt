@@ -4,6 +4,7 @@ ghost use Rattle.std.specs.Prelude.{Some, OnOk, option_copied, option_map, optio
 ghost use Rattle.hls_stays.specs.Tallies.{waited, opened_at};
 ghost use Rattle.hls_stays.specs.Inside.Rows.{seating_at, seating_of, spare_of, tally_by};
 ghost use Rattle.hls_stays.specs.Inside.Steps.{begun_tally, closed_tally, noted_tally, served_tally, swept, swept_rows};
+ghost use Rattle.hls_stays.specs.Inside.Steps.{fresh_at};
 
 use crate::places::Places;
 use crate::row::{Row, Seating};
@@ -119,6 +120,16 @@ impl Tallies {
     {
         match self.rows.get(place) {
             Some(row) => row.is_open(id),
+            None => false,
+        }
+    }
+
+    /// Whether a stay of a thread at a place is open and began at this tick.
+    pub(crate) fn is_fresh_at(&self, place: usize, id: NodeId, now: u32) -> bool
+        ensures { result ≡ fresh_at self.now.items place id now }
+    {
+        match self.rows.get(place) {
+            Some(row) => row.is_fresh(id, now),
             None => false,
         }
     }
