@@ -14,6 +14,12 @@ use Rattle.hls_stays.specs.declared.tally.Tally.{Tally}
 use Rattle.hls_stays.proofs.Lists.{inner, get_map, map_same, map_append}
 use Rattle.hls_stays.proofs.Swept.{all_swept}
 
+-- ---- one seating
+
+pub seating_is : (seating : Seating) (tally : Tally) → seating.name ≡ tally.name → seating.kept ≡ tally.kept
+    → seating ≡ seating_of tally
+seating_is seating tally name kept = λ i. record { name = name i; kept = kept i }
+
 -- ---- one row
 
 -- what was looked up in a slice of a list
