@@ -259,11 +259,11 @@ open_one s new h stays k t tally are none there is push idle =
         subst (λ (x : Stay). IsTally h x other) e
         (subst (λ (y : Tally). IsTally h (begun h.now k t) y) f (new_is h k t tally is))
 
-name_is : (node : Option Node) (t : Thread) (name : Text) → node ≡ Some (Admitted t) → name_of node ≡ Some name
+pub name_is : (node : Option Node) (t : Thread) (name : Text) → node ≡ Some (Admitted t) → name_of node ≡ Some name
     → name ≡ t.name
 name_is node t name there has = inner name t.name (sym has ∙ ap name_of there)
 
-kept_is : (node : Option Node) (t : Thread) (kept : Guarantee) → node ≡ Some (Admitted t)
+pub kept_is : (node : Option Node) (t : Thread) (kept : Guarantee) → node ≡ Some (Admitted t)
     → option_map (λ (seat : Seat). seat.kept) (seat_of node 0) ≡ Some kept → kept ≡ t.seat.kept
 kept_is node t kept there has =
     inner kept t.seat.kept

@@ -16,7 +16,7 @@ use Rattle.hls_stays.specs.Turnovers.{Tells}
 use Rattle.hls_stays.specs.Inside.Steps.{HasOpen, HasNone, without}
 use Rattle.hls_stays.specs.Inside.Renewals.{IsApart, AreRenewable, renewed_all}
 use Rattle.hls_stays.specs.declared.stays.Stays.{Stays}
-use Rattle.hls_stays.proofs.Lists.{map_same, is_in, place_of, contains_at, apart_pairs}
+use Rattle.hls_stays.proofs.Lists.{map_same, same_map, is_in, place_of, contains_at, apart_pairs}
 use Rattle.hls_stays.proofs.Lasting.{has_kept, none_kept}
 use Rattle.hls_stays.proofs.Ends.{closed_not}
 use Rattle.hls_stays.proofs.Noted.{at_effect}
@@ -54,12 +54,6 @@ pub has_none : (h : Hierarchy) (k : ℕ) → IsStanding h → is_thread (h.nodes
 has_none h k standing off at stay e none is =
     let yes = standing.there at stay e none in
     let clash : true ≡ false = sym yes ∙ ap (λ n. is_thread (h.nodes n)) is ∙ off in absurd (cc)
-
-same_map : (f : Stay → Stay) (stays : List Stay) → ((i : ℕ) (x : Stay) → slice_get stays i ≡ Some x → f x ≡ x)
-    → map f stays ≡ stays
-same_map f [] same = refl
-same_map f (x ∷ stays) same =
-    ap (λ y. y ∷ map f stays) (same 0 x refl) ∙ ap (λ l. x ∷ l) (same_map f stays (λ i y e. same (suc i) y e))
 
 -- where a node is no thread none of its stays ends
 pub none_ends : (h : Hierarchy) (k : ℕ) → IsStanding h → is_thread (h.nodes k) ≡ false

@@ -5,6 +5,7 @@ mod Rows
 mod Opened
 mod Ends
 mod Renewed
+mod Fresh
 mod Noted
 mod Follows
 mod Ticked

@@ -1,6 +1,6 @@
 -- Lists by their places.
-use Rattle.std.proofs.Common.{◌≡◌, ◌≢◌, ℕ, zero, suc, inl, inr, ◌+◌, ◌≤◌, List, [], ◌∷◌, ◌++◌, Bool, true, false}
-use Rattle.std.proofs.Common.{length, refl, sym, ap, ◌∙◌, arith, map, filter, take, reverse, cond, ◌==◌, ◌||◌}
+use Rattle.std.proofs.Common.{◌≡◌, ◌≢◌, ℕ, zero, suc, inl, inr, ◌+◌, ◌<◌, ◌≤◌, List, [], ◌∷◌, ◌++◌, Bool, true, false}
+use Rattle.std.proofs.Common.{length, refl, sym, ap, ◌∙◌, arith, map, filter, take, drop, reverse, cond, ◌==◌, ◌||◌}
 use Rattle.std.specs.Prelude.{Some, slice_get, slice_set, Contains, AllPairs}
 use Rattle.std.specs.List.{list_any}
 use Rattle.std.proofs.lemmas.Bool.{cases_lt, cases_eq, ne_eqb, eq-eqb}
@@ -15,6 +15,30 @@ map_same f g [] same = refl
 map_same f g (x ∷ xs) same =
     ap (λ y. y ∷ map g xs) (same 0 x refl)
     ∙ ap (λ ys. f x ∷ ys) (map_same f g xs (λ i y e. same (suc i) y e))
+
+-- what is left as it is
+pub same_map : {X : Type 0} (f : X → X) (xs : List X)
+    → ((i : ℕ) (x : X) → slice_get xs i ≡ Some x → f x ≡ x) → map f xs ≡ xs
+same_map f [] same = refl
+same_map f (x ∷ xs) same =
+    ap (λ y. y ∷ map f xs) (same 0 x refl) ∙ ap (λ l. x ∷ l) (same_map f xs (λ i y e. same (suc i) y e))
+
+-- the places of the first part of a list, and of the rest
+pub get_taken : {X : Type 0} (xs : List X) (n i : ℕ) (x : X) → slice_get (take n xs) i ≡ Some x
+    → (i < n) × (slice_get xs i ≡ Some x)
+get_taken [] zero i x e = absurd (cc)
+get_taken [] (suc n) i x e = absurd (cc)
+get_taken (y ∷ xs) zero i x e = absurd (cc)
+get_taken (y ∷ xs) (suc n) zero x e = (omega arith, e)
+get_taken (y ∷ xs) (suc n) (suc i) x e =
+    let rest = get_taken xs n i x e in (let lt = rest.0 in omega (arith, lt), rest.1)
+
+pub get_drop : {X : Type 0} (n : ℕ) (xs : List X) (i : ℕ) → slice_get (drop n xs) i ≡ slice_get xs (n + i)
+get_drop zero xs i = ap (slice_get xs) (omega arith)
+get_drop (suc n) [] i = refl
+get_drop (suc n) (x ∷ xs) i =
+    let more : suc n + i ≡ suc (n + i) = omega arith in
+    get_drop n xs i ∙ ap (slice_get (x ∷ xs)) (sym more)
 
 -- the places of a list behind which others stand
 pub get_front : {X : Type 0} (xs ys : List X) (i : ℕ) (x : X) → slice_get xs i ≡ Some x
@@ -124,6 +148,11 @@ not_in (c ∷ ks) (suc n) k later = elim (cases_eq k c) [
   | inr ne ↦ ap (λ b. b || is_in (take n ks) k) (ne_eqb k c ne)
       ∙ not_in ks n k (λ j e. (let le = later (suc j) e in omega (arith, le)))
 ]
+
+pub not_in_all : (ks : List ℕ) (k : ℕ) → ((j : ℕ) → slice_get ks j ≡ Some k → ⊥) → is_in ks k ≡ false
+not_in_all ks k never =
+    ap (λ l. is_in l k) (sym (take_all ks (length ks) (omega arith)))
+    ∙ not_in ks (length ks) k (λ j e. absurd (never j e))
 
 pub is_in_at : (ks : List ℕ) (i k : ℕ) → slice_get ks i ≡ Some k → is_in ks k ≡ true
 is_in_at [] i k e = absurd (cc)

@@ -1,5 +1,5 @@
 -- Stays of threads that end, and others that begin.
-use Rattle.std.proofs.Common.{◌≡◌, ◌≢◌, ℕ, zero, suc, inl, inr, ◌+◌, ◌<◌, ◌≤◌, List, [], ◌∷◌, ◌++◌}
+use Rattle.std.proofs.Common.{◌≡◌, ◌≢◌, ℕ, suc, inl, inr, ◌+◌, ◌≤◌, List, [], ◌∷◌, ◌++◌}
 use Rattle.std.proofs.Common.{Bool, true, false, cond, ◌||◌, ◌==◌, length, refl, sym, ap, ◌∙◌, subst, arith}
 use Rattle.std.proofs.Common.{map, filter, take, append_assoc}
 use Rattle.std.specs.Prelude.{Option, Some, None, slice_get, if◌then◌else◌, Contains}
@@ -13,7 +13,7 @@ use Rattle.hls_stays.specs.Inside.Steps.{HasOpen, without}
 use Rattle.hls_stays.specs.Inside.Renewals.{IsApart, AreRenewable, renewed_one, renewed_all}
 use Rattle.hls_stays.specs.declared.stays.Stays.{Stays}
 use Rattle.hls_stays.proofs.Lists.{map_same, map_map, map_append, get_map}
-use Rattle.hls_stays.proofs.Lists.{get_front, is_in, is_in_at, not_in, take_next}
+use Rattle.hls_stays.proofs.Lists.{get_front, get_taken, is_in, is_in_at, not_in_all, take_next}
 use Rattle.hls_stays.proofs.Lists.{take_all, place_of}
 use Rattle.hls_stays.proofs.Ends.{closed_not}
 
@@ -37,14 +37,6 @@ has_all h stays [] k other has = has
 has_all h stays (c ∷ ks) k other has =
     has_all h (renewed_one h stays c) ks k (λ j e. other (suc j) e)
     (has_after h stays c k (λ e. other 0 (ap (λ (x : ℕ). Some x) (sym e))) has)
-
-get_taken : (ks : List ℕ) (i j k : ℕ) → slice_get (take i ks) j ≡ Some k → (j < i) × (slice_get ks j ≡ Some k)
-get_taken [] zero j k e = absurd (cc)
-get_taken [] (suc i) j k e = absurd (cc)
-get_taken (c ∷ ks) zero j k e = absurd (cc)
-get_taken (c ∷ ks) (suc i) zero k e = (omega arith, e)
-get_taken (c ∷ ks) (suc i) (suc j) k e =
-    let rest = get_taken ks i j k e in (let lt = rest.0 in omega (arith, lt), rest.1)
 
 pub next_has : (s : Stays) (h : Hierarchy) (stays : List Stay) (ids : List ℕ) (i k : ℕ)
     → AreRenewable s h stays ids → slice_get ids i ≡ Some k → HasOpen (renewed_all h stays (take i ids)) k
@@ -111,8 +103,7 @@ apart_rest k ks apart i j c e f = (let same = apart (suc i) (suc j) c e f in ome
 
 apart_first : (k : ℕ) (ks : List ℕ) → IsApart (k ∷ ks) → is_in ks k ≡ false
 apart_first k ks apart =
-    ap (λ l. is_in l k) (sym (take_all ks (length ks) (omega arith)))
-    ∙ not_in ks (length ks) k (λ j e. absurd (let same = apart 0 (suc j) k refl e in omega (arith, same)))
+    not_in_all ks k (λ j e. absurd (let same = apart 0 (suc j) k refl e in omega (arith, same)))
 
 pub renewed_is : (h : Hierarchy) (stays : List Stay) (ks : List ℕ) → IsApart ks
     → renewed_all h stays ks ≡ map (shut_on h.now ks) stays ++ opened h.now h.nodes (λ c. true) ks

@@ -5,7 +5,7 @@ use Rattle.std.specs.Prelude.{Option, Some, None, slice_get, slice_set}
 use Rattle.std.proofs.lemmas.List.{length-map, map-set, take-map, drop-map}
 use Rattle.std.proofs.lemmas.Option.{slice_get_read, slice_get_within, get_or_from_slice_get}
 use Rattle.std.proofs.lemmas.Option.{slice_get_past}
-use Rattle.hls_stays.specs.Tallies.{open_by, opened_at, lasts}
+use Rattle.hls_stays.specs.Tallies.{lasts}
 use Rattle.hls_stays.specs.Inside.Rows.{seating_at, seating_of, tally_by, tallies_by, AreSeated}
 use Rattle.hls_stays.specs.Inside.Steps.{begun_tally, swept, swept_rows}
 use Rattle.hls_stays.specs.declared.row.Row.{Row}
@@ -13,6 +13,12 @@ use Rattle.hls_stays.specs.declared.row.Seating.{Seating}
 use Rattle.hls_stays.specs.declared.tally.Tally.{Tally}
 use Rattle.hls_stays.proofs.Lists.{inner, get_map, map_same, map_append}
 use Rattle.hls_stays.proofs.Swept.{all_swept}
+
+-- ---- one seating
+
+pub seating_is : (seating : Seating) (tally : Tally) → seating.name ≡ tally.name → seating.kept ≡ tally.kept
+    → seating ≡ seating_of tally
+seating_is seating tally name kept = λ i. record { name = name i; kept = kept i }
 
 -- ---- one row
 
@@ -36,18 +42,19 @@ pub tally_of_row : (seatings : List Seating) (rows : List Row) (items : List Tal
 tally_of_row seatings rows items place row is there =
     ap (λ l. slice_get l place) (sym is) ∙ get_map (tally_by seatings) rows place row there
 
-pub open_row : (seatings : List Seating) (rows : List Row) (items : List Tally) (place k : ℕ) (row : Row)
-    (result : Bool) → tallies_by seatings rows ≡ items → slice_get rows place ≡ Some row
-    → result ≡ open_by (Some (tally_by seatings row)) k → result ≡ opened_at items place k
-open_row seatings rows items place k row result is there on =
-    on ∙ ap (λ o. open_by o k) (sym (tally_of_row seatings rows items place row is there))
+-- what is asked of a tally is asked of its row
+pub tested_row : (test : Option Tally → Bool) (seatings : List Seating) (rows : List Row) (items : List Tally)
+    (place : ℕ) (row : Row) (result : Bool) → tallies_by seatings rows ≡ items → slice_get rows place ≡ Some row
+    → result ≡ test (Some (tally_by seatings row)) → result ≡ test (slice_get items place)
+tested_row test seatings rows items place row result is there on =
+    on ∙ ap test (sym (tally_of_row seatings rows items place row is there))
 
-pub no_row : (seatings : List Seating) (rows : List Row) (items : List Tally) (place k : ℕ)
-    → tallies_by seatings rows ≡ items → length rows ≤ place → false ≡ opened_at items place k
-no_row seatings rows items place k is le =
+pub no_row : (test : Option Tally → Bool) (seatings : List Seating) (rows : List Row) (items : List Tally)
+    (place : ℕ) → tallies_by seatings rows ≡ items → length rows ≤ place → test None ≡ test (slice_get items place)
+no_row test seatings rows items place is le =
     let long = length-map rows (tally_by seatings) in
     let same = ap length is in
-    ap (λ o. open_by o k) (sym (slice_get_past items place (omega (arith, le, same, long))))
+    ap test (sym (slice_get_past items place (omega (arith, le, same, long))))
 
 -- a row is set, which changes its tally
 pub set_row : (seatings : List Seating) (rows : List Row) (items : List Tally) (place : ℕ) (row next : Row)

@@ -2,6 +2,7 @@
 #![tactic(auto)]
 
 mod accounts;
+mod guesses;
 mod places;
 mod row;
 mod stays;

@@ -1,10 +1,11 @@
 // Tallies as they are kept.
-ghost use Rattle.std.specs.Prelude.{◌≡◌, ◌+◌, ◌≤◌, List, Some};
+ghost use Rattle.std.specs.Prelude.{◌≡◌, ◌+◌, ◌≤◌, List, Some, true};
 ghost use Rattle.hls_stays.specs.Tallies.{waited, open_by, lasts};
-ghost use Rattle.hls_stays.specs.Inside.Rows.{tally_by};
-ghost use Rattle.hls_stays.specs.Inside.Steps.{noted_tally};
+ghost use Rattle.hls_stays.specs.Inside.Rows.{seating_of, tally_by};
+ghost use Rattle.hls_stays.specs.Inside.Steps.{fresh_by, noted_tally};
 ghost use Rattle.hls_stays.specs.declared.row.Seating.{Seating as SeatingSeen};
 
+use crate::tally::Tally;
 use hls_chron::Name;
 use hls_guarantee::Guarantee;
 use hls_tree::NodeId;
@@ -14,6 +15,15 @@ use hls_tree::NodeId;
 pub(crate) struct Seating {
     pub(crate) name: Name,
     pub(crate) kept: Guarantee,
+}
+
+impl Seating {
+    /// Whether it has the name and the guarantee of a tally.
+    pub(crate) fn is_of(&self, tally: &Tally) -> bool
+        ensures { result ≡ true → self.now ≡ seating_of tally.now }
+    {
+        self.name == tally.name && self.kept == tally.kept
+    }
 }
 
 /// A tally without what its seating has.
@@ -37,6 +47,13 @@ impl Row {
         ensures { (seatings : List SeatingSeen) → result ≡ open_by (Some (tally_by seatings self.now)) id }
     {
         self.until.is_none() && self.thread == id
+    }
+
+    /// Whether the stay is an open one of this thread that began at this tick.
+    pub(crate) fn is_fresh(&self, id: NodeId, now: u32) -> bool
+        ensures { (seatings : List SeatingSeen) → result ≡ fresh_by (Some (tally_by seatings self.now)) id now }
+    {
+        self.is_open(id) && self.since == now
     }
 
     /// Notes whether the thread is ready from now on.

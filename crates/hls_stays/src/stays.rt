@@ -9,8 +9,9 @@ ghost use Rattle.hls_tree.specs.Trees.{IsTreeOf, IsReadyOf, Stands};
 ghost use Rattle.hls_stays.specs.Tallies.{AreStays, AreTallies, HasRoom, IsNoted, waited, opened_at};
 ghost use Rattle.hls_stays.specs.Turnovers.{stays_begun};
 ghost use Rattle.hls_stays.specs.Changes.{Turns, MayTurn, Ticks, MayTick};
-ghost use Rattle.hls_stays.specs.Inside.Steps.{HasOpen, HasNone, MayClose, without};
+ghost use Rattle.hls_stays.specs.Inside.Steps.{HasOpen, HasNone, MayClose, fresh_at, without};
 ghost use Rattle.hls_stays.specs.Inside.Renewals.{AreRenewable, renewed_one, renewed_all, IsLike, IsRousing, MayNote};
+ghost use Rattle.hls_stays.specs.Inside.Renewals.{AreInAll, AreThreads, AreRenewed};
 
 use crate::Turnover;
 use crate::places::Places;
@@ -177,7 +178,7 @@ impl Stays {
     }
 
     /// Ends the open stays of threads, and begins others.
-    fn renew_all(&mut self, tree: &Tree, ids: &[NodeId])
+    fn renew_each(&mut self, tree: &Tree, ids: &[NodeId])
         requires may { Stands seen tree.now (λ h. IsReadyOf seen tree.now h ×
             ((stays : List Stay) × AreRenewable self.old h stays ids.now)) }
         requires room { HasRoom self.old (length ids.now) }
@@ -186,6 +187,48 @@ impl Stays {
     {
         for id in ids {
             self.renew(tree, *id);
+        }
+    }
+
+    /// Whether the stay at a place is the one that a thread would begin now: an open one that began in the
+    /// present tick, with the name and the guarantee that the thread has.
+    fn is_renewed(&self, tree: &Tree, id: NodeId, place: usize) -> bool
+        requires { Stands seen tree.now (λ h. IsThread (h.nodes id)) }
+        ensures fresh { result ≡ true → (h : Hierarchy) → IsTreeOf seen tree.now h →
+            fresh_at self.now.tallies.items place id h.now ≡ true }
+        ensures like { result ≡ true → IsLike seen self.now tree.now id place }
+    {
+        self.tallies.is_fresh_at(place, id, tree.now()) && self.is_like(tree, id, place)
+    }
+
+    /// Whether the last stays are those that these threads would begin now, in their order.
+    fn are_renewed(&self, tree: &Tree, ids: &[NodeId]) -> bool
+        requires { Stands seen tree.now (AreThreads ids.now) }
+        ensures { result ≡ true → AreRenewed seen self.now tree.now ids.now }
+    {
+        if self.tallies.len() < ids.len() {
+            return false;
+        }
+        let first = self.tallies.len() - ids.len();
+        for at in 0..ids.len() {
+            if !self.is_renewed(tree, ids[at], first + at) {
+                return false;
+            }
+        }
+        true
+    }
+
+    /// Ends the open stays of threads, and begins others. Where the same ones would begin again, nothing is done:
+    /// those that ended would have lasted no tick.
+    fn renew_all(&mut self, tree: &Tree, ids: &[NodeId])
+        requires may { Stands seen tree.now (λ h. IsReadyOf seen tree.now h ×
+            ((stays : List Stay) × AreRenewable self.old h stays ids.now)) }
+        requires room { HasRoom self.old (length ids.now) }
+        ensures { (h : Hierarchy) (stays : List Stay) → IsTreeOf seen tree.now h → IsReadyOf seen tree.now h →
+            AreRenewable self.old h stays ids.now → AreInAll self.new h (renewed_all h stays ids.now) }
+    {
+        if !self.are_renewed(tree, ids) {
+            self.renew_each(tree, ids);
         }
     }
 

@@ -4,7 +4,9 @@ ghost use Rattle.std.specs.Prelude.{Some, OnOk, option_copied, option_map, optio
 ghost use Rattle.hls_stays.specs.Tallies.{waited, opened_at};
 ghost use Rattle.hls_stays.specs.Inside.Rows.{seating_at, seating_of, spare_of, tally_by};
 ghost use Rattle.hls_stays.specs.Inside.Steps.{begun_tally, closed_tally, noted_tally, served_tally, swept, swept_rows};
+ghost use Rattle.hls_stays.specs.Inside.Steps.{fresh_at};
 
+use crate::guesses::{Guesses, sum_of};
 use crate::places::Places;
 use crate::row::{Row, Seating};
 use crate::tally::Tally;
@@ -21,6 +23,7 @@ const SPARE: usize = 16384;
 pub(crate) struct Tallies {
     rows: Vec<Row>,
     seatings: Vec<Seating>,
+    guesses: Guesses,
 }
 
 impl Model for Tallies {
@@ -52,8 +55,18 @@ fn tally_of(seatings: &[Seating], row: &Row) -> Tally
     }
 }
 
-/// Appends a seating for a tally, and tells its place.
-fn seat(seatings: &mut Vec<Seating>, tally: &Tally) -> usize
+/// Whether the seating at a place has the name and the guarantee of a tally.
+fn is_seating_of(seatings: &[Seating], place: usize, tally: &Tally) -> bool
+    ensures { result ≡ true → slice_get seatings.now place ≡ Some (seating_of tally.now) }
+{
+    match seatings.get(place) {
+        Some(seating) => seating.is_of(tally),
+        None => false,
+    }
+}
+
+/// The place of a seating for a tally: the one that was guessed where it is right, or else one that is appended.
+fn seat(seatings: &mut Vec<Seating>, guess: usize, tally: &Tally) -> usize
     requires { 0 < spare_of seatings.old }
     ensures seated { slice_get seatings.new.items result ≡ Some (seating_of tally.now) }
     ensures before { (at : ℕ) → at < length seatings.old.items →
@@ -61,6 +74,9 @@ fn seat(seatings: &mut Vec<Seating>, tally: &Tally) -> usize
     ensures more { length seatings.old.items ≤ length seatings.new.items }
     ensures spare { spare_of seatings.old ≤ spare_of seatings.new + 1 }
 {
+    if is_seating_of(seatings, guess, tally) {
+        return guess;
+    }
     let place = seatings.len();
     seatings.push_reserved(Seating {
         name: tally.name,
@@ -94,6 +110,7 @@ impl Tallies {
         Tallies {
             rows: Vec::new(alloc),
             seatings: Vec::new(alloc),
+            guesses: Guesses::new(alloc),
         }
     }
 
@@ -110,6 +127,7 @@ impl Tallies {
         ensures room { OnOk result (count ≤ self.new.spare) }
     {
         self.rows.reserve(count)?;
+        self.guesses.reserve()?;
         self.seatings.reserve(count)
     }
 
@@ -119,6 +137,16 @@ impl Tallies {
     {
         match self.rows.get(place) {
             Some(row) => row.is_open(id),
+            None => false,
+        }
+    }
+
+    /// Whether a stay of a thread at a place is open and began at this tick.
+    pub(crate) fn is_fresh_at(&self, place: usize, id: NodeId, now: u32) -> bool
+        ensures { result ≡ fresh_at self.now.items place id now }
+    {
+        match self.rows.get(place) {
+            Some(row) => row.is_fresh(id, now),
             None => false,
         }
     }
@@ -183,13 +211,16 @@ impl Tallies {
         sweep_rows(&mut self.rows, places, from);
     }
 
-    /// Appends a tally that shares its name and guarantee with none before it, into room that is there.
+    /// Appends a tally, into room that is there.
     pub(crate) fn push(&mut self, tally: Tally)
         requires { 0 < self.old.spare }
         ensures items { self.new.items ≡ self.old.items ++ tally ∷ [] }
         ensures spare { self.old.spare ≤ self.new.spare + 1 }
     {
-        let seating = seat(&mut self.seatings, &tally);
+        let sum = sum_of(&tally);
+        let guess = self.guesses.at(sum);
+        let seating = seat(&mut self.seatings, guess, &tally);
+        self.guesses.note(sum, seating);
         self.rows.push_reserved(Row {
             thread: tally.thread,
             seating,

@@ -1,13 +1,13 @@
 -- What stays that are renewed, and threads that are woken or blocked, leave of tallies.
-use Rattle.std.specs.Prelude.{◌≡◌, ℕ, List, [], ◌∷◌, ◌++◌, Some, option_map, slice_get}
+use Rattle.std.specs.Prelude.{◌≡◌, ℕ, ◌+◌, List, [], ◌∷◌, ◌++◌, Some, true, length, option_map, slice_get}
 use Rattle.hls_sched.specs.Seen.{Seen}
 use Rattle.hls_legal.specs.Hierarchy.{Hierarchy, Seat, Stay, Wake, name_of, seat_of}
 use Rattle.hls_legal.specs.Legal.{IsThread}
 use Rattle.hls_legal.specs.Steps.{stay_of, with_wake}
 use Rattle.hls_tree.specs.Trees.{IsTreeOf, IsReadyOf}
 use Rattle.hls_tree.specs.declared.tree.Tree.{Tree}
-use Rattle.hls_stays.specs.Tallies.{AreTallies, AreStays}
-use Rattle.hls_stays.specs.Inside.Steps.{HasOpen, without}
+use Rattle.hls_stays.specs.Tallies.{AreTallies, AreStays, lasting}
+use Rattle.hls_stays.specs.Inside.Steps.{HasOpen, fresh_at, without}
 use Rattle.hls_stays.specs.declared.stays.Stays.{Stays}
 use Rattle.hls_stays.specs.declared.tally.Tally.{Tally}
 
@@ -30,6 +30,15 @@ pub record AreRenewable (s : Stays) (h : Hierarchy) (stays : List Stay) (threads
   pub there : (i k : ℕ) → slice_get threads i ≡ Some k → IsThread (h.nodes k)
   pub each : (i k : ℕ) → slice_get threads i ≡ Some k → HasOpen stays k
 
+-- the tallies are those of these stays, but for some that ended in the tick in which they began
+pub record AreInAll (s : Stays) (h : Hierarchy) (stays : List Stay) : Type 0 where
+  pub kept : List Stay
+  pub are : AreTallies s h kept
+  pub all : lasting kept ≡ lasting stays
+
+abbrev pub AreThreads : List ℕ → Hierarchy → Type 0
+AreThreads ids h = (i k : ℕ) → slice_get ids i ≡ Some k → IsThread (h.nodes k)
+
 -- V and P are what the checker knows a box by
 module _ {V : Type 0} {P : V → Type 0} where
   -- the tally at a place has the name and the guarantee of a thread
@@ -39,6 +48,14 @@ module _ {V : Type 0} {P : V → Type 0} where
     pub name : (h : Hierarchy) → IsTreeOf seen t h → name_of (h.nodes k) ≡ Some tally.name
     pub kept : (h : Hierarchy) → IsTreeOf seen t h
         → option_map (λ (seat : Seat). seat.kept) (seat_of (h.nodes k) 0) ≡ Some tally.kept
+
+  -- the last tallies are those of the stays that these threads would begin now, in their order
+  pub record AreRenewed (seen : (x : V) × P x → Seen) (s : Stays) (t : Tree V P) (threads : List ℕ) : Type 0 where
+    pub first : ℕ
+    pub many : first + length threads ≡ length s.tallies.items
+    pub fresh : (h : Hierarchy) → IsTreeOf seen t h → (i k : ℕ) → slice_get threads i ≡ Some k
+        → fresh_at s.tallies.items (first + i) k h.now ≡ true
+    pub like : (i k : ℕ) → slice_get threads i ≡ Some k → IsLike seen s t k (first + i)
 
   -- a thread with an open stay was woken or blocked, after which the tree is
   pub record IsRousing (seen : (x : V) × P x → Seen) (s : Stays) (t : Tree V P) (h : Hierarchy) (k : ℕ) (how : Wake)

@@ -1,9 +1,9 @@
 -- What one stay that begins, ends or is served leaves of tallies.
-use Rattle.std.specs.Prelude.{◌≡◌, ◌≢◌, ℕ, ◌+◌, ◌-◌, ◌==◌, List, Option, Some, None, Bool, true, false}
+use Rattle.std.specs.Prelude.{◌≡◌, ◌≢◌, ℕ, ◌+◌, ◌-◌, ◌==◌, ◌&&◌, List, Option, Some, None, Bool, true, false}
 use Rattle.std.specs.Prelude.{◌++◌, map, slice_get, take, drop, filter}
 use Rattle.hls_legal.specs.Hierarchy.{Hierarchy, Stay}
 use Rattle.hls_legal.specs.Steps.{closed}
-use Rattle.hls_stays.specs.Tallies.{AreTallies, lasts}
+use Rattle.hls_stays.specs.Tallies.{AreTallies, lasts, open_by}
 use Rattle.hls_stays.specs.declared.stays.Stays.{Stays}
 use Rattle.hls_stays.specs.declared.row.Row.{Row}
 use Rattle.hls_stays.specs.declared.row.Seating.{Seating}
@@ -36,6 +36,14 @@ noted_by _ _ now tally = tally
 
 abbrev pub noted_tally : (ready : Bool) → (now : ℕ) → Tally → Tally
 noted_tally ready now tally = noted_by tally.ready_since ready now tally
+
+-- the tally at a place is that of an open stay of a thread that began at this tick
+abbrev pub fresh_by : Option Tally → (k now : ℕ) → Bool
+fresh_by None k now = false
+fresh_by (Some tally) k now = open_by (Some tally) k && tally.since == now
+
+abbrev pub fresh_at : List Tally → (at k now : ℕ) → Bool
+fresh_at tallies at k now = fresh_by (slice_get tallies at) k now
 
 -- the tallies, without those of stays of no tick from a place on
 abbrev pub swept : (from : ℕ) → List Tally → List Tally

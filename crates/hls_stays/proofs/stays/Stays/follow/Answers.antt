@@ -2,7 +2,6 @@ use Rattle.std.proofs.Common.{◌++◌, sym, ap, ◌∙◌}
 use Rattle.hls_legal.specs.Steps.{after, stay_of}
 use Rattle.hls_stays.specs.Tallies.{lasting}
 use Rattle.hls_stays.specs.Inside.Steps.{without}
-use Rattle.hls_stays.specs.Inside.Renewals.{renewed_all}
 use Rattle.hls_stays.proofs.Lasting.{lasting_append, lasting_without, lasting_renewed}
 use Rattle.hls_stays.proofs.Turned.{turn_nothing, turn_begins, turn_ends, turn_renews, ends_may, renews_stands}
 use Rattle.hls_stays.proofs.Turned.{these_are, rouses_may, turn_rouses}
@@ -48,10 +47,11 @@ pub returns-in-Renews : goal.returns-in-Renews
 returns-in-Renews g c = λ h command step turns.
     let r = turn_renews _ c.args.self.now c.args.tree.now c.args.turnover h command step c.deref.result.now
     (these_are c.args.turnover c.in-Renews.ids c.deref.result.now c.in-Renews.is c.deref.ensures.value) turns in
+    let now = c.renew_all.ensures (after h step) turns.stays.kept turns.tree turns.ready r.may in
     record {
-      kept = renewed_all (after h step) turns.stays.kept c.deref.result.now;
-      are = c.renew_all.ensures (after h step) turns.stays.kept turns.tree turns.ready r.may;
-      all = lasting_renewed (after h step) turns.stays.kept h.stays c.deref.result.now turns.stays.all
+      kept = now.kept;
+      are = now.are;
+      all = now.all ∙ lasting_renewed (after h step) turns.stays.kept h.stays c.deref.result.now turns.stays.all
           ∙ ap lasting r.stays;
     }
 

@@ -3,7 +3,7 @@ use Rattle.hls_legal.specs.Hierarchy.{Hierarchy, Stay}
 use Rattle.hls_tree.specs.Trees.{IsTreeOf, IsReadyOf}
 use Rattle.hls_stays.specs.Tallies.{AreTallies}
 use Rattle.hls_stays.specs.Inside.Renewals.{AreRenewable, renewed_all}
-use Rattle.hls_stays.proofs.stays.Stays.renew_all.Given as goal
+use Rattle.hls_stays.proofs.stays.Stays.renew_each.Given as goal
 
 abbrev pub invariant-loop-id : goal.invariant-loop-id
 invariant-loop-id g l = record {
