@@ -1,12 +1,12 @@
 -- What commands leave of a tree and of bursts.
 use Rattle.std.proofs.lemmas.Bool.{cases_eq}
-use Rattle.std.proofs.Common.{◌≡◌, ◌≢◌, ℕ, inl, inr, ◌⊎◌, [], Option, true}
+use Rattle.std.proofs.Common.{◌≡◌, ◌≢◌, ℕ, inl, inr, ◌⊎◌, [], Option, Bool, true}
 use Rattle.std.proofs.Common.{false, refl, sym, ap, ◌∙◌, subst, length}
 use Rattle.std.specs.Prelude.{Result, Ok, Err, IfOk, OnErr, slice_index}
 use Rattle.std.proofs.lemmas.List.{length-map}
 use Rattle.hls_text.specs.Lines.{Text}
 use Rattle.hls_scenario.specs.declared.scenario.Command.{Command}
-use Rattle.hls_scenario.specs.declared.scenario.Command.TheVariants.{Wake, Block}
+use Rattle.hls_scenario.specs.declared.scenario.Command.TheVariants as said
 use Rattle.hls_scenario.specs.Grammar.{IsBurst}
 use Rattle.hls_report_text.specs.declared.refusal.Refusal.{Refusal}
 use Rattle.hls_report_text.specs.declared.report.Answer.{Answer}
@@ -16,11 +16,11 @@ use Rattle.hls_sched.specs.Seen.{Seen}
 use Rattle.hls_sched.specs.GoodKit.{boxes_of, place_of}
 use Rattle.hls_sched.specs.declared.kit.Kit.{Kit}
 use Rattle.hls_walks.specs.Views.{boxed}
-use Rattle.hls_legal.specs.Hierarchy.{Hierarchy}
-use Rattle.hls_legal.specs.Hierarchy.{Asleep}
+use Rattle.hls_legal.specs.Hierarchy.{Hierarchy, Wake, Asleep}
 use Rattle.hls_legal.specs.Steps.{Refuse, Rouse, with_wake, wake_by}
 use Rattle.hls_legal.specs.Steps as steps
 use Rattle.hls_legal.specs.Legal.{IsThread}
+use Rattle.hls_legal.specs.Lists.{IsListed}
 use Rattle.hls_accounts.specs.Tells.{HasName}
 use Rattle.hls_answers.specs.Moment.{Boxes, Moment}
 use Rattle.hls_answers.specs.Answers.{IsAnswer}
@@ -33,9 +33,11 @@ use Rattle.hls_core.specs.declared.bursts.Bursts.{Bursts}
 use Rattle.hls_core.specs.Left.{IsLeft}
 use Rattle.hls_manager.specs.Outcomes as manager
 use Rattle.hls_manager.specs.Outcomes.{IsReached, boxes_in, moment}
+use Rattle.hls_manager.specs.Finds.{IsOfThread}
+use Rattle.hls_manager.proofs.Outcomes.{reached_listed}
 use Rattle.hls_core.specs.Standing.{IsAt}
-use Rattle.hls_core.specs.Inside.Outcomes.{CarriesOut}
-use Rattle.hls_core.proofs.Seats.{IsOfSeats, seats_left}
+use Rattle.hls_core.specs.Inside.Outcomes.{IsOfSeats, CarriesOut}
+use Rattle.hls_core.proofs.Seats.{seats_left}
 use Rattle.hls_core.proofs.Readiness.{left_woken, ready_woken, left_blocked, ready_blocked}
 
 pub same_left : (left new : ℕ → Option ℕ) (h : Hierarchy) → ((k : ℕ) → new k ≡ left k) → IsLeft left h
@@ -67,12 +69,15 @@ same_boxes one other left used = λ i. record { left = λ kind. left kind i; use
 
 -- V and P are what the checker knows a box by
 module _ {V : Type 0} {P : V → Type 0} (seen : (x : V) × P x → Seen) where
-  pub refused : (t : Tree V P) (bursts : Bursts) (m : Moment) (commands : ℕ) (command : Command) (r : Refusal)
-      → IsAt seen t bursts m.hierarchy → IsAnswer m command (Refused r)
+  pub refused : (t : Tree V P) (bursts : Bursts) (command : Command) (name : Text) (r : Refusal)
+      → IsOfThread command name
+      → ((m : Moment) (command : Command) → IsTreeOf seen t m.hierarchy → IsListed m.hierarchy
+      → IsOfThread command name → IsAnswer m command (Refused r))
+      → (m : Moment) (commands : ℕ) → IsAt seen t bursts m.hierarchy
       → CarriesOut seen t t bursts m commands command (Refused r)
-  refused t bursts m commands command r is answers = record {
+  refused t bursts command name r of answers m commands is = record {
     out = record {
-      answers = answers;
+      answers = answers m command is.tree (reached_listed m.hierarchy is.reached) of;
       step = Refuse;
       does = refl;
       can = tt;
@@ -83,44 +88,51 @@ module _ {V : Type 0} {P : V → Type 0} (seen : (x : V) × P x → Seen) where
     left = is.left;
   }
 
-  pub woken : (old new : Tree V P) (bursts later : Bursts) (m : Moment) (commands id : ℕ) (name : Text)
-      (burst : Option ℕ) → IsAt seen old bursts m.hierarchy → HasName m.hierarchy id name
-      → IsThread (m.hierarchy.nodes id) → IsBurst burst → IsAnswer m (Wake name burst) (Done [])
-      → IsTreeOf seen new (with_wake m.hierarchy id (wake_by burst m.hierarchy.now)) → ready_of seen new id ≡ true
-      → ((k : ℕ) → k ≢ id → ready_of seen new k ≡ ready_of seen old k)
-      → left_in later id ≡ burst → ((k : ℕ) → k ≢ id → left_in later k ≡ left_in bursts k)
-      → (answer : Answer) → answer ≡ Done [] → CarriesOut seen old new later m commands (Wake name burst) answer
-  woken old new bursts later m commands id name burst is has thread some answers tree here others left rest answer
-      done =
-      subst (CarriesOut seen old new later m commands (Wake name burst)) (sym done) (record {
+  -- a thread was found by its name, and its flag was set
+  pub record IsFlagged (old new : Tree V P) (id : ℕ) (name : Text) (ready : Bool) : Type 0 where
+    pub found : (h : Hierarchy) → IsTreeOf seen old h → HasName h id name × IsThread (h.nodes id)
+    pub done : (m : Moment) (command : Command) → IsTreeOf seen old m.hierarchy → IsListed m.hierarchy
+        → IsOfThread command name → IsAnswer m command (Done [])
+    pub woken : (h : Hierarchy) (how : Wake) → IsTreeOf seen old h → IsTreeOf seen new (with_wake h id how)
+    pub set : ready_of seen new id ≡ ready
+    pub others : (k : ℕ) → k ≢ id → ready_of seen new k ≡ ready_of seen old k
+
+  pub woken : (old new : Tree V P) (bursts later : Bursts) (id : ℕ) (name : Text) (burst : Option ℕ) → IsBurst burst
+      → IsFlagged old new id name true → left_in later id ≡ burst
+      → ((k : ℕ) → k ≢ id → left_in later k ≡ left_in bursts k) → (answer : Answer) → answer ≡ Done []
+      → (m : Moment) (commands : ℕ) → IsAt seen old bursts m.hierarchy
+      → CarriesOut seen old new later m commands (said.Wake name burst) answer
+  woken old new bursts later id name burst some flagged left rest answer done m commands is =
+      let found = flagged.found m.hierarchy is.tree in
+      subst (CarriesOut seen old new later m commands (said.Wake name burst)) (sym done) (record {
         out = record {
-          answers = answers;
+          answers = flagged.done m (said.Wake name burst) is.tree (reached_listed m.hierarchy is.reached) refl;
           step = Rouse id burst;
-          does = (has, refl);
-          can = thread;
+          does = (found.0, refl);
+          can = found.1;
           roomy = tt;
-          tree = tree;
-          ready = λ ready.
-              ready_woken (ready_of seen old) (ready_of seen new) m.hierarchy id burst some ready here others;
+          tree = flagged.woken m.hierarchy (wake_by burst m.hierarchy.now) is.tree;
+          ready = λ ready. ready_woken (ready_of seen old) (ready_of seen new) m.hierarchy id burst some ready
+              flagged.set flagged.others;
         };
         left = left_woken (left_in bursts) (left_in later) m.hierarchy id burst is.left left rest;
       })
 
-  pub blocked : (old new : Tree V P) (bursts : Bursts) (m : Moment) (commands id : ℕ) (name : Text)
-      → IsAt seen old bursts m.hierarchy → HasName m.hierarchy id name → IsThread (m.hierarchy.nodes id)
-      → IsAnswer m (Block name) (Done []) → IsTreeOf seen new (with_wake m.hierarchy id Asleep)
-      → ready_of seen new id ≡ false → ((k : ℕ) → k ≢ id → ready_of seen new k ≡ ready_of seen old k)
-      → (answer : Answer) → answer ≡ Done [] → CarriesOut seen old new bursts m commands (Block name) answer
-  blocked old new bursts m commands id name is has thread answers tree here others answer done =
-      subst (CarriesOut seen old new bursts m commands (Block name)) (sym done) (record {
+  pub blocked : (old new : Tree V P) (bursts : Bursts) (id : ℕ) (name : Text) → IsFlagged old new id name false
+      → (answer : Answer) → answer ≡ Done [] → (m : Moment) (commands : ℕ) → IsAt seen old bursts m.hierarchy
+      → CarriesOut seen old new bursts m commands (said.Block name) answer
+  blocked old new bursts id name flagged answer done m commands is =
+      let found = flagged.found m.hierarchy is.tree in
+      subst (CarriesOut seen old new bursts m commands (said.Block name)) (sym done) (record {
         out = record {
-          answers = answers;
+          answers = flagged.done m (said.Block name) is.tree (reached_listed m.hierarchy is.reached) refl;
           step = steps.Block id;
-          does = has;
-          can = thread;
+          does = found.0;
+          can = found.1;
           roomy = tt;
-          tree = tree;
-          ready = λ ready. ready_blocked (ready_of seen old) (ready_of seen new) m.hierarchy id ready here others;
+          tree = flagged.woken m.hierarchy Asleep is.tree;
+          ready = λ ready. ready_blocked (ready_of seen old) (ready_of seen new) m.hierarchy id ready flagged.set
+              flagged.others;
         };
         left = left_blocked (left_in bursts) m.hierarchy id is.left;
       })
@@ -164,16 +176,6 @@ module _ {V : Type 0} {P : V → Type 0} (seen : (x : V) × P x → Seen) where
   pub same_kit : (kit : Kit V P) → IsSameKit (boxed seen) kit kit
   same_kit kit = record { boxes = λ kind. refl; used = refl }
 
-  pub managed_all : {E : Type 0} (old new : Tree V P) (bursts : Bursts) (kit : Kit V P) (depth commands : ℕ)
-      (command : Command) (r : Result Answer E) → IsOfSeats command
-      → IfOk r (λ answer. (h : Hierarchy) → IsTreeOf seen old h → IsReached h
-      → manager.CarriesOut seen old new (moment h kit depth) commands command answer)
-      → IfOk r (λ answer. (h : Hierarchy) → IsAt seen old bursts h
-      → CarriesOut seen old new bursts (moment h kit depth) commands command answer)
-  managed_all old new bursts kit depth commands command (Ok answer) of carried = λ h is.
-      managed old new bursts (moment h kit depth) commands command answer of is (carried h is.tree is.reached)
-  managed_all old new bursts kit depth commands command (Err e) of carried = tt
-
   pub at_depth : {E : Type 0} (old new : Tree V P) (kit : Kit V P) (depth commands : ℕ) (command : Command)
       (r : Result Answer E)
       → IfOk r (λ answer. (m : Moment) (commands : ℕ) → m.depth ≡ depth → IsTreeOf seen old m.hierarchy
@@ -193,9 +195,3 @@ module _ {V : Type 0} {P : V → Type 0} (seen : (x : V) × P x → Seen) where
   at_moment old new bursts later kit depth commands command (Ok answer) carried = λ h is.
       carried (moment h kit depth) commands is
   at_moment old new bursts later kit depth commands command (Err e) carried = tt
-
-  pub err_before : {E : Type 0} (old new : Tree V P) (bursts : Bursts) (r : Result Answer E)
-      → OnErr r (IsAsBefore seen old new)
-      → OnErr r ((h : Hierarchy) → IsAt seen old bursts h → IsAt seen new bursts h)
-  err_before old new bursts (Ok answer) same = tt
-  err_before old new bursts (Err e) same = λ h is. as_before old new bursts h same is

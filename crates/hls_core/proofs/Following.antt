@@ -1,5 +1,5 @@
 -- Stays after a command that was answered.
-use Rattle.std.proofs.Common.{◌≡◌, ℕ, suc, sym, ap, ◌∙◌, subst, arith, ◌∷◌, [], ◌++◌, List, Bool}
+use Rattle.std.proofs.Common.{◌≡◌, ℕ, suc, refl, sym, ap, ◌∙◌, subst, arith, ◌∷◌, [], ◌++◌, List, Bool}
 use Rattle.hls_scenario.specs.declared.scenario.Command.{Command}
 use Rattle.hls_report_text.specs.declared.refusal.Refusal.{Refusal}
 use Rattle.hls_report_text.specs.declared.report.Seated.{Seated}
@@ -18,6 +18,8 @@ use Rattle.hls_legal.proofs.Runs.{run_keeps, start_kept}
 use Rattle.hls_accounts.specs.Tells.{Answers}
 use Rattle.hls_tree.specs.Trees.{IsTreeOf, IsReadyOf, Stands, Any}
 use Rattle.hls_tree.specs.declared.tree.Tree.{Tree}
+use Rattle.hls_answers.specs.Moment.{Moment}
+use Rattle.hls_manager.specs.Outcomes as manager
 use Rattle.hls_manager.specs.Outcomes.{IsReached, HasMarkRoom, moment}
 use Rattle.hls_manager.proofs.Outcomes.{reached_listed}
 use Rattle.hls_stays.specs.Tallies.{AreStays}
@@ -25,9 +27,10 @@ use Rattle.hls_stays.specs.Turnovers.{IsTurnover, Tells}
 use Rattle.hls_stays.specs.Changes.{Turns, MayTurn}
 use Rattle.hls_stays.specs.declared.stays.Stays.{Stays}
 use Rattle.hls_stays.specs.declared.turnover.Turnover.{Turnover}
+use Rattle.hls_stays.specs.declared.turnover.Turnover.TheVariants.{Rouses}
 use Rattle.hls_core.specs.declared.bursts.Bursts.{Bursts}
 use Rattle.hls_core.specs.Standing.{IsAt}
-use Rattle.hls_core.specs.Inside.Outcomes.{CarriesOut, MayCarry, Follows, MayFollow}
+use Rattle.hls_core.specs.Inside.Outcomes.{CarriesOut, CarriesStays, MayCarry, Follows, MayFollow}
 
 run_tells : (steps : List Step) → IsLegal start steps → (k : ℕ) (below : ℕ → Bool)
     → IsBelow (state start steps) k below → Tells (state start steps) k below
@@ -96,13 +99,13 @@ module _ {V : Type 0} {P : V → Type 0} (seen : (x : V) × P x → Seen) where
       record { h = x.h; tree = x.tree; seated = x.seated; listed = x.listed; is = tt }
 
   pub out_stands : (t : Tree V P) (bursts : Bursts) (stays : Stays)
-      → Stands seen t (MayCarry seen t bursts stays) → Stands seen t (λ h. IsAt seen t bursts h × HasMarkRoom h)
+      → Stands seen t (MayCarry seen t bursts stays) → Stands seen t (λ h. IsReached h × HasMarkRoom h)
   out_stands t bursts stays x = record {
     h = x.h;
     tree = x.tree;
     seated = x.seated;
     listed = x.listed;
-    is = (x.is.at_state, x.is.marks);
+    is = (x.is.at_state.reached, x.is.marks);
   }
 
   pub follows : (old new : Tree V P) (bursts : Bursts) (stays room : Stays) (turnover : Turnover)
@@ -121,20 +124,61 @@ module _ {V : Type 0} {P : V → Type 0} (seen : (x : V) × P x → Seen) where
     ready = ready;
   }
 
-  pub may_follow : (old new : Tree V P) (bursts later : Bursts) (stays room : Stays) (kit : Kit V P)
-      (depth commands : ℕ) (turnover : Turnover) (command : Command) (answer : Answer)
-      → Stands seen old (MayCarry seen old bursts stays)
+  followed : (old new : Tree V P) (bursts : Bursts) (stays room : Stays) (m : Moment) (commands : ℕ)
+      (turnover : Turnover) (command : Command) (answer : Answer) → MayCarry seen old bursts stays m.hierarchy
+      → AreStays room m.hierarchy → IsTurnover m.hierarchy command turnover
+      → manager.CarriesOut seen old new m commands command answer → MayFollow seen room new turnover answer
+  followed old new bursts stays room m commands turnover command answer may are of out = record {
+    h = m.hierarchy;
+    command = command;
+    step = out.step;
+    follows = follows old new bursts stays room turnover command answer m.hierarchy out.step may are of out.does out.can
+        out.tree (out.ready may.at_state.ready);
+  }
+
+  pub may_follow : (old new : Tree V P) (bursts : Bursts) (stays room : Stays) (kit : Kit V P) (depth commands : ℕ)
+      (turnover : Turnover) (command : Command) (answer : Answer) → Stands seen old (MayCarry seen old bursts stays)
       → ((h : Hierarchy) → AreStays stays h → AreStays room h)
       → ((h : Hierarchy) → IsTreeOf seen old h → IsTurnover h command turnover)
-      → ((h : Hierarchy) → IsAt seen old bursts h
-      → CarriesOut seen old new later (moment h kit depth) commands command answer)
+      → ((h : Hierarchy) → IsTreeOf seen old h → IsReached h
+      → manager.CarriesOut seen old new (moment h kit depth) commands command answer)
       → MayFollow seen room new turnover answer
-  may_follow old new bursts later stays room kit depth commands turnover command answer x same of carried =
-      let out = (carried x.h x.is.at_state).out in
-      record {
-        h = x.h;
-        command = command;
-        step = out.step;
-        follows = follows old new bursts stays room turnover command answer x.h out.step x.is (same x.h x.is.stays)
-            (of x.h x.tree) out.does out.can out.tree (out.ready x.is.at_state.ready);
-      }
+  may_follow old new bursts stays room kit depth commands turnover command answer x same of carried =
+      followed old new bursts stays room (moment x.h kit depth) commands turnover command answer x.is
+      (same x.h x.is.stays) (of x.h x.tree) (carried x.h x.tree x.is.at_state.reached)
+
+  -- the thread may be noted that a command wakes or blocks
+  pub may_rouse : (old new : Tree V P) (bursts later : Bursts) (stays : Stays) (id : ℕ) (command : Command)
+      → Stands seen old (MayCarry seen old bursts stays)
+      → ((h : Hierarchy) → IsTreeOf seen old h → IsTurnover h command (Rouses id))
+      → ((m : Moment) (commands : ℕ) → IsAt seen old bursts m.hierarchy
+      → CarriesOut seen old new later m commands command (Done []))
+      → MayTurn seen stays new (Rouses id)
+  may_rouse old new bursts later stays id command x of carried =
+      let m : Moment = record {
+        hierarchy = x.h;
+        boxes = record { left = λ kind. 0; used = λ kind. 0 };
+        depth = 0;
+      } in
+      follow_may stays new (Rouses id) (Done []) [] refl
+      (followed old new bursts stays stays m 0 (Rouses id) command (Done []) x.is x.is.stays (of x.h x.tree)
+      (carried m 0 x.is.at_state).out)
+
+  -- and then the stays are carried along
+  pub roused_stays : (old new : Tree V P) (bursts : Bursts) (was now : Stays) (id : ℕ) (command : Command)
+      (answer : Answer)
+      → ((h : Hierarchy) → IsTreeOf seen old h → IsTurnover h command (Rouses id))
+      → ((h : Hierarchy) (c : Command) (step : Step) → Turns seen was new (Rouses id) h c step
+      → AreStays now (after h step))
+      → answer ≡ Done [] → CarriesStays seen old new bursts was now command answer
+  roused_stays old new bursts was now id command answer of turned done = λ h step may does can tree ready.
+      turned h command step
+      (follow_turns was new (Rouses id) answer [] h command step done
+      (follows old new bursts was was (Rouses id) command answer h step may may.stays (of h may.at_state.tree) does can
+      tree ready))
+
+  -- a refused command leaves the stays
+  pub refused_stays : (t : Tree V P) (bursts : Bursts) (stays : Stays) (command : Command) (refusal : Refusal)
+      → CarriesStays seen t t bursts stays stays command (Refused refusal)
+  refused_stays t bursts stays command refusal = λ h step may does can tree ready.
+      subst (λ s. AreStays stays (after h s)) (sym does) may.stays

@@ -1,5 +1,5 @@
 -- What a command that takes or leaves seats leaves of wakes, and of names.
-use Rattle.std.proofs.Common.{◌≡◌, ℕ, inl, inr, ◌⊎◌, List, ◌++◌, Option, Some, None, Bool, true, false}
+use Rattle.std.proofs.Common.{◌≡◌, ◌≢◌, ℕ, inl, inr, ◌⊎◌, List, ◌++◌, Option, Some, None, Bool, true, false}
 use Rattle.std.proofs.Common.{cond, ◌==◌, refl, sym, ap, ◌∙◌, subst, ◌≤◌}
 use Rattle.std.proofs.lemmas.Bool.{eqb-true}
 use Rattle.std.specs.List.{list_any}
@@ -21,6 +21,7 @@ use Rattle.hls_accounts.specs.Tells.{Answers, Does}
 use Rattle.hls_answers.specs.Moment.{new_name}
 use Rattle.hls_journal.specs.Kept.{named_by}
 use Rattle.hls_core.specs.Left.{left_of, IsLeft}
+use Rattle.hls_core.specs.Inside.Outcomes.{IsOfSeats}
 
 -- ---- wakes
 
@@ -89,11 +90,15 @@ module _ (h : Hierarchy) (k : ℕ) (node : Option Node) (below : ℕ → Bool)
       early c t ticks since wake (inl asleep) = absurd (cc)
       early c t ticks since wake (inr from) = is.since c from.0 ticks since from.1 (from.2 ∙ wake)
 
--- a command of seats: no wake and no block
-abbrev pub IsOfSeats : Command → Type 0
-IsOfSeats (said.Wake name burst) = ⊥
-IsOfSeats (said.Block name) = ⊥
-IsOfSeats _ = Unit {0}
+pub of_seats : (command : Command) → ((name : Text) (burst : Option ℕ) → command ≢ said.Wake name burst)
+    → ((name : Text) → command ≢ said.Block name) → IsOfSeats command
+of_seats (said.Load name config perches) no_wake no_block = tt
+of_seats (said.Thread name perch) no_wake no_block = tt
+of_seats (said.End name) no_wake no_block = tt
+of_seats (said.Unload name) no_wake no_block = tt
+of_seats (said.Move name perch) no_wake no_block = tt
+of_seats (said.Wake name burst) no_wake no_block = absurd (no_wake name burst refl)
+of_seats (said.Block name) no_wake no_block = absurd (no_block name refl)
 
 abbrev Reseats : Step → Type 0
 Reseats (Rouse k burst) = ⊥

@@ -14,12 +14,13 @@ ghost use Rattle.hls_answers.specs.Moment.{Moment};
 ghost use Rattle.hls_answers.specs.Kit.{boxes_after};
 ghost use Rattle.hls_walks.specs.Views.{boxed};
 ghost use Rattle.hls_tree.specs.Kits.{IsSameKit};
-ghost use Rattle.hls_tree.specs.Trees.{IsTreeOf, IsReadyOf, Stands};
+ghost use Rattle.hls_tree.specs.Trees.{IsTreeOf, IsReadyOf, IsAsBefore, Stands};
 ghost use Rattle.hls_stays.specs.Tallies.{AreStays, HasRoom};
 ghost use Rattle.hls_stays.specs.Turnovers.{stays_begun};
-ghost use Rattle.hls_manager.specs.Outcomes.{HasMarkRoom, boxes_in, moment};
+ghost use Rattle.hls_manager.specs.Outcomes as manager;
+ghost use Rattle.hls_manager.specs.Outcomes.{IsReached, HasMarkRoom, boxes_in, moment};
 ghost use Rattle.hls_core.specs.Standing.{IsAt};
-ghost use Rattle.hls_core.specs.Inside.Outcomes.{CarriesOut, MayCarry, Follows, MayFollow};
+ghost use Rattle.hls_core.specs.Inside.Outcomes.{IsOfSeats, CarriesOut, CarriesStays, MayCarry, Follows, MayFollow};
 
 use crate::bursts::Bursts;
 use hls_chron::{List, Name};
@@ -39,73 +40,79 @@ fn done(alloc: Global) -> Answer
     Answer::Done(List::of(Vec::new(alloc)))
 }
 
-/// Makes a thread ready, for a burst or until it is blocked.
+/// Makes a thread ready, for a burst or until it is blocked. Its stay is carried along.
 fn wake(
     alloc: Global,
     tree: &mut Tree,
     bursts: &mut Bursts,
+    stays: &mut Stays,
     name: &Name,
     burst: Option<u32>,
 ) -> Result<Answer, AllocError>
-    requires stands { Stands seen tree.old (IsAt seen tree.old bursts.old) }
+    requires stands { Stands seen tree.old (MayCarry seen tree.old bursts.old stays.old) }
     requires command { IsCommand (Wake name.now burst) }
     ensures carried { IfOk result (λ answer. (m : Moment) (commands : ℕ) → IsAt seen tree.old bursts.old m.hierarchy →
         CarriesOut seen tree.old tree.new bursts.new m commands (Wake name.now burst) answer) }
+    ensures stays { IfOk result (λ answer.
+        CarriesStays seen tree.old tree.new bursts.old stays.old stays.new (Wake name.now burst) answer) }
     ensures formed { IfOk result (λ answer. IsWellFormed (Wake name.now burst) answer) }
     ensures unchanged { OnErr result ((h : Hierarchy) → IsAt seen tree.old bursts.old h →
         IsAt seen tree.new bursts.new h) }
+    ensures kept_stays { OnErr result (stays.new ≡ stays.old) }
     ensures horizon { tree.new.horizon ≡ tree.old.horizon }
 {
     match find_thread(tree, name) {
         Ok(id) => {
             bursts.set(id, burst)?;
             tree.set_ready(id, true);
+            stays.follow(tree, Turnover::Rouses(id));
             Ok(done(alloc))
         }
         Err(refusal) => Ok(Answer::Refused(refusal)),
     }
 }
 
-/// Makes a thread not ready.
-fn block(alloc: Global, tree: &mut Tree, bursts: &Bursts, name: &Name) -> Answer
+/// Makes a thread not ready. Its stay is carried along.
+fn block(alloc: Global, tree: &mut Tree, bursts: &Bursts, stays: &mut Stays, name: &Name) -> Answer
     requires command { IsCommand (Block name.now) }
-    requires stands { Stands seen tree.old (IsAt seen tree.old bursts.now) }
+    requires stands { Stands seen tree.old (MayCarry seen tree.old bursts.now stays.old) }
     ensures carried { (m : Moment) (commands : ℕ) → IsAt seen tree.old bursts.now m.hierarchy →
         CarriesOut seen tree.old tree.new bursts.now m commands (Block name.now) result }
+    ensures stays { CarriesStays seen tree.old tree.new bursts.now stays.old stays.new (Block name.now) result }
     ensures formed { IsWellFormed (Block name.now) result }
     ensures horizon { tree.new.horizon ≡ tree.old.horizon }
 {
     match find_thread(tree, name) {
         Ok(id) => {
             tree.set_ready(id, false);
+            stays.follow(tree, Turnover::Rouses(id));
             done(alloc)
         }
         Err(refusal) => Answer::Refused(refusal),
     }
 }
 
-/// Carries a command out, in a scenario of so many, and answers it.
+/// Carries a command out that takes or leaves seats, in a scenario of so many, and answers it.
 fn carry_out(
     alloc: Global,
     tree: &mut Tree,
     kit: &mut Kit,
-    bursts: &mut Bursts,
     rules: &RuleBook,
     depth: u8,
     commands: u32,
     command: &Command,
 ) -> Result<Answer, AllocError>
+    requires seats { IsOfSeats command.now }
     requires command { IsCommand command.now }
     requires depth { depth ≤ 6 }
     requires kit { IsGood (boxed seen) kit.old }
     requires commands { commands ≤ 65536 }
-    requires stands { Stands seen tree.old (λ h. IsAt seen tree.old bursts.old h × HasMarkRoom h) }
-    ensures carried { IfOk result (λ answer. (h : Hierarchy) → IsAt seen tree.old bursts.old h →
-        CarriesOut seen tree.old tree.new bursts.new (moment h kit.old depth) commands command.now answer) }
+    requires stands { Stands seen tree.old (λ h. IsReached h × HasMarkRoom h) }
+    ensures carried { IfOk result (λ answer. (h : Hierarchy) → IsTreeOf seen tree.old h → IsReached h →
+        manager.CarriesOut seen tree.old tree.new (moment h kit.old depth) commands command.now answer) }
     ensures boxes { IfOk result (λ answer. boxes_in kit.new ≡ boxes_after (boxes_in kit.old) command.now answer) }
     ensures formed { IfOk result (λ answer. IsWellFormed command.now answer) }
-    ensures unchanged { OnErr result ((h : Hierarchy) → IsAt seen tree.old bursts.old h →
-        IsAt seen tree.new bursts.new h) }
+    ensures unchanged { OnErr result (IsAsBefore seen tree.old tree.new) }
     ensures same_kit { OnErr result (IsSameKit (boxed seen) kit.old kit.new) }
     ensures good { IsGood (boxed seen) kit.new }
     ensures horizon { tree.new.horizon ≡ tree.old.horizon }
@@ -114,10 +121,8 @@ fn carry_out(
         Command::Load { .. } | Command::Thread { .. } => {
             admit(alloc, tree, kit, rules, depth, commands, command)
         }
-        Command::End { .. } | Command::Unload { .. } => Ok(withdraw(alloc, tree, command)),
         Command::Move { .. } => shift(alloc, tree, rules, depth, command),
-        Command::Wake { name, burst } => wake(alloc, tree, bursts, name, *burst),
-        Command::Block { name } => Ok(block(alloc, tree, bursts, name)),
+        _ => Ok(withdraw(alloc, tree, command)),
     }
 }
 
@@ -169,9 +174,15 @@ pub fn carry_along(
     ensures good { IsGood (boxed seen) kit.new }
     ensures horizon { tree.new.horizon ≡ tree.old.horizon }
 {
-    let turnover = Turnover::of(alloc, tree, command)?;
-    stays.reserve(&turnover)?;
-    let answer = carry_out(alloc, tree, kit, bursts, rules, depth, commands, command)?;
-    follow(tree, stays, turnover, &answer);
-    Ok(answer)
+    match command {
+        Command::Wake { name, burst } => wake(alloc, tree, bursts, stays, name, *burst),
+        Command::Block { name } => Ok(block(alloc, tree, bursts, stays, name)),
+        _ => {
+            let turnover = Turnover::of(alloc, tree, command)?;
+            stays.reserve(&turnover)?;
+            let answer = carry_out(alloc, tree, kit, rules, depth, commands, command)?;
+            follow(tree, stays, turnover, &answer);
+            Ok(answer)
+        }
+    }
 }

@@ -1,6 +1,7 @@
 -- What a command comes to.
 use Rattle.std.specs.Prelude.{ℕ}
 use Rattle.hls_scenario.specs.declared.scenario.Command.{Command}
+use Rattle.hls_scenario.specs.declared.scenario.Command.TheVariants.{Wake, Block}
 use Rattle.hls_report_text.specs.declared.report.Answer.{Answer}
 use Rattle.hls_sched.specs.Seen.{Seen}
 use Rattle.hls_legal.specs.Hierarchy.{Hierarchy}
@@ -20,6 +21,12 @@ use Rattle.hls_core.specs.Left.{IsLeft}
 use Rattle.hls_core.specs.Bursts.{left_in}
 use Rattle.hls_core.specs.declared.bursts.Bursts.{Bursts}
 
+-- a command of seats: no wake and no block
+abbrev pub IsOfSeats : Command → Type 0
+IsOfSeats (Wake name burst) = ⊥
+IsOfSeats (Block name) = ⊥
+IsOfSeats _ = Unit {0}
+
 -- V and P are what the checker knows a box by
 module _ {V : Type 0} {P : V → Type 0} where
   -- the command was carried out on the tree, and what is left of bursts goes with it
@@ -35,6 +42,13 @@ module _ {V : Type 0} {P : V → Type 0} where
     pub marks : manager.HasMarkRoom h
     pub stays : AreStays tallies h
     pub standing : IsStanding h
+
+  -- by whatever step the command was answered, after which the tree is, the stays are those after it
+  abbrev pub CarriesStays : ((x : V) × P x → Seen) → (old new : Tree V P) → Bursts → (was now : Stays) → Command
+      → Answer → Type 0
+  CarriesStays seen old new bursts was now command answer = (h : Hierarchy) (step : Step)
+      → MayCarry seen old bursts was h → Answers h command answer step → Can h step
+      → IsTreeOf seen new (after h step) → IsReadyOf seen new (after h step) → AreStays now (after h step)
 
   -- a command was answered by a step, after which the tree is, and this is what it ends and begins
   pub record Follows (seen : (x : V) × P x → Seen) (tallies : Stays) (t : Tree V P) (turnover : Turnover)
