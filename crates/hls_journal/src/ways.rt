@@ -26,7 +26,10 @@ pub fn push(path: &mut Path, place: u16)
 pub fn is_at(names: &IndexSet<Name>, place: usize, name: &Name) -> bool
     ensures { IsTrue result → (place < length names.now.keys) × (get_or names.now.keys place [] ≡ name.now) }
 {
-    place < names.len() && name_at(names, place) == name.bytes()
+    match names.get_index(place) {
+        Some(other) => *other == *name,
+        None => false,
+    }
 }
 
 /// The place of a name, if it is there. It is looked for where it is guessed to be, and only then among all.

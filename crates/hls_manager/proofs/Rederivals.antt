@@ -2,7 +2,7 @@
 use Rattle.std.proofs.Common.{◌≡◌, ◌≢◌, ℕ, zero, suc, ◌+◌, ◌<◌, ◌≤◌, List, [], ◌∷◌, ◌++◌, Option, Some, None}
 use Rattle.std.proofs.Common.{Bool, true, false, cond, map, filter, length, slice_get, refl, sym, ap, ◌∙◌, subst, arith}
 use Rattle.std.specs.Prelude.{flat_map, option_map, if◌then◌else◌, ◌==◌}
-use Rattle.std.proofs.Common.{length-append, drop, add-one}
+use Rattle.std.proofs.Common.{length-append}
 use Rattle.std.proofs.lemmas.List.{length-map}
 use Rattle.std.proofs.lemmas.Option.{slice_get-map}
 use Rattle.std.proofs.lemmas.List.Elements.{All-nil, All-cons}
@@ -25,8 +25,9 @@ use Rattle.hls_legal.specs.Legal.{SeatInRange}
 use Rattle.hls_answers.specs.Dues.{Due, Derives, IsUnderivable, dues_on, dues_of, dues_in, told_name, IsSettled}
 use Rattle.hls_answers.specs.Dues.{AreSettled}
 use Rattle.hls_answers.specs.Refusals.{IsFirst, LacksDerivation}
-use Rattle.hls_tree.specs.Lists.{is_on}
-use Rattle.hls_tree.specs.Reads.{taken_on, taken_behind}
+use Rattle.hls_tree.specs.Lists.{is_on, holder_view}
+use Rattle.hls_tree.specs.Reads.{taken_on}
+use Rattle.hls_tree.specs.declared.lists.Holder.{Holder}
 use Rattle.hls_manager.specs.Outcomes.{IsReached}
 use Rattle.hls_manager.specs.Rederived.{IsLone}
 use Rattle.hls_manager.specs.Inside.Holders.{due_held, terms_of, kept_of}
@@ -180,39 +181,18 @@ module _ (h : Hierarchy) (k : ℕ) (has : Guarantee) (depth : ℕ) (seats : List
       all_settled depth (dues_on h has (Some k)) seats are
       (ap length (dues_held h k has) ∙ length-map (taken_on h k) (due_held h k has) ∙ sym e)
 
--- ---- how far the list of all seats was walked
+-- ---- the children of a scheduler, as they are listed
 
-first_behind : {A : Type 0} (xs rest : List A) (n : ℕ) (x : A) → drop n xs ≡ x ∷ rest → slice_get xs n ≡ Some x
-first_behind [] rest zero x e = absurd (cc)
-first_behind [] rest (suc n) x e = absurd (cc)
-first_behind (y ∷ ys) rest zero x e = cc
-first_behind (y ∷ ys) rest (suc n) x e = first_behind ys rest n x e
+pub child_at : (h : Hierarchy) (k : ℕ) (children items : List Holder) (at index : ℕ) (child : Holder)
+    → map holder_view children ≡ taken_on h k → items ≡ children → at ≡ index → slice_get items index ≡ Some child
+    → slice_get (taken_on h k) at ≡ Some (record { node = child.node; port = child.port })
+child_at h k children items at index child are same count e =
+    ap (λ l. slice_get l at) (sym are) ∙ slice_get-map holder_view children at
+    ∙ ap (option_map holder_view) (ap (λ l. slice_get l at) (sym same) ∙ ap (slice_get items) count ∙ e)
 
-rest_next : {A : Type 0} (xs rest : List A) (n : ℕ) (x : A) → drop n xs ≡ x ∷ rest → drop (suc n) xs ≡ rest
-rest_next [] rest zero x e = absurd (cc)
-rest_next [] rest (suc n) x e = absurd (cc)
-rest_next (y ∷ ys) rest zero x e = cc
-rest_next (y ∷ ys) rest (suc n) x e = rest_next ys rest n x e
-
-some_behind : {A : Type 0} (xs : List A) (n : ℕ) → n < length xs → drop n xs ≢ []
-some_behind [] n lt e = absurd (omega (arith, lt))
-some_behind (y ∷ ys) zero lt e = absurd (cc)
-some_behind (y ∷ ys) (suc n) lt e = some_behind ys n (omega (arith, lt)) e
-
-module _ (h : Hierarchy) (k at from : ℕ) (behind : drop at (taken_on h k) ≡ taken_behind h k from) where
-  pub child_comes : at < length (taken_on h k) → taken_behind h k from ≢ []
-  child_comes lt none = some_behind (taken_on h k) at lt (behind ∙ none)
-
-  module _ (node port next : ℕ)
-      (is : taken_behind h k from ≡ (record { node = node; port = port }) ∷ taken_behind h k next) where
-    pub child_at : slice_get (taken_on h k) at ≡ Some (record { node = node; port = port })
-    child_at =
-        first_behind (taken_on h k) (taken_behind h k next) at (record { node = node; port = port }) (behind ∙ is)
-
-    pub behind_next : drop (at + 1) (taken_on h k) ≡ taken_behind h k next
-    behind_next =
-        rw (add-one at)
-        (rest_next (taken_on h k) (taken_behind h k next) at (record { node = node; port = port }) (behind ∙ is))
+pub children_count : (h : Hierarchy) (k : ℕ) (children : List Holder) → map holder_view children ≡ taken_on h k
+    → length children ≡ length (taken_on h k)
+children_count h k children are = sym (length-map children holder_view) ∙ ap length are
 
 -- ---- what a search is asked for one of them
 

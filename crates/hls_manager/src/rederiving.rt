@@ -47,18 +47,15 @@ pub fn rederive(
     ensures { IfOk result (λ told. (h : Hierarchy) → IsTreeOf seen tree.now h → IsReached h →
         AreRederived depth (dues_on h have.now (Some id)) told) }
 {
-    let taken = tree.seats_taken(id);
+    let children = tree.children(alloc, id)?;
     // A place more, for the seat of a moved node itself, which comes first.
-    let mut seats = Vec::with_capacity(alloc, taken as usize + 1)?;
-    let mut from = 0;
-    for _ in 0..taken {
-        let (child, port, next) = tree.next_child(id, from);
-        from = next;
-        let name = tree.name(child);
-        match rederive_one(alloc, tree, rules, depth, id, have, child, port) {
+    let mut seats = Vec::with_capacity(alloc, children.len() + 1)?;
+    for child in &children {
+        let name = tree.name(child.node);
+        match rederive_one(alloc, tree, rules, depth, id, have, child.node, child.port) {
             Ok(Some(derivation)) => seats.push(Seated {
                 name,
-                port,
+                port: child.port,
                 derivation,
             })?,
             Ok(None) => return Ok(Rederived::Lacks { name }),

@@ -1,11 +1,11 @@
 // The search for a derivation.
-ghost use Rattle.std.specs.Prelude.{◌≡◌, ◌≤◌, ◌<◌, IfOk, IfSome, IsNone, All, length, slice_get};
+ghost use Rattle.std.specs.Prelude.{◌≡◌, ◌≤◌, ◌<◌, [], IfOk, IfSome, IsNone, All, length, slice_get};
 ghost use Rattle.hls_guarantee.specs.Limits.{IsNarrow, IsValid};
 ghost use Rattle.hls_guarantee.specs.Steps.{LendsNothing};
 ghost use Rattle.hls_derive.specs.Derivation.{conversions};
 ghost use Rattle.hls_derive.specs.Derives.{IsDerivation};
 ghost use Rattle.hls_search.specs.Search.{CanSearch};
-ghost use Rattle.hls_search.specs.Inside.Found.{Derives, through};
+ghost use Rattle.hls_search.specs.Inside.Found.{Derives, derivation_of, through};
 ghost use Rattle.hls_search.specs.Inside.Places.{
   HitsByBest,
   HitsByGoal,
@@ -20,7 +20,7 @@ use crate::found::Found;
 use crate::sharing::{Share, best_share, share_for};
 use crate::words::{ask, convert};
 use hls_check::{lends, lent};
-use hls_chron::Config;
+use hls_chron::{Config, List};
 use hls_derive::{Derivation, Place, SchedStep, Step};
 use hls_guarantee::{Guarantee, RuleName};
 use hls_rules::RuleBook;
@@ -48,12 +48,33 @@ pub fn search(
     ensures none { IfOk result (λ found. IsNone found → (d : Derivation) →
         IsDerivation place.now haves.now want.now d → conversions d ≤ depth → ⊥) }
 {
+    let have = have_at(haves, 0);
+    if lends(place, 0, &have, want) {
+        return Ok(Some(direct(alloc, place, have, *want)));
+    }
     match find(book, place, haves, want, depth as usize) {
         Some(found) => Ok(Some(found.derivation(alloc)?)),
         None => Ok(None),
     }
 }
 
+/// The derivation with no conversion, through the first port.
+fn direct(alloc: Global, place: &Place, from: Guarantee, to: Guarantee) -> Derivation
+    ensures { result ≡ derivation_of (through place.now 0 from [] to []) }
+{
+    Derivation {
+        from,
+        before: List::of(Vec::new(alloc)),
+        sched: SchedStep {
+            kind: place.config.kind(),
+            port: 0,
+            to,
+        },
+        after: List::of(Vec::new(alloc)),
+    }
+}
+
+/// The parts of a derivation, where there is none without conversions.
 fn find(
     book: &RuleBook,
     place: &Place,
@@ -61,14 +82,11 @@ fn find(
     want: &Guarantee,
     depth: usize,
 ) -> Option<Found>
-    requires { CanSearch place.now haves.now want.now }
+    requires fits { CanSearch place.now haves.now want.now }
+    requires some { LendsNothing place.now.config want.now → ⊥ }
     ensures found { IfSome result (λ found. Derives place.now haves.now want.now depth found) }
     ensures none { IsNone result → NoneWithin place.now haves.now want.now depth }
 {
-    let have = have_at(haves, 0);
-    if lends(place, 0, &have, want) {
-        return Some(lent_at(place, 0, have, Chain::none(), *want, Chain::none()));
-    }
     match place.config {
         Config::Fp | Config::Join { .. } => converted_before(book, place, haves, want, depth),
         Config::Sfq { .. } => shared(book, place, haves, want, depth),

@@ -13,5 +13,6 @@ mod tree;
 
 pub use depths::Subtree;
 pub use hls_walks::{Body, NodeId};
+pub use lists::Holder;
 pub use seat::{Seat, Sort};
 pub use tree::Tree;

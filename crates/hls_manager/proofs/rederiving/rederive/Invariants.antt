@@ -1,16 +1,13 @@
-use Rattle.std.proofs.Common.{◌≡◌, Some, drop, length}
+use Rattle.std.proofs.Common.{◌≡◌, Some, length}
 use Rattle.hls_legal.specs.Hierarchy.{Hierarchy}
 use Rattle.hls_answers.specs.Dues.{dues_on}
-use Rattle.hls_tree.specs.Reads.{taken_on, taken_behind}
 use Rattle.hls_tree.specs.Trees.{IsTreeOf}
 use Rattle.hls_manager.proofs.Rederivals.{AreSettledFirst}
 use Rattle.hls_manager.proofs.rederiving.rederive.Given as goal
 
-abbrev pub invariant-loop : goal.invariant-loop
-invariant-loop g l = record {
-  count : length l.seats.items ≡ l.counter;
+abbrev pub invariant-loop-child : goal.invariant-loop-child
+invariant-loop-child g l = record {
+  count : length l.seats.items ≡ l.child-index;
   first : (h : Hierarchy) → IsTreeOf (λ z. (goal.Scheduler-dyn g z).seen z.1) l.tree h
       → AreSettledFirst l.depth (dues_on h l.have (Some l.id)) l.seats.items;
-  behind : (h : Hierarchy) → IsTreeOf (λ z. (goal.Scheduler-dyn g z).seen z.1) l.tree h
-      → drop (length l.seats.items) (taken_on h l.id) ≡ taken_behind h l.id l.from;
 }
