@@ -11,7 +11,7 @@ mod seat;
 mod seating;
 mod tree;
 
-pub use depths::Subtree;
+pub use hls_depths::Subtree;
 pub use hls_walks::{Body, NodeId};
 pub use seat::{Seat, Sort};
 pub use tree::Tree;
