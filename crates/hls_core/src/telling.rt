@@ -109,7 +109,7 @@ fn tell_rest(core: Core, text: &mut Vec<u8>) -> Result<(), AllocError>
 
 impl Core {
     /// Carries a scenario out, as a core that is opened with these, and returns the text of its report. An answer
-    /// is told as soon as there is one, and not kept.
+    /// is told as soon as there is one, and not kept. The text is written into the room that is given, whose bytes go.
     ///
     /// # Errors
     /// Returns `AllocError` for want of memory. What was handed in is dropped.
@@ -119,13 +119,15 @@ impl Core {
         depth: u8,
         kit: Kit,
         rules: RuleBook,
+        room: Vec<u8>,
     ) -> Result<Vec<u8>, AllocError>
         requires scenario { IsScenario scenario }
         requires depth { depth ≤ 6 }
         requires kit { IsGood (boxed seen) kit }
         ensures { IfOk result (λ text. IsLegalText scenario depth (boxes_in kit) text.items) }
     {
-        let mut text = Vec::new(alloc);
+        let mut text = room;
+        text.clear();
         let mut core = Core::open(alloc, scenario, depth, kit, rules)?;
         put_head(&mut text, core.scenario.horizon, core.depth)?;
         tell_all(&mut core, &mut text)?;

@@ -16,7 +16,7 @@ use hls_rules::RuleBook;
 use hls_sched::{Kit, Scheduler};
 use std::alloc::{AllocError, Global};
 
-/// The text of the report of a scenario. The scenario's own text goes first, to save memory.
+/// The text of the report of a scenario. It takes the place of the scenario's own text, to save memory.
 fn report_on(
     alloc: Global,
     scenario: Scenario,
@@ -30,8 +30,7 @@ fn report_on(
     requires good { IsGood (boxed seen) kit }
     ensures { IfOk result (λ bytes. IsReportOf depth (boxes_in kit) text.items bytes.items) }
 {
-    drop(text);
-    Core::tell(alloc, scenario, depth, kit, rules)
+    Core::tell(alloc, scenario, depth, kit, rules, text)
 }
 
 /// The report on a text, or the line that refuses it.

@@ -5,22 +5,22 @@ use Rattle.hls_core.proofs.cores.Core.tell.Goals as goal
 
 pub tell_all-requires : goal.tell_all-requires
 tell_all-requires g c =
-    may_begin _ c.in_ok-core.core c.args.scenario c.args.depth (boxes_in c.args.kit) c.new-text.result.items
-    c.put_head.new.out.items c.in_ok-core.ensures.is c.in_ok-core.ensures.unanswered c.new-text.ensures.items
+    may_begin _ c.in_ok-core.core c.args.scenario c.args.depth (boxes_in c.args.kit) c.clear.new.self.items
+    c.put_head.new.out.items c.in_ok-core.ensures.is c.in_ok-core.ensures.unanswered c.clear.ensures.items
     c.in_ok-put_head.ensures
 
 pub tell_rest-requires-clause-may : goal.tell_rest-requires-clause-may
 tell_rest-requires-clause-may g c =
     still_tells _ c.in_ok-core.core c.tell_all.new.core c.put_head.new.out.items c.tell_all.new.text.items
     c.in_ok-tell_all.ensures.on
-    (may_begin _ c.in_ok-core.core c.args.scenario c.args.depth (boxes_in c.args.kit) c.new-text.result.items
-    c.put_head.new.out.items c.in_ok-core.ensures.is c.in_ok-core.ensures.unanswered c.new-text.ensures.items
+    (may_begin _ c.in_ok-core.core c.args.scenario c.args.depth (boxes_in c.args.kit) c.clear.new.self.items
+    c.put_head.new.out.items c.in_ok-core.ensures.is c.in_ok-core.ensures.unanswered c.clear.ensures.items
     c.in_ok-put_head.ensures)
 
 pub returns : goal.returns
 returns g c =
     c.in_ok-tell_rest.ensures c.args.scenario c.args.depth (boxes_in c.args.kit)
     (c.in_ok-tell_all.ensures.on c.args.scenario c.args.depth (boxes_in c.args.kit)
-    (told_first _ c.in_ok-core.core c.args.scenario c.args.depth (boxes_in c.args.kit) c.new-text.result.items
-    c.put_head.new.out.items c.in_ok-core.ensures.is c.in_ok-core.ensures.unanswered c.new-text.ensures.items
+    (told_first _ c.in_ok-core.core c.args.scenario c.args.depth (boxes_in c.args.kit) c.clear.new.self.items
+    c.put_head.new.out.items c.in_ok-core.ensures.is c.in_ok-core.ensures.unanswered c.clear.ensures.items
     c.in_ok-put_head.ensures))
