@@ -14,3 +14,4 @@ mod Begins
 mod Told
 mod Worded
 mod Under
+mod Alone

@@ -98,7 +98,7 @@ shut_begun now k ks (Some (Admitted t)) off =
     let stay : Stay = record { thread = k; name = t.name; kept = t.seat.kept; since = now; until = None } in
     ap (λ (x : Stay). x ∷ []) (closed_not stay (is_in ks k) now (λ e. off))
 
-apart_rest : (k : ℕ) (ks : List ℕ) → IsApart (k ∷ ks) → IsApart ks
+pub apart_rest : (k : ℕ) (ks : List ℕ) → IsApart (k ∷ ks) → IsApart ks
 apart_rest k ks apart i j c e f = (let same = apart (suc i) (suc j) c e f in omega (arith, same))
 
 apart_first : (k : ℕ) (ks : List ℕ) → IsApart (k ∷ ks) → is_in ks k ≡ false

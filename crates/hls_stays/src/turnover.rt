@@ -6,7 +6,7 @@ ghost use Rattle.hls_stays.specs.Turnovers.{Tells, IsRoused, IsTurnover, stays_b
 
 use hls_chron::Name;
 use hls_scenario::Command;
-use hls_tree::{NodeId, Tree};
+use hls_tree::{NodeId, Sort, Tree};
 use std::alloc::{AllocError, Global};
 
 /// Which stays a command ends and begins, once it is carried out.
@@ -24,8 +24,8 @@ pub enum Turnover {
     Rouses(NodeId),
 }
 
-/// The threads that are a node or below it, in the order of their admissions.
-fn threads_under(alloc: Global, tree: &Tree, id: NodeId) -> Result<Vec<NodeId>, AllocError>
+/// The threads that are a node or below it, one looked at after another.
+fn threads_below(alloc: Global, tree: &Tree, id: NodeId) -> Result<Vec<NodeId>, AllocError>
     requires { Stands seen tree.now (λ h. h.nodes id ≢ None) }
     ensures { IfOk result (λ threads. (h : Hierarchy) (below : ℕ → Bool) → IsTreeOf seen tree.now h →
         Tells h id below → threads.items ≡ filter below h.threads) }
@@ -41,6 +41,19 @@ fn threads_under(alloc: Global, tree: &Tree, id: NodeId) -> Result<Vec<NodeId>, 
         threads.push(thread)?;
     }
     Ok(threads)
+}
+
+/// The threads that are a node or below it, in the order of their admissions.
+fn threads_under(alloc: Global, tree: &Tree, id: NodeId) -> Result<Vec<NodeId>, AllocError>
+    requires { Stands seen tree.now (λ h. h.nodes id ≢ None) }
+    ensures { IfOk result (λ threads. (h : Hierarchy) (below : ℕ → Bool) → IsTreeOf seen tree.now h →
+        Tells h id below → threads.items ≡ filter below h.threads) }
+{
+    match tree.sort(id) {
+        // nobody sits on a thread
+        Sort::Thread => Ok(vec![in alloc; id]?),
+        Sort::Sched(_) => threads_below(alloc, tree, id),
+    }
 }
 
 /// That a thread of this name is woken or blocked, where there is one.

@@ -2,7 +2,7 @@ use Rattle.std.proofs.Common.{◌≡◌, ℕ, Bool, filter, take}
 use Rattle.hls_legal.specs.Hierarchy.{Hierarchy}
 use Rattle.hls_tree.specs.Trees.{IsTreeOf}
 use Rattle.hls_stays.specs.Turnovers.{Tells}
-use Rattle.hls_stays.proofs.turnover.threads_under.Given as goal
+use Rattle.hls_stays.proofs.turnover.threads_below.Given as goal
 
 abbrev pub invariant-loop-at : goal.invariant-loop-at
 invariant-loop-at g l = (h : Hierarchy) (below : ℕ → Bool)
