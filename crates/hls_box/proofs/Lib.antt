@@ -6,3 +6,4 @@ pub mod Calls
 pub mod Choosing
 pub mod Faults
 pub mod Keyed
+pub mod NextSlots
