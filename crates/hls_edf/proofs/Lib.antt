@@ -4,3 +4,4 @@ pub mod Calls
 pub mod Candidates
 pub mod NextSlots
 pub mod Unused
+pub mod Calm

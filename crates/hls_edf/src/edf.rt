@@ -10,9 +10,10 @@ ghost use Rattle.hls_box.specs.Inside.Sound.{IsSound};
 ghost use Rattle.hls_box.proofs.Props.{sound_prop};
 ghost use Rattle.hls_box.proofs.Choosing.{lawful};
 ghost use Rattle.hls_edf.specs.Choice.{choice_of, HasServers};
+ghost use Rattle.hls_edf.specs.Inside.Calm.{AreCalm};
 ghost use Rattle.hls_edf.specs.Inside.Unused.{IsUnusedFrom};
 
-use crate::changes::{pass_tick, settle_all};
+use crate::changes::{pass_tick, settle_all, takes_last};
 use crate::choosing::best_of;
 use crate::server::{fresh, held, offered, vacant};
 use crate::servers::{Servers, first_free, parts_used};
@@ -22,17 +23,21 @@ use hls_sched::{Scheduler, SeatFault};
 use std::alloc::{AllocError, Global};
 
 /// A scheduler of reservations (after Abeni and Buttazzo 1998, in whole ticks): of the seats that ask and
-/// have budget, the one of earliest deadline is served, and where there is none, of those that are soft.
+/// have budget, the one of earliest deadline is served, and where there is none, of those that are soft. Kept
+/// are the choice, and the tick up to which a tick changes no more than the budget of the slot that it serves,
+/// or 0 where that is not known.
 #[derive(Drop)]
 pub struct Edf {
     state: BoxState,
     servers: Servers,
     used: u32,
+    calm_until: u64,
     best: Option<u32>,
     ghost sound: { IsSound Kind.Edf state } by { sound_prop Kind.Edf state },
     ghost held: { HasServers state.book servers },
     ghost few: { used ≤ 32 },
     ghost unused: { IsUnusedFrom used servers state.book },
+    ghost calm: { AreCalm calm_until servers state.book state.mask },
     ghost chosen: { best ≡ choice_of servers state.book state.mask },
 }
 
@@ -48,6 +53,7 @@ impl Edf {
             state,
             servers,
             used: 0,
+            calm_until: 0,
             best,
         }
     }
@@ -98,6 +104,7 @@ impl Scheduler for Edf {
         self.state.setup(config, now, horizon, commands)?;
         self.servers = [vacant(); 32];
         self.used = 0;
+        self.calm_until = 0;
         self.best = best_of(&self.servers, &self.state);
         Ok(())
     }
@@ -118,6 +125,7 @@ impl Scheduler for Edf {
         self.state.seat(slot, terms);
         self.servers[slot as usize] = fresh(offered(x, y), now);
         self.used = self.used.max(slot + 1);
+        self.calm_until = 0;
         self.best = best_of(&self.servers, &self.state);
     }
 
@@ -125,16 +133,19 @@ impl Scheduler for Edf {
         let now = self.state.book().now();
         self.state.leave(slot);
         self.servers[slot as usize] = held(self.servers[slot as usize], u64::from(now));
+        self.calm_until = 0;
         self.best = best_of(&self.servers, &self.state);
     }
 
     fn request(&mut self, slot: u32) {
         self.state.request(slot);
+        self.calm_until = 0;
         self.best = best_of(&self.servers, &self.state);
     }
 
     fn release(&mut self, slot: u32) {
         self.state.release(slot);
+        self.calm_until = 0;
         self.best = best_of(&self.servers, &self.state);
     }
 
@@ -157,14 +168,24 @@ impl Scheduler for Edf {
     fn turn(&mut self) {
         let choice = self.choose();
         let served = self.state.served(choice);
-        pass_tick(&mut self.servers, &self.state, self.used, served);
+        let spent = takes_last(&self.servers, &self.state, served);
+        self.calm_until = pass_tick(
+            &mut self.servers,
+            &self.state,
+            self.used,
+            self.calm_until,
+            served,
+        );
         self.state.turn(choice);
-        self.best = best_of(&self.servers, &self.state);
+        if spent || self.calm_until <= u64::from(self.state.book().now()) {
+            self.best = best_of(&self.servers, &self.state);
+        }
     }
 
     fn settle(&mut self) {
         settle_all(&mut self.servers, &self.state, self.used);
         self.state.settle();
+        self.calm_until = 0;
         self.best = best_of(&self.servers, &self.state);
     }
 

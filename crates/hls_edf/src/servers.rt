@@ -1,8 +1,10 @@
 // The servers of the slots: what each may claim, and what a tick and a settling make of it.
-ghost use Rattle.std.specs.Prelude.{◌≡◌, ◌<◌, length, IfSome, IsNone};
+ghost use Rattle.std.specs.Prelude.{◌≡◌, ℕ, ◌+◌, ◌<◌, Bool, false, length, IfSome, IsNone};
 ghost use Rattle.hls_kinds.specs.Slots.{sum_below};
+ghost use Rattle.hls_edf_laws.specs.Books.{held as held_of};
 ghost use Rattle.hls_edf.specs.Choice.{server_in, soft_in, may_use, deadline_if, IsFirstFree, AllPaid};
 ghost use Rattle.hls_edf.specs.Changes.{next_of, settled_of};
+ghost use Rattle.hls_edf.specs.Inside.Calm.{IsCalm};
 
 use crate::server::{charge, fresh, held, replenish, vacant};
 use hls_chron::Terms;
@@ -81,18 +83,36 @@ pub fn parts_used(servers: &[Server]) -> u128
     used
 }
 
-/// Lets a tick pass over the server of a slot.
-pub fn pass(server: &mut Server, taken: bool, asks: bool, served: bool, now: u32)
-    ensures { server.new ≡ next_of server.old taken asks served now }
+/// Lets a tick pass over the server of a slot that is free. Returns the tick up to which no further one
+/// changes it.
+fn pass_free(server: &mut Server, now: u32) -> u64
+    ensures next { server.new ≡ held_of server.old (now + 1) }
+    ensures calm { (t : ℕ) (asks : Bool) → t < result → IsCalm server.new false asks t }
+{
+    let next = u64::from(now) + 1;
+    let deadline = server.deadline;
+    *server = held(*server, next);
+    if next < deadline {
+        deadline - 1
+    } else {
+        u64::MAX
+    }
+}
+
+/// Lets a tick pass over the server of a slot. Returns the tick up to which a further one changes no more of
+/// it than its budget, as long as the same seats ask.
+pub fn pass(server: &mut Server, taken: bool, asks: bool, served: bool, now: u32) -> u64
+    ensures next { server.new ≡ next_of server.old taken asks served now }
+    ensures calm { (t : ℕ) → t < result → IsCalm server.new taken asks t }
 {
     if !taken {
-        *server = held(*server, u64::from(now) + 1);
-        return;
+        return pass_free(server, now);
     }
     replenish(server, asks, now);
     if served {
         charge(server);
     }
+    if asks { server.deadline } else { u64::MAX }
 }
 
 /// The server of a slot after a settling.
