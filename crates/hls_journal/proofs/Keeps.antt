@@ -180,7 +180,7 @@ kept_note s old new item answer kept there is fits n =
           let room = kept.names_room in
           let spared = n.names_room in
           let same = ap (λ k. naming (drop k s.items)) count in omega (arith, rest, room, spared, same));
-      runs_room = subst (λ rs. s.horizon ≤ vec_capacity rs) (sym n.runs) kept.runs_room;
+      runs_room = subst (λ rs. s.horizon ≤ rs.capacity) (sym n.runs) kept.runs_room;
     }
 
 abbrev content : (depth ticks : ℕ) → List Answered → List Stretch → Content

@@ -1,4 +1,5 @@
 pub mod Places
+pub mod Rows
 pub mod Covers
 pub mod Lists
 pub mod Keeps

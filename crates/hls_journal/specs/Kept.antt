@@ -37,7 +37,7 @@ pub record IsNew (items : List Item) (horizon : ℕ) (j : Journal) : Type 0 wher
   pub runs : j.runs.items ≡ []
   pub answers_room : length items ≤ vec_capacity j.answers
   pub names_room : naming items ≤ spare j.names
-  pub runs_room : horizon ≤ vec_capacity j.runs
+  pub runs_room : horizon ≤ j.runs.capacity
 
 -- the name of a node was noted
 abbrev pub has_name : Journal → Text → Bool
@@ -78,7 +78,7 @@ pub record IsTicked (path : Option Path) (old new : Journal) : Type 0 where
   pub answers : new.answers ≡ old.answers
   pub names : new.names ≡ old.names
   pub ticks : new.ticks ≡ old.ticks + 1
-  pub room : vec_capacity new.runs ≡ vec_capacity old.runs
+  pub room : new.runs.capacity ≡ old.runs.capacity
 
 pub record MayNote (command : Command) (j : Journal) : Type 0 where
   pub answers : length j.answers.items < vec_capacity j.answers
@@ -86,7 +86,7 @@ pub record MayNote (command : Command) (j : Journal) : Type 0 where
 
 pub record MayTick (j : Journal) : Type 0 where
   pub short : All (λ (run : Run). HasShort run.path) j.runs.items
-  pub room : length j.runs.items < vec_capacity j.runs
+  pub room : length j.runs.items < j.runs.capacity
   pub more : j.ticks + 1 < 2 ^ 32
 
 -- the answers fit the commands, the runs are those of the ticks that have passed, and there is room for what is
@@ -102,4 +102,4 @@ pub record IsKept (s : Scenario) (j : Journal) : Type 0 where
   pub count : length j.runs.items ≤ j.ticks
   pub answers_room : length s.items ≤ vec_capacity j.answers
   pub names_room : naming (drop (length j.answers.items) s.items) ≤ spare j.names
-  pub runs_room : s.horizon ≤ vec_capacity j.runs
+  pub runs_room : s.horizon ≤ j.runs.capacity

@@ -1,3 +1,5 @@
+pub mod Store
 pub mod Told
 pub mod Ways
 pub mod Kept
+pub mod Inside

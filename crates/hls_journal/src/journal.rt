@@ -13,11 +13,11 @@ ghost use Rattle.hls_accounts.specs.Commands.{is_done};
 ghost use Rattle.hls_answers.specs.Moment.{new_name};
 ghost use Rattle.hls_journal.specs.Kept.{naming};
 
-use crate::guesses::Guesses;
-use crate::runs::{last_place, put_tick};
+use crate::guesses::{Guesses, NAMES, sum_of_name};
+use crate::runs::{Runs, last_place, put_all, put_tick};
 use crate::ways::{insert, is_at, place_of, push};
 use hls_chron::Name;
-use hls_report_text::{Answer, Path, Run, put_runs};
+use hls_report_text::{Answer, Path};
 use hls_scenario::{Command, Item};
 use hls_text::put;
 use indexmap::IndexSet;
@@ -31,7 +31,7 @@ pub struct Journal {
     pub(crate) answers: Vec<Answer>,
     pub(crate) names: IndexSet<Name>,
     pub(crate) guesses: Guesses,
-    pub(crate) runs: Vec<Run>,
+    pub(crate) runs: Runs,
 }
 
 /// The name that a command gives to a new node.
@@ -85,8 +85,8 @@ impl Journal {
             ticks: 0,
             answers: Vec::with_capacity(alloc, items.len())?,
             names: IndexSet::with_capacity(alloc, naming(items))?,
-            guesses: Guesses::new(alloc)?,
-            runs: Vec::with_capacity(alloc, horizon as usize)?,
+            guesses: Guesses::new(alloc, NAMES)?,
+            runs: Runs::with_capacity(alloc, horizon)?,
         })
     }
 
@@ -122,7 +122,7 @@ impl Journal {
         if is_done(&answer) {
             if let Some(name) = new_name(command) {
                 let place = insert(&mut self.names, name);
-                self.guesses.note(&name, place);
+                self.guesses.note(sum_of_name(&name), place);
             }
         }
         self.answers.push_reserved(answer);
@@ -139,7 +139,7 @@ impl Journal {
         if is_at(&self.names, last, name) {
             return Some(last);
         }
-        place_of(&self.names, self.guesses.at(name), name)
+        place_of(&self.names, self.guesses.at(sum_of_name(name)), name)
     }
 
     /// Goes on along a path to a node with a name that was noted.
@@ -179,6 +179,6 @@ impl Journal {
             ++ (codes "schedule\n" ++ flat_map (λ s. with_end (stretch_text s)) (stretches_of self.now))) }
     {
         put(out, b"schedule\n")?;
-        put_runs(out, self.names.as_slice(), &self.runs)
+        put_all(out, self.names.as_slice(), &self.runs)
     }
 }

@@ -42,6 +42,7 @@ fn totalled(
     } = journal;
     let answered = answered(alloc, scenario.items, answers)?;
     let names = names_of(alloc, &names)?;
+    let runs = runs.to_vec(alloc)?;
     Ok(Report {
         horizon: scenario.horizon,
         depth,
