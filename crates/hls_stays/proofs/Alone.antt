@@ -14,10 +14,10 @@ use Rattle.hls_legal.proofs.Listings.{First, Later, in_cases, none_in}
 use Rattle.hls_walks.specs.Views.{boxed, shown_at}
 use Rattle.hls_walks.proofs.Passes.{seats_same}
 use Rattle.hls_tree.specs.Reads.{IsSort}
-use Rattle.hls_tree.specs.Trees.{IsTreeOf, Stands}
+use Rattle.hls_tree.specs.Trees.{IsTreeOf, Stands, Any}
 use Rattle.hls_tree.specs.declared.seat.Sort.TheVariants as sorts
 use Rattle.hls_tree.specs.declared.tree.Tree.{Tree}
-use Rattle.hls_stays.specs.Turnovers.{Tells}
+use Rattle.hls_stays.specs.Turnovers.{Tells, AreBelow}
 use Rattle.hls_stays.specs.Inside.Renewals.{IsApart}
 use Rattle.hls_stays.proofs.Lists.{apart_pairs}
 use Rattle.hls_stays.proofs.Renewed.{apart_rest}
@@ -53,7 +53,7 @@ module _ (test : ℕ → Bool) (k : ℕ) (on : test k ≡ true) (others : (c : �
 
 -- ---- nobody is below a thread
 
-thread_told : (node : Option Node) → IsSort node sorts.Thread → IsThread node
+pub thread_told : (node : Option Node) → IsSort node sorts.Thread → IsThread node
 thread_told None is = absurd is
 thread_told (Some (Loaded s)) is = absurd is
 thread_told (Some (Admitted t)) is = record { thread = t; there = refl }
@@ -71,7 +71,7 @@ module _ (h : Hierarchy) (k : ℕ) (free : (c : ℕ) → ¬ SitsOn h c k) where
 
 -- V and P are what the checker knows a box by
 module _ {V : Type 0} {P : V → Type 0} (seen : (x : V) × P x → Seen) (t : Tree V P) (id : ℕ)
-    (x : Stands seen t (λ h. h.nodes id ≢ None))
+    (x : Stands seen t Any)
     (sort : (h : Hierarchy) → IsTreeOf seen t h → IsSort (h.nodes id) sorts.Thread)
     (h : Hierarchy) (tree : IsTreeOf seen t h) where
   there : IsThread (x.h.nodes id)
@@ -93,7 +93,7 @@ module _ {V : Type 0} {P : V → Type 0} (seen : (x : V) × P x → Seen) (t : T
       let empty = thread_empty (x.h.nodes id) there on.slot in
       cc
 
-  pub alone_below : (below : ℕ → Bool) → Tells h id below → id ∷ [] ≡ filter below h.threads
+  pub alone_below : AreBelow h id (id ∷ [])
   alone_below below tells =
       let listed = x.listed.threads.all id (ap is_thread there.there) in
       sym (ap (filter below) (tree.threads ∙ sym x.tree.threads)

@@ -82,6 +82,16 @@ pub found_within : (s : Stays) (k place : ℕ) → MayClose s k → Finds s k pl
 found_within s k place may finds =
     (tally_found s may.h may.stays k place may.are may.has finds).within
 
+-- and where it has ended
+pub closed_within : (s : Stays) (items : List Tally) (k place now : ℕ) → MayClose s k → Finds s k place
+    → ((tally : Tally) → slice_get s.tallies.items place ≡ Some tally
+    → items ≡ slice_set s.tallies.items place (closed_tally now tally)) → place < length items
+closed_within s items k place now may finds set =
+    let t = tally_found s may.h may.stays k place may.are may.has finds in
+    let within = t.within in
+    let same = ap length (set t.tally t.there) ∙ length-set s.tallies.items place (closed_tally now t.tally) in
+    omega (arith, within, same)
+
 -- ---- a stay that ends
 
 closed_is : (h : Hierarchy) (stay : Stay) (tally : Tally) (k now : ℕ) → IsTally h stay tally → stay.thread ≡ k

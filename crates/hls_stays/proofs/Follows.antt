@@ -1,42 +1,34 @@
 -- What the steps of commands leave of stays.
-use Rattle.std.proofs.Common.{◌≡◌, ◌≢◌, ℕ, suc, List, [], ◌∷◌, ◌++◌}
-use Rattle.std.proofs.Common.{Bool, true, false, cond, ◌||◌, ◌==◌, refl, sym, ap, ◌∙◌, subst}
-use Rattle.std.proofs.Common.{map, filter}
+use Rattle.std.proofs.Common.{◌≡◌, ℕ, suc, List, [], ◌∷◌, ◌++◌}
+use Rattle.std.proofs.Common.{Bool, true, false, ◌||◌, ◌==◌, refl, sym, ap, ◌∙◌, subst}
 use Rattle.std.specs.Prelude.{Option, Some, None, slice_get, if◌then◌else◌}
-use Rattle.std.proofs.lemmas.Bool.{ne_eqb, eq-eqb, eqb-true}
+use Rattle.std.proofs.lemmas.Bool.{ne_eqb, eq-eqb}
 use Rattle.std.proofs.lemmas.List.{append-nil}
 use Rattle.hls_legal.specs.Hierarchy.{Hierarchy, Stay, Node, Loaded, Admitted, Wake, Seat}
 use Rattle.hls_legal.specs.Steps.{closed, stay_of, opened, is_thread, listed, effect, nobody, nodes_after, with_wake}
-use Rattle.hls_legal.specs.Steps.{admitted, reseated, after}
-use Rattle.hls_legal.specs.Legal.{IsBelow, IsThread}
+use Rattle.hls_legal.specs.Steps.{admitted, after}
+use Rattle.hls_legal.specs.Legal.{IsThread}
 use Rattle.hls_legal.specs.Lists.{IsListed, open_stay}
 use Rattle.hls_accounts.proofs.Orders.{opened_without, opened_push, listed_same}
 use Rattle.hls_stays.specs.Tallies.{AreTallies, AreStays, IsStanding, lasting}
-use Rattle.hls_stays.specs.Turnovers.{Tells}
 use Rattle.hls_stays.specs.Inside.Steps.{HasOpen, HasNone, without}
-use Rattle.hls_stays.specs.Inside.Renewals.{IsApart, AreRenewable, renewed_all}
 use Rattle.hls_stays.specs.declared.stays.Stays.{Stays}
-use Rattle.hls_stays.proofs.Lists.{map_same, same_map, is_in, place_of, contains_at, apart_pairs}
+use Rattle.hls_stays.proofs.Lists.{same_map, place_of, contains_at}
 use Rattle.hls_stays.proofs.Lasting.{has_kept, none_kept}
 use Rattle.hls_stays.proofs.Ends.{closed_not}
 use Rattle.hls_stays.proofs.Noted.{at_effect}
-use Rattle.std.proofs.lemmas.List.Kept.{AllPairs-filter}
-use Rattle.hls_chron.specs.declared.book.Event.{Event}
 use Rattle.hls_scenario.specs.declared.scenario.Command.{Command}
 use Rattle.hls_scenario.specs.declared.scenario.Command.TheVariants as said
 use Rattle.hls_legal.specs.Hierarchy.{Asleep, seats_of}
 use Rattle.hls_legal.specs.Steps.{Step, Load, Admit, End, Unload, Move}
-use Rattle.hls_legal.specs.Steps.{Rouse, Block, marked, renewed, leavings, seatings}
+use Rattle.hls_legal.specs.Steps.{Rouse, Block, marked, leavings, seatings}
 use Rattle.hls_legal.specs.Steps.{loaded, wake_by}
 use Rattle.hls_legal.specs.Legal.{Can}
 use Rattle.hls_legal.proofs.Kept.{at_same}
-use Rattle.hls_legal.proofs.Listings.{filter_had}
 use Rattle.hls_accounts.specs.Tells.{Does, HasName}
-use Rattle.hls_accounts.proofs.Alike.{wake_of, moved-reseated}
+use Rattle.hls_accounts.proofs.Alike.{wake_of}
 use Rattle.hls_stays.specs.Turnovers.{IsTurnover}
-use Rattle.hls_stays.specs.declared.turnover.Turnover.{Turnover}
-use Rattle.hls_stays.specs.declared.turnover.Turnover.TheVariants.{Nothing, Begins, Ends, Renews, Rouses}
-use Rattle.hls_stays.proofs.Renewed.{renewed_is, opened_filter, in_filter, closed_alike, shut_on}
+use Rattle.hls_stays.specs.declared.turnover.Turnover.TheVariants.{Nothing, Begins, Ends, Rouses}
 
 pub thread_is : (node : Option Node) → is_thread node ≡ true → IsThread node
 thread_is None is = absurd (cc)
@@ -138,53 +130,6 @@ ended_stays h k is =
     ∙ ap (λ l. without h.now k h.stays ++ l) (opened_without h.now nodes k h.threads)
     ∙ append-nil (without h.now k h.stays)
 
--- ---- moves
-
-is_thread-reseated : (seat : Seat) (node : Option Node) → is_thread (reseated seat node) ≡ is_thread node
-is_thread-reseated seat None = refl
-is_thread-reseated seat (Some (Loaded s)) = refl
-is_thread-reseated seat (Some (Admitted t)) = refl
-
-or_itself : (below : ℕ → Bool) (k c : ℕ) → below k ≡ true → (below c || c == k) ≡ below c
-or_itself below k c on = by (below c) refl
-  where
-    by : (b : Bool) → below c ≡ b → (b || c == k) ≡ b
-    by true e = refl
-    by false e = ne_eqb c k (λ is. (let clash : true ≡ false = sym on ∙ ap below (sym is) ∙ e in absurd (cc)))
-
-opened_alike : (now : ℕ) (nodes : ℕ → Option Node) (one other : ℕ → Bool) (ks : List ℕ)
-    → ((c : ℕ) → one c ≡ other c) → opened now nodes one ks ≡ opened now nodes other ks
-opened_alike now nodes one other [] same = refl
-opened_alike now nodes one other (k ∷ ks) same =
-    ap (λ (b : Bool). (if b then stay_of now k (nodes k) else []) ++ opened now nodes one ks) (same k)
-    ∙ ap (λ l. (if other k then stay_of now k (nodes k) else []) ++ l) (opened_alike now nodes one other ks same)
-
-pub moved_threads : (h : Hierarchy) (k : ℕ) (seat : Seat) (below : ℕ → Bool)
-    → (effect h k (reseated seat (h.nodes k)) below).threads ≡ h.threads
-moved_threads h k seat below =
-    listed_same (is_thread (h.nodes k)) (is_thread (reseated seat (h.nodes k))) (is_thread (h.nodes k)) k h.threads
-    refl (is_thread-reseated seat (h.nodes k))
-
-pub moved_stays : (h : Hierarchy) (k : ℕ) (seat : Seat) (below : ℕ → Bool) → IsStanding h → IsListed h
-    → below k ≡ true → IsApart (filter below h.threads)
-    → renewed_all (effect h k (reseated seat (h.nodes k)) below) h.stays (filter below h.threads)
-    ≡ (effect h k (reseated seat (h.nodes k)) below).stays
-moved_stays h k seat below standing listed_is on apart =
-    let made = effect h k (reseated seat (h.nodes k)) below in
-    let ks = filter below h.threads in
-    let begins : ℕ → Bool = λ c. below c || c == k in
-    renewed_is made h.stays ks apart
-    ∙ ap (λ l. l ++ opened h.now made.nodes (λ c. true) ks)
-    (map_same (λ (x : Stay). closed (begins x.thread) h.now x) (shut_on h.now ks) h.stays
-    (λ i x e. closed_alike x (is_in ks x.thread) (begins x.thread) h.now
-    (λ none. in_filter below h.threads x.thread
-    (listed_is.threads.all x.thread (standing.there i x e none))
-    ∙ sym (or_itself below k x.thread on))))
-    ∙ ap (λ l. map (λ (x : Stay). closed (begins x.thread) h.now x) h.stays ++ l)
-    (opened_filter h.now made.nodes below h.threads
-    ∙ opened_alike h.now made.nodes below begins h.threads (λ c. sym (or_itself below k c on))
-    ∙ ap (opened h.now made.nodes begins) (sym (moved_threads h k seat below)))
-
 -- ---- what each turnover comes to
 
 pub follow_nothing : (s : Stays) (h : Hierarchy) (command : Command) (step : Step) → IsTurnover h command Nothing
@@ -280,76 +225,3 @@ follow_rouses h id (said.Block name) (Block k) of does can lists =
     roused_here h (Block k) id k name Asleep lists of does can refl
 follow_rouses h id (said.Block name) _ of does can lists = absurd does
 follow_rouses h id _ _ of does can lists = absurd of
-
--- the stays of these threads have ended, and others begun
-pub record HaveRenewed (s : Stays) (h later : Hierarchy) (kept : List Stay) (ids : List ℕ) : Type 0 where
-  pub may : AreRenewable s later kept ids
-  pub stays : renewed_all later h.stays ids ≡ later.stays
-
-is_thread-marked : (es : List Event) (node : Option Node) → is_thread (marked es node) ≡ is_thread node
-is_thread-marked es None = refl
-is_thread-marked es (Some (Loaded s)) = refl
-is_thread-marked es (Some (Admitted t)) = refl
-
-is_thread-renewed : (b : Bool) (now : ℕ) (node : Option Node) → is_thread (renewed b now node) ≡ is_thread node
-is_thread-renewed false now any = refl
-is_thread-renewed true now None = refl
-is_thread-renewed true now (Some (Loaded s)) = refl
-is_thread-renewed true now (Some (Admitted t)) = refl
-
-moved_thread : (h : Hierarchy) (k c : ℕ) (seat : Seat) (below : ℕ → Bool)
-    → is_thread (nodes_after h k (reseated seat (h.nodes k)) below c) ≡ is_thread (h.nodes c)
-moved_thread h k c seat below =
-    is_thread-renewed (below c) h.now (cond (c == k) (reseated seat (h.nodes k)) (marked es (h.nodes c)))
-    ∙ by (c == k) refl
-  where
-    es : List Event
-    es = leavings (seats_of (h.nodes k)) c ++ seatings (seats_of (reseated seat (h.nodes k))) c
-
-    by : (b : Bool) → (c == k) ≡ b
-        → is_thread (cond b (reseated seat (h.nodes k)) (marked es (h.nodes c))) ≡ is_thread (h.nodes c)
-    by true on =
-        is_thread-reseated seat (h.nodes k) ∙ ap (λ n. is_thread (h.nodes n)) (sym (eqb-true c k on))
-    by false off = is_thread-marked es (h.nodes c)
-
-moved_renewed : (s : Stays) (h : Hierarchy) (k : ℕ) (seat : Seat) (below : ℕ → Bool) → IsStanding h → IsListed h
-    → below k ≡ true → (are : AreStays s h)
-    → HaveRenewed s h (effect h k (reseated seat (h.nodes k)) below) are.kept (filter below h.threads)
-moved_renewed s h k seat below standing lists on are =
-    let apart = apart_pairs (filter below h.threads)
-    (AllPairs-filter (λ (k c : ℕ). k ≢ c) below h.threads lists.threads.once) in
-    record {
-      may = record {
-        are = at_effect s h k (reseated seat (h.nodes k)) below are.kept
-            (λ has is. (let moved = moved-reseated seat (h.nodes k) in (moved.sort, moved.wake))) are.are;
-        apart = apart;
-        there = λ i c e. thread_is (nodes_after h k (reseated seat (h.nodes k)) below c)
-            (moved_thread h k c seat below ∙ was i c e);
-        each = λ i c e.
-            has_kept h.stays are.kept c (sym are.all) (has_open h c lists (thread_is (h.nodes c) (was i c e)));
-      };
-      stays = moved_stays h k seat below standing lists on apart;
-    }
-  where
-    was : (i c : ℕ) → slice_get (filter below h.threads) i ≡ Some c → is_thread (h.nodes c) ≡ true
-    was i c e =
-        lists.threads.only c (filter_had below h.threads c (contains_at (filter below h.threads) i c e))
-
-abbrev pub RenewsThese : Turnover → List ℕ → Type 0
-RenewsThese (Renews threads) ids = threads.items ≡ ids
-RenewsThese _ ids = ⊥
-
-pub follow_renews : (s : Stays) (h : Hierarchy) (ids : List ℕ) (turnover : Turnover) (command : Command)
-    (step : Step) → IsTurnover h command turnover → RenewsThese turnover ids → Does h command step → Can h step
-    → ((k : ℕ) (below : ℕ → Bool) → IsBelow h k below → Tells h k below) → IsStanding h → IsListed h
-    → (are : AreStays s h) → HaveRenewed s h (after h step) are.kept ids
-follow_renews s h ids (Renews threads) (said.Move name perch) (Move k seat below) of same does can tells standing lists
-    are =
-    let id_is : of.0 ≡ k = lists.names of.0 k name of.1 does.0 in
-    let told : Tells h of.0 below = subst (λ n. Tells h n below) (sym id_is) (tells k below can.0.under) in
-    subst (HaveRenewed s h (effect h k (reseated seat (h.nodes k)) below) are.kept)
-    (sym (sym same ∙ of.2 below told))
-    (moved_renewed s h k seat below standing lists can.0.under.itself are)
-follow_renews s h ids (Renews threads) (said.Move name perch) _ of same does can tells standing lists are = absurd does
-follow_renews s h ids (Renews threads) _ _ of same does can tells standing lists are = absurd of
-follow_renews s h ids _ _ _ of same does can tells standing lists are = absurd same

@@ -1,5 +1,5 @@
 -- Stays of the present tick that end, and the same ones that begin again.
-use Rattle.std.proofs.Common.{◌≡◌, ℕ, suc, ◌+◌, ◌<◌, ◌≤◌, List, [], ◌∷◌, ◌++◌, Bool, true, false}
+use Rattle.std.proofs.Common.{◌≡◌, ℕ, suc, ◌+◌, List, [], ◌∷◌, ◌++◌, Bool, true, false}
 use Rattle.std.proofs.Common.{◌==◌, ◌&&◌, cond}
 use Rattle.std.proofs.Common.{length, refl, sym, ap, ◌∙◌, arith, map, take, drop}
 use Rattle.std.specs.Prelude.{Some, None, slice_get, nat_lt}
@@ -7,22 +7,18 @@ use Rattle.std.proofs.lemmas.Bool.{eqb-true, le-ltb}
 use Rattle.std.proofs.lemmas.List.{append-nil, length-drop, take-append-drop}
 use Rattle.std.proofs.lemmas.List.Elements.{filter-append}
 use Rattle.std.proofs.lemmas.Option.{slice_get_within, slice_get-get_or}
-use Rattle.hls_sched.specs.Seen.{Seen}
 use Rattle.hls_legal.specs.Hierarchy.{Hierarchy, Stay}
-use Rattle.hls_legal.specs.Legal.{IsThread}
 use Rattle.hls_legal.specs.Steps.{ended, stay_of, opened}
-use Rattle.hls_tree.specs.Trees.{IsTreeOf}
-use Rattle.hls_tree.specs.declared.tree.Tree.{Tree}
 use Rattle.hls_stays.specs.Tallies.{IsTally, lasts, lasting, open_by}
-use Rattle.hls_stays.specs.Inside.Steps.{fresh_by, fresh_at}
-use Rattle.hls_stays.specs.Inside.Renewals.{AreRenewable, AreRenewed, IsLike, renewed_all}
+use Rattle.hls_stays.specs.Inside.Steps.{fresh_by}
+use Rattle.hls_stays.specs.Inside.Renewals.{AreRenewable, AreRenewed, renewed_all}
 use Rattle.hls_stays.specs.declared.stays.Stays.{Stays}
 use Rattle.hls_stays.specs.declared.tally.Tally.{Tally}
 use Rattle.hls_stays.proofs.Lists.{inner, beside, map_append, is_in, is_in_at, get_drop, get_taken, not_in_all}
 use Rattle.hls_stays.proofs.Lists.{same_map}
 use Rattle.hls_stays.proofs.Lasting.{lasts_of}
 use Rattle.hls_stays.proofs.Opened.{open_off}
-use Rattle.hls_stays.proofs.Ends.{closed_not, begun, name_is, kept_is}
+use Rattle.hls_stays.proofs.Ends.{closed_not, begun}
 use Rattle.hls_stays.proofs.Renewed.{renewed_is, shut_on}
 
 -- ---- lists of stays
@@ -89,28 +85,6 @@ again h front back ks are still =
     ∙ append-nil (lasting front))
     ∙ sym (filter-append lasts_of front back)
 
--- ---- the loop
-
--- the tallies from a place on are those of the stays that the first so many of these threads would begin now
--- (V and P are what the checker knows a box by)
-pub record AreRenewedTo {V : Type 0} {P : V → Type 0} (seen : (x : V) × P x → Seen) (s : Stays) (t : Tree V P)
-    (ids : List ℕ) (first at : ℕ) : Type 0 where
-  pub fresh : (h : Hierarchy) → IsTreeOf seen t h → (i k : ℕ) → i < at → slice_get ids i ≡ Some k
-      → fresh_at s.tallies.items (first + i) k h.now ≡ true
-  pub like : (i k : ℕ) → i < at → slice_get ids i ≡ Some k → IsLike seen s t k (first + i)
-
-module _ {V : Type 0} {P : V → Type 0} (seen : (x : V) × P x → Seen) (s : Stays) (t : Tree V P) (ids : List ℕ)
-    (first : ℕ) where
-  pub renewed_these : (at : ℕ) → length ids ≤ at → first + length ids ≡ length s.tallies.items
-      → AreRenewedTo seen s t ids first at → AreRenewed seen s t ids
-  renewed_these at le many are = record {
-    first = first;
-    many = many;
-    fresh = λ h tree i k e.
-        (let within = slice_get_within ids i k e in are.fresh h tree i k (omega (arith, within, le)) e);
-    like = λ i k e. (let within = slice_get_within ids i k e in are.like i k (omega (arith, within, le)) e);
-  }
-
 -- ---- tallies
 
 -- a tally of an open stay that began now
@@ -134,21 +108,23 @@ newest_of tally k now on =
       until = ap (λ (t : Tally). t.until) (sym same) ∙ x.until;
     }
 
-module _ {V : Type 0} {P : V → Type 0} (seen : (x : V) × P x → Seen) (s : Stays) (t : Tree V P) (h : Hierarchy) where
-  fresh_is : (k at : ℕ) (stay : Stay) (tally : Tally) → IsTreeOf seen t h → IsThread (h.nodes k)
-      → slice_get s.tallies.items at ≡ Some tally → fresh_by (Some tally) k h.now ≡ true → IsLike seen s t k at
-      → IsTally h stay tally → IsFresh h k stay
-  fresh_is k at stay tally tree thread there on like is =
-      let newest = newest_of tally k h.now on in
-      let same : like.tally ≡ tally = inner like.tally tally (sym like.there ∙ there) in
-      let x = thread.thread in
+module _ (s : Stays) (h : Hierarchy) (stays : List Stay) (ids : List ℕ) (may : AreRenewable s h stays ids)
+    (now : ℕ) (at_now : now ≡ h.now) (are : AreRenewed s ids now) where
+  fresh_is : (i k at : ℕ) (stay : Stay) (tally : Tally) → slice_get ids i ≡ Some k → slice_get stays at ≡ Some stay
+      → IsTally h stay tally → fresh_by (Some tally) k now ≡ true → IsFresh h k stay
+  fresh_is i k at stay tally e f is on =
+      let newest = newest_of tally k now on in
+      let alike = may.each i k e in
+      let x = alike.thread.thread in
       let thread_is : stay.thread ≡ k = sym is.thread ∙ newest.thread in
-      let since_is : stay.since ≡ h.now = sym is.since ∙ newest.since in
+      let since_is : stay.since ≡ h.now = sym is.since ∙ newest.since ∙ at_now in
       let until_is : stay.until ≡ None = sym is.until ∙ newest.until in
-      let name : stay.name ≡ x.name = sym is.name ∙ ap (λ (y : Tally). y.name) (sym same)
-      ∙ name_is (h.nodes k) x like.tally.name thread.there (like.name h tree) in
-      let kept : stay.kept ≡ x.seat.kept = sym is.kept ∙ ap (λ (y : Tally). y.kept) (sym same)
-      ∙ kept_is (h.nodes k) x like.tally.kept thread.there (like.kept h tree) in
+      let place = may.are.single at alike.has.at stay alike.has.stay f alike.has.there until_is alike.has.is_open
+      (thread_is ∙ sym alike.has.thread) in
+      let same : stay ≡ alike.has.stay =
+      inner stay alike.has.stay (sym f ∙ ap (slice_get stays) place ∙ alike.has.there) in
+      let name : stay.name ≡ x.name = ap (λ (y : Stay). y.name) same ∙ alike.name in
+      let kept : stay.kept ≡ x.seat.kept = ap (λ (y : Stay). y.kept) same ∙ alike.kept in
       let whole : stay ≡ begun h.now k x = λ i. record {
         thread = thread_is i;
         name = name i;
@@ -160,44 +136,41 @@ module _ {V : Type 0} {P : V → Type 0} (seen : (x : V) × P x → Seen) (s : S
         thread = thread_is;
         since = since_is;
         until = until_is;
-        is = ap (stay_of h.now k) thread.there ∙ ap (λ (y : Stay). y ∷ []) (sym whole);
+        is = ap (stay_of h.now k) alike.thread.there ∙ ap (λ (y : Stay). y ∷ []) (sym whole);
       }
 
-  module _ (stays : List Stay) (ids : List ℕ) (may : AreRenewable s h stays ids) (tree : IsTreeOf seen t h)
-      (are : AreRenewed seen s t ids) where
-    fresh_at_last : (i k : ℕ) (stay : Stay) → slice_get ids i ≡ Some k → slice_get stays (are.first + i) ≡ Some stay
-        → IsFresh h k stay
-    fresh_at_last i k stay e f =
-        let y = beside stays s.tallies.items (sym may.are.many) (are.first + i) stay f in
-        fresh_is k (are.first + i) stay y.0 tree (may.there i k e) y.1
-        (ap (λ o. fresh_by o k h.now) (sym y.1) ∙ are.fresh h tree i k e) (are.like i k e)
-        (may.are.each (are.first + i) stay y.0 f y.1)
+  fresh_at_last : (i k : ℕ) (stay : Stay) → slice_get ids i ≡ Some k → slice_get stays (are.first + i) ≡ Some stay
+      → IsFresh h k stay
+  fresh_at_last i k stay e f =
+      let y = beside stays s.tallies.items (sym may.are.many) (are.first + i) stay f in
+      fresh_is i k (are.first + i) stay y.0 e f (may.are.each (are.first + i) stay y.0 f y.1)
+      (ap (λ o. fresh_by o k now) (sym y.1) ∙ are.fresh i k e)
 
-    long : length stays ≡ are.first + length ids
-    long = sym may.are.many ∙ sym are.many
+  long : length stays ≡ are.first + length ids
+  long = sym may.are.many ∙ sym are.many
 
-    last_fresh : AreFresh h (drop are.first stays) ids
-    last_fresh = record {
-      many = (let whole = long in let left = length-drop are.first stays in omega (arith, whole, left));
-      each = λ i k stay e f. fresh_at_last i k stay e (sym (get_drop are.first stays i) ∙ f);
-    }
+  last_fresh : AreFresh h (drop are.first stays) ids
+  last_fresh = record {
+    many = (let whole = long in let left = length-drop are.first stays in omega (arith, whole, left));
+    each = λ i k stay e f. fresh_at_last i k stay e (sym (get_drop are.first stays i) ∙ f);
+  }
 
-    -- the threads have no other open stays
-    others_stay : map (shut_on h.now ids) (take are.first stays) ≡ take are.first stays
-    others_stay = same_map (shut_on h.now ids) (take are.first stays) (λ i stay e.
-        (let was = get_taken stays are.first i stay e in
-        closed_not stay (is_in ids stay.thread) h.now (λ none. not_in_all ids stay.thread (λ j f.
-        (let within = slice_get_within ids j stay.thread f in
-        let whole = long in
-        let there = slice_get-get_or stays (are.first + j) stay (omega (arith, within, whole)) in
-        let other = fresh_at_last j stay.thread _ f there in
-        let same = may.are.single i (are.first + j) stay _ was.1 there none other.until (sym other.thread) in
-        let lt = was.0 in omega (arith, lt, same))))))
+  -- the threads have no other open stays
+  others_stay : map (shut_on h.now ids) (take are.first stays) ≡ take are.first stays
+  others_stay = same_map (shut_on h.now ids) (take are.first stays) (λ i stay e.
+      (let was = get_taken stays are.first i stay e in
+      closed_not stay (is_in ids stay.thread) h.now (λ none. not_in_all ids stay.thread (λ j f.
+      (let within = slice_get_within ids j stay.thread f in
+      let whole = long in
+      let there = slice_get-get_or stays (are.first + j) stay (omega (arith, within, whole)) in
+      let other = fresh_at_last j stay.thread _ f there in
+      let same = may.are.single i (are.first + j) stay _ was.1 there none other.until (sym other.thread) in
+      let lt = was.0 in omega (arith, lt, same))))))
 
-    pub renewed_still : lasting stays ≡ lasting (renewed_all h stays ids)
-    renewed_still =
-        ap lasting (sym (take-append-drop are.first stays))
-        ∙ sym (again h (take are.first stays) (drop are.first stays) ids last_fresh others_stay)
-        ∙ ap (λ l. lasting (map (shut_on h.now ids) l ++ opened h.now h.nodes (λ c. true) ids))
-        (take-append-drop are.first stays)
-        ∙ ap lasting (sym (renewed_is h stays ids may.apart))
+  pub renewed_still : lasting stays ≡ lasting (renewed_all h stays ids)
+  renewed_still =
+      ap lasting (sym (take-append-drop are.first stays))
+      ∙ sym (again h (take are.first stays) (drop are.first stays) ids last_fresh others_stay)
+      ∙ ap (λ l. lasting (map (shut_on h.now ids) l ++ opened h.now h.nodes (λ c. true) ids))
+      (take-append-drop are.first stays)
+      ∙ ap lasting (sym (renewed_is h stays ids may.apart))

@@ -8,6 +8,7 @@ mod Renewed
 mod Fresh
 mod Noted
 mod Follows
+mod Moves
 mod Ticked
 mod Turned
 mod Begins

@@ -8,40 +8,77 @@ use Rattle.std.proofs.lemmas.List.{append-nil}
 use Rattle.hls_legal.specs.Hierarchy.{Hierarchy, Stay, Node, Loaded, Admitted}
 use Rattle.hls_legal.specs.Steps.{closed, ended, stay_of, opened}
 use Rattle.hls_legal.proofs.Listings.{contains_filter}
-use Rattle.hls_stays.specs.Tallies.{AreTallies}
-use Rattle.hls_stays.specs.Inside.Steps.{HasOpen, without}
-use Rattle.hls_stays.specs.Inside.Renewals.{IsApart, AreRenewable, renewed_one, renewed_all}
+use Rattle.hls_stays.specs.Tallies.{AreTallies, IsNoted, waited}
+use Rattle.hls_stays.specs.Inside.Rows.{seating_of}
+use Rattle.hls_stays.specs.Inside.Steps.{begun_tally, without}
+use Rattle.hls_stays.specs.Inside.Renewals.{IsApart, HasAlike, AreRenewable, renewed_one, renewed_all}
 use Rattle.hls_stays.specs.declared.stays.Stays.{Stays}
-use Rattle.hls_stays.proofs.Lists.{map_same, map_map, map_append, get_map}
+use Rattle.hls_stays.specs.declared.tally.Tally.{Tally}
+use Rattle.hls_stays.proofs.Lists.{map_same, map_map, map_append, get_map, beside}
 use Rattle.hls_stays.proofs.Lists.{get_front, get_taken, is_in, is_in_at, not_in_all, take_next}
 use Rattle.hls_stays.proofs.Lists.{take_all, place_of}
-use Rattle.hls_stays.proofs.Ends.{closed_not}
+use Rattle.hls_stays.proofs.Ends.{Finds, closed_not, ended_none, open_one, place_is}
 
--- an open stay of another thread is still there
-has_after : (h : Hierarchy) (stays : List Stay) (c k : ℕ) → k ≢ c → HasOpen stays k → HasOpen (renewed_one h stays c) k
-has_after h stays c k ne has = record {
-  at = has.at;
-  stay = has.stay;
-  there =
-      get_front (without h.now c stays) (stay_of h.now c (h.nodes c)) has.at has.stay
-      (get_map (λ (x : Stay). closed (x.thread == c) h.now x) stays has.at has.stay has.there
-      ∙ ap (λ (x : Stay). Some x) (closed_not has.stay (has.stay.thread == c) h.now
-      (λ e. ne_eqb has.stay.thread c (λ is. ne (sym has.thread ∙ is)))));
-  thread = has.thread;
-  is_open = has.is_open;
-}
+-- a stay begins with the name and the guarantee of the one that has ended
+pub renew_one : (s shut new : Stays) (h : Hierarchy) (stays : List Stay) (k place now : ℕ) (since : Option ℕ)
+    → AreTallies s h stays → (alike : HasAlike h stays k) → Finds s k place
+    → AreTallies shut h (without h.now k stays) → now ≡ h.now → IsNoted h k since → waited h.now since ≡ 0
+    → ((tally : Tally) → slice_get shut.tallies.items place ≡ Some tally
+    → new.tallies.items ≡ shut.tallies.items ++ begun_tally k now since (seating_of tally) ∷ [])
+    → new.idle ≡ shut.idle → AreTallies new h (renewed_one h stays k)
+renew_one s shut new h stays k place now since are alike finds left at_now noted no_wait push idle =
+    let stay = alike.has.stay in
+    let there = get_map (λ (x : Stay). closed (x.thread == k) h.now x) stays alike.has.at stay alike.has.there in
+    let at = place_is s h stays k place are alike.has finds in
+    let was = ap (slice_get (without h.now k stays)) at ∙ there in
+    let t = beside (without h.now k stays) shut.tallies.items (sym left.many) place _ was in
+    let is = left.each place _ t.0 was t.1 in
+    open_one shut new h (without h.now k stays) k alike.thread.thread _ left (ended_none h stays k)
+    alike.thread.there (record {
+      thread = refl;
+      name = is.name ∙ alike.name;
+      kept = is.kept ∙ alike.kept;
+      since = at_now;
+      until = refl;
+      ready = refl;
+      waited_none = no_wait;
+      served = refl;
+      noted = noted;
+    }) (push t.0 t.1) idle
 
-has_all : (h : Hierarchy) (stays : List Stay) (ks : List ℕ) (k : ℕ) → ((j : ℕ) → slice_get ks j ≡ Some k → ⊥)
-    → HasOpen stays k → HasOpen (renewed_all h stays ks) k
-has_all h stays [] k other has = has
-has_all h stays (c ∷ ks) k other has =
-    has_all h (renewed_one h stays c) ks k (λ j e. other (suc j) e)
-    (has_after h stays c k (λ e. other 0 (ap (λ (x : ℕ). Some x) (sym e))) has)
+-- the open stay of another thread is still there
+alike_after : (h : Hierarchy) (stays : List Stay) (c k : ℕ) → k ≢ c → HasAlike h stays k
+    → HasAlike h (renewed_one h stays c) k
+alike_after h stays c k ne alike =
+    let has = alike.has in
+    record {
+      has = record {
+        at = has.at;
+        stay = has.stay;
+        there =
+            get_front (without h.now c stays) (stay_of h.now c (h.nodes c)) has.at has.stay
+            (get_map (λ (x : Stay). closed (x.thread == c) h.now x) stays has.at has.stay has.there
+            ∙ ap (λ (x : Stay). Some x) (closed_not has.stay (has.stay.thread == c) h.now
+            (λ e. ne_eqb has.stay.thread c (λ is. ne (sym has.thread ∙ is)))));
+        thread = has.thread;
+        is_open = has.is_open;
+      };
+      thread = alike.thread;
+      name = alike.name;
+      kept = alike.kept;
+    }
 
-pub next_has : (s : Stays) (h : Hierarchy) (stays : List Stay) (ids : List ℕ) (i k : ℕ)
-    → AreRenewable s h stays ids → slice_get ids i ≡ Some k → HasOpen (renewed_all h stays (take i ids)) k
-next_has s h stays ids i k may e =
-    has_all h stays (take i ids) k
+alike_all : (h : Hierarchy) (stays : List Stay) (ks : List ℕ) (k : ℕ) → ((j : ℕ) → slice_get ks j ≡ Some k → ⊥)
+    → HasAlike h stays k → HasAlike h (renewed_all h stays ks) k
+alike_all h stays [] k other alike = alike
+alike_all h stays (c ∷ ks) k other alike =
+    alike_all h (renewed_one h stays c) ks k (λ j e. other (suc j) e)
+    (alike_after h stays c k (λ e. other 0 (ap (λ (x : ℕ). Some x) (sym e))) alike)
+
+pub next_alike : (s : Stays) (h : Hierarchy) (stays : List Stay) (ids : List ℕ) (i k : ℕ)
+    → AreRenewable s h stays ids → slice_get ids i ≡ Some k → HasAlike h (renewed_all h stays (take i ids)) k
+next_alike s h stays ids i k may e =
+    alike_all h stays (take i ids) k
     (λ j f. (let was = get_taken ids i j k f in
     let same = may.apart i j k e was.1 in
     let lt = was.0 in omega (arith, lt, same))) (may.each i k e)

@@ -9,7 +9,7 @@ use Rattle.hls_chron.proofs.CountLaws.{count-push, count-agree, count-le}
 use Rattle.hls_sched.specs.Seen.{Seen}
 use Rattle.hls_legal.specs.Hierarchy.{Hierarchy, Stay, Tick, Wake, had_asked, was_served, is_just}
 use Rattle.hls_legal.specs.Steps.{Step, Path, Elapse, after, thread_of, is_thread, with_wake}
-use Rattle.hls_legal.specs.Legal.{asks_now}
+use Rattle.hls_legal.specs.Legal.{IsThread, asks_now}
 use Rattle.hls_legal.specs.Supplied.{end_of}
 use Rattle.hls_legal.proofs.Kept.{at_same, at_other}
 use Rattle.hls_accounts.specs.Agrees.{idle_in}
@@ -22,14 +22,15 @@ use Rattle.hls_stays.specs.Inside.Renewals.{AreRenewable, IsRousing, MayNote}
 use Rattle.hls_stays.specs.declared.stays.Stays.{Stays}
 use Rattle.hls_stays.specs.declared.tally.Tally.{Tally}
 use Rattle.hls_stays.specs.declared.turnover.Turnover.{Turnover}
-use Rattle.hls_stays.specs.declared.turnover.Turnover.TheVariants.{Nothing, Begins, Ends, Renews, Rouses}
+use Rattle.hls_stays.specs.declared.turnover.Turnover.TheVariants.{Nothing, Begins, Ends, Reseats, Renews, Rouses}
 use Rattle.hls_stays.proofs.Lists.{inner, length-set}
 use Rattle.hls_stays.proofs.Lasting.{open_in, has_kept}
 use Rattle.hls_stays.proofs.Ends.{Finds, HasTally, tally_found}
 use Rattle.hls_stays.proofs.Noted.{note_one}
 use Rattle.hls_stays.proofs.Ticked.{Goes, grown, unserved, served_tallies}
-use Rattle.hls_stays.proofs.Follows.{follow_nothing, follow_begins, follow_ends, follow_renews, follow_rouses}
-use Rattle.hls_stays.proofs.Follows.{HasBegun, HasEnded, HaveRenewed, HasRoused, RenewsThese, thread_is, has_open}
+use Rattle.hls_stays.proofs.Follows.{follow_nothing, follow_begins, follow_ends, follow_rouses}
+use Rattle.hls_stays.proofs.Follows.{HasBegun, HasEnded, HasRoused, thread_is, has_open}
+use Rattle.hls_stays.proofs.Moves.{follow_reseats, follow_renews, HasReseated, HaveRenewed, RenewsThese}
 
 idle_more : (h : Hierarchy) (asking : ℕ → Bool) (masks : ℕ → ℕ) (path : Option Path)
     → idle_in (after h (Elapse asking masks path)) ≡ idle_in h + one_if (is_none (thread_of path))
@@ -70,6 +71,13 @@ module _ {V : Type 0} {P : V → Type 0} (seen : (x : V) × P x → Seen) (s : S
       follow_ends s h id command step (subst (Rattle.hls_stays.specs.Turnovers.IsTurnover h command) is x.of) x.does
       x.can x.standing x.listed x.stays
 
+  pub turn_reseats : (turnover : Turnover) (h : Hierarchy) (command : Command) (step : Step) (id : ℕ)
+      → turnover ≡ Reseats id → (x : Turns seen s t turnover h command step)
+      → HasReseated s h (after h step) x.stays.kept id
+  turn_reseats turnover h command step id is x =
+      follow_reseats s h id command step (subst (Rattle.hls_stays.specs.Turnovers.IsTurnover h command) is x.of) x.does
+      x.can x.tells x.standing x.listed x.stays
+
   pub turn_renews : (turnover : Turnover) (h : Hierarchy) (command : Command) (step : Step) (ids : List ℕ)
       → RenewsThese turnover ids → (x : Turns seen s t turnover h command step)
       → HaveRenewed s h (after h step) x.stays.kept ids
@@ -92,6 +100,23 @@ module _ {V : Type 0} {P : V → Type 0} (seen : (x : V) × P x → Seen) (s : S
   ends_may turnover id is may =
       let e = turn_ends turnover may.h may.command may.step id is may.turns in
       record { h = after may.h may.step; stays = may.turns.stays.kept; are = e.are; has = e.has }
+
+  pub reseats_stands : (turnover : Turnover) (id : ℕ) → turnover ≡ Reseats id → MayTurn seen s t turnover
+      → Stands seen t (λ h. IsThread (h.nodes id))
+  reseats_stands turnover id is may =
+      let r = turn_reseats turnover may.h may.command may.step id is may.turns in
+      record {
+        h = after may.h may.step;
+        tree = may.turns.tree;
+        seated = may.seated;
+        listed = may.listed;
+        is = r.thread;
+      }
+
+  pub reseats_may : (turnover : Turnover) (id : ℕ) → turnover ≡ Reseats id → MayTurn seen s t turnover → MayClose s id
+  reseats_may turnover id is may =
+      let r = turn_reseats turnover may.h may.command may.step id is may.turns in
+      record { h = after may.h may.step; stays = may.turns.stays.kept; are = r.are; has = r.has }
 
   pub renews_stands : (turnover : Turnover) (ids : List ℕ) → RenewsThese turnover ids → MayTurn seen s t turnover
       → Stands seen t (λ h. IsReadyOf seen t h × ((stays : List Stay) × AreRenewable s h stays ids))

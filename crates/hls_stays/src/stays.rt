@@ -1,5 +1,5 @@
 // The stays of threads.
-ghost use Rattle.std.specs.Prelude.{◌≡◌, ◌+◌, ◌≤◌, ◌++◌, ◌^◌, ℕ, Bool, true, OnOk, Option, Some, [], ◌∷◌};
+ghost use Rattle.std.specs.Prelude.{◌≡◌, ◌+◌, ◌<◌, ◌≤◌, ◌++◌, ◌^◌, ℕ, Bool, true, OnOk, Option, Some, [], ◌∷◌};
 ghost use Rattle.std.specs.Prelude.{List, length};
 ghost use Rattle.hls_legal.specs.Hierarchy.{Hierarchy, Stay, Wake, start};
 ghost use Rattle.hls_legal.specs.Legal.{IsThread};
@@ -9,9 +9,9 @@ ghost use Rattle.hls_tree.specs.Trees.{IsTreeOf, IsReadyOf, Stands};
 ghost use Rattle.hls_stays.specs.Tallies.{AreStays, AreTallies, HasRoom, IsNoted, waited, opened_at};
 ghost use Rattle.hls_stays.specs.Turnovers.{stays_begun};
 ghost use Rattle.hls_stays.specs.Changes.{Turns, MayTurn, Ticks, MayTick};
-ghost use Rattle.hls_stays.specs.Inside.Steps.{HasOpen, HasNone, MayClose, fresh_at, without};
+ghost use Rattle.hls_stays.specs.Inside.Steps.{HasOpen, HasNone, MayClose, without};
 ghost use Rattle.hls_stays.specs.Inside.Renewals.{AreRenewable, renewed_one, renewed_all, IsLike, IsRousing, MayNote};
-ghost use Rattle.hls_stays.specs.Inside.Renewals.{AreInAll, AreThreads, AreRenewed};
+ghost use Rattle.hls_stays.specs.Inside.Renewals.{AreInAll, AreRenewed, HasAlike};
 
 use crate::Turnover;
 use crate::places::Places;
@@ -114,6 +114,9 @@ impl Stays {
         requires { MayClose self.old id }
         ensures closed { (h : Hierarchy) (stays : List Stay) → h.now ≡ now → AreTallies self.old h stays →
             HasOpen stays id → AreTallies self.new h (without h.now id stays) }
+        ensures found { (at : ℕ) → opened_at self.old.tallies.items at id ≡ true →
+            opened_at self.old.tallies.items result id ≡ true }
+        ensures within { result < length self.new.tallies.items }
         ensures spare { self.new.tallies.spare ≡ self.old.tallies.spare }
     {
         let place = self.place(id);
@@ -163,21 +166,36 @@ impl Stays {
         self.places.put(id, place);
     }
 
-    /// Ends the open stay of a thread, and begins another.
-    fn renew(&mut self, tree: &Tree, id: NodeId)
+    /// Ends the open stay of a thread that was moved, and begins another.
+    fn reseat(&mut self, tree: &Tree, id: NodeId)
         requires thread { Stands seen tree.now (λ h. IsThread (h.nodes id)) }
         requires room { HasRoom self.old 1 }
         requires close { MayClose self.old id }
-        ensures renewed { (h : Hierarchy) (stays : List Stay) → IsTreeOf seen tree.now h →
-            IsReadyOf seen tree.now h → IsThread (h.nodes id) → AreTallies self.old h stays → HasOpen stays id →
+        ensures { (h : Hierarchy) (stays : List Stay) → IsTreeOf seen tree.now h → IsReadyOf seen tree.now h →
+            IsThread (h.nodes id) → AreTallies self.old h stays → HasOpen stays id →
             AreTallies self.new h (renewed_one h stays id) }
-        ensures spare { self.old.tallies.spare ≤ self.new.tallies.spare + 1 }
     {
         let place = self.close(id, tree.now());
         self.open(tree, id, place);
     }
 
-    /// Ends the open stays of threads, and begins others.
+    /// Ends the open stay of a thread, and begins another with the same name and guarantee.
+    fn renew(&mut self, tree: &Tree, id: NodeId)
+        requires room { HasRoom self.old 1 }
+        requires close { MayClose self.old id }
+        ensures renewed { (h : Hierarchy) (stays : List Stay) → IsTreeOf seen tree.now h →
+            IsReadyOf seen tree.now h → AreTallies self.old h stays → HasAlike h stays id →
+            AreTallies self.new h (renewed_one h stays id) }
+        ensures spare { self.old.tallies.spare ≤ self.new.tallies.spare + 1 }
+    {
+        let now = tree.now();
+        let place = self.tallies.len();
+        let like = self.close(id, now);
+        self.tallies.push_like(like, id, now, ready_since(tree, id));
+        self.places.put(id, place);
+    }
+
+    /// Ends the open stays of threads, and begins others with the same names and guarantees.
     fn renew_each(&mut self, tree: &Tree, ids: &[NodeId])
         requires may { Stands seen tree.now (λ h. IsReadyOf seen tree.now h ×
             ((stays : List Stay) × AreRenewable self.old h stays ids.now)) }
@@ -190,36 +208,24 @@ impl Stays {
         }
     }
 
-    /// Whether the stay at a place is the one that a thread would begin now: an open one that began in the
-    /// present tick, with the name and the guarantee that the thread has.
-    fn is_renewed(&self, tree: &Tree, id: NodeId, place: usize) -> bool
-        requires { Stands seen tree.now (λ h. IsThread (h.nodes id)) }
-        ensures fresh { result ≡ true → (h : Hierarchy) → IsTreeOf seen tree.now h →
-            fresh_at self.now.tallies.items place id h.now ≡ true }
-        ensures like { result ≡ true → IsLike seen self.now tree.now id place }
-    {
-        self.tallies.is_fresh_at(place, id, tree.now()) && self.is_like(tree, id, place)
-    }
-
-    /// Whether the last stays are those that these threads would begin now, in their order.
-    fn are_renewed(&self, tree: &Tree, ids: &[NodeId]) -> bool
-        requires { Stands seen tree.now (AreThreads ids.now) }
-        ensures { result ≡ true → AreRenewed seen self.now tree.now ids.now }
+    /// Whether the last stays are open ones of these threads, in their order, that began in the present tick.
+    fn are_renewed(&self, ids: &[NodeId], now: u32) -> bool
+        ensures { result ≡ true → AreRenewed self.now ids.now now }
     {
         if self.tallies.len() < ids.len() {
             return false;
         }
         let first = self.tallies.len() - ids.len();
         for at in 0..ids.len() {
-            if !self.is_renewed(tree, ids[at], first + at) {
+            if !self.tallies.is_fresh_at(first + at, ids[at], now) {
                 return false;
             }
         }
         true
     }
 
-    /// Ends the open stays of threads, and begins others. Where the same ones would begin again, nothing is done:
-    /// those that ended would have lasted no tick.
+    /// Ends the open stays of threads, and begins others with the same names and guarantees. Where the same stays
+    /// would begin again, nothing is done: those that ended would have lasted no tick.
     fn renew_all(&mut self, tree: &Tree, ids: &[NodeId])
         requires may { Stands seen tree.now (λ h. IsReadyOf seen tree.now h ×
             ((stays : List Stay) × AreRenewable self.old h stays ids.now)) }
@@ -227,7 +233,7 @@ impl Stays {
         ensures { (h : Hierarchy) (stays : List Stay) → IsTreeOf seen tree.now h → IsReadyOf seen tree.now h →
             AreRenewable self.old h stays ids.now → AreInAll self.new h (renewed_all h stays ids.now) }
     {
-        if !self.are_renewed(tree, ids) {
+        if !self.are_renewed(ids, tree.now()) {
             self.renew_each(tree, ids);
         }
     }
@@ -271,6 +277,7 @@ impl Stays {
             Turnover::Ends(id) => {
                 self.close(id, tree.now());
             }
+            Turnover::Reseats(id) => self.reseat(tree, id),
             Turnover::Renews(ids) => self.renew_all(tree, &ids),
             Turnover::Rouses(id) => self.note(tree, id),
         }

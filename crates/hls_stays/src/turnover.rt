@@ -1,8 +1,8 @@
 // Which stays a command ends and begins.
-ghost use Rattle.std.specs.Prelude.{◌≡◌, ◌≢◌, ◌<◌, ◌^◌, ℕ, IfOk, Bool, filter, length};
+ghost use Rattle.std.specs.Prelude.{◌≡◌, ◌≢◌, ◌<◌, ◌^◌, IfOk, length};
 ghost use Rattle.hls_legal.specs.Hierarchy.{Hierarchy};
 ghost use Rattle.hls_tree.specs.Trees.{IsTreeOf, Stands, Any};
-ghost use Rattle.hls_stays.specs.Turnovers.{Tells, IsRoused, IsTurnover, stays_begun};
+ghost use Rattle.hls_stays.specs.Turnovers.{AreBelow, IsMoved, IsRoused, IsTurnover, stays_begun};
 
 use hls_chron::Name;
 use hls_scenario::Command;
@@ -18,17 +18,18 @@ pub enum Turnover {
     Begins,
     /// The stay of a thread ends.
     Ends(NodeId),
-    /// The stays of these threads end, and others of theirs begin.
+    /// The stay of a thread that is moved ends, and another begins.
+    Reseats(NodeId),
+    /// The stays of these threads, which are below a scheduler that is moved, end, and others of theirs begin.
     Renews(Vec<NodeId>),
     /// None, but a thread may be ready that was not, or not any more.
     Rouses(NodeId),
 }
 
-/// The threads that are a node or below it, one looked at after another.
+/// The threads that are a node or below it, in the order of their admissions.
 fn threads_below(alloc: Global, tree: &Tree, id: NodeId) -> Result<Vec<NodeId>, AllocError>
     requires { Stands seen tree.now (λ h. h.nodes id ≢ None) }
-    ensures { IfOk result (λ threads. (h : Hierarchy) (below : ℕ → Bool) → IsTreeOf seen tree.now h →
-        Tells h id below → threads.items ≡ filter below h.threads) }
+    ensures { IfOk result (λ threads. (h : Hierarchy) → IsTreeOf seen tree.now h → AreBelow h id threads.items) }
 {
     let subtree = tree.subtree(id);
     let mut near = 0;
@@ -43,16 +44,18 @@ fn threads_below(alloc: Global, tree: &Tree, id: NodeId) -> Result<Vec<NodeId>, 
     Ok(threads)
 }
 
-/// The threads that are a node or below it, in the order of their admissions.
-fn threads_under(alloc: Global, tree: &Tree, id: NodeId) -> Result<Vec<NodeId>, AllocError>
-    requires { Stands seen tree.now (λ h. h.nodes id ≢ None) }
-    ensures { IfOk result (λ threads. (h : Hierarchy) (below : ℕ → Bool) → IsTreeOf seen tree.now h →
-        Tells h id below → threads.items ≡ filter below h.threads) }
+/// That a node of this name is moved, where there is one.
+fn moves(alloc: Global, tree: &Tree, name: &Name) -> Result<Turnover, AllocError>
+    requires { Stands seen tree.now Any }
+    ensures { IfOk result (λ turnover. (h : Hierarchy) → IsTreeOf seen tree.now h → IsMoved h name.now turnover) }
 {
+    let Some(id) = tree.find(name) else {
+        return Ok(Turnover::Nothing);
+    };
     match tree.sort(id) {
         // nobody sits on a thread
-        Sort::Thread => Ok(vec![in alloc; id]?),
-        Sort::Sched(_) => threads_below(alloc, tree, id),
+        Sort::Thread => Ok(Turnover::Reseats(id)),
+        Sort::Sched(_) => Ok(Turnover::Renews(threads_below(alloc, tree, id)?)),
     }
 }
 
@@ -82,10 +85,7 @@ impl Turnover {
                 Some(id) => Ok(Turnover::Ends(id)),
                 None => Ok(Turnover::Nothing),
             },
-            Command::Move { name, .. } => match tree.find(name) {
-                Some(id) => Ok(Turnover::Renews(threads_under(alloc, tree, id)?)),
-                None => Ok(Turnover::Nothing),
-            },
+            Command::Move { name, .. } => moves(alloc, tree, name),
             Command::Wake { name, .. } => Ok(rouses(tree, name)),
             Command::Block { name } => Ok(rouses(tree, name)),
             _ => Ok(Turnover::Nothing),
@@ -100,6 +100,7 @@ impl Turnover {
             Turnover::Nothing => 0,
             Turnover::Begins => 1,
             Turnover::Ends(_) => 0,
+            Turnover::Reseats(_) => 1,
             Turnover::Renews(threads) => threads.len(),
             Turnover::Rouses(_) => 0,
         }

@@ -23,12 +23,18 @@ renewed_all h stays (k ∷ threads) = renewed_all h (renewed_one h stays k) thre
 abbrev pub IsApart : List ℕ → Type 0
 IsApart ks = (i j k : ℕ) → slice_get ks i ≡ Some k → slice_get ks j ≡ Some k → i ≡ j
 
--- each of these threads is there and has an open stay, and they are different
+-- a thread has an open stay, with the name and the guarantee that the thread has
+pub record HasAlike (h : Hierarchy) (stays : List Stay) (k : ℕ) : Type 0 where
+  pub has : HasOpen stays k
+  pub thread : IsThread (h.nodes k)
+  pub name : has.stay.name ≡ thread.thread.name
+  pub kept : has.stay.kept ≡ thread.thread.seat.kept
+
+-- each of these threads is there and has an open stay with its name and guarantee, and they are different
 pub record AreRenewable (s : Stays) (h : Hierarchy) (stays : List Stay) (threads : List ℕ) : Type 0 where
   pub are : AreTallies s h stays
   pub apart : IsApart threads
-  pub there : (i k : ℕ) → slice_get threads i ≡ Some k → IsThread (h.nodes k)
-  pub each : (i k : ℕ) → slice_get threads i ≡ Some k → HasOpen stays k
+  pub each : (i k : ℕ) → slice_get threads i ≡ Some k → HasAlike h stays k
 
 -- the tallies are those of these stays, but for some that ended in the tick in which they began
 pub record AreInAll (s : Stays) (h : Hierarchy) (stays : List Stay) : Type 0 where
@@ -36,8 +42,11 @@ pub record AreInAll (s : Stays) (h : Hierarchy) (stays : List Stay) : Type 0 whe
   pub are : AreTallies s h kept
   pub all : lasting kept ≡ lasting stays
 
-abbrev pub AreThreads : List ℕ → Hierarchy → Type 0
-AreThreads ids h = (i k : ℕ) → slice_get ids i ≡ Some k → IsThread (h.nodes k)
+-- the last tallies are those of open stays of these threads, in their order, that began at this tick
+pub record AreRenewed (s : Stays) (threads : List ℕ) (now : ℕ) : Type 0 where
+  pub first : ℕ
+  pub many : first + length threads ≡ length s.tallies.items
+  pub fresh : (i k : ℕ) → slice_get threads i ≡ Some k → fresh_at s.tallies.items (first + i) k now ≡ true
 
 -- V and P are what the checker knows a box by
 module _ {V : Type 0} {P : V → Type 0} where
@@ -48,14 +57,6 @@ module _ {V : Type 0} {P : V → Type 0} where
     pub name : (h : Hierarchy) → IsTreeOf seen t h → name_of (h.nodes k) ≡ Some tally.name
     pub kept : (h : Hierarchy) → IsTreeOf seen t h
         → option_map (λ (seat : Seat). seat.kept) (seat_of (h.nodes k) 0) ≡ Some tally.kept
-
-  -- the last tallies are those of the stays that these threads would begin now, in their order
-  pub record AreRenewed (seen : (x : V) × P x → Seen) (s : Stays) (t : Tree V P) (threads : List ℕ) : Type 0 where
-    pub first : ℕ
-    pub many : first + length threads ≡ length s.tallies.items
-    pub fresh : (h : Hierarchy) → IsTreeOf seen t h → (i k : ℕ) → slice_get threads i ≡ Some k
-        → fresh_at s.tallies.items (first + i) k h.now ≡ true
-    pub like : (i k : ℕ) → slice_get threads i ≡ Some k → IsLike seen s t k (first + i)
 
   -- a thread with an open stay was woken or blocked, after which the tree is
   pub record IsRousing (seen : (x : V) × P x → Seen) (s : Stays) (t : Tree V P) (h : Hierarchy) (k : ℕ) (how : Wake)

@@ -20,7 +20,7 @@ loop-at-preserved g c = λ h below tree tells.
     (c.loop-at.invariant h below tree tells) c.in_ok-push.ensures.items
 
 pub returns : goal.returns
-returns g c = λ h below tree tells.
+returns g c = λ h tree below tells.
     let many = c.threads-at-end.ensures h tree in
     under_all h below c.loop-at.at c.loop-at.threads.items (omega (arith, many, c.loop-at-test.false))
     (c.loop-at.invariant h below tree tells)

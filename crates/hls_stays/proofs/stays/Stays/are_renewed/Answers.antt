@@ -1,8 +1,12 @@
 use Rattle.std.proofs.Common.{arith}
-use Rattle.hls_stays.proofs.Fresh.{renewed_these}
+use Rattle.std.proofs.lemmas.Option.{slice_get_within}
 use Rattle.hls_stays.proofs.stays.Stays.are_renewed.Goals as goal
 
 pub returns : goal.returns
-returns g c = λ on.
-    renewed_these _ c.args.self.now c.args.tree.now c.args.ids.now _ c.loop-at.at (omega (arith, c.loop-at-test.false))
-    (omega arith) c.loop-at.invariant
+returns c = λ on. record {
+  first = _;
+  many = omega arith;
+  fresh = λ i k e.
+      (let within = slice_get_within c.args.ids.now i k e in
+      c.loop-at.invariant i k (omega (arith, within, c.loop-at-test.false)) e);
+}

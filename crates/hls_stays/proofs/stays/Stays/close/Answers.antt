@@ -1,5 +1,5 @@
 use Rattle.std.proofs.Common.{refl}
-use Rattle.hls_stays.proofs.Ends.{close_one, found_within}
+use Rattle.hls_stays.proofs.Ends.{close_one, found_within, closed_within}
 use Rattle.hls_stays.proofs.stays.Stays.close.Goals as goal
 
 pub close_at-requires : goal.close_at-requires
@@ -10,3 +10,8 @@ pub returns-clause-closed : goal.returns-clause-closed
 returns-clause-closed c = λ h stays same are has.
     close_one c.args.self.now _ h stays c.args.id c.place-place.result c.args.now are has same c.place-place.ensures
     c.close_at.ensures.items refl
+
+pub returns-clause-within : goal.returns-clause-within
+returns-clause-within c =
+    closed_within c.args.self.now _ c.args.id c.place-place.result c.args.now c.requires c.place-place.ensures
+    c.close_at.ensures.items

@@ -1,10 +1,11 @@
-use Rattle.std.proofs.Common.{◌++◌, sym, ap, ◌∙◌}
+use Rattle.std.proofs.Common.{◌++◌, ◌∷◌, [], sym, ap, ◌∙◌}
 use Rattle.hls_legal.specs.Steps.{after, stay_of}
 use Rattle.hls_stays.specs.Tallies.{lasting}
 use Rattle.hls_stays.specs.Inside.Steps.{without}
+use Rattle.hls_stays.specs.Inside.Renewals.{renewed_one}
 use Rattle.hls_stays.proofs.Lasting.{lasting_append, lasting_without, lasting_renewed}
 use Rattle.hls_stays.proofs.Turned.{turn_nothing, turn_begins, turn_ends, turn_renews, ends_may, renews_stands}
-use Rattle.hls_stays.proofs.Turned.{these_are, rouses_may, turn_rouses}
+use Rattle.hls_stays.proofs.Turned.{turn_reseats, reseats_stands, reseats_may, these_are, rouses_may, turn_rouses}
 use Rattle.hls_stays.proofs.stays.Stays.follow.Goals as goal
 
 pub close-requires : goal.close-requires
@@ -41,6 +42,25 @@ returns-in-Ends g c = λ h command step turns.
           e.has;
       all = lasting_without (after h step).now c.in-Ends.id turns.stays.kept h.stays turns.stays.all
           ∙ ap lasting (sym e.stays);
+    }
+
+pub reseat-requires-clause-thread : goal.reseat-requires-clause-thread
+reseat-requires-clause-thread g c =
+    reseats_stands _ c.args.self.now c.args.tree.now c.args.turnover c.in-Reseats.id c.in-Reseats.is c.requires.may
+
+pub reseat-requires-clause-close : goal.reseat-requires-clause-close
+reseat-requires-clause-close g c =
+    reseats_may _ c.args.self.now c.args.tree.now c.args.turnover c.in-Reseats.id c.in-Reseats.is c.requires.may
+
+pub returns-in-Reseats : goal.returns-in-Reseats
+returns-in-Reseats g c = λ h command step turns.
+    let r = turn_reseats _ c.args.self.now c.args.tree.now c.args.turnover h command step c.in-Reseats.id
+    c.in-Reseats.is turns in
+    record {
+      kept = renewed_one (after h step) turns.stays.kept c.in-Reseats.id;
+      are = c.reseat.ensures (after h step) turns.stays.kept turns.tree turns.ready r.thread r.are r.has;
+      all = lasting_renewed (after h step) turns.stays.kept h.stays (c.in-Reseats.id ∷ []) turns.stays.all
+          ∙ ap lasting r.stays;
     }
 
 pub returns-in-Renews : goal.returns-in-Renews
