@@ -1,18 +1,19 @@
 // Which nodes are below a scheduler.
 ghost use Rattle.std.specs.Prelude.{◌≡◌, ◌≢◌, ◌<◌, ◌≤◌, ℕ, true, false, length, map, AllPairs};
 ghost use Rattle.hls_legal.specs.Hierarchy.{Hierarchy};
+ghost use Rattle.hls_legal.specs.Legal.{scheduler_at};
 ghost use Rattle.hls_legal.specs.Readings.{IsUnder};
 ghost use Rattle.hls_walks.specs.Shown.{seats_in};
-ghost use Rattle.hls_walks.specs.Views.{boxed, shown_at, seat_view};
-ghost use Rattle.hls_depths.specs.Inside.Sums.{greatest_over};
+ghost use Rattle.hls_walks.specs.Views.{boxed, shown_at, place_view, seat_view};
+ghost use Rattle.hls_depths.specs.Inside.Sums.{sum_under, greatest_over};
 ghost use Rattle.hls_depths.specs.Paths.{AreNodesOf};
 ghost use Rattle.hls_depths.specs.Subtrees.{IsSubtree, sum_at};
 
 use crate::question::{Counted, Question};
 use crate::rounds::sums;
-use crate::sum::{Sums, greatest_over, place_of_first};
+use crate::sum::{Sums, greatest_over, place_of_first, sum_near};
 use hls_sched::Scheduler;
-use hls_walks::{Node, NodeId, TakenSeat};
+use hls_walks::{Node, NodeId, Place, TakenSeat};
 use slab::Slab;
 
 /// The schedulers that are a node or below it. It is asked about over the nodes that it was found in.
@@ -21,6 +22,21 @@ pub struct Subtree {
     upper: NodeId,
     /// More than 0 for the schedulers of the subtree.
     sums: Sums,
+}
+
+/// Whether a seat at this place is on a scheduler whose sum is more than 0.
+fn is_over_one(schedulers: &[NodeId], sums: &Sums, place: Place, near: &mut usize) -> bool
+    requires few { length schedulers.now ≤ 64 }
+    requires apart { AllPairs (λ (k c : ℕ). k ≢ c) schedulers.now }
+    ensures yes { result ≡ true →
+        0 < sum_under (sum_at schedulers.now sums.now) (scheduler_at (place_view place)) }
+    ensures no { result ≡ false →
+        sum_under (sum_at schedulers.now sums.now) (scheduler_at (place_view place)) ≡ 0 }
+{
+    match place {
+        Place::Processor => false,
+        Place::At { scheduler, .. } => sum_near(schedulers, sums, near, scheduler) > 0,
+    }
 }
 
 /// Whether one of these seats is on a scheduler whose sum is more than 0.
@@ -32,8 +48,13 @@ fn is_over(schedulers: &[NodeId], sums: &Sums, seats: &[TakenSeat], near: &mut u
     ensures no { result ≡ false →
         greatest_over (sum_at schedulers.now sums.now) (map seat_view seats.now) ≡ 0 }
 {
-    *near = place_of_first(schedulers, *near, seats);
-    greatest_over(schedulers, sums, *near, seats) > 0
+    match seats {
+        [seat] => is_over_one(schedulers, sums, seat.place, near),
+        _ => {
+            *near = place_of_first(schedulers, *near, seats);
+            greatest_over(schedulers, sums, *near, seats) > 0
+        }
+    }
 }
 
 /// Whether a node sits on a scheduler whose sum is more than 0.

@@ -56,21 +56,41 @@ pub(crate) fn place_of_first(schedulers: &[NodeId], near: usize, seats: &[TakenS
     }
 }
 
+/// The sum of a scheduler that is searched for, and 0 for what is none. Its place is noted.
+fn sum_found(schedulers: &[NodeId], sums: &Sums, near: &mut usize, key: usize) -> u8
+    requires few { length schedulers.now ≤ 64 }
+    ensures { result ≡ sum_at schedulers.now sums.now key }
+{
+    for (at, id) in schedulers.iter().enumerate() {
+        if id.key() == key {
+            *near = at;
+            return sums[at];
+        }
+    }
+    0
+}
+
+/// The sum of a scheduler, and 0 for what is none. It is likely to stand near this place; where it does not, its own
+/// is noted.
+pub(crate) fn sum_near(schedulers: &[NodeId], sums: &Sums, near: &mut usize, key: usize) -> u8
+    requires few { length schedulers.now ≤ 64 }
+    requires apart { AllPairs (λ (k c : ℕ). k ≢ c) schedulers.now }
+    ensures { result ≡ sum_at schedulers.now sums.now key }
+{
+    if is_at(schedulers, *near, key) {
+        return sums[*near];
+    }
+    sum_found(schedulers, sums, near, key)
+}
+
 /// The sum of a scheduler, and 0 for what is none. It is likely to stand near this place.
 pub(crate) fn sum_of(schedulers: &[NodeId], sums: &Sums, near: usize, key: usize) -> u8
     requires few { length schedulers.now ≤ 64 }
     requires apart { AllPairs (λ (k c : ℕ). k ≢ c) schedulers.now }
     ensures { result ≡ sum_at schedulers.now sums.now key }
 {
-    if is_at(schedulers, near, key) {
-        return sums[near];
-    }
-    for (at, id) in schedulers.iter().enumerate() {
-        if id.key() == key {
-            return sums[at];
-        }
-    }
-    0
+    let mut near = near;
+    sum_near(schedulers, sums, &mut near, key)
 }
 
 /// The sum of a parent, 0 for the processor.

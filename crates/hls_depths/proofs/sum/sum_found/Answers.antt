@@ -1,9 +1,8 @@
-use Rattle.std.proofs.Common.{◌≡◌, ◌∙◌, ap, sym, arith, get_or, eq-eqb}
-use Rattle.hls_depths.specs.Subtrees.{sum_at}
+use Rattle.std.proofs.Common.{◌≡◌, ◌∙◌, sym, arith, get_or, eq-eqb}
 use Rattle.std.proofs.lemmas.Bool.{ne_eqb}
 use Rattle.std.proofs.lemmas.List.{get_or_read}
-use Rattle.hls_depths.proofs.Sums.{at_place, at_skip, at_here, at_end}
-use Rattle.hls_depths.proofs.sum.sum_of.Goals as goal
+use Rattle.hls_depths.proofs.Sums.{at_skip, at_here, at_end}
+use Rattle.hls_depths.proofs.sum.sum_found.Goals as goal
 
 pub loop-at-preserved : goal.loop-at-preserved
 loop-at-preserved c =
@@ -26,10 +25,3 @@ returns-then-key c =
 pub returns : goal.returns
 returns c = at_end c.args.schedulers.now c.args.sums.now c.loop-at.at c.args.key _ c.loop-at-test.false
     c.loop-at.invariant
-
-pub returns-then-is_at : goal.returns-then-is_at
-returns-then-is_at c =
-    let at = c.is_at.ensures c.if-is_at.true in
-    sym (at_place c.args.schedulers.now c.args.sums.now c.args.near c.requires.apart at.0
-    (omega (arith, c.requires.few, c.told-sums)))
-    ∙ ap (sum_at c.args.schedulers.now c.args.sums.now) at.1
