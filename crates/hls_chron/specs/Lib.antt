@@ -1,5 +1,6 @@
 pub mod Name
 pub mod NameInside
+pub mod NameHash
 pub mod Kinds
 pub mod Ledger
 pub mod Seats
