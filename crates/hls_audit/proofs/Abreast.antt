@@ -185,7 +185,8 @@ pub same_before : (c : Content) (names : List Text) (runs : List Run) (t next la
     → IsContent c → new ≡ old → c.stretches ≡ map (stretch_of names) runs → 0 < t → IsAbreast c.answered t next old
     → IsAbreast c.answered (t + 1) later new → IsReached runs t at → IsReached runs (t + 1) at
     → ((k : ℕ) → k < t → ¬ IsAstray c k) → ¬ IsAstray c t
-same_before c names runs zero next later at old new formed trees e some tree more was is none now = absurd (omega (arith, some))
+same_before c names runs zero next later at old new formed trees e some tree more was is none now = absurd
+    (omega (arith, some))
 same_before c names runs (suc t) next later at old new formed equal e some tree more was is none now =
     let since = was.since in
     let until = was.until in

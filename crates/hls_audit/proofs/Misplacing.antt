@@ -24,7 +24,8 @@ or_none true = refl
 or_none false = refl
 
 pub load_misplaced : (tree : List Member) (name : Text) (config : Config) (perches : List Perch)
-    → (is_there tree name || list_any (λ (perch : Perch). is_wrong_spot tree (Load name config perches) perch.spot) perches)
+    → (is_there tree name
+    || list_any (λ (perch : Perch). is_wrong_spot tree (Load name config perches) perch.spot) perches)
     ≡ is_misplaced tree (Load name config perches)
 load_misplaced tree name config perches =
     let test = is_wrong_spot tree (Load name config perches) in
@@ -46,7 +47,8 @@ or_move true false false true = refl
 or_move true false false false = refl
 
 pub move_misplaced : (tree : List Member) (name : Text) (perch : Perch)
-    → (not (is_there tree name) || is_join tree name || (is_scheduler tree name && is_on (is_under tree name) perch.spot)
+    → (not (is_there tree name) || is_join tree name
+    || (is_scheduler tree name && is_on (is_under tree name) perch.spot)
     || is_wrong_spot tree (Move name perch) perch.spot) ≡ is_misplaced tree (Move name perch)
 move_misplaced tree name perch =
     or_move (is_there tree name) (is_join tree name) (is_scheduler tree name && is_on (is_under tree name) perch.spot)

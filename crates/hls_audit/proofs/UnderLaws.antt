@@ -192,7 +192,8 @@ reach tree above (suc steps) = by (reach tree above steps)
     by (Ended last lt settled) = Ended last (omega (arith, lt)) settled
     by (Many many) =
         next many
-        (grown (λ (m : Member). is_within tree steps above m.name) (λ (m : Member). is_within tree (suc steps) above m.name)
+        (grown (λ (m : Member). is_within tree steps above m.name)
+        (λ (m : Member). is_within tree (suc steps) above m.name)
         (λ m. within_more tree steps above m.name) tree)
 
 settled : (tree : List Member) (above : Text) → Settled tree above (length tree)

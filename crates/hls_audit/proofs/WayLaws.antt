@@ -114,7 +114,8 @@ way_more tree above start old new count next there apart way meets = record {
           | inl low ↦ (let p = way.passed at name low before in
               record {
                 apart = p.apart;
-                ups = met_later old new (λ n. sits (bytes_eq n) up) meets.meets (perches_of (member_of tree name)) p.ups;
+                ups = met_later old new (λ n. sits (bytes_eq n) up) meets.meets
+                    (perches_of (member_of tree name)) p.ups;
               })
           | inr le ↦ (let last : count ≡ at = omega (arith, lt, le) in
               let same : Some next ≡ Some name = sym there ∙ ap (λ n. slice_get old.names.items n) last ∙ before in

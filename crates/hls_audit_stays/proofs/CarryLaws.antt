@@ -279,7 +279,8 @@ carried_thread old mid new all place a name perch there done is settles stays_is
       fresh =
           subst (AreFresh new.fresh.items) (sym tick_is)
           (subst (λ l. AreFresh l mid.tick) (sym fresh_is)
-          (fresh_on mid.fresh.items (found ∷ []) mid.tick (subst (AreFresh mid.fresh.items) (sym settles.now) settles.fresh)
+          (fresh_on mid.fresh.items (found ∷ []) mid.tick
+          (subst (AreFresh mid.fresh.items) (sym settles.now) settles.fresh)
           (fresh_one found mid.tick refl refl)));
       threads = threads_is ∙ ap (λ l. l ++ name ∷ []) are.threads ∙ sym threads_next;
       seats = seated_by;
@@ -574,7 +575,8 @@ settles_start c = record {
   seats = refl;
 }
 
-pub settles_more : (old now new : Carried) (count : ℕ) (stay : FoundStay) (place : ℕ) → AreFresh old.fresh.items old.tick
+pub settles_more : (old now new : Carried) (count : ℕ) (stay : FoundStay) (place : ℕ)
+    → AreFresh old.fresh.items old.tick
     → slice_get old.fresh.items count ≡ Some stay → place ≡ length now.stays.items
     → new.stays.items ≡ now.stays.items ++ stay ∷ [] → new.going.items ≡ now.going.items ++ place ∷ []
     → new.fresh ≡ now.fresh → new.threads ≡ now.threads → new.seats ≡ now.seats

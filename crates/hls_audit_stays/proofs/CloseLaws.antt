@@ -23,7 +23,8 @@ abbrev pub goes_on : (Text → Bool) → List FoundStay → (place : ℕ) → Bo
 goes_on test stays place = not (passes test (slice_get stays place))
 
 -- a stay has ended where it is to, or its place is among those that are left
-pub data IsDone (test : Text → Bool) (tick : ℕ) (old now : List FoundStay) (open_at : List ℕ) (at place : ℕ) : Type 0 where
+pub data IsDone (test : Text → Bool) (tick : ℕ) (old now : List FoundStay) (open_at : List ℕ)
+    (at place : ℕ) : Type 0 where
   Ended : slice_get now place ≡ option_map (end_if test tick) (slice_get old place)
       → IsDone test tick old now open_at at place
   Left : (later : ℕ) → at ≤ later → slice_get open_at later ≡ Some place → slice_get now place ≡ slice_get old place
@@ -88,7 +89,8 @@ lasts_is test tick first none is =
     ∙ ap (λ (u : Option ℕ). record first { until = option_or u (if test first.name then Some tick else None) })
     (sym none)
 
-seen_at : (test : Text → Bool) (tick : ℕ) (old now : List FoundStay) (open_at : List ℕ) (at place : ℕ) → AreOpen old open_at
+seen_at : (test : Text → Bool) (tick : ℕ) (old now : List FoundStay) (open_at : List ℕ) (at place : ℕ)
+    → AreOpen old open_at
     → slice_get open_at at ≡ Some place → IsDone test tick old now open_at at place → IsSeen test tick old now place
 seen_at test tick old now open_at at place are here done = from done
   where
@@ -179,7 +181,8 @@ ending_hit test tick old now new open_at still at place stay are here there hit 
         ∙ sym (still_next (goes_on test old) open_at at place here)
 
 -- the stay at the next open place goes on
-pub ending_miss : (test : Text → Bool) (tick : ℕ) (old now : List FoundStay) (open_at still more : List ℕ) (at place : ℕ)
+pub ending_miss : (test : Text → Bool) (tick : ℕ) (old now : List FoundStay) (open_at still more : List ℕ)
+    (at place : ℕ)
     (stay : FoundStay) → AreOpen old open_at → slice_get open_at at ≡ Some place → slice_get now place ≡ Some stay
     → test stay.name ≡ false → more ≡ still ++ place ∷ []
     → AreEnding test tick old now open_at still at → AreEnding test tick old now open_at more (at + 1)
@@ -294,7 +297,8 @@ still_open test tick old now open_at still at past are ending = record { each = 
 
 -- ---- a stay that begins
 
-pub open_more : (stays : List FoundStay) (open_at : List ℕ) (stay : FoundStay) → stay.until ≡ None → AreOpen stays open_at
+pub open_more : (stays : List FoundStay) (open_at : List ℕ) (stay : FoundStay) → stay.until ≡ None
+    → AreOpen stays open_at
     → AreOpen (stays ++ stay ∷ []) (open_at ++ length stays ∷ [])
 open_more stays open_at stay none are = record { each = each; only = only }
   where

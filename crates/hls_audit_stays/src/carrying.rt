@@ -9,7 +9,8 @@ ghost use Rattle.hls_accounts.specs.Commands as said;
 ghost use Rattle.hls_audit_stays.specs.declared.found.FoundStay as found;
 ghost use Rattle.hls_audit_stays.specs.Found.{stay_by, has_lasted, lasts};
 ghost use Rattle.hls_audit_stays.specs.Inside.Marks.{next_mark};
-ghost use Rattle.hls_audit_stays.specs.Inside.Carried.{IsCarried, AreOpen, AreFresh, Settles, Closes, ClosesGoing, Opens};
+ghost use Rattle.hls_audit_stays.specs.Inside.Carried.{IsCarried, AreOpen, AreFresh};
+ghost use Rattle.hls_audit_stays.specs.Inside.Carried.{Settles, Closes, ClosesGoing, Opens};
 ghost use Rattle.hls_audit_stays.specs.Inside.Carried.{found_from, found_by, ended_at};
 
 use crate::found::FoundStay;

@@ -1,5 +1,6 @@
 -- Ticks that change nothing of the servers but the budget of the slot that is served, and leave the choice.
-use Rattle.std.proofs.Common.{◌≡◌, ◌≢◌, ℕ, ◌+◌, ◌-◌, ◌<◌, ◌≤◌, List, Option, Some, None, Bool, true, false, refl, sym, ap, ◌∙◌}
+use Rattle.std.proofs.Common.{◌≡◌, ◌≢◌, ℕ, ◌+◌, ◌-◌, ◌<◌, ◌≤◌, List, Option}
+use Rattle.std.proofs.Common.{Some, None, Bool, true, false, refl, sym, ap, ◌∙◌}
 use Rattle.std.proofs.Common.{arith, inl, inr, subst, length, get_or-set_same, get_or-set_other}
 use Rattle.std.specs.Prelude.{nat_lt, is_some, IfSome, ◌==◌, slice_set}
 use Rattle.std.specs.Int.{bit_at}

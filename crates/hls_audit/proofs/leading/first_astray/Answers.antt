@@ -59,7 +59,8 @@ loop-tick-preserved c =
             is_not w.is_astray.result w.is_astray.ensures w.if-is_astray.false
         | else-not-is_as_before-via-else-not-is_as_before w ↦
             let same = c.is_as_before.ensures w.if-not-is_as_before.false in
-            same_before content c.args.report.now.names c.args.report.now.runs tick c.loop-tick.next c.in_ok-upto.upto c.loop-tick.at
+            same_before content c.args.report.now.names c.args.report.now.runs tick c.loop-tick.next
+            c.in_ok-upto.upto c.loop-tick.at
             c.loop-tick.tree.members.items c.follow_tick.new.tree.members.items c.requires.content
             (c.in_ok-upto.ensures.1 same.1) refl same.0 so_far.abreast more
             so_far.reached (subst (IsReached c.args.report.now.runs (tick + 1)) same.2 c.run_of-at.ensures)

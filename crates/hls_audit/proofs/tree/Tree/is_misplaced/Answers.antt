@@ -19,7 +19,8 @@ returns-else-is_there c =
     let told = c.has_wrong_perch.ensures ∙ ap (wrong c.args.command.now) c.items.ensures
     ∙ ap (λ (command : Command). wrong command c.in-Load.perches) c.in-Load.is in
     told
-    ∙ ap (λ b. b || list_any (λ (perch : Perch). is_wrong_spot tree (Load c.in-Load.name c.in-Load.config c.in-Load.perches)
+    ∙ ap (λ b. b || list_any
+    (λ (perch : Perch). is_wrong_spot tree (Load c.in-Load.name c.in-Load.config c.in-Load.perches)
     perch.spot) c.in-Load.perches) (sym c.if-is_there.false ∙ c.is_there.ensures)
     ∙ load_misplaced tree c.in-Load.name c.in-Load.config c.in-Load.perches
     ∙ ap (is_misplaced tree) (sym c.in-Load.is)

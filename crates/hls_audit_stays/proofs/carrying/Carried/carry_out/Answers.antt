@@ -20,7 +20,8 @@ returns-in-Unload c =
     let done = c.requires.done in
     let command = Unload c.in-Unload.name in
     carried_quiet c.args.self.now c.args.self.now all c.args.place a c.requires.there
-    (quiet_load (take c.args.place all) a command done c.in-Unload.is (λ n. refl) refl (λ n. refl) refl) refl c.requires.carried.open_at
+    (quiet_load (take c.args.place all) a command done c.in-Unload.is (λ n. refl) refl (λ n. refl) refl) refl
+    c.requires.carried.open_at
     c.requires.carried.fresh refl
     (seats_pass c.args.self.now.seats all c.args.place a c.requires.there
     (other_seats a command done c.in-Unload.is (λ n. refl)) c.requires.carried.seats)
@@ -33,7 +34,8 @@ returns-in-Wake c =
     let done = c.requires.done in
     let command = Wake c.in-Wake.name c.in-Wake.burst in
     carried_quiet c.args.self.now c.args.self.now all c.args.place a c.requires.there
-    (quiet_load (take c.args.place all) a command done c.in-Wake.is (λ n. refl) refl (λ n. refl) refl) refl c.requires.carried.open_at
+    (quiet_load (take c.args.place all) a command done c.in-Wake.is (λ n. refl) refl (λ n. refl) refl) refl
+    c.requires.carried.open_at
     c.requires.carried.fresh refl
     (seats_pass c.args.self.now.seats all c.args.place a c.requires.there
     (other_seats a command done c.in-Wake.is (λ n. refl)) c.requires.carried.seats)
@@ -46,7 +48,8 @@ returns-in-Block c =
     let done = c.requires.done in
     let command = Block c.in-Block.name in
     carried_quiet c.args.self.now c.args.self.now all c.args.place a c.requires.there
-    (quiet_load (take c.args.place all) a command done c.in-Block.is (λ n. refl) refl (λ n. refl) refl) refl c.requires.carried.open_at
+    (quiet_load (take c.args.place all) a command done c.in-Block.is (λ n. refl) refl (λ n. refl) refl) refl
+    c.requires.carried.open_at
     c.requires.carried.fresh refl
     (seats_pass c.args.self.now.seats all c.args.place a c.requires.there
     (other_seats a command done c.in-Block.is (λ n. refl)) c.requires.carried.seats)

@@ -60,13 +60,15 @@ loop-at-preserved c =
     (c.len-at-end.ensures ∙ old.going.ok.0) c.loop-at-test.true (rw going at c.index-place.ensures) in
     let there : slice_get now.stays.items place ≡ Some stay =
     slice_get_read now.stays.items (length now.stays.items) place stay refl
-    (within_now test c.args.self.now.tick old.stays.items now.stays.items old.going.items c.loop-at.still.items c.loop-at.at
+    (within_now test c.args.self.now.tick old.stays.items now.stays.items old.going.items c.loop-at.still.items
+    c.loop-at.at
     place c.requires here c.loop-at.invariant.ending) c.index.ensures in
     let tested : test stay.name ≡ next_mark now.seats all c.args.marks.now c.args.above.now stay.name =
     ap (λ s. next_mark s all c.args.marks.now c.args.above.now stay.name) (sym seats) in
     elim c.if-is_below.branch [
       | then-is_below w ↦ rw (w.self-is, w.still-is) (record {
-        ending = ending_hit test c.args.self.now.tick old.stays.items now.stays.items w.end_at.new.stays.items old.going.items
+        ending = ending_hit test c.args.self.now.tick old.stays.items now.stays.items w.end_at.new.stays.items
+            old.going.items
             c.loop-at.still.items c.loop-at.at place stay c.requires here there
             (tested ∙ sym c.is_below.ensures ∙ w.if-is_below.true) (w.end_at.ensures stay there)
             c.loop-at.invariant.ending;

@@ -7,7 +7,8 @@ abbrev pub invariant-loop-at : goal.invariant-loop-at
 invariant-loop-at l =
     let test = next_mark l.fn.self.seats l.answered l.marks l.above in
     record {
-      ending : AreEnding test l.fn.self.tick l.fn.self.stays.items l.self.stays.items l.fn.self.going.items l.still.items l.at;
+      ending : AreEnding test l.fn.self.tick l.fn.self.stays.items l.self.stays.items l.fn.self.going.items
+          l.still.items l.at;
       going_same : l.self.going ≡ l.fn.self.going;
       fresh_same : l.self.fresh ≡ l.fn.self.fresh;
       tick_same : l.self.tick ≡ l.fn.self.tick;

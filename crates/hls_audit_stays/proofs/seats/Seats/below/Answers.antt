@@ -8,7 +8,8 @@ use Rattle.hls_audit_stays.proofs.seats.Seats.below.Goals as goal
 pub returns : goal.returns
 returns c =
     let off = sym c.is_any.ensures ∙ c.if-is_any.false in
-    subst (λ bs. AreBelow c.args.self.now c.args.answered.now c.args.place bs c.args.above.now) (sym c.new.ensures.items)
+    subst (λ bs. AreBelow c.args.self.now c.args.answered.now c.args.place bs c.args.above.now)
+    (sym c.new.ensures.items)
     (below-none c.args.self.now c.args.answered.now c.args.place c.args.above.now c.in_ok-marks.marks.items
     (ap (λ (bs : List Bool). list_any (λ (mark : Bool). mark) bs) (sym c.deref.ensures.value) ∙ off)
     c.in_ok-marks.ensures)

@@ -20,14 +20,16 @@ visit-requires-clause-kept c =
     kept_valid (content_of c.args.report.now) (map (stay_by c.args.report.now.answered) c.args.stays.now)
     c.loop-found.found-index c.stay-stay.result c.requires.formed.content c.requires.stays
     (told_at c.args.report.now.answered c.args.stays.now c.loop-found.found-index c.found-item.result c.stay-stay.result
-    c.loop-found-test.true c.found-item.is (c.stay-stay.ensures ∙ ap (λ (l : List Answered). stay_by l c.found-item.result) c.items.ensures))
+    c.loop-found-test.true c.found-item.is
+    (c.stay-stay.ensures ∙ ap (λ (l : List Answered). stay_by l c.found-item.result) c.items.ensures))
 
 pub visit-requires-clause-ends : goal.visit-requires-clause-ends
 visit-requires-clause-ends c =
     ends_early (content_of c.args.report.now) (map (stay_by c.args.report.now.answered) c.args.stays.now)
     c.loop-found.found-index c.stay-stay.result c.requires.formed.content c.requires.stays
     (told_at c.args.report.now.answered c.args.stays.now c.loop-found.found-index c.found-item.result c.stay-stay.result
-    c.loop-found-test.true c.found-item.is (c.stay-stay.ensures ∙ ap (λ (l : List Answered). stay_by l c.found-item.result) c.items.ensures))
+    c.loop-found-test.true c.found-item.is
+    (c.stay-stay.ensures ∙ ap (λ (l : List Answered). stay_by l c.found-item.result) c.items.ensures))
 
 pub index-requires : goal.index-requires
 index-requires c =
@@ -59,7 +61,8 @@ loop-found-preserved c = record {
   found = found_next (content_of c.args.report.now) (map (stay_by c.args.report.now.answered) c.args.stays.now)
       c.loop-found.found-index c.stay-stay.result c.loop-found.findings c.visit.new.self
       (told_at c.args.report.now.answered c.args.stays.now c.loop-found.found-index c.found-item.result
-      c.stay-stay.result c.loop-found-test.true c.found-item.is (c.stay-stay.ensures ∙ ap (λ (l : List Answered). stay_by l c.found-item.result) c.items.ensures))
+      c.stay-stay.result c.loop-found-test.true c.found-item.is
+      (c.stay-stay.ensures ∙ ap (λ (l : List Answered). stay_by l c.found-item.result) c.items.ensures))
       c.in_ok-visit.ensures c.loop-found.invariant.found;
 }
 

@@ -27,7 +27,8 @@ loop-id-preserved g c =
           subst (AreTallies c.renew.new.self h)
           (renewed_next h stays c.args.ids.now c.loop-id.id-index c.id-item.result at)
           (c.renew.ensures.renewed h (renewed_all h stays (take c.loop-id.id-index c.args.ids.now)) tree ready
-          (c.loop-id.invariant.are h stays tree ready may) (next_alike c.args.self.now h stays c.args.ids.now c.loop-id.id-index c.id-item.result may at));
+          (c.loop-id.invariant.are h stays tree ready may)
+          (next_alike c.args.self.now h stays c.args.ids.now c.loop-id.id-index c.id-item.result may at));
       room = omega (
         arith,
         c.loop-id.invariant.room,
