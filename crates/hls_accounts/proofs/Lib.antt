@@ -16,3 +16,4 @@ pub mod Past
 pub mod OrderRuns
 pub mod Keeping
 pub mod TickLists
+pub mod GoodStays

@@ -1,6 +1,6 @@
 -- What is due for a command that is not misplaced can be checked.
 use Rattle.std.proofs.Common.{◌≡◌, ℕ, suc, ◌+◌, List, [], ◌∷◌, ◌++◌, Option, Some, None, Bool, true, false, refl}
-use Rattle.std.proofs.Common.{sym, ◌∙◌, map, length, arith, ◌||◌}
+use Rattle.std.proofs.Common.{sym, ◌∙◌, map, length, ◌||◌}
 use Rattle.std.specs.Prelude.{not, cond, filter, flat_map, All, fold, take, slice_get}
 use Rattle.std.specs.List.{AllByRecursion, list_any}
 use Rattle.std.proofs.lemmas.List.{length-map}
@@ -13,7 +13,7 @@ use Rattle.hls_chron.specs.Kinds.{port_count}
 use Rattle.hls_chron.specs.Ranges.{ConfigInRange, TermsInRange}
 use Rattle.hls_guarantee.specs.declared.Guarantee.{Guarantee}
 use Rattle.hls_guarantee.specs.declared.Guarantee.TheVariants as kept
-use Rattle.hls_guarantee.specs.Limits.{IsNarrow, IsValid}
+use Rattle.hls_guarantee.specs.Limits.{IsValid}
 use Rattle.hls_scenario.specs.declared.scenario.Spot.{Spot}
 use Rattle.hls_scenario.specs.declared.scenario.Spot.TheVariants.{Cpu, Under}
 use Rattle.hls_scenario.specs.declared.scenario.Perch.{Perch}
@@ -25,6 +25,7 @@ use Rattle.hls_scenario.proofs.CanonicalPrinting.{load_perches}
 use Rattle.hls_report_text.specs.declared.report.Answered.{Answered}
 use Rattle.hls_accounts.specs.Commands.{is_done}
 use Rattle.hls_accounts.specs.Tells.{terms_in}
+use Rattle.hls_accounts.proofs.GoodStays.{valid_narrow}
 use Rattle.hls_answers.specs.Moment.{new_name, old_name, spots_of}
 use Rattle.hls_clauses.specs.declared.member.Sort.{Sort}
 use Rattle.hls_clauses.specs.declared.member.Sort.TheVariants.{Scheduler, Thread}
@@ -38,21 +39,6 @@ use Rattle.hls_clauses.specs.Dues.{is_at, dues_under, dues}
 use Rattle.hls_audit.specs.Inside.Fits.{HasSeats, IsFit, IsFitDue}
 
 -- ---- one seat
-
-valid_narrow : (g : Guarantee) → IsNarrow g → IsValid g
-valid_narrow kept.All is = tt
-valid_narrow kept.Null is = tt
-valid_narrow (kept.Resb hard x y) is = is
-valid_narrow (kept.Resc hard x y) is = is
-valid_narrow (kept.Psbe s d) is =
-    let rate = is.rate in
-    let error = is.error in
-    record {
-      some = is.some;
-      fits = is.fits;
-      rate = record { num = omega (arith, rate); den = omega (arith, rate) };
-      error = record { num = omega (arith, error); den = omega (arith, error) };
-    }
 
 spot_terms : (spot : Spot) → grammar.IsSpot spot → TermsInRange (terms_in spot)
 spot_terms Cpu is = tt

@@ -1,10 +1,9 @@
 // What the last word on a thread leaves of it, tick by tick.
-ghost use Rattle.std.specs.Prelude.{◌≡◌, ◌-◌, ◌<◌, ◌≤◌, ℕ, Bool, OnOk, length, slice_get, take};
+ghost use Rattle.std.specs.Prelude.{◌≡◌, ◌-◌, ◌<◌, ◌≤◌, ℕ, Bool, OnOk};
 ghost use Rattle.hls_chron.specs.Ticks.{count};
 ghost use Rattle.hls_spans.specs.Spans.{Tell};
 ghost use Rattle.hls_findings.specs.Inside.Lines as told;
 
-use hls_report_text::Path;
 use hls_scenario::Command;
 use hls_spans::Spans;
 use std::alloc::AllocError;
@@ -16,18 +15,6 @@ pub(crate) enum Readiness {
     Awake,
     /// Awake until it was served so many ticks.
     Burst { ticks: u32 },
-}
-
-/// The place, in a list of names, of the thread that a path ends in.
-pub(crate) fn last_place(path: &Path) -> Option<u16>
-    ensures { result ≡ slice_get (take path.now.len path.now.names)
-        (length (take path.now.len path.now.names) - 1) }
-{
-    path.names
-        .iter()
-        .copied()
-        .take(usize::from(path.len))
-        .last()
 }
 
 /// What a command leaves of the thread that it rouses.

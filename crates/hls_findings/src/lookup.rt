@@ -4,7 +4,6 @@ ghost use Rattle.hls_accounts.specs.Commands.{rouses};
 ghost use Rattle.hls_findings.specs.Inside.Lookups.{AreKeys, Serves, ServesNamed, Rouses, IsLookup};
 
 use crate::chains::Chains;
-use crate::lines::last_place;
 use hls_chron::Name;
 use hls_report_text::{Answer, Answered, Report, Run};
 use hls_scenario::Command;
@@ -36,7 +35,7 @@ fn thread_of(names: &[Name], run: &Run) -> Option<Name>
     ensures all { (name : List ℕ) → ServesNamed names.now run.now name → result ≡ Some name }
 {
     match &run.path {
-        Some(path) => match last_place(path) {
+        Some(path) => match path.last_place() {
             Some(place) => name_at(names, place),
             None => None,
         },

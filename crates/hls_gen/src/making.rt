@@ -56,23 +56,6 @@ pub(crate) fn under(sched: Name, terms: Terms, want: Guarantee) -> Perch
     }
 }
 
-fn keep_perch(perches: &mut Vec<Perch>, perch: Perch) -> Result<(), AllocError>
-    ensures { OnOk result (perches.new.items ≡ perches.old.items ++ perch ∷ []) }
-{
-    let Perch { spot, want } = perch;
-    match spot {
-        Spot::Cpu => perches.push(Perch {
-            spot: Spot::Cpu,
-            want,
-        })?,
-        Spot::Under { sched, terms } => perches.push(Perch {
-            spot: Spot::Under { sched, terms },
-            want,
-        })?,
-    }
-    Ok(())
-}
-
 impl Making {
     /// Puts a command behind the others.
     pub(crate) fn put(&mut self, tick: u32, command: Command) -> Result<(), AllocError>
@@ -92,7 +75,7 @@ impl Making {
         ensures { OnOk result (made_of self.new ≡ with_plain 0 (load name config perch) (made_of self.old)) }
     {
         let mut perches = Vec::new(alloc);
-        keep_perch(&mut perches, perch)?;
+        perches.push(perch)?;
         self.put(
             0,
             Command::Load {

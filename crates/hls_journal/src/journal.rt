@@ -13,10 +13,11 @@ ghost use Rattle.hls_accounts.specs.Commands.{is_done};
 ghost use Rattle.hls_answers.specs.Moment.{new_name};
 ghost use Rattle.hls_journal.specs.Kept.{naming};
 
-use crate::guesses::{Guesses, NAMES, sum_of_name};
 use crate::runs::{Runs, last_place, put_all, put_tick};
+use crate::sums::{NAMES, sum_of_name};
 use crate::ways::{insert, is_at, place_of, push};
 use hls_chron::Name;
+use hls_guesses::Guesses;
 use hls_report_text::{Answer, Path};
 use hls_scenario::{Command, Item};
 use hls_text::put;
@@ -81,11 +82,13 @@ impl Journal {
     pub fn open(alloc: Global, items: &[Item], horizon: u32) -> Result<Journal, AllocError>
         ensures { IfOk result (IsNew items.now horizon) }
     {
+        let mut guesses = Guesses::new(alloc);
+        guesses.reserve(NAMES)?;
         Ok(Journal {
             ticks: 0,
             answers: Vec::with_capacity(alloc, items.len())?,
             names: IndexSet::with_capacity(alloc, naming(items))?,
-            guesses: Guesses::new(alloc, NAMES)?,
+            guesses,
             runs: Runs::with_capacity(alloc, horizon)?,
         })
     }

@@ -2,10 +2,10 @@
 #![tactic(auto)]
 
 mod answered;
-mod guesses;
 mod journal;
 mod report;
 mod runs;
+mod sums;
 mod ways;
 
 pub use journal::Journal;

@@ -10,9 +10,10 @@ ghost use Rattle.hls_report_text.specs.WellFormed.{HasShort};
 ghost use Rattle.hls_journal.specs.Ways.{names_by, last_names, IsLonger};
 ghost use Rattle.hls_journal.specs.Inside.Rows.{way_at, run_by, runs_by};
 
-use crate::guesses::{Guesses, WAYS, sum_of_way};
+use crate::sums::{WAYS, sum_of_way};
 use crate::ways::same_way;
 use hls_chron::Name;
+use hls_guesses::Guesses;
 use hls_report_text::{Path, Run, put_runs};
 use indexmap::IndexSet;
 use std::alloc::{AllocError, Global};
@@ -107,10 +108,12 @@ impl Runs {
     pub(crate) fn with_capacity(alloc: Global, count: u32) -> Result<Runs, AllocError>
         ensures { IfOk result (λ runs. (runs.items ≡ []) × (count ≤ runs.capacity)) }
     {
+        let mut guesses = Guesses::new(alloc);
+        guesses.reserve(WAYS)?;
         Ok(Runs {
             rows: Vec::with_capacity(alloc, count as usize)?,
             ways: Vec::with_capacity(alloc, count as usize)?,
-            guesses: Guesses::new(alloc, WAYS)?,
+            guesses,
         })
     }
 

@@ -4,10 +4,10 @@ ghost use Rattle.hls_report_text.specs.WellFormed.{IsWellFormed};
 
 use crate::ways::first_other_path;
 use hls_answer_tests::first_other_answer;
-use hls_guarantee::{Guarantee, RuleName};
+use hls_guarantee::Guarantee;
 use hls_plain_accounts::{accounts_of, idle_of};
 use hls_report::{Report, read_report, write_report};
-use hls_rules::{Rule, RuleBook, answer};
+use hls_rules::{RULES, Rule, RuleBook, answer};
 use std::alloc::{AllocError, Global};
 
 /// The longest text that is judged.
@@ -18,18 +18,6 @@ const BOXES: u32 = 64;
 
 /// The most ticks of a report whose paths are looked at, which takes long.
 const TICKS: u32 = 500;
-
-const RULES: [RuleName; 9] = [
-    RuleName::R1,
-    RuleName::R2,
-    RuleName::R3,
-    RuleName::R4,
-    RuleName::R5,
-    RuleName::R6,
-    RuleName::R7,
-    RuleName::R8,
-    RuleName::R9,
-];
 
 /// What is found of a report: the first thing in this order that is not as it should be.
 #[derive(Clone, Copy, PartialEq, Eq)]
@@ -98,7 +86,6 @@ fn found(
 /// # Errors
 ///
 /// Want of memory.
-#[tactic(auto, using(crate::proofs::Named::map_push))]
 pub fn judged(alloc: Global, text: &[u8]) -> Result<Finding, AllocError> {
     let mut rules = Vec::new(alloc);
     for name in RULES {

@@ -60,23 +60,6 @@ fn port<'a>(perches: &[Perch], line: &'a [u8]) -> Result<(Perch, &'a [u8]), Caus
     }
 }
 
-fn keep_perch(perches: &mut Vec<Perch>, perch: Perch) -> Result<(), AllocError>
-    ensures { OnOk result (perches.new.items ≡ perches.old.items ++ perch ∷ []) }
-{
-    let Perch { spot, want } = perch;
-    match spot {
-        Spot::Cpu => perches.push(Perch {
-            spot: Spot::Cpu,
-            want,
-        })?,
-        Spot::Under { sched, terms } => perches.push(Perch {
-            spot: Spot::Under { sched, terms },
-            want,
-        })?,
-    }
-    Ok(())
-}
-
 /// One more perch, which is kept.
 #[tactic(auto, unfolding(crate::specs::Reading::next_port_at))]
 fn next_port<'a>(perches: &mut Vec<Perch>, line: &'a [u8]) -> Result<&'a [u8], LineError>
@@ -86,7 +69,7 @@ fn next_port<'a>(perches: &mut Vec<Perch>, line: &'a [u8]) -> Result<&'a [u8], L
 {
     match port(perches, line) {
         Ok((perch, rest)) => {
-            keep_perch(perches, perch)?;
+            perches.push(perch)?;
             Ok(rest)
         }
         Err(cause) => Err(LineError::Fault(cause)),

@@ -23,7 +23,7 @@ mod Mistakes
 mod Options
 mod Askings
 mod ThreadMoves
-mod Rederivals
+pub mod Rederivals
 mod NamedNodes
 mod ShiftSteps
 mod ShiftDues

@@ -48,7 +48,7 @@ flat_held f g test is (x ∷ xs) =
       | false ↦ rest
     ]
 
-filter_passes : {A : Type 0} (test : A → Bool) (xs : List A) (at : ℕ) (x : A)
+pub filter_passes : {A : Type 0} (test : A → Bool) (xs : List A) (at : ℕ) (x : A)
     → slice_get (filter test xs) at ≡ Some x → test x ≡ true
 filter_passes test [] at x e = absurd (cc)
 filter_passes test (y ∷ ys) zero x e =

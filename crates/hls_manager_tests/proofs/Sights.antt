@@ -1,6 +1,6 @@
 -- What is there to be seen of a hierarchy.
-use Rattle.std.proofs.Common.{◌≡◌, ◌≢◌, ℕ, zero, suc, List, [], ◌∷◌, Option, Some, None, Bool, true, false}
-use Rattle.std.proofs.Common.{cond, filter, slice_get, refl, sym, ap, ◌∙◌}
+use Rattle.std.proofs.Common.{◌≡◌, ◌≢◌, ℕ, List, [], ◌∷◌, Option, Some, None, true}
+use Rattle.std.proofs.Common.{slice_get, refl, sym, ap, ◌∙◌}
 use Rattle.std.specs.Prelude.{option_map}
 use Rattle.std.specs.List.{AllByRecursion}
 use Rattle.hls_scenario.specs.declared.scenario.Item.{Item}
@@ -11,6 +11,7 @@ use Rattle.hls_legal.specs.Hierarchy.{Hierarchy, Node, Loaded, Admitted, Seat, S
 use Rattle.hls_tree.specs.Lists.{is_on}
 use Rattle.hls_tree.specs.Reads.{IsLoaded, IsSort, taken_on}
 use Rattle.hls_tree.specs.declared.seat.Sort.TheVariants.{Sched}
+use Rattle.hls_manager.proofs.Rederivals.{filter_passes}
 
 all_commands : (horizon last : ℕ) (items : List Item) → AreItems horizon last items
     → AllByRecursion (λ item. IsCommand item.command) items
@@ -20,22 +21,6 @@ all_commands horizon last (item ∷ items) are = (are.0, all_commands horizon it
 pub read_commands : (items all : List Item) (horizon : ℕ) → items ≡ all → AreItems horizon 0 all
     → AllByRecursion (λ item. IsCommand item.command) items
 read_commands items all horizon same are = rw same (all_commands horizon 0 all are)
-
-filter_passes : {A : Type 0} (test : A → Bool) (xs : List A) (at : ℕ) (x : A)
-    → slice_get (filter test xs) at ≡ Some x → test x ≡ true
-filter_passes test [] at x e = absurd (cc)
-filter_passes test (y ∷ ys) zero x e =
-    elim (test y) as (λ b. test y ≡ b → slice_get (cond b (y ∷ filter test ys) (filter test ys)) 0 ≡ Some x
-    → test x ≡ true) [
-      | true ↦ λ on f. (let same : y ≡ x = cc in ap test (sym same) ∙ on)
-      | false ↦ λ off f. filter_passes test ys 0 x f
-    ] refl e
-filter_passes test (y ∷ ys) (suc at) x e =
-    elim (test y) as (λ b. test y ≡ b → slice_get (cond b (y ∷ filter test ys) (filter test ys)) (suc at) ≡ Some x
-    → test x ≡ true) [
-      | true ↦ λ on f. filter_passes test ys at x f
-      | false ↦ λ off f. filter_passes test ys (suc at) x f
-    ] refl e
 
 none_on : (seat : Option Seat) (p : ℕ) → is_on (option_map (λ (s : Seat). s.place) seat) p ≡ true → seat ≢ None
 none_on None p e none = cc

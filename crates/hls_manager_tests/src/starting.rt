@@ -8,27 +8,15 @@ use crate::showing::shown;
 use hls_chron::Kind;
 use hls_edf::Edf;
 use hls_fp::Fp;
-use hls_guarantee::{Guarantee, RuleName};
+use hls_guarantee::Guarantee;
 use hls_join::Join;
 use hls_lang::read_scenario;
 use hls_rr::Rr;
-use hls_rules::{Rule, RuleBook, answer};
+use hls_rules::{RULES, Rule, RuleBook, answer};
 use hls_sched::{Kit, Scheduler};
 use hls_text::put;
 use hls_tree::Tree;
 use std::alloc::{AllocError, Global};
-
-const RULES: [RuleName; 9] = [
-    RuleName::R1,
-    RuleName::R2,
-    RuleName::R3,
-    RuleName::R4,
-    RuleName::R5,
-    RuleName::R6,
-    RuleName::R7,
-    RuleName::R8,
-    RuleName::R9,
-];
 
 /// Loads, admissions, moves and withdrawals, done and refused.
 const SCENARIO: &str = "hls 1\nhorizon 1\n\

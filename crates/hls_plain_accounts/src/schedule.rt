@@ -1,6 +1,5 @@
 // The ticks that the runs of a report spell.
-ghost use Rattle.std.specs.Prelude.{◌≡◌, ◌-◌, ◌&&◌, [], nat_le, is_none, find, slice_get, get_or, take};
-ghost use Rattle.std.specs.Prelude.{length};
+ghost use Rattle.std.specs.Prelude.{◌≡◌, ◌&&◌, [], nat_le, is_none, find, get_or};
 ghost use Rattle.hls_report_text.specs.Content.{content_of, path_names};
 ghost use Rattle.hls_accounts.specs.Schedule as spelled;
 
@@ -14,18 +13,6 @@ fn run_at(runs: &[Run], tick: u32) -> Option<Run>
     runs.iter()
         .copied()
         .find(|run| run.from <= tick && tick <= run.to)
-}
-
-/// The place, in the report's list of names, of the thread that a path ends in.
-fn last_place(path: &Path) -> Option<u16>
-    ensures { result ≡ slice_get (take path.now.len path.now.names)
-        (length (take path.now.len path.now.names) - 1) }
-{
-    path.names
-        .iter()
-        .copied()
-        .take(usize::from(path.len))
-        .last()
 }
 
 /// The name at a place of a list, and nothing where there is none.
@@ -42,7 +29,7 @@ fn name_at(names: &[Name], place: u16) -> &[u8]
 fn ends_in(names: &[Name], path: &Path, name: &Name) -> bool
     ensures { result ≡ spelled.is_name name.now (spelled.last_name (path_names names.now path.now)) }
 {
-    match last_place(path) {
+    match path.last_place() {
         Some(place) => name_at(names, place) == name.bytes(),
         None => false,
     }

@@ -1,4 +1,6 @@
 // Reports as plain data.
+ghost use Rattle.std.specs.Prelude.{◌≡◌, ◌-◌, length, slice_get, take};
+
 use crate::Refusal;
 use hls_chron::{List, Name};
 use hls_derive::Derivation;
@@ -36,6 +38,20 @@ pub struct Answered {
 pub struct Path {
     pub len: u8,
     pub names: [u16; 9],
+}
+
+impl Path {
+    /// The place, in the report's list of names, of the thread that it ends in.
+    pub fn last_place(&self) -> Option<u16>
+        ensures { result ≡ slice_get (take self.now.len self.now.names)
+            (length (take self.now.len self.now.names) - 1) }
+    {
+        self.names
+            .iter()
+            .copied()
+            .take(usize::from(self.len))
+            .last()
+    }
 }
 
 /// Ticks in a row, both ends included, that one path or nobody was given.

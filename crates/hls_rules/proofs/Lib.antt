@@ -4,3 +4,4 @@ pub mod Equal
 pub mod Answering
 pub mod Decided
 pub mod Once
+pub mod Nine

@@ -6,6 +6,7 @@ ghost use Rattle.hls_guarantee.specs.Conversions.{Converts};
 ghost use Rattle.hls_derive.specs.Answers.{Answers, IsStrongest};
 ghost use Rattle.hls_rules.specs.Book.{EachOnce};
 
+use crate::RULES;
 use hls_guarantee::{Guarantee, RuleName};
 
 /// A rule has one answer.
@@ -30,4 +31,10 @@ pub fn answers_are_conclusions(rule: RuleName, g: Guarantee, wanted: Guarantee, 
 pub fn books_name_each_rule_at_one_place(name: RuleName)
     ensures { (names : List RuleName) → EachOnce names → (at : ℕ) × (slice_get names at ≡ Some name) ×
         ((other : ℕ) → slice_get names other ≡ Some name → other ≡ at) }
+{}
+
+/// The rules that there are name each of `R1` to `R9` once.
+#[tactic(auto, using(crate::proofs::Nine::each_once))]
+pub fn rules_are_named_once()
+    ensures { EachOnce RULES }
 {}

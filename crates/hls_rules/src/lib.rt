@@ -11,4 +11,4 @@ mod tests;
 pub use book::RuleBook;
 pub use conclusions::{converts, quotient, strongest};
 pub use hls_guarantee::RuleName;
-pub use rule::{Conclude, Rule, answer};
+pub use rule::{Conclude, RULES, Rule, answer};

@@ -22,6 +22,19 @@ pub fn answer(name: RuleName, have: Guarantee, want: Guarantee) -> Option<Guaran
     }
 }
 
+/// The rules that there are.
+pub const RULES: [RuleName; 9] = [
+    RuleName::R1,
+    RuleName::R2,
+    RuleName::R3,
+    RuleName::R4,
+    RuleName::R5,
+    RuleName::R6,
+    RuleName::R7,
+    RuleName::R8,
+    RuleName::R9,
+];
+
 /// What a rule calls: with a guarantee, and one that is wanted.
 pub type Conclude = Box<dyn Fn(Guarantee, Guarantee) -> Option<Guarantee>>;
 

@@ -6,22 +6,10 @@ ghost use Rattle.hls_chron.specs.Kinds.{port_count};
 
 use hls_check::lends;
 use hls_derive::Place;
-use hls_guarantee::{Guarantee, RuleName, narrow, valid};
-use hls_rules::{RuleBook, converts};
+use hls_guarantee::{Guarantee, narrow, valid};
+use hls_rules::{RULES, RuleBook, converts};
 use hls_search::search;
 use std::alloc::{AllocError, Global};
-
-const RULES: [RuleName; 9] = [
-    RuleName::R1,
-    RuleName::R2,
-    RuleName::R3,
-    RuleName::R4,
-    RuleName::R5,
-    RuleName::R6,
-    RuleName::R7,
-    RuleName::R8,
-    RuleName::R9,
-];
 
 /// Whether some rule leads from `g` to `h`.
 fn one_step(g: &Guarantee, h: &Guarantee) -> bool {

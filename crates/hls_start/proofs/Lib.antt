@@ -1,3 +1,2 @@
-pub mod Nine
 pub mod Filling
 pub mod Idle

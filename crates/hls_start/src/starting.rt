@@ -16,7 +16,7 @@ use hls_guarantee::Guarantee;
 use hls_io::{Sink, Source, Status};
 use hls_join::Join;
 use hls_rr::Rr;
-use hls_rules::{Rule, RuleBook, RuleName, answer};
+use hls_rules::{RULES, Rule, RuleBook, answer};
 use hls_sched::{Kit, Scheduler};
 use hls_sfq::Sfq;
 use hls_top::hls_run;
@@ -25,18 +25,6 @@ use std::alloc::{AllocError, Global};
 
 /// How many schedulers of each kind can be loaded in a run.
 const BOXES: usize = 64;
-
-const NAMES: [RuleName; 9] = [
-    RuleName::R1,
-    RuleName::R2,
-    RuleName::R3,
-    RuleName::R4,
-    RuleName::R5,
-    RuleName::R6,
-    RuleName::R7,
-    RuleName::R8,
-    RuleName::R9,
-];
 
 /// Runs the program with these boxes and the nine rules.
 fn run_with_rules<S: Source, K: Sink>(
@@ -56,7 +44,7 @@ fn run_with_rules<S: Source, K: Sink>(
     ensures unwritten { OnErr result (sink.new ≡ sink.old) }
 {
     let mut rules = Vec::new(alloc);
-    for name in NAMES {
+    for name in RULES {
         let step = Box::new(
             alloc,
             move |have: Guarantee, want: Guarantee| -> Option<Guarantee>

@@ -2,10 +2,10 @@
 #![tactic(auto)]
 
 mod accounts;
-mod guesses;
 mod places;
 mod row;
 mod stays;
+mod sums;
 mod tallies;
 mod tally;
 mod turnover;

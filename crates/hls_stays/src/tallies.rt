@@ -6,10 +6,11 @@ ghost use Rattle.hls_stays.specs.Inside.Rows.{seating_at, seating_of, spare_of, 
 ghost use Rattle.hls_stays.specs.Inside.Steps.{begun_tally, closed_tally, noted_tally, served_tally, swept, swept_rows};
 ghost use Rattle.hls_stays.specs.Inside.Steps.{fresh_at};
 
-use crate::guesses::{Guesses, sum_of};
 use crate::places::Places;
 use crate::row::{Row, Seating};
+use crate::sums::{SEATINGS, sum_of_seating};
 use crate::tally::Tally;
+use hls_guesses::Guesses;
 use hls_tree::NodeId;
 use std::alloc::{AllocError, Global};
 use std::marker::Model;
@@ -127,7 +128,7 @@ impl Tallies {
         ensures room { OnOk result (count ≤ self.new.spare) }
     {
         self.rows.reserve(count)?;
-        self.guesses.reserve()?;
+        self.guesses.reserve(SEATINGS)?;
         self.seatings.reserve(count)
     }
 
@@ -217,7 +218,7 @@ impl Tallies {
         ensures items { self.new.items ≡ self.old.items ++ tally ∷ [] }
         ensures spare { self.old.spare ≤ self.new.spare + 1 }
     {
-        let sum = sum_of(&tally);
+        let sum = sum_of_seating(&tally);
         let guess = self.guesses.at(sum);
         let seating = seat(&mut self.seatings, guess, &tally);
         self.guesses.note(sum, seating);

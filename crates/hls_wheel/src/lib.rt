@@ -1,7 +1,6 @@
 //! Frames of slots: each place of the frame belongs to a seat, or to nobody.
 #![tactic(auto)]
 
-mod owners;
 mod wheel;
 
 pub use wheel::Wheel;

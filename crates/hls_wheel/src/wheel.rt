@@ -8,9 +8,9 @@ ghost use Rattle.hls_box.proofs.Choosing.{lawful};
 ghost use Rattle.hls_wheel_laws.specs.Places.{frame_of};
 ghost use Rattle.hls_wheel.specs.Owners.{IsTable, choice_of};
 
-use crate::owners::{Owners, PLACES, after_event, owned_below};
 use hls_box::{BoxState, has_slot};
 use hls_chron::{Book, Config, Event, Kind, Terms};
+use hls_owners::{Owners, PLACES, after_event, owned_below};
 use hls_sched::{Scheduler, SeatFault};
 use std::alloc::{AllocError, Global};
 

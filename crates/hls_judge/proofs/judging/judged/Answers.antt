@@ -1,7 +1,9 @@
-use Rattle.hls_judge.proofs.Named.{each_once}
+use Rattle.std.proofs.Common.{arith}
+use Rattle.hls_rules.proofs.Nine.{once}
 use Rattle.hls_judge.proofs.judging.judged.Goals as goal
 
 pub new-book-requires : goal.new-book-requires
 new-book-requires c =
-    each_once _ _ c.loop-name.name-index c.loop-name.invariant.all c.loop-name.invariant.named
-    c.loop-name-test.false
+    let last = c.loop-name.auto.name-index-end in
+    let end = c.loop-name-test.false in
+    once _ c.loop-name.name-index c.loop-name.invariant (omega (arith, last, end))

@@ -1,5 +1,5 @@
 use Rattle.std.proofs.Common.{arith}
-use Rattle.hls_manager_tests.proofs.Nine.{once}
+use Rattle.hls_rules.proofs.Nine.{once}
 use Rattle.hls_manager_tests.proofs.starting.trial_by_boxes.Goals as goal
 
 pub new-requires-2 : goal.new-requires-2

@@ -1,7 +1,7 @@
 use Rattle.std.proofs.Common.{◌≡◌, ℕ, ◌<◌, ◌≤◌}
 use Rattle.hls_chron.specs.declared.book.Event.TheVariants.{Leave}
 use Rattle.hls_kinds.specs.Frames.{owner_in, owner_after}
-use Rattle.hls_wheel.proofs.owners.left.Given as goal
+use Rattle.hls_owners.proofs.owners.left.Given as goal
 
 abbrev pub invariant-loop-place : goal.invariant-loop-place
 invariant-loop-place l = record {

@@ -3,8 +3,8 @@ use Rattle.std.proofs.lemmas.Grind.{get_or-set_at}
 use Rattle.std.proofs.lemmas.Bool.{cases_lt}
 use Rattle.std.proofs.lemmas.Grind.{common_steps}
 use Rattle.hls_kinds.proofs.TickLaws.{tick_laws}
-use Rattle.hls_wheel.proofs.owners.seated.Goals as goal
-use Rattle.hls_wheel.proofs.owners.seated.Goals.{then-is_none, else-is_none}
+use Rattle.hls_owners.proofs.owners.seated.Goals as goal
+use Rattle.hls_owners.proofs.owners.seated.Goals.{then-is_none, else-is_none}
 
 pub loop-place-preserved : goal.loop-place-preserved
 loop-place-preserved c = record {

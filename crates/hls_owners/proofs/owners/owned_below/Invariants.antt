@@ -1,7 +1,7 @@
 use Rattle.std.proofs.Common.{◌≡◌, ◌≤◌, is_some}
 use Rattle.hls_chron.specs.Ticks.{count}
 use Rattle.hls_kinds.specs.Frames.{owner_in}
-use Rattle.hls_wheel.proofs.owners.owned_below.Given as goal
+use Rattle.hls_owners.proofs.owners.owned_below.Given as goal
 
 abbrev pub invariant-loop-place : goal.invariant-loop-place
 invariant-loop-place l = record {

@@ -1,7 +1,7 @@
 use Rattle.std.proofs.Common.{◌≡◌, ℕ, ◌<◌, ◌≤◌, length}
 use Rattle.hls_chron.specs.declared.plain.Terms.TheVariants.{Slots}
 use Rattle.hls_kinds.specs.Frames.{owner_in, owner_seated, free_below}
-use Rattle.hls_wheel.proofs.owners.seated.Given as goal
+use Rattle.hls_owners.proofs.owners.seated.Given as goal
 
 abbrev pub invariant-loop-place : goal.invariant-loop-place
 invariant-loop-place l = record {

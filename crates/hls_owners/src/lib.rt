@@ -1,0 +1,6 @@
+//! A table of the places of a frame and whose they are, as seats come and go.
+#![tactic(auto)]
+
+mod owners;
+
+pub use owners::{Owners, PLACES, after_event, owned_below};
