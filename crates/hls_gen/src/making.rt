@@ -1,5 +1,5 @@
 // Items that are made one by one.
-ghost use Rattle.std.specs.Prelude.{◌≡◌, ◌<◌, ◌≤◌, ◌++◌, ◌∷◌, ◌+◌, [], OnOk, codes, Some, None, true};
+ghost use Rattle.std.specs.Prelude.{◌≡◌, ◌<◌, ◌+◌, OnOk, Some, None, true};
 ghost use Rattle.hls_chron.specs.Name.{IsName};
 ghost use Rattle.hls_gen.specs.Generated.{with_command, with_plain, with_reserved, with_weighted, with_wake};
 ghost use Rattle.hls_gen.specs.Generated.{thread_name, under, reserved, weighted, turned, load};

@@ -1,5 +1,5 @@
 // The perches of a join.
-ghost use Rattle.std.specs.Prelude.{◌≡◌, ◌+◌, ◌≤◌, ◌∷◌, ◌++◌, [], OnOk, IfOk, vec_len};
+ghost use Rattle.std.specs.Prelude.{◌≡◌, ◌+◌, ◌≤◌, OnOk, IfOk, vec_len};
 ghost use Rattle.hls_text.specs.Tokens.{tokens_of};
 ghost use Rattle.hls_lang.specs.Words.{Gives, Keeps};
 ghost use Rattle.hls_lang.specs.Reading.{is_at, is_used, fresh_name_at, port_at, next_port_at, comma_port_at};
@@ -68,10 +68,10 @@ fn next_port<'a>(perches: &mut Vec<Perch>, line: &'a [u8]) -> Result<&'a [u8], L
     ensures one { OnOk result (vec_len perches.new ≡ vec_len perches.old + 1) }
 {
     match port(perches, line) {
-        Ok((perch, rest)) => {
-            perches.push(perch)?;
-            Ok(rest)
-        }
+        Ok((perch, rest)) => match perches.push(perch) {
+            Ok(()) => Ok(rest),
+            Err(wanting) => Err(LineError::Memory(AllocError::from(wanting))),
+        },
         Err(cause) => Err(LineError::Fault(cause)),
     }
 }
