@@ -1,5 +1,5 @@
 -- No chain of schedulers is longer than the commands that loaded them.
-use Rattle.std.proofs.Common.{◌≡◌, ℕ, zero, suc, inl, inr, ◌+◌, ◌<◌, ◌≤◌, List, [], ◌∷◌, Bool, true, false}
+use Rattle.std.proofs.Common.{◌≡◌, ℕ, zero, suc, inl, inr, ◌+◌, ◌<◌, ◌≤◌, List, [], ◌∷◌, Bool, true}
 use Rattle.std.proofs.Common.{length}
 use Rattle.std.proofs.Common.{refl, sym, ap, ◌∙◌, subst, arith}
 use Rattle.std.specs.Prelude.{Option, Some, None, Contains, nat_lt}
@@ -8,6 +8,7 @@ use Rattle.hls_text.specs.Lines.{Text}
 use Rattle.hls_chron.specs.declared.plain.Terms.{Terms}
 use Rattle.hls_chron.specs.Seats.{terms_at}
 use Rattle.hls_chron.specs.Ticks.{one_if}
+use Rattle.hls_chron.proofs.CountLaws.{one_if-le}
 use Rattle.hls_report_text.specs.declared.report.Answered.{Answered}
 use Rattle.hls_legal.specs.Hierarchy.{Hierarchy, Node, Loaded, Admitted, At, book_of}
 use Rattle.hls_legal.specs.Steps.{is_scheduler}
@@ -26,47 +27,37 @@ use Rattle.hls_accounts.proofs.Seatings.{AreSeatedBy, below_by_names, names_by_b
 
 -- ---- how many have a lower rank
 
-abbrev lower : (rank : ℕ → ℕ) → (r : ℕ) → List ℕ → ℕ
+abbrev pub lower : (rank : ℕ → ℕ) → (r : ℕ) → List ℕ → ℕ
 lower rank r [] = 0
 lower rank r (s ∷ xs) = one_if (nat_lt (rank s) r) + lower rank r xs
 
-one_if-less : (b : Bool) → one_if b ≤ 1
-one_if-less true = omega arith
-one_if-less false = omega arith
-
-one_if-true : (b : Bool) → b ≡ true → one_if b ≡ 1
-one_if-true b e = ap one_if e
-
-one_if-false : (b : Bool) → b ≡ false → one_if b ≡ 0
-one_if-false b e = ap one_if e
+pub lower-length : (rank : ℕ → ℕ) (r : ℕ) (xs : List ℕ) → lower rank r xs ≤ length xs
+lower-length rank r [] = omega arith
+lower-length rank r (s ∷ xs) = omega (arith, lower-length rank r xs, one_if-le (nat_lt (rank s) r))
 
 more_pass : (a r q : ℕ) → r ≤ q → one_if (nat_lt a r) ≤ one_if (nat_lt a q)
 more_pass a r q le = elim (cases_lt a r) [
   | inl lt ↦
-      let on = one_if-true (nat_lt a q) (lt-ltb a q (omega arith)) in
-      let few = one_if-less (nat_lt a r) in
+      let on : one_if (nat_lt a q) ≡ 1 = ap one_if (lt-ltb a q (omega arith)) in
+      let few = one_if-le (nat_lt a r) in
       omega arith
   | inr ge ↦
-      let off = one_if-false (nat_lt a r) (le-ltb a r ge) in
+      let off : one_if (nat_lt a r) ≡ 0 = ap one_if (le-ltb a r ge) in
       omega arith
 ]
-
-lower-length : (rank : ℕ → ℕ) (r : ℕ) (xs : List ℕ) → lower rank r xs ≤ length xs
-lower-length rank r [] = omega arith
-lower-length rank r (s ∷ xs) = omega (arith, lower-length rank r xs, one_if-less (nat_lt (rank s) r))
 
 lower-more : (rank : ℕ → ℕ) (r q : ℕ) (xs : List ℕ) → r ≤ q → lower rank r xs ≤ lower rank q xs
 lower-more rank r q [] le = omega arith
 lower-more rank r q (s ∷ xs) le = omega (arith, lower-more rank r q xs le, more_pass (rank s) r q le)
 
-lower-strict : (rank : ℕ → ℕ) (p q : ℕ) (xs : List ℕ) → rank p < q → Contains xs p
+pub lower-strict : (rank : ℕ → ℕ) (p q : ℕ) (xs : List ℕ) → rank p < q → Contains xs p
     → lower rank (rank p) xs + 1 ≤ lower rank q xs
 lower-strict rank p q [] lt has = absurd (none_in p has)
 lower-strict rank p q (s ∷ xs) lt has = elim (in_cases s xs p has) [
   | First same ↦
       let e : rank s ≡ rank p = ap rank same in
-      let off = one_if-false (nat_lt (rank s) (rank p)) (le-ltb (rank s) (rank p) (omega arith)) in
-      let on = one_if-true (nat_lt (rank s) q) (lt-ltb (rank s) q (omega arith)) in
+      let off : one_if (nat_lt (rank s) (rank p)) ≡ 0 = ap one_if (le-ltb (rank s) (rank p) (omega arith)) in
+      let on : one_if (nat_lt (rank s) q) ≡ 1 = ap one_if (lt-ltb (rank s) q (omega arith)) in
       omega (arith, lower-more rank (rank p) q xs (omega arith))
   | Later rest ↦
       omega (arith, lower-strict rank p q xs lt rest, more_pass (rank s) (rank p) q (omega arith))

@@ -436,7 +436,7 @@ step_ordered c h before tick (said.Block name) (Done by) (Block k) reached can d
 step_ordered c h before tick _ (Done by) _ reached can does at told ord = absurd does
 
 -- commands leave the past
-no_elapse : (h : Hierarchy) (command : Command) (asking : ℕ → Bool) (masks : ℕ → ℕ) (path : Option Path)
+pub no_elapse : (h : Hierarchy) (command : Command) (asking : ℕ → Bool) (masks : ℕ → ℕ) (path : Option Path)
     → Does h command (Elapse asking masks path) → ⊥
 no_elapse h (said.Load name config perches) asking masks path does = does
 no_elapse h (said.Thread name perch) asking masks path does = does

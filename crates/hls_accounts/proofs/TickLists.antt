@@ -57,7 +57,7 @@ past_it : (t : ℕ) (s : Stretch) → s.from ≤ t → s.to < t → has_tick t s
 past_it t s lo hi =
     ap (λ b. b && nat_le t s.to) (le-leb s.from t lo) ∙ lt-leb t s.to hi
 
-path_first : (s : Stretch) (stretches : List Stretch) (t : ℕ) (b : Bool) → has_tick t s ≡ b
+pub path_first : (s : Stretch) (stretches : List Stretch) (t : ℕ) (b : Bool) → has_tick t s ≡ b
     → path_at (s ∷ stretches) t ≡ cond b s.path (path_at stretches t)
 unfolding path_at
 path_first s stretches t true e =

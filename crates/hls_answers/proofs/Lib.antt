@@ -7,6 +7,7 @@ pub mod Shallow
 pub mod Below
 pub mod FreeSlots
 pub mod Loads
+pub mod KindLaws
 pub mod Unrefused
 pub mod LoadsDone
 pub mod Done

@@ -1,11 +1,9 @@
 -- What is known of the places of a command that no refusal applies to.
-use Rattle.std.proofs.Common.{◌≡◌, ◌≢◌, ◌⊎◌, ℕ, zero, suc, inl, inr, ◌+◌, ◌<◌, ◌≤◌, List, Option}
-use Rattle.std.proofs.Common.{Some, None, true, refl, sym, ap, subst, arith, slice_get}
+use Rattle.std.proofs.Common.{◌≡◌, ℕ, zero, suc, inl, inr, ◌+◌, ◌<◌, ◌≤◌, List, Option}
+use Rattle.std.proofs.Common.{Some, None, refl, sym, ap, subst, arith, slice_get}
 use Rattle.std.specs.Prelude.{is_some}
-use Rattle.std.proofs.lemmas.Bool.{cases_lt, cases_Bool}
+use Rattle.std.proofs.lemmas.Bool.{cases_lt}
 use Rattle.hls_text.specs.Lines.{Text}
-use Rattle.hls_chron.specs.declared.plain.Kind.{Kind}
-use Rattle.hls_chron.specs.declared.plain.Kind.TheVariants as kinds
 use Rattle.hls_chron.specs.declared.plain.Terms.{Terms}
 use Rattle.hls_chron.specs.declared.plain.Terms.TheVariants as terms
 use Rattle.hls_chron.specs.Kinds.{kind_of, terms_kind}
@@ -35,39 +33,12 @@ use Rattle.hls_answers.specs.Levels.{HasChainAfter}
 use Rattle.hls_answers.specs.Dues.{Due, dues, config_there, haves_there}
 use Rattle.hls_answers.specs.Refusals.{PlacesThread}
 use Rattle.hls_answers.specs.Answers.{RefusesCommand, RefusesPlace, Applies}
-use Rattle.hls_answers.specs.Kit.{is_kind}
 use Rattle.hls_answers.specs.Doable.{AreDerivable}
 use Rattle.hls_answers.proofs.Found.{named_there}
+use Rattle.hls_answers.proofs.KindLaws.{kind_cases}
 use Rattle.hls_answers.proofs.FreeSlots.{some_free}
 use Rattle.hls_supply.proofs.Follows.{derivation_follows}
 use Rattle.hls_answers.proofs.Shallow.{none_greatest}
-
--- ---- kinds can be told apart
-
-kind_itself : (a : Kind) → is_kind a a ≡ true
-kind_itself kinds.Cpu = refl
-kind_itself kinds.Fp = refl
-kind_itself kinds.Edf = refl
-kind_itself kinds.Sfq = refl
-kind_itself kinds.Rr = refl
-kind_itself kinds.Wheel = refl
-kind_itself kinds.Join = refl
-
-kind_same : (a b : Kind) → is_kind a b ≡ true → a ≡ b
-kind_same kinds.Cpu kinds.Cpu e = refl
-kind_same kinds.Fp kinds.Fp e = refl
-kind_same kinds.Edf kinds.Edf e = refl
-kind_same kinds.Sfq kinds.Sfq e = refl
-kind_same kinds.Rr kinds.Rr e = refl
-kind_same kinds.Wheel kinds.Wheel e = refl
-kind_same kinds.Join kinds.Join e = refl
-kind_same _ _ e = absurd (cc)
-
-pub kind_cases : (a b : Kind) → (a ≡ b) ⊎ (a ≢ b)
-kind_cases a b = elim (cases_Bool (is_kind a b)) [
-  | inl on ↦ inl (kind_same a b on)
-  | inr off ↦ inr (λ e. (let itself = kind_itself a in let same = ap (is_kind a) e in cc))
-]
 
 -- ---- a seat for a perch
 
@@ -81,7 +52,7 @@ abbrev pub LeavesRoom : Hierarchy → List Seat → Type 0
 LeavesRoom h left = (p : ℕ) (s : Scheduler) → h.nodes p ≡ Some (Loaded s) → ¬ IsFull s.config s.book
     → ¬ IsFull s.config (with_marks s.book (leavings left p))
 
-spot_terms : (spot : Spot) → grammar.IsSpot spot → TermsInRange (terms_in spot)
+pub spot_terms : (spot : Spot) → grammar.IsSpot spot → TermsInRange (terms_in spot)
 spot_terms Cpu is = tt
 spot_terms (Under sched terms.Cpu) is = absurd is.1
 spot_terms (Under sched (terms.Prio priority)) is = is.1

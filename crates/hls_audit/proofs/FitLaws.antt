@@ -8,9 +8,8 @@ use Rattle.std.proofs.lemmas.List.Elements.{All-nil, All-cons}
 use Rattle.hls_text.specs.Lines.{Text}
 use Rattle.hls_chron.specs.declared.plain.Config.{Config}
 use Rattle.hls_chron.specs.declared.plain.Config.TheVariants as configs
-use Rattle.hls_chron.specs.declared.plain.Terms.TheVariants as terms
 use Rattle.hls_chron.specs.Kinds.{port_count}
-use Rattle.hls_chron.specs.Ranges.{ConfigInRange, TermsInRange}
+use Rattle.hls_chron.specs.Ranges.{ConfigInRange}
 use Rattle.hls_guarantee.specs.declared.Guarantee.{Guarantee}
 use Rattle.hls_guarantee.specs.declared.Guarantee.TheVariants as kept
 use Rattle.hls_guarantee.specs.Limits.{IsValid}
@@ -20,13 +19,12 @@ use Rattle.hls_scenario.specs.declared.scenario.Perch.{Perch}
 use Rattle.hls_scenario.specs.declared.scenario.Command.{Command}
 use Rattle.hls_scenario.specs.declared.scenario.Command.TheVariants as said
 use Rattle.hls_scenario.specs.Grammar.{IsLoad, IsPerch, IsCommand}
-use Rattle.hls_scenario.specs.Grammar as grammar
 use Rattle.hls_scenario.proofs.CanonicalPrinting.{load_perches}
 use Rattle.hls_report_text.specs.declared.report.Answered.{Answered}
 use Rattle.hls_accounts.specs.Commands.{is_done}
-use Rattle.hls_accounts.specs.Tells.{terms_in}
 use Rattle.hls_accounts.proofs.GoodStays.{valid_narrow}
 use Rattle.hls_answers.specs.Moment.{new_name, old_name, spots_of}
+use Rattle.hls_answers.proofs.Unrefused.{spot_terms}
 use Rattle.hls_clauses.specs.declared.member.Sort.{Sort}
 use Rattle.hls_clauses.specs.declared.member.Sort.TheVariants.{Scheduler, Thread}
 use Rattle.hls_clauses.specs.declared.member.Member.{Member}
@@ -39,16 +37,6 @@ use Rattle.hls_clauses.specs.Dues.{is_at, dues_under, dues}
 use Rattle.hls_audit.specs.Inside.Fits.{HasSeats, IsFit, IsFitDue}
 
 -- ---- one seat
-
-spot_terms : (spot : Spot) → grammar.IsSpot spot → TermsInRange (terms_in spot)
-spot_terms Cpu is = tt
-spot_terms (Under sched terms.Cpu) is = absurd is.1
-spot_terms (Under sched (terms.Prio priority)) is = is.1
-spot_terms (Under sched (terms.Res hard x y)) is = is.1
-spot_terms (Under sched (terms.Weight weight)) is = is.1
-spot_terms (Under sched (terms.Slots places)) is = is.1
-spot_terms (Under sched terms.Turn) is = tt
-spot_terms (Under sched terms.Sole) is = tt
 
 wants_valid : (perches : List Perch) → AllByRecursion IsPerch perches → All IsValid (wants perches)
 wants_valid [] are = All-nil IsValid

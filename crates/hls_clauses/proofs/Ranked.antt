@@ -1,59 +1,18 @@
 -- No chain of seats is longer than there are members.
-use Rattle.std.proofs.Common.{◌≡◌, ℕ, zero, suc, inl, inr, ◌+◌, ◌<◌, ◌≤◌, List, [], ◌∷◌, true, length}
+use Rattle.std.proofs.Common.{◌≡◌, ℕ, zero, suc, ◌<◌, ◌≤◌, List, [], ◌∷◌, true, length}
 use Rattle.std.proofs.Common.{refl, ap, subst, arith}
-use Rattle.std.specs.Prelude.{Contains, nat_lt, Option, Some, None}
-use Rattle.std.proofs.lemmas.Bool.{cases_lt, lt-ltb, le-ltb}
+use Rattle.std.specs.Prelude.{Option, Some, None}
 use Rattle.hls_text.specs.Lines.{Text}
-use Rattle.hls_chron.specs.Ticks.{one_if}
-use Rattle.hls_chron.proofs.CountLaws.{one_if-le}
 use Rattle.hls_legal.specs.Hierarchy.{Hierarchy, Node, Loaded, Admitted, name_of}
 use Rattle.hls_legal.specs.Steps.{is_scheduler}
 use Rattle.hls_legal.specs.Legal.{SitsOn}
 use Rattle.hls_legal.specs.Linked.{SitsBelow, SitsAt}
 use Rattle.hls_legal.specs.Readings.{IsUnderBy}
 use Rattle.hls_legal.proofs.Kept.{IsSound}
-use Rattle.hls_legal.proofs.Listings.{First, Later, in_cases, none_in}
-use Rattle.hls_accounts.proofs.Depths.{sits_on_scheduler}
+use Rattle.hls_accounts.proofs.Depths.{lower, lower-length, lower-strict, sits_on_scheduler}
 use Rattle.hls_accounts.proofs.Reached.{IsReached, seated as seated_of, kept as kept_of}
 use Rattle.hls_clauses.specs.declared.member.Member.{Member}
 use Rattle.hls_clauses.proofs.Trees.{AreMembers, IsTreeOf}
-
--- how many have a lower rank
-abbrev lower : (rank : ℕ → ℕ) → (r : ℕ) → List ℕ → ℕ
-lower rank r [] = 0
-lower rank r (s ∷ xs) = one_if (nat_lt (rank s) r) + lower rank r xs
-
-lower-length : (rank : ℕ → ℕ) (r : ℕ) (xs : List ℕ) → lower rank r xs ≤ length xs
-lower-length rank r [] = omega arith
-lower-length rank r (s ∷ xs) = omega (arith, lower-length rank r xs, one_if-le (nat_lt (rank s) r))
-
-more_pass : (a r q : ℕ) → r ≤ q → one_if (nat_lt a r) ≤ one_if (nat_lt a q)
-more_pass a r q le = elim (cases_lt a r) [
-  | inl lt ↦
-      let on : one_if (nat_lt a q) ≡ 1 = ap one_if (lt-ltb a q (omega arith)) in
-      let few = one_if-le (nat_lt a r) in
-      omega arith
-  | inr ge ↦
-      let off : one_if (nat_lt a r) ≡ 0 = ap one_if (le-ltb a r ge) in
-      omega arith
-]
-
-lower-more : (rank : ℕ → ℕ) (r q : ℕ) (xs : List ℕ) → r ≤ q → lower rank r xs ≤ lower rank q xs
-lower-more rank r q [] le = omega arith
-lower-more rank r q (s ∷ xs) le = omega (arith, lower-more rank r q xs le, more_pass (rank s) r q le)
-
-lower-strict : (rank : ℕ → ℕ) (p q : ℕ) (xs : List ℕ) → rank p < q → Contains xs p
-    → lower rank (rank p) xs + 1 ≤ lower rank q xs
-lower-strict rank p q [] lt has = absurd (none_in p has)
-lower-strict rank p q (s ∷ xs) lt has = elim (in_cases s xs p has) [
-  | First same ↦
-      let e : rank s ≡ rank p = ap rank same in
-      let off : one_if (nat_lt (rank s) (rank p)) ≡ 0 = ap one_if (le-ltb (rank s) (rank p) (omega arith)) in
-      let on : one_if (nat_lt (rank s) q) ≡ 1 = ap one_if (lt-ltb (rank s) q (omega arith)) in
-      omega (arith, lower-more rank (rank p) q xs (omega arith))
-  | Later rest ↦
-      omega (arith, lower-strict rank p q xs lt rest, more_pass (rank s) (rank p) q (omega arith))
-]
 
 members_length : (h : Hierarchy) (ks : List ℕ) (tree : List Member) → AreMembers h ks tree
     → length ks ≡ length tree

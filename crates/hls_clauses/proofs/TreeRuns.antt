@@ -7,7 +7,6 @@ use Rattle.std.proofs.lemmas.Bool.{cases_eq, le-leb, lt-leb}
 use Rattle.std.proofs.lemmas.List.{append-nil, append_assoc}
 use Rattle.std.proofs.lemmas.List.Elements.{filter-append}
 use Rattle.hls_scenario.specs.declared.scenario.Command.{Command}
-use Rattle.hls_scenario.specs.declared.scenario.Command.TheVariants as said
 use Rattle.hls_scenario.proofs.CanonicalLines.{all_append}
 use Rattle.hls_report_text.specs.declared.report.Answer.{Answer}
 use Rattle.hls_report_text.specs.declared.report.Answer.TheVariants.{Done, Refused}
@@ -19,10 +18,11 @@ use Rattle.hls_legal.specs.Steps.{state}
 use Rattle.hls_legal.specs.Steps as steps
 use Rattle.hls_legal.specs.Legal.{Can, IsLegal}
 use Rattle.hls_accounts.specs.Schedule.{path_at}
-use Rattle.hls_accounts.specs.Tells.{Does, Answers, Names, TellsFrom, Tells}
+use Rattle.hls_accounts.specs.Tells.{Answers, Names, TellsFrom, Tells}
 use Rattle.hls_accounts.proofs.ToldSteps.{each_same}
 use Rattle.hls_accounts.proofs.ToldRuns.{one_more}
 use Rattle.hls_accounts.proofs.Reached.{IsReached, reached_next, reached_start}
+use Rattle.hls_accounts.proofs.OrderRuns.{no_elapse}
 use Rattle.hls_answers.specs.Moment.{Boxes}
 use Rattle.hls_answers.specs.Answers.{IsAnswer}
 use Rattle.hls_answers.specs.Along.{AnswersAlong}
@@ -147,16 +147,6 @@ tree_here c t before left all early late =
     ap tree_of (ap (filter (by t)) all ∙ filter-append (by t) before left
     ∙ ap (λ l. l ++ filter (by t) left) (early_kept t before early)
     ∙ ap (λ l. before ++ l) (late_gone t left late) ∙ append-nil before)
-
-no_elapse : (h : Hierarchy) (command : Command) (asking : ℕ → Bool) (masks : ℕ → ℕ) (path : Option Path)
-    → Does h command (Elapse asking masks path) → ⊥
-no_elapse h (said.Load name config perches) asking masks path does = does
-no_elapse h (said.Thread name perch) asking masks path does = does
-no_elapse h (said.End name) asking masks path does = does
-no_elapse h (said.Unload name) asking masks path does = does
-no_elapse h (said.Move name perch) asking masks path does = does
-no_elapse h (said.Wake name burst) asking masks path does = does
-no_elapse h (said.Block name) asking masks path does = does
 
 -- commands take no time
 now_same : (h : Hierarchy) (command : Command) (answer : Answer) (step : Step) → Answers h command answer step

@@ -6,7 +6,7 @@ use Rattle.hls_edf_laws.specs.declared.server.Server.{Server}
 use Rattle.hls_edf_laws.specs.Servers.{AreSound, HaveRoom, replenished, is_due, claimed_by, parts_in}
 use Rattle.hls_edf_laws.specs.Servers.{claimed_in}
 use Rattle.hls_edf_laws.proofs.Owed.{owed-due, budget-within, spent}
-use Rattle.hls_edf_laws.proofs.Sums.{sum-at}
+use Rattle.hls_kinds.proofs.Sums.{sum-at}
 use Rattle.hls_edf_laws.proofs.Claimed.{claimed-on, due-off-not, due-on-not}
 use Rattle.hls_edf_laws.proofs.Replenishing.{replenished-set, replenished-kept}
 

@@ -1,4 +1,3 @@
-pub mod Sums
 pub mod Owed
 pub mod Claimed
 pub mod Replenishing

@@ -6,7 +6,7 @@ use Rattle.hls_kinds.specs.Slots.{sum_below}
 use Rattle.hls_edf_laws.specs.declared.server.Server.{Server}
 use Rattle.hls_edf_laws.specs.Servers.{IsServer, AreSound, HaveRoom, vacant, fresh, marked, claimed_by}
 use Rattle.hls_edf_laws.specs.Servers.{parts_in, claimed_in}
-use Rattle.hls_edf_laws.proofs.Sums.{sum-le, sum-one, sum-mul, sum-add}
+use Rattle.hls_kinds.proofs.Sums.{sum-le, sum-one, sum-mul, sum-add}
 use Rattle.hls_edf_laws.proofs.Claimed.{due-marked, due-vacant, due-fresh, due-gone}
 
 vacant-sound : (whole : ℕ) → IsServer whole vacant

@@ -22,7 +22,7 @@ use Rattle.hls_edf_laws.specs.Servers.{vacant, marked}
 use Rattle.hls_edf_laws.specs.Recomputed.{server_before}
 use Rattle.hls_edf_laws.specs.Books.{held, server_at, IsTenant}
 use Rattle.hls_edf_laws.proofs.Parts.{parts-paid}
-use Rattle.hls_edf_laws.proofs.Sums.{sum-eq}
+use Rattle.hls_kinds.proofs.Sums.{sum-eq}
 use Rattle.hls_edf_laws.proofs.RowSteps.{server_now, HasTenants}
 
 abbrev pub occupant_of : Ledger → ℕ → Tenant → Option Terms

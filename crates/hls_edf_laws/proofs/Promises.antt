@@ -28,7 +28,7 @@ use Rattle.hls_edf_laws.specs.declared.server.Server.{Server}
 use Rattle.hls_edf_laws.specs.Servers.{AreSound, HaveRoom, vacant, claimed_by}
 use Rattle.hls_edf_laws.specs.Recomputed.{server_within}
 use Rattle.hls_edf_laws.specs.Books.{server_at, IsGiven, IsTenant, KeepsReservations, ReachesDeadline}
-use Rattle.hls_edf_laws.proofs.Sums.{sum-eq}
+use Rattle.hls_kinds.proofs.Sums.{sum-eq}
 use Rattle.hls_edf_laws.proofs.Claimed.{due-vacant}
 use Rattle.hls_chron.proofs.PartLaws.{parts-rate, parts-near}
 use Rattle.hls_edf_laws.proofs.Parts.{parts-big}

@@ -7,7 +7,7 @@ use Rattle.hls_edf_laws.specs.declared.server.Server.{Server}
 use Rattle.hls_edf_laws.specs.Servers.{IsServer, AreSound, HaveRoom, renewed, marked, replenished, is_due}
 use Rattle.hls_edf_laws.specs.Servers.{claimed_by, parts_in, claimed_in}
 use Rattle.hls_edf_laws.proofs.Owed.{renewed-rate, kept-rate, renewed-due}
-use Rattle.hls_edf_laws.proofs.Sums.{sum-le, sum-eq}
+use Rattle.hls_kinds.proofs.Sums.{sum-le, sum-eq}
 use Rattle.hls_edf_laws.proofs.Claimed.{due-marked, due-off, due-off-not, due-on}
 
 pub replenished-off : (whole : ℕ) (c : Server) (now : ℕ) → replenished whole c false now ≡ marked c false

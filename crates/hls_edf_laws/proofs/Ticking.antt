@@ -9,7 +9,7 @@ use Rattle.hls_edf_laws.specs.declared.server.Server.{Server}
 use Rattle.hls_edf_laws.specs.Servers.{IsServer, AreSound, HaveRoom, claimed_by, parts_in, claimed_in}
 use Rattle.hls_edf_laws.specs.Choosing.{IsHit, IsChosen, IsTick}
 use Rattle.hls_edf_laws.proofs.Owed.{owed-due, owed-later, idle-tick, owed-charged, owed-empty, owed-beyond}
-use Rattle.hls_edf_laws.proofs.Sums.{sum-le, sum-eq, sum-one, sum-mul}
+use Rattle.hls_kinds.proofs.Sums.{sum-le, sum-eq, sum-one, sum-mul}
 
 pub owed-less : (whole budget deadline rate bound : ℕ) → owed whole (budget - 1) deadline rate bound
     ≤ owed whole budget deadline rate bound

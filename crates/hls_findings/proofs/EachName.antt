@@ -20,7 +20,8 @@ use Rattle.hls_clauses.specs.Clauses.{RunsUnready}
 use Rattle.hls_watch.specs.First.{FirstAt}
 use Rattle.hls_findings.specs.Inside.Unready.{IsUnready}
 use Rattle.hls_findings.proofs.EachStay.{HasEarly, first_same}
-use Rattle.hls_findings.proofs.OnPaths.{path_first, path_none, path_early, last_is, no_name}
+use Rattle.hls_accounts.proofs.TickLists.{path_first}
+use Rattle.hls_findings.proofs.OnPaths.{path_none, path_early, last_is, no_name}
 
 -- ---- from spans of ticks
 

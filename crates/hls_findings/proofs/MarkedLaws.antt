@@ -19,7 +19,8 @@ use Rattle.hls_findings.specs.Inside.Lines.{serves}
 use Rattle.hls_findings.specs.Inside.Lookups.{AreKeys, Serves, ServesNamed}
 use Rattle.hls_findings.specs.Inside.Ticks.{TellsServed}
 use Rattle.hls_findings.proofs.EachName.{has_thread}
-use Rattle.hls_findings.proofs.OnPaths.{path_first, path_none, no_name}
+use Rattle.hls_accounts.proofs.TickLists.{path_first}
+use Rattle.hls_findings.proofs.OnPaths.{path_none, no_name}
 use Rattle.hls_findings.proofs.RunLaws.{path_is, run_since}
 
 -- ---- what a report says

@@ -1,9 +1,8 @@
 -- The path of a tick.
 use Rattle.std.proofs.Common.{◌≡◌, ℕ, zero, suc, ◌+◌, ◌-◌, ◌<◌, ◌≤◌, List, [], ◌∷◌}
-use Rattle.std.proofs.Common.{refl, sym, ap, ◌∙◌, subst, arith, cond}
+use Rattle.std.proofs.Common.{refl, sym, ap, ◌∙◌, subst, arith}
 use Rattle.std.proofs.Common.{length, get_or, take}
-use Rattle.std.specs.Prelude.{Option, Some, None, Bool, true, false, ◌&&◌, nat_le, find, slice_get, option_map}
-use Rattle.std.specs.Prelude.{option_and_then}
+use Rattle.std.specs.Prelude.{Option, Some, None, Bool, true, false, ◌&&◌, nat_le, slice_get, option_map}
 use Rattle.std.specs.List.{AllByRecursion}
 use Rattle.hls_text.specs.Lines.{Text}
 use Rattle.hls_chron.specs.Name.{IsName}
@@ -12,22 +11,13 @@ use Rattle.hls_report_text.specs.declared.report.Path.{Path}
 use Rattle.hls_report_text.specs.Content.{Content, path_names}
 use Rattle.hls_report_text.specs.WellFormed.{Cover, IsPath, IsContent}
 use Rattle.hls_accounts.specs.Schedule.{has_tick, path_at, last_name}
+use Rattle.hls_accounts.proofs.TickLists.{path_first}
 use Rattle.hls_plain_accounts.proofs.ScheduleLaws.{last_of_path}
 
 abbrev Way : Type 0
 Way = Option (List Text)
 
 -- ---- which ticks have paths, and what paths are
-
-pub path_first : (s : Stretch) (stretches : List Stretch) (t : ℕ) (b : Bool) → has_tick t s ≡ b
-    → path_at (s ∷ stretches) t ≡ cond b s.path (path_at stretches t)
-unfolding path_at
-path_first s stretches t true e =
-    ap (λ (x : Bool). option_and_then (λ (r : Stretch). r.path)
-    (cond x (Some s) (find (has_tick t) stretches))) e
-path_first s stretches t false e =
-    ap (λ (x : Bool). option_and_then (λ (r : Stretch). r.path)
-    (cond x (Some s) (find (has_tick t) stretches))) e
 
 pub path_none : (t : ℕ) → path_at [] t ≡ None
 unfolding path_at

@@ -9,3 +9,4 @@ pub mod MadeLaws
 pub mod Rooms
 pub mod ServingLaws
 pub mod Props
+pub mod Sums

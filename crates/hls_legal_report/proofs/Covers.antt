@@ -1,22 +1,13 @@
 -- The stretches of a report are determined by the paths of its ticks.
 use Rattle.std.proofs.Common.{◌≡◌, ℕ, ◌+◌, ◌<◌, ◌≤◌, inl, inr, List, [], ◌∷◌, Option, Some}
-use Rattle.std.proofs.Common.{Bool, true, false, refl, sym, ap, ◌∙◌, subst, arith, cond}
-use Rattle.std.specs.Prelude.{nat_le, ◌&&◌, find, option_and_then}
+use Rattle.std.proofs.Common.{true, false, refl, sym, ap, ◌∙◌, subst, arith}
+use Rattle.std.specs.Prelude.{nat_le, ◌&&◌}
 use Rattle.std.proofs.lemmas.Bool.{cases_lt}
 use Rattle.hls_text.specs.Lines.{Text}
 use Rattle.hls_report_text.specs.declared.stretch.Stretch.{Stretch}
 use Rattle.hls_report_text.specs.WellFormed.{Cover}
-use Rattle.hls_accounts.specs.Schedule.{has_tick, path_at}
-
-path_first : (s : Stretch) (stretches : List Stretch) (t : ℕ) (b : Bool) → has_tick t s ≡ b
-    → path_at (s ∷ stretches) t ≡ cond b s.path (path_at stretches t)
-unfolding path_at
-path_first s stretches t true e =
-    ap (λ (x : Bool). option_and_then (λ (r : Stretch). r.path)
-    (cond x (Some s) (find (has_tick t) stretches))) e
-path_first s stretches t false e =
-    ap (λ (x : Bool). option_and_then (λ (r : Stretch). r.path)
-    (cond x (Some s) (find (has_tick t) stretches))) e
+use Rattle.hls_accounts.specs.Schedule.{path_at}
+use Rattle.hls_accounts.proofs.TickLists.{path_first}
 
 path_here : (s : Stretch) (stretches : List Stretch) (t : ℕ) → s.from ≤ t → t ≤ s.to
     → path_at (s ∷ stretches) t ≡ s.path

@@ -27,7 +27,7 @@ use Rattle.hls_kinds.proofs.TenantLaws.{seated_in}
 use Rattle.hls_wheel_laws.proofs.OwnerLaws.{owner_at-mark}
 use Rattle.hls_edf_laws.proofs.MarkSteps.{asked-mark, served-mark}
 use Rattle.hls_edf_laws.proofs.Occupants.{occupant_of, occupant-is}
-use Rattle.hls_sfq_laws.proofs.Sums.{sum-le}
+use Rattle.hls_kinds.proofs.Sums.{sum-le}
 
 -- the terms at a slot after a leaving are those before it, or none
 left_terms : (at slot : ℕ) (some : Option Terms) (terms : Terms)

@@ -9,30 +9,9 @@ use Rattle.hls_sched.specs.Blank.{without_last}
 use Rattle.hls_sched.specs.GoodKit.{boxes_of, place_of}
 use Rattle.hls_sched.specs.declared.kit.Kit.{Kit}
 use Rattle.hls_answers.specs.Kit.{is_kind, with_taken}
+use Rattle.hls_answers.proofs.KindLaws.{kind_same, kind_other}
 use Rattle.hls_tree.specs.Kits.{IsTakenFrom}
 use Rattle.hls_manager.specs.Outcomes.{boxes_in}
-
-kind_same : (a b : Kind) → is_kind a b ≡ true → a ≡ b
-kind_same kinds.Cpu kinds.Cpu e = refl
-kind_same kinds.Fp kinds.Fp e = refl
-kind_same kinds.Edf kinds.Edf e = refl
-kind_same kinds.Sfq kinds.Sfq e = refl
-kind_same kinds.Rr kinds.Rr e = refl
-kind_same kinds.Wheel kinds.Wheel e = refl
-kind_same kinds.Join kinds.Join e = refl
-kind_same _ _ e = absurd (cc)
-
-kind_itself : (a : Kind) → is_kind a a ≡ true
-kind_itself kinds.Cpu = refl
-kind_itself kinds.Fp = refl
-kind_itself kinds.Edf = refl
-kind_itself kinds.Sfq = refl
-kind_itself kinds.Rr = refl
-kind_itself kinds.Wheel = refl
-kind_itself kinds.Join = refl
-
-kind_other : (a b : Kind) → is_kind a b ≡ false → a ≢ b
-kind_other a b off e = (let itself = kind_itself a in let same = ap (is_kind a) e in cc)
 
 kind_at : ℕ → Kind
 kind_at zero = kinds.Fp

@@ -31,6 +31,7 @@ use Rattle.hls_accounts.specs.Tells.{HasName, terms_in}
 use Rattle.hls_answers.specs.Moment.{node_of}
 use Rattle.hls_answers.specs.Answers.{number, RefusesPlace}
 use Rattle.hls_answers.proofs.Found.{named_is}
+use Rattle.hls_answers.proofs.Unrefused.{spot_terms}
 use Rattle.hls_tree.specs.Reads.{IsLoaded, IsParent, IsRootAnswer, IsSeatAnswer}
 use Rattle.hls_tree.specs.declared.seat.Seat.{Seat}
 use Rattle.hls_manager.specs.Faults.{fault_refusal}
@@ -97,16 +98,6 @@ module _ (h : Hierarchy) (perches : List Perch) where
       })
 
 -- ---- the numbers of a seat that is wanted
-
-spot_terms : (spot : Spot) → grammar.IsSpot spot → TermsInRange (terms_in spot)
-spot_terms Cpu is = tt
-spot_terms (Under sched terms.Cpu) is = absurd is.1
-spot_terms (Under sched (terms.Prio priority)) is = is.1
-spot_terms (Under sched (terms.Res hard x y)) is = is.1
-spot_terms (Under sched (terms.Weight weight)) is = is.1
-spot_terms (Under sched (terms.Slots places)) is = is.1
-spot_terms (Under sched terms.Turn) is = tt
-spot_terms (Under sched terms.Sole) is = tt
 
 pub in_range : (h : Hierarchy) (perch : Perch) (seat : Seat) → IsWanted h perch seat → grammar.IsPerch perch
     → IsInRange seat

@@ -25,7 +25,7 @@ use Rattle.hls_kinds.proofs.MarkLaws.{tenant_at-same, tenant_at-unmarked}
 use Rattle.hls_promise.proofs.AdmissionLaws.{MayMark, SatBefore, Before, Since, sat_before}
 use Rattle.hls_promise.proofs.AdmissionLaws.{admission-mark, admission-row, admission-unwritten}
 use Rattle.hls_sfq_laws.specs.ShareBook.{KeepsSittings, HasWeights, KeepsShareBook}
-use Rattle.hls_sfq_laws.proofs.Sums.{sum-eq, sum-le, sum-one}
+use Rattle.hls_kinds.proofs.Sums.{sum-eq, sum-le, sum-one}
 use Rattle.hls_sfq_laws.proofs.Agree.{SameUpTo, start_tag-same, same-before, now-before}
 use Rattle.hls_sfq_laws.proofs.Rooms.{weights-same, tenant-now}
 

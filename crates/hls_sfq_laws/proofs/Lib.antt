@@ -1,4 +1,3 @@
-pub mod Sums
 pub mod Tags
 pub mod Windows
 pub mod Atoms

@@ -8,7 +8,7 @@ use Rattle.std.proofs.lemmas.Bool.Decides.{nat_tests}
 use Rattle.hls_sfq_laws.proofs.Tags.{Tag, Clock, goes_on, one_more, v_after, who_after, had_after}
 use Rattle.hls_sfq_laws.proofs.Tags.{clock_after, tag_after, SfqServes, weights, ahead, ahead_in, AreTags}
 use Rattle.hls_sfq_laws.proofs.Tags.{IsChurn}
-use Rattle.hls_sfq_laws.proofs.Sums.{sum-le, sum-one, sum-mul, sum-add}
+use Rattle.hls_kinds.proofs.Sums.{sum-le, sum-one, sum-mul, sum-add}
 use Rattle.hls_sfq_laws.proofs.Atoms.{ahead-fresh, ahead-free, ahead-grows, ahead-served}
 
 -- the definitions, by case

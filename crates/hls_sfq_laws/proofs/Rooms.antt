@@ -27,7 +27,7 @@ use Rattle.hls_promise.specs.Admission.{HasSeats}
 use Rattle.hls_promise.proofs.AdmissionLaws.{seats-same}
 use Rattle.hls_promise.proofs.PromiseLaws.{asked-slot}
 use Rattle.hls_sfq_laws.specs.ShareBook.{HasWeights, KeepsShareBook}
-use Rattle.hls_sfq_laws.proofs.Sums.{sum-eq}
+use Rattle.hls_kinds.proofs.Sums.{sum-eq}
 use Rattle.hls_sfq_laws.proofs.Nexts.{share_at}
 
 -- each weight divides the unit

@@ -11,7 +11,7 @@ use Rattle.hls_chron.proofs.CountLaws.{count-none, count-push}
 use Rattle.hls_sfq_laws.proofs.Tags.{Tag, Clock, v_after, clock_after, tag_after, SfqServes, weights, seats}
 use Rattle.hls_sfq_laws.proofs.Tags.{ahead, ahead_in, AreTags, IsChurn}
 use Rattle.hls_sfq_laws.proofs.Windows.{given_in, served_in, Passes, AsksOn}
-use Rattle.hls_sfq_laws.proofs.Sums.{sum-eq, sum-one, sum-mul, sum-at}
+use Rattle.hls_kinds.proofs.Sums.{sum-eq, sum-one, sum-mul, sum-at}
 use Rattle.hls_sfq_laws.proofs.Atoms.{ahead-most, ahead-free, growth, together, start-stays}
 use Rattle.hls_sfq_laws.proofs.Moves.{v-none, tag-none, tag-here, tag-other, tag-w, tag-step, tags_after}
 use Rattle.hls_sfq_laws.proofs.Moves.{grown, tick-ahead, churn-ahead, tick-tags, idle-tags}

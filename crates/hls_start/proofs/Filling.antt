@@ -1,5 +1,5 @@
 -- How many boxes of each kind there are while a kit is filled.
-use Rattle.std.proofs.Common.{◌≡◌, ◌≢◌, ℕ, ◌+◌, List, [], ◌∷◌, ◌++◌, length, refl, ap, ◌∙◌, true, false}
+use Rattle.std.proofs.Common.{◌≡◌, ◌≢◌, ℕ, ◌+◌, List, [], ◌∷◌, ◌++◌, length, refl, ap, ◌∙◌, false}
 use Rattle.std.specs.Prelude.{replicate, slice_index}
 use Rattle.std.specs.declared.dyn_box.DynBox.{DynBox}
 use Rattle.std.specs.declared.alloc.Global.{Global}
@@ -9,20 +9,9 @@ use Rattle.hls_chron.specs.declared.plain.Kind.TheVariants as kinds
 use Rattle.hls_sched.specs.GoodKit.{boxes_of, place_of}
 use Rattle.hls_sched.specs.declared.kit.Kit.{Kit}
 use Rattle.hls_answers.specs.Kit.{is_kind}
+use Rattle.hls_answers.proofs.KindLaws.{kind_other}
 use Rattle.hls_manager.specs.Outcomes.{boxes_in}
 use Rattle.hls_start.specs.FullKit.{of_each, full_kit}
-
-kind_itself : (a : Kind) → is_kind a a ≡ true
-kind_itself kinds.Cpu = refl
-kind_itself kinds.Fp = refl
-kind_itself kinds.Edf = refl
-kind_itself kinds.Sfq = refl
-kind_itself kinds.Rr = refl
-kind_itself kinds.Wheel = refl
-kind_itself kinds.Join = refl
-
-kind_other : (a b : Kind) → is_kind a b ≡ false → a ≢ b
-kind_other a b off e = (let itself = kind_itself a in let same = ap (is_kind a) e in cc)
 
 none_used : (kind : Kind) → slice_index (replicate 6 0) (place_of kind) ≡ 0
 none_used kinds.Cpu = refl
