@@ -25,8 +25,8 @@ use Rattle.hls_accounts.specs.Accounts.{end_by}
 
 -- a command of the grammar, before a tick
 pub record IsFit (horizon : ℕ) (a : Answered) : Type 0 where
-  command : IsCommand a.command
-  early : a.tick < horizon
+  pub command : IsCommand a.command
+  pub early : a.tick < horizon
 
 pub answered_fit : (horizon last : ℕ) (xs : List Answered) → AreAnswered horizon last xs → All (IsFit horizon) xs
 answered_fit horizon last [] are = All-nil (IsFit horizon)
@@ -151,9 +151,9 @@ closed_early horizon before (a ∷ after) name t all e =
 -- ---- stays
 
 pub record IsGoodStay (horizon : ℕ) (stay : Stay) : Type 0 where
-  named : IsName stay.name
-  kept : IsValid stay.kept
-  ends : (t : ℕ) → stay.until ≡ Some t → t < horizon
+  pub named : IsName stay.name
+  pub kept : IsValid stay.kept
+  pub ends : (t : ℕ) → stay.until ≡ Some t → t < horizon
 
 stays_with_good : (horizon : ℕ) (before after : List Answered) (a : Answered) → All (IsFit horizon) before
     → All (IsFit horizon) after
