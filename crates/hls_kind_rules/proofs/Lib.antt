@@ -1,0 +1,4 @@
+pub mod Budgets
+pub mod Tags
+pub mod Turns
+pub mod Places
