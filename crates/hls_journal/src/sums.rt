@@ -1,5 +1,7 @@
 // Sums of names and of paths.
-ghost use Rattle.std.specs.Prelude.{◌<◌};
+ghost use Rattle.std.specs.Prelude.{◌≡◌, ◌%◌};
+ghost use Rattle.hls_guesses.specs.Sums.{sum_over};
+ghost use Rattle.hls_journal.specs.Inside.Sums.{last_place};
 
 use hls_chron::Name;
 use hls_guesses::sum_of;
@@ -13,14 +15,14 @@ pub const WAYS: usize = 1024;
 
 /// The sum over the letters of a name.
 pub fn sum_of_name(name: &Name) -> usize
-    ensures { result < 4096 }
+    ensures { result ≡ sum_over 0 name.now % 4096 }
 {
     sum_of(0, name.bytes(), NAMES)
 }
 
 /// The sum of a path: the last of its places alone, since a thread has one path at a time.
 pub fn sum_of_way(way: &Option<Path>) -> usize
-    ensures { result < 1024 }
+    ensures { result ≡ last_place way.now % 1024 }
 {
     match way {
         Some(path) => {

@@ -1,6 +1,6 @@
 // Paths, by the names of their places.
 ghost use Rattle.std.specs.Prelude.{◌≡◌, ◌↔◌, ◌+◌, ◌≤◌, ◌<◌, [], ◌∷◌, ◌++◌, IsTrue, get_or, take, map, length};
-ghost use Rattle.std.specs.Prelude.{IfSome, IsNone, false};
+ghost use Rattle.std.specs.Prelude.{IfSome, IsNone, Some, false, slice_get};
 ghost use Rattle.std.specs.List.{list_any};
 ghost use Rattle.std.specs.Str.{bytes_eq};
 ghost use Rattle.indexmap.specs.IndexSet.{spare};
@@ -24,7 +24,8 @@ pub fn push(path: &mut Path, place: u16)
 
 /// Whether a name stands at a place.
 pub fn is_at(names: &IndexSet<Name>, place: usize, name: &Name) -> bool
-    ensures { IsTrue result → (place < length names.now.keys) × (get_or names.now.keys place [] ≡ name.now) }
+    ensures yes { IsTrue result → (place < length names.now.keys) × (get_or names.now.keys place [] ≡ name.now) }
+    ensures no { slice_get names.now.keys place ≡ Some name.now → IsTrue result }
 {
     match names.get_index(place) {
         Some(other) => *other == *name,
@@ -49,6 +50,7 @@ pub fn insert(names: &mut IndexSet<Name>, name: Name) -> usize
     requires { 0 < spare names.old }
     ensures names { names.new.keys ≡ with_name names.old.keys name }
     ensures room { spare names.old ≤ spare names.new + 1 }
+    ensures place { slice_get names.new.keys result ≡ Some name }
 {
     match names.insert_full(name) {
         Ok((place, _)) => place,
