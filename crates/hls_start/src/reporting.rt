@@ -1,4 +1,8 @@
 // What the program writes about a scenario in memory.
+ghost use Rattle.std.specs.Prelude.{string_bytes, IfOk, IfSome};
+ghost use Rattle.hls_top.specs.Outputs.{IsReportOf};
+ghost use Rattle.hls_start.specs.FullKit.{full_kit};
+
 use crate::starting::start;
 use hls_io::{MemSink, MemSource, Status};
 use std::alloc::{AllocError, Global};
@@ -14,7 +18,10 @@ const PIECE: usize = 4096;
 /// # Errors
 ///
 /// Want of memory.
-pub fn report_on(alloc: Global, scenario: String) -> Result<Option<Vec<u8>>, AllocError> {
+pub fn report_on(alloc: Global, scenario: String) -> Result<Option<Vec<u8>>, AllocError>
+    ensures { IfOk result (λ written. IfSome written
+        (λ report. IsReportOf 3 full_kit (string_bytes scenario) report.items)) }
+{
     let mut words = Vec::new(alloc);
     words.push("run".to_string(alloc)?)?;
     let mut source = MemSource::new(scenario.into_bytes(), PIECE, Vec::new(alloc));
