@@ -1,5 +1,5 @@
 // A box, beside what it was told.
-ghost use Rattle.std.specs.Prelude.{◌≡◌, ◌≢◌, ◌<◌, ◌^◌, true, None, IfSome, IsNone, ◌↔◌, bit_and, false};
+ghost use Rattle.std.specs.Prelude.{◌≡◌, ◌≢◌, ◌<◌, ◌^◌, true, None, IfSome, IsNone, ◌↔◌, bit_and, false, get_or, slice_set};
 ghost use Rattle.hls_chron.specs.Ranges.{TermsInRange};
 ghost use Rattle.hls_chron.specs.Seats.{terms_at};
 ghost use Rattle.hls_kinds.specs.Asks.{slot_asks};
@@ -147,7 +147,9 @@ impl Station {
     }
 
     /// Who was seen last at a slot.
-    pub fn last_at(&self, slot: u32) -> usize {
+    pub fn last_at(&self, slot: u32) -> usize
+        ensures { result ≡ get_or self.now.last_seen slot 0 }
+    {
         match self.last_seen.get(slot as usize) {
             Some(id) => id.key(),
             None => 0,
@@ -159,9 +161,10 @@ impl Station {
         requires posted { IsPosted (post_of seen self.old) }
         ensures same { post_of seen self.new ≡ post_of seen self.old }
         ensures choice { choice self.new.unit ≡ choice self.old.unit }
+        ensures noted { self.new.last_seen ≡ slice_set self.old.last_seen slot id }
     {
-        if let Some(last) = self.last_seen.get_mut(slot as usize) {
-            *last = id;
+        if slot < 32 {
+            self.last_seen[slot as usize] = id;
         }
     }
 
