@@ -12,7 +12,8 @@ use Rattle.hls_edf_laws.specs.declared.server.Server.{Server}
 use Rattle.hls_edf_laws.specs.Servers.{charged, marked, renewed, replenished as replenished_by, is_due as is_due_by}
 use Rattle.hls_edf_laws.specs.Recomputed.{asked_before, server_before, server_within}
 use Rattle.hls_edf_laws.proofs.Deadlines.{last-zero, within_is, before_is}
-use Rattle.hls_kind_rules.specs.Budgets.{claim_before, claim_within, claim_served, is_due, replenished, KeepsBudgetRules, KeepsClaimRules}
+use Rattle.hls_kind_rules.specs.Budgets.{claim_before, claim_within, claim_served, is_due, replenished}
+use Rattle.hls_kind_rules.specs.Budgets.{KeepsBudgetRules, KeepsClaimRules}
 
 abbrev claim_of : Server → Claim
 claim_of server = record { deadline = server.deadline; budget = server.budget }

@@ -191,7 +191,9 @@ module _ (quantum : ℕ) (b : Ledger) (some : 0 < quantum) (made : IsMade (Rr qu
           omega (arith, had, within)
 
       not_whole : rest ≡ 0 → (turn_of quantum b).had < quantum → ⊥
-      not_whole none less = let all = had_whole quantum some (turn_ticks b (turn_slot b)) none in omega (arith, all, less)
+      not_whole none less =
+          let all = had_whole quantum some (turn_ticks b (turn_slot b)) none in
+          omega (arith, all, less)
 
   served_more : (row : TickRow) (slot : ℕ) → row.to ≡ Some slot → SlotAsks row.mask slot
       → turn_ticks (with_row b row) slot ≡ turn_ticks b slot + 1

@@ -409,44 +409,44 @@ can_admit_other = record {
 }
 
 -- the books after each tick
-abbrev row : (mask : ℕ) → (to : Option ℕ) → (port : ℕ) → TickRow
-row mask to port = record { mask = mask; to = to; port = port }
+abbrev tick_row : (mask : ℕ) → (to : Option ℕ) → (port : ℕ) → TickRow
+tick_row mask to port = record { mask = mask; to = to; port = port }
 
 abbrev top1 : Ledger
-top1 = with_row top0 (row 3 (Some 0) 0)
+top1 = with_row top0 (tick_row 3 (Some 0) 0)
 
 abbrev top2 : Ledger
-top2 = with_row top1 (row 3 (Some 0) 0)
+top2 = with_row top1 (tick_row 3 (Some 0) 0)
 
 abbrev top3 : Ledger
-top3 = with_row top2 (row 2 (Some 1) 0)
+top3 = with_row top2 (tick_row 2 (Some 1) 0)
 
 abbrev e1 : Ledger
-e1 = with_row e0 (row 1 (Some 0) 0)
+e1 = with_row e0 (tick_row 1 (Some 0) 0)
 
 abbrev e2 : Ledger
-e2 = with_row e1 (row 1 (Some 0) 0)
+e2 = with_row e1 (tick_row 1 (Some 0) 0)
 
 abbrev e3 : Ledger
-e3 = with_row e2 (row 1 None 0)
+e3 = with_row e2 (tick_row 1 None 0)
 
 abbrev r1 : Ledger
-r1 = with_row r0 (row 3 None 0)
+r1 = with_row r0 (tick_row 3 None 0)
 
 abbrev r2 : Ledger
-r2 = with_row r1 (row 3 None 0)
+r2 = with_row r1 (tick_row 3 None 0)
 
 abbrev r3 : Ledger
-r3 = with_row r2 (row 3 (Some 0) 0)
+r3 = with_row r2 (tick_row 3 (Some 0) 0)
 
 abbrev j1 : Ledger
-j1 = with_row j0 (row 1 (Some 0) 0)
+j1 = with_row j0 (tick_row 1 (Some 0) 0)
 
 abbrev j2 : Ledger
-j2 = with_row j1 (row 1 (Some 0) 0)
+j2 = with_row j1 (tick_row 1 (Some 0) 0)
 
 abbrev j3 : Ledger
-j3 = with_row j2 (row 1 (Some 0) 1)
+j3 = with_row j2 (tick_row 1 (Some 0) 1)
 
 abbrev t1 : Hierarchy
 t1 = after awake (tick true by_reservation)
