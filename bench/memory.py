@@ -11,7 +11,7 @@ where one run ended otherwise. It needs a C compiler and glibc.
 The calls of the manager have a program of their own, which reads no text: it carries a command out once more where
 memory was wanting for it, and writes something else if the tree or the kit had changed. `rt run` in its folder builds it.
 
-    bench/memory.py --program crates/hls_manager_tests/out/hls_manager_tests /dev/null
+    bench/memory.py --program crates/hls_test_manager/out/hls_test_manager /dev/null
 """
 import argparse
 import collections

@@ -8,11 +8,11 @@ use Rattle.hls_chron.proofs.CountLaws.{count-agree}
 use Rattle.hls_text.specs.Lines.{Text}
 use Rattle.hls_report_text.specs.declared.report.Account.{Account}
 use Rattle.hls_report_text.specs.Content.{Content}
-use Rattle.hls_legal.specs.Hierarchy.{Hierarchy, start, was_served, had_asked}
-use Rattle.hls_legal.specs.Hierarchy as run
-use Rattle.hls_legal.specs.Steps.{Step, state}
-use Rattle.hls_legal.specs.Legal.{IsLegal}
-use Rattle.hls_legal.specs.Supplied.{end_of, ready_ticks, served_ticks}
+use Rattle.hls_machine.specs.Hierarchy.{Hierarchy, start, was_served, had_asked}
+use Rattle.hls_machine.specs.Hierarchy as run
+use Rattle.hls_machine.specs.Steps.{Step, state}
+use Rattle.hls_machine.specs.Legal.{IsLegal}
+use Rattle.hls_machine.specs.Supplied.{end_of, ready_ticks, served_ticks}
 use Rattle.hls_accounts.specs.declared.stay.Stay.{Stay}
 use Rattle.hls_accounts.specs.Schedule.{path_at, is_served}
 use Rattle.hls_accounts.specs.Ready.{is_ready}

@@ -3,12 +3,12 @@ use Rattle.std.proofs.Common.{◌≡◌, ◌≢◌, ℕ, ◌++◌, ◌==◌, Lis
 use Rattle.std.proofs.Common.{ap, ◌∙◌}
 use Rattle.std.specs.Prelude.{Option, Some, None}
 use Rattle.hls_chron.specs.declared.book.Event.{Event}
-use Rattle.hls_legal.specs.Hierarchy.{Hierarchy, Node, Loaded, Admitted, Seat, Wake, Asleep, name_of}
-use Rattle.hls_legal.specs.Hierarchy.{seats_of}
-use Rattle.hls_legal.specs.Steps.{Hop, marked, renewed, reseated, roused, ticked, is_thread, seatings}
-use Rattle.hls_legal.specs.Steps.{leavings}
-use Rattle.hls_legal.specs.Steps.{nodes_after}
-use Rattle.hls_legal.proofs.Kept.{at_same, at_other}
+use Rattle.hls_machine.specs.Hierarchy.{Hierarchy, Node, Loaded, Admitted, Seat, Wake, Asleep, name_of}
+use Rattle.hls_machine.specs.Hierarchy.{seats_of}
+use Rattle.hls_machine.specs.Steps.{Hop, marked, renewed, reseated, roused, ticked, is_thread, seatings}
+use Rattle.hls_machine.specs.Steps.{leavings}
+use Rattle.hls_machine.specs.Steps.{nodes_after}
+use Rattle.hls_machine.proofs.Kept.{at_same, at_other}
 
 abbrev pub wake_of : Option Node → Wake
 wake_of None = Asleep

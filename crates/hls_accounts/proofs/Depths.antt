@@ -10,16 +10,16 @@ use Rattle.hls_chron.specs.Seats.{terms_at}
 use Rattle.hls_chron.specs.Ticks.{one_if}
 use Rattle.hls_chron.proofs.CountLaws.{one_if-le}
 use Rattle.hls_report_text.specs.declared.report.Answered.{Answered}
-use Rattle.hls_legal.specs.Hierarchy.{Hierarchy, Node, Loaded, Admitted, At, book_of}
-use Rattle.hls_legal.specs.Steps.{is_scheduler}
-use Rattle.hls_legal.specs.Legal.{SitsOn, IsBelow}
-use Rattle.hls_legal.specs.Linked.{SitsBelow, SitsAt}
-use Rattle.hls_legal.specs.Lists.{Lists}
-use Rattle.hls_legal.specs.Readings.{IsUnderBy}
-use Rattle.hls_legal.specs.Seated.{SitsThere, IsSeated}
-use Rattle.hls_legal.proofs.Kept.{IsSound}
-use Rattle.hls_legal.proofs.Listings.{First, Later, in_cases, none_in}
-use Rattle.hls_legal.proofs.Readings.{below_rank}
+use Rattle.hls_machine.specs.Hierarchy.{Hierarchy, Node, Loaded, Admitted, At, book_of}
+use Rattle.hls_machine.specs.Steps.{is_scheduler}
+use Rattle.hls_machine.specs.Legal.{SitsOn, IsBelow}
+use Rattle.hls_machine.specs.Linked.{SitsBelow, SitsAt}
+use Rattle.hls_machine.specs.Lists.{Lists}
+use Rattle.hls_machine.specs.Readings.{IsUnderBy}
+use Rattle.hls_machine.specs.Seated.{SitsThere, IsSeated}
+use Rattle.hls_machine.proofs.Kept.{IsSound}
+use Rattle.hls_machine.proofs.Listings.{First, Later, in_cases, none_in}
+use Rattle.hls_machine.proofs.Readings.{below_rank}
 use Rattle.hls_accounts.specs.Under.{is_under}
 use Rattle.hls_accounts.specs.Tells.{HasName}
 use Rattle.hls_accounts.proofs.Told.{Unique}

@@ -9,11 +9,11 @@ use Rattle.hls_text.specs.Lines.{Text}
 use Rattle.hls_guarantee.specs.Cap.{KeepsCap}
 use Rattle.hls_guarantee.proofs.Promises.{satisfies-agree, keeps_cap-agree}
 use Rattle.hls_report_text.specs.Content.{Content}
-use Rattle.hls_legal.specs.Hierarchy.{Hierarchy, start, was_served, had_asked}
-use Rattle.hls_legal.specs.Hierarchy as run
-use Rattle.hls_legal.specs.Steps.{Step, state}
-use Rattle.hls_legal.specs.Legal.{IsLegal}
-use Rattle.hls_legal.specs.Supplied.{end_of, IsKept, KeepsStays}
+use Rattle.hls_machine.specs.Hierarchy.{Hierarchy, start, was_served, had_asked}
+use Rattle.hls_machine.specs.Hierarchy as run
+use Rattle.hls_machine.specs.Steps.{Step, state}
+use Rattle.hls_machine.specs.Legal.{IsLegal}
+use Rattle.hls_machine.specs.Supplied.{end_of, IsKept, KeepsStays}
 use Rattle.hls_accounts.specs.declared.stay.Stay.{Stay}
 use Rattle.hls_accounts.specs.Schedule.{is_served}
 use Rattle.hls_accounts.specs.Ready.{is_ready}

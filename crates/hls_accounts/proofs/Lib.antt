@@ -17,3 +17,4 @@ pub mod OrderRuns
 pub mod Keeping
 pub mod TickLists
 pub mod GoodStays
+pub mod Paths

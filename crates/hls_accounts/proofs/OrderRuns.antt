@@ -18,17 +18,17 @@ use Rattle.hls_report_text.specs.declared.report.Answer.{Answer}
 use Rattle.hls_report_text.specs.declared.report.Answer.TheVariants.{Done, Refused}
 use Rattle.hls_report_text.specs.declared.report.Answered.{Answered}
 use Rattle.hls_report_text.specs.Content.{Content}
-use Rattle.hls_legal.specs.Hierarchy.{Hierarchy, Node, Loaded, Admitted, At, Seat, Wake, Asleep}
-use Rattle.hls_legal.specs.Hierarchy.{name_of}
-use Rattle.hls_legal.specs.Hierarchy.{seats_of, seat_of, book_of, start}
-use Rattle.hls_legal.specs.Steps.{Step, Refuse, Load, Admit, End, Unload, Move, Rouse, Block, Elapse, Path}
-use Rattle.hls_legal.specs.Steps.{is_thread, is_scheduler, listed, nobody, stay_of as stay_at}
-use Rattle.hls_legal.specs.Steps.{opened as opened_at}
-use Rattle.hls_legal.specs.Steps.{effect, with_wake, roused, reseated, wake_by, loaded, admitted, after}
-use Rattle.hls_legal.specs.Steps.{state, hop_at, hops_of, elapsed, marked, leavings, seatings}
-use Rattle.hls_legal.specs.Legal.{Can, IsLegal, CanUnload, IsThread, CanMove, IsNew}
-use Rattle.hls_legal.proofs.Kept.{at_same}
-use Rattle.hls_legal.proofs.Nodes.{seats-reseated}
+use Rattle.hls_machine.specs.Hierarchy.{Hierarchy, Node, Loaded, Admitted, At, Seat, Wake, Asleep}
+use Rattle.hls_machine.specs.Hierarchy.{name_of}
+use Rattle.hls_machine.specs.Hierarchy.{seats_of, seat_of, book_of, start}
+use Rattle.hls_machine.specs.Steps.{Step, Refuse, Load, Admit, End, Unload, Move, Rouse, Block, Elapse, Path}
+use Rattle.hls_machine.specs.Steps.{is_thread, is_scheduler, listed, nobody, stay_of as stay_at}
+use Rattle.hls_machine.specs.Steps.{opened as opened_at}
+use Rattle.hls_machine.specs.Steps.{effect, with_wake, roused, reseated, wake_by, loaded, admitted, after}
+use Rattle.hls_machine.specs.Steps.{state, hop_at, hops_of, elapsed, marked, leavings, seatings}
+use Rattle.hls_machine.specs.Legal.{Can, IsLegal, CanUnload, IsThread, CanMove, IsNew}
+use Rattle.hls_machine.proofs.Kept.{at_same}
+use Rattle.hls_machine.proofs.Nodes.{seats-reseated}
 use Rattle.hls_accounts.specs.declared.stay.Stay.{Stay}
 use Rattle.hls_accounts.specs.Commands.{has_done, seats, ends, last_seating}
 use Rattle.hls_accounts.specs.Under.{is_under}

@@ -11,10 +11,10 @@ use Rattle.hls_scenario.specs.declared.scenario.Command.{Command}
 use Rattle.hls_scenario.specs.declared.scenario.Command.TheVariants as said
 use Rattle.hls_report_text.specs.declared.report.Answered.{Answered}
 use Rattle.hls_report_text.specs.Content.{Content}
-use Rattle.hls_legal.specs.Hierarchy.{Hierarchy, Node, At, Seat, name_of}
-use Rattle.hls_legal.specs.Hierarchy.{seat_of}
-use Rattle.hls_legal.specs.Steps.{is_scheduler, listed, opened as opened_at}
-use Rattle.hls_legal.specs.Steps.{effect}
+use Rattle.hls_machine.specs.Hierarchy.{Hierarchy, Node, At, Seat, name_of}
+use Rattle.hls_machine.specs.Hierarchy.{seat_of}
+use Rattle.hls_machine.specs.Steps.{is_scheduler, listed, opened as opened_at}
+use Rattle.hls_machine.specs.Steps.{effect}
 use Rattle.hls_accounts.specs.Commands.{has_done, seats, ends}
 use Rattle.hls_accounts.specs.Stays.{threads, closes, stays_with}
 use Rattle.hls_accounts.specs.Agrees.{told_stay}

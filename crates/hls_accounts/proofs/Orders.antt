@@ -12,13 +12,13 @@ use Rattle.hls_scenario.specs.declared.scenario.Spot.TheVariants.{Cpu, Under}
 use Rattle.hls_scenario.specs.declared.scenario.Perch.{Perch}
 use Rattle.hls_report_text.specs.declared.report.Answered.{Answered}
 use Rattle.hls_report_text.specs.Content.{Content}
-use Rattle.hls_legal.specs.Hierarchy.{Hierarchy, Node, Loaded, Admitted, Place, Processor, At, Seat}
-use Rattle.hls_legal.specs.Hierarchy.{name_of, seats_of}
-use Rattle.hls_legal.specs.Hierarchy.{seat_of}
-use Rattle.hls_legal.specs.Hierarchy as legal
-use Rattle.hls_legal.specs.Steps.{is_thread, listed, closed as closed_at, ended, stay_of as stay_at}
-use Rattle.hls_legal.specs.Steps.{opened as opened_at}
-use Rattle.hls_legal.specs.Steps.{nobody}
+use Rattle.hls_machine.specs.Hierarchy.{Hierarchy, Node, Loaded, Admitted, Place, Processor, At, Seat}
+use Rattle.hls_machine.specs.Hierarchy.{name_of, seats_of}
+use Rattle.hls_machine.specs.Hierarchy.{seat_of}
+use Rattle.hls_machine.specs.Hierarchy as legal
+use Rattle.hls_machine.specs.Steps.{is_thread, listed, closed as closed_at, ended, stay_of as stay_at}
+use Rattle.hls_machine.specs.Steps.{opened as opened_at}
+use Rattle.hls_machine.specs.Steps.{nobody}
 use Rattle.hls_accounts.specs.declared.stay.Stay.{Stay}
 use Rattle.hls_accounts.specs.Commands.{has_done, seats, ends, last_seating}
 use Rattle.hls_accounts.specs.Stays.{threads, closes, stays, stays_with, want_in, want_of}

@@ -7,11 +7,11 @@ use Rattle.std.proofs.lemmas.Slice.Eq.{bytes_eq-Decides}
 use Rattle.hls_text.specs.Lines.{Text}
 use Rattle.hls_report_text.specs.declared.report.Answered.{Answered}
 use Rattle.hls_report_text.specs.Content.{Content}
-use Rattle.hls_legal.specs.Hierarchy.{Hierarchy, Processor, Tick}
-use Rattle.hls_legal.specs.Steps.{Path, thread_of, is_thread, elapsed}
-use Rattle.hls_legal.specs.Legal.{asks_now, MayRun}
-use Rattle.hls_legal.proofs.Kept.{at_same, at_other}
-use Rattle.hls_legal.proofs.Readings.{walk_ends}
+use Rattle.hls_machine.specs.Hierarchy.{Hierarchy, Processor, Tick}
+use Rattle.hls_machine.specs.Steps.{Path, thread_of, is_thread, elapsed}
+use Rattle.hls_machine.specs.Legal.{asks_now, MayRun}
+use Rattle.hls_machine.proofs.Kept.{at_same, at_other}
+use Rattle.hls_machine.proofs.Readings.{walk_ends}
 use Rattle.hls_accounts.specs.Schedule.{path_at, last_name, is_name, is_served}
 use Rattle.hls_accounts.specs.Ready.{is_ready}
 use Rattle.hls_accounts.specs.Tells.{Names}

@@ -1,14 +1,14 @@
 -- Hierarchies to which a legal run leads.
 use Rattle.std.proofs.Common.{◌≡◌, List, [], ◌∷◌, ◌++◌, refl, sym, ap, ◌∙◌, subst}
-use Rattle.hls_legal.specs.Hierarchy.{Hierarchy, start}
-use Rattle.hls_legal.specs.Steps.{Step, after, state}
-use Rattle.hls_legal.specs.Legal.{Can, IsLegal}
-use Rattle.hls_legal.specs.Lists.{IsListed}
-use Rattle.hls_legal.specs.Seated.{IsSeated}
-use Rattle.hls_legal.proofs.Goes.{state_goes, legal_goes}
-use Rattle.hls_legal.proofs.Lists.{run_listed}
-use Rattle.hls_legal.proofs.Seated.{run_seated}
-use Rattle.hls_legal.proofs.Runs.{Kept, run_keeps, start_kept}
+use Rattle.hls_machine.specs.Hierarchy.{Hierarchy, start}
+use Rattle.hls_machine.specs.Steps.{Step, after, state}
+use Rattle.hls_machine.specs.Legal.{Can, IsLegal}
+use Rattle.hls_machine.specs.Lists.{IsListed}
+use Rattle.hls_machine.specs.Seated.{IsSeated}
+use Rattle.hls_machine.proofs.Goes.{state_goes, legal_goes}
+use Rattle.hls_machine.proofs.Lists.{run_listed}
+use Rattle.hls_machine.proofs.Seated.{run_seated}
+use Rattle.hls_machine.proofs.Runs.{Kept, run_keeps, start_kept}
 
 pub record IsReached (h : Hierarchy) : Type 0 where
   pub steps : List Step

@@ -14,7 +14,7 @@ use Rattle.hls_chron.proofs.CountLaws.{count-agree}
 use Rattle.hls_scenario.specs.declared.scenario.Command.{Command}
 use Rattle.hls_scenario.specs.declared.scenario.Command.TheVariants.{Load, Thread, End, Unload, Move, Wake, Block}
 use Rattle.hls_report_text.specs.declared.report.Answered.{Answered}
-use Rattle.hls_legal.specs.Hierarchy as legal
+use Rattle.hls_machine.specs.Hierarchy as legal
 use Rattle.hls_accounts.specs.Commands.{is_done, has_done, rouses, last_rousing}
 use Rattle.hls_accounts.specs.Ready.{lasts, is_awake}
 

@@ -14,10 +14,10 @@ use Rattle.hls_scenario.specs.declared.scenario.Perch.{Perch}
 use Rattle.hls_scenario.specs.declared.scenario.Command.{Command}
 use Rattle.hls_scenario.specs.declared.scenario.Command.TheVariants.{Load, Thread, End, Unload, Move, Wake, Block}
 use Rattle.hls_report_text.specs.declared.report.Answered.{Answered}
-use Rattle.hls_legal.specs.Hierarchy.{Hierarchy, Place, Processor, At, Seat, name_of, seats_of}
-use Rattle.hls_legal.specs.Steps.{is_thread}
-use Rattle.hls_legal.specs.Legal.{IsBelow}
-use Rattle.hls_legal.specs.Readings.{IsUnderBy}
+use Rattle.hls_machine.specs.Hierarchy.{Hierarchy, Place, Processor, At, Seat, name_of, seats_of}
+use Rattle.hls_machine.specs.Steps.{is_thread}
+use Rattle.hls_machine.specs.Legal.{IsBelow}
+use Rattle.hls_machine.specs.Readings.{IsUnderBy}
 use Rattle.hls_accounts.specs.Commands.{has_done, seats, last_seating}
 use Rattle.hls_accounts.specs.Under.{is_on, seats_on, sits_on, is_within}
 use Rattle.hls_accounts.specs.Stays.{want_of}

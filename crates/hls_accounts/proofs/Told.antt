@@ -9,11 +9,11 @@ use Rattle.std.proofs.lemmas.Bool.{cases_eq, eq-eqb, ne_eqb}
 use Rattle.hls_text.specs.Lines.{Text}
 use Rattle.hls_report_text.specs.declared.report.Answered.{Answered}
 use Rattle.hls_report_text.specs.Content.{Content}
-use Rattle.hls_legal.specs.Hierarchy.{Hierarchy, Node, Loaded, Admitted, Tick, name_of}
-use Rattle.hls_legal.specs.Hierarchy.{is_ready as ready_legal}
-use Rattle.hls_legal.specs.Hierarchy.{is_just, was_served}
-use Rattle.hls_legal.specs.Steps.{Hop, Path, thread_of, is_thread}
-use Rattle.hls_legal.specs.Legal.{asks_now}
+use Rattle.hls_machine.specs.Hierarchy.{Hierarchy, Node, Loaded, Admitted, Tick, name_of}
+use Rattle.hls_machine.specs.Hierarchy.{is_ready as ready_legal}
+use Rattle.hls_machine.specs.Hierarchy.{is_just, was_served}
+use Rattle.hls_machine.specs.Steps.{Hop, Path, thread_of, is_thread}
+use Rattle.hls_machine.specs.Legal.{asks_now}
 use Rattle.hls_accounts.specs.Commands.{has_done, rouses, last_rousing}
 use Rattle.hls_accounts.specs.Schedule.{path_at, last_name, is_name, is_served}
 use Rattle.hls_accounts.specs.Ready.{is_awake, is_ready}

@@ -13,16 +13,16 @@ use Rattle.hls_report_text.specs.declared.report.Answer.{Answer}
 use Rattle.hls_report_text.specs.declared.report.Answer.TheVariants.{Done, Refused}
 use Rattle.hls_report_text.specs.declared.report.Answered.{Answered}
 use Rattle.hls_report_text.specs.Content.{Content}
-use Rattle.hls_legal.specs.Hierarchy.{Hierarchy, Node, Loaded, Admitted, Stay, Tick, Wake, Asleep, name_of}
-use Rattle.hls_legal.specs.Hierarchy.{start}
-use Rattle.hls_legal.specs.Hierarchy.{Awake, Awake_for, is_just, was_served, had_asked}
-use Rattle.hls_legal.specs.Steps.{Step, Load, Admit, End, Unload, Move, Rouse, Block, Elapse}
-use Rattle.hls_legal.specs.Steps.{Path, thread_of, is_thread}
-use Rattle.hls_legal.specs.Steps.{with_wake, wake_by, roused, reseated, elapsed, nobody, loaded, admitted}
-use Rattle.hls_legal.specs.Steps.{after}
-use Rattle.hls_legal.specs.Steps.{state, hop_at, hops_of}
-use Rattle.hls_legal.specs.Legal.{Can, IsLegal, IsAsking, IsNew}
-use Rattle.hls_legal.proofs.Kept.{at_same, at_other}
+use Rattle.hls_machine.specs.Hierarchy.{Hierarchy, Node, Loaded, Admitted, Stay, Tick, Wake, Asleep, name_of}
+use Rattle.hls_machine.specs.Hierarchy.{start}
+use Rattle.hls_machine.specs.Hierarchy.{Awake, Awake_for, is_just, was_served, had_asked}
+use Rattle.hls_machine.specs.Steps.{Step, Load, Admit, End, Unload, Move, Rouse, Block, Elapse}
+use Rattle.hls_machine.specs.Steps.{Path, thread_of, is_thread}
+use Rattle.hls_machine.specs.Steps.{with_wake, wake_by, roused, reseated, elapsed, nobody, loaded, admitted}
+use Rattle.hls_machine.specs.Steps.{after}
+use Rattle.hls_machine.specs.Steps.{state, hop_at, hops_of}
+use Rattle.hls_machine.specs.Legal.{Can, IsLegal, IsAsking, IsNew}
+use Rattle.hls_machine.proofs.Kept.{at_same, at_other}
 use Rattle.hls_accounts.specs.Commands.{has_done, rouses}
 use Rattle.hls_accounts.specs.Schedule.{path_at, is_served}
 use Rattle.hls_accounts.specs.Ready.{is_ready}

@@ -8,10 +8,10 @@ use Rattle.hls_text.specs.Lines.{Text}
 use Rattle.hls_scenario.proofs.CanonicalLines.{all_append}
 use Rattle.hls_report_text.specs.declared.report.Answered.{Answered}
 use Rattle.hls_report_text.specs.Content.{Content}
-use Rattle.hls_legal.specs.Hierarchy.{Hierarchy, Node, Loaded, Admitted, Stay, name_of}
-use Rattle.hls_legal.specs.Hierarchy.{was_served, had_asked}
-use Rattle.hls_legal.specs.Steps.{is_thread, closed, ended, stay_of, opened, effect}
-use Rattle.hls_legal.specs.Supplied.{end_of}
+use Rattle.hls_machine.specs.Hierarchy.{Hierarchy, Node, Loaded, Admitted, Stay, name_of}
+use Rattle.hls_machine.specs.Hierarchy.{was_served, had_asked}
+use Rattle.hls_machine.specs.Steps.{is_thread, closed, ended, stay_of, opened, effect}
+use Rattle.hls_machine.specs.Supplied.{end_of}
 use Rattle.hls_accounts.specs.Schedule.{is_served}
 use Rattle.hls_accounts.specs.Ready.{is_ready}
 use Rattle.hls_accounts.proofs.Rousings.{name_in, missed, not_meant, wake_since}

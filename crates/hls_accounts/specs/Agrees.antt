@@ -5,9 +5,9 @@ use Rattle.hls_report_text.specs.declared.report.Account.{Account}
 use Rattle.hls_report_text.specs.Content.{Content}
 use Rattle.hls_guarantee.specs.Satisfaction.{Satisfies}
 use Rattle.hls_guarantee.specs.Cap.{KeepsCap}
-use Rattle.hls_legal.specs.Hierarchy.{Hierarchy, was_served, had_asked}
-use Rattle.hls_legal.specs.Hierarchy as run
-use Rattle.hls_legal.specs.Supplied.{end_of, accounts, ready_ticks, served_ticks}
+use Rattle.hls_machine.specs.Hierarchy.{Hierarchy, was_served, had_asked}
+use Rattle.hls_machine.specs.Hierarchy as run
+use Rattle.hls_machine.specs.Supplied.{end_of, accounts, ready_ticks, served_ticks}
 use Rattle.hls_accounts.specs.declared.stay.Stay.{Stay}
 use Rattle.hls_accounts.specs.Schedule.{is_served}
 use Rattle.hls_accounts.specs.Ready.{is_ready}

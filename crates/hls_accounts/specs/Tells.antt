@@ -14,9 +14,9 @@ use Rattle.hls_report_text.specs.declared.report.Answer.{Answer}
 use Rattle.hls_report_text.specs.declared.report.Answer.TheVariants.{Done, Refused}
 use Rattle.hls_report_text.specs.declared.report.Answered.{Answered}
 use Rattle.hls_report_text.specs.Content.{Content}
-use Rattle.hls_legal.specs.Hierarchy.{Hierarchy, Place, Processor, At, Seat, start, name_of}
-use Rattle.hls_legal.specs.Steps.{Step, Refuse, Load, Admit, End, Unload, Move, Rouse, Block, Elapse, Hop}
-use Rattle.hls_legal.specs.Steps.{Path, after}
+use Rattle.hls_machine.specs.Hierarchy.{Hierarchy, Place, Processor, At, Seat, start, name_of}
+use Rattle.hls_machine.specs.Steps.{Step, Refuse, Load, Admit, End, Unload, Move, Rouse, Block, Elapse, Hop}
+use Rattle.hls_machine.specs.Steps.{Path, after}
 use Rattle.hls_accounts.specs.Schedule.{path_at}
 
 -- node k has a name

@@ -5,9 +5,9 @@ ghost use Rattle.std.specs.Prelude.{◌≡◌, ◌<◌, ℕ, List, All, Some, tr
 ghost use Rattle.hls_text.specs.Lines.{Text};
 ghost use Rattle.hls_report_text.specs.Content.{Content};
 ghost use Rattle.hls_report_text.specs.WellFormed.{IsContent};
-ghost use Rattle.hls_legal.specs.Hierarchy.{start};
-ghost use Rattle.hls_legal.specs.Steps.{Step, state};
-ghost use Rattle.hls_legal.specs.Legal.{IsLegal};
+ghost use Rattle.hls_machine.specs.Hierarchy.{start};
+ghost use Rattle.hls_machine.specs.Steps.{Step, state};
+ghost use Rattle.hls_machine.specs.Legal.{IsLegal};
 ghost use Rattle.hls_accounts.specs.Schedule.{tick_list, path_at, is_served};
 ghost use Rattle.hls_accounts.specs.Ready.{is_ready};
 ghost use Rattle.hls_accounts.specs.Stays.{stays};

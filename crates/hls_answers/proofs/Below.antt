@@ -2,10 +2,10 @@
 use Rattle.std.proofs.Common.{◌≡◌, ◌⊎◌, ℕ, zero, suc, inl, inr, ◌<◌, ◌≤◌, ◌==◌, ◌||◌, List, [], ◌∷◌, Some}
 use Rattle.std.proofs.Common.{Bool, true, false, refl, ap, ◌∙◌, subst, arith, slice_get}
 use Rattle.std.proofs.lemmas.Bool.{eq-eqb, eqb-true}
-use Rattle.hls_legal.specs.Hierarchy.{Hierarchy, Place, Processor, At, Seat, seats_of, seat_of}
-use Rattle.hls_legal.specs.Legal.{SitsOn, IsBelow}
-use Rattle.hls_legal.specs.Linked.{SitsBelow, SitsAt}
-use Rattle.hls_legal.proofs.Kept.{IsSound}
+use Rattle.hls_machine.specs.Hierarchy.{Hierarchy, Place, Processor, At, Seat, seats_of, seat_of}
+use Rattle.hls_machine.specs.Legal.{SitsOn, IsBelow}
+use Rattle.hls_machine.specs.Linked.{SitsBelow, SitsAt}
+use Rattle.hls_machine.proofs.Kept.{IsSound}
 
 -- a seat is on a node that passes a test, and one of these seats is
 abbrev on : (ℕ → Bool) → Place → Bool

@@ -6,17 +6,17 @@ use Rattle.hls_chron.specs.declared.plain.Config.{Config}
 use Rattle.hls_chron.specs.declared.book.Event.{Event}
 use Rattle.hls_chron.specs.declared.book.Event.TheVariants.{Settle}
 use Rattle.hls_chron.specs.Ledger.{with_mark}
-use Rattle.hls_legal.specs.Ledgers.{with_marks}
-use Rattle.hls_legal.specs.Hierarchy.{Hierarchy, Node, Loaded, Admitted, Scheduler, Place, Processor, At, Seat}
-use Rattle.hls_legal.specs.Hierarchy.{seats_of, config_of}
-use Rattle.hls_legal.specs.Steps.{marked, renewed, reseated, leavings, seatings, nodes_after, effect}
-use Rattle.hls_legal.specs.Legal.{scheduler_at, SitsUnder, IsChain, fair_queue, fair_queues}
+use Rattle.hls_machine.specs.Ledgers.{with_marks}
+use Rattle.hls_machine.specs.Hierarchy.{Hierarchy, Node, Loaded, Admitted, Scheduler, Place, Processor, At, Seat}
+use Rattle.hls_machine.specs.Hierarchy.{seats_of, config_of}
+use Rattle.hls_machine.specs.Steps.{marked, renewed, reseated, leavings, seatings, nodes_after, effect}
+use Rattle.hls_machine.specs.Legal.{scheduler_at, SitsUnder, IsChain, fair_queue, fair_queues}
 use Rattle.hls_scenario.specs.declared.scenario.Spot.{Spot}
 use Rattle.hls_scenario.specs.declared.scenario.Spot.TheVariants.{Cpu, Under}
 use Rattle.hls_scenario.specs.declared.scenario.Perch.{Perch}
-use Rattle.hls_legal.specs.Lists.{IsListed}
-use Rattle.hls_legal.proofs.Kept.{at_same, at_other}
-use Rattle.hls_legal.proofs.Seatings.{lone_port}
+use Rattle.hls_machine.specs.Lists.{IsListed}
+use Rattle.hls_machine.proofs.Kept.{at_same, at_other}
+use Rattle.hls_machine.proofs.Seatings.{lone_port}
 use Rattle.hls_accounts.specs.Tells.{IsSpot, IsPerch, ArePerches}
 use Rattle.hls_answers.specs.Levels.{LeadsTo, HasNewChain, HasChain, place_on, place_there, seat_there, with_mover}
 use Rattle.hls_answers.proofs.Found.{named_found}

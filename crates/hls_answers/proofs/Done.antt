@@ -20,18 +20,18 @@ use Rattle.hls_scenario.specs.declared.scenario.Command.TheVariants as said
 use Rattle.hls_scenario.specs.Grammar as grammar
 use Rattle.hls_report_text.specs.declared.refusal.Refusal.{Refusal}
 use Rattle.hls_report_text.specs.declared.refusal.Refusal.TheVariants as refusals
-use Rattle.hls_legal.specs.Hierarchy.{Hierarchy, Node, Loaded, Admitted, Scheduler, Place, Processor, At, Seat}
-use Rattle.hls_legal.specs.Hierarchy.{start, config_of, name_of}
-use Rattle.hls_legal.specs.Steps.{Step, Load, Admit, End, Unload, Rouse, Block, state, loaded}
-use Rattle.hls_legal.specs.Steps.{effect, nobody}
-use Rattle.hls_legal.specs.Legal.{IsChain, IsShallow, MayTake, IsNew}
-use Rattle.hls_legal.specs.Legal.{CanLoad, IsLegal, fair_queue, fair_queues}
-use Rattle.hls_legal.specs.Lists.{IsListed}
-use Rattle.hls_legal.proofs.Kept.{IsSound}
-use Rattle.hls_legal.proofs.Lists.{run_listed}
-use Rattle.hls_made.proofs.Books.{range_made, admission_made}
-use Rattle.hls_legal.proofs.Books.{made_at}
-use Rattle.hls_legal.proofs.Solutions.{CanGo, run_goes, start_goes}
+use Rattle.hls_machine.specs.Hierarchy.{Hierarchy, Node, Loaded, Admitted, Scheduler, Place, Processor, At, Seat}
+use Rattle.hls_machine.specs.Hierarchy.{start, config_of, name_of}
+use Rattle.hls_machine.specs.Steps.{Step, Load, Admit, End, Unload, Rouse, Block, state, loaded}
+use Rattle.hls_machine.specs.Steps.{effect, nobody}
+use Rattle.hls_machine.specs.Legal.{IsChain, IsShallow, MayTake, IsNew}
+use Rattle.hls_machine.specs.Legal.{CanLoad, IsLegal, fair_queue, fair_queues}
+use Rattle.hls_machine.specs.Lists.{IsListed}
+use Rattle.hls_machine.proofs.Kept.{IsSound}
+use Rattle.hls_machine.proofs.Lists.{run_listed}
+use Rattle.hls_book_made.proofs.Books.{range_made, admission_made}
+use Rattle.hls_machine.proofs.Books.{made_at}
+use Rattle.hls_machine.proofs.Solutions.{CanGo, run_goes, start_goes}
 use Rattle.hls_accounts.specs.Tells.{HasName, IsSpot}
 use Rattle.hls_answers.specs.Moment.{Moment, number_of, node_of}
 use Rattle.hls_answers.specs.Levels.{LeadsTo, HasNewChain}

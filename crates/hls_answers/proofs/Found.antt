@@ -5,10 +5,10 @@ use Rattle.std.specs.Prelude.{find, Contains, option_and_then}
 use Rattle.std.proofs.lemmas.List.Elements.{Contains-append_left, Contains-append_right}
 use Rattle.std.proofs.lemmas.Slice.Eq.{bytes_eq-Decides}
 use Rattle.hls_text.specs.Lines.{Text}
-use Rattle.hls_legal.specs.Hierarchy.{Hierarchy, Node, Loaded, Admitted, name_of}
-use Rattle.hls_legal.specs.Steps.{is_scheduler, is_thread}
-use Rattle.hls_legal.specs.Lists.{IsListed}
-use Rattle.hls_legal.proofs.Listings.{First, Later, in_cases, none_in}
+use Rattle.hls_machine.specs.Hierarchy.{Hierarchy, Node, Loaded, Admitted, name_of}
+use Rattle.hls_machine.specs.Steps.{is_scheduler, is_thread}
+use Rattle.hls_machine.specs.Lists.{IsListed}
+use Rattle.hls_machine.proofs.Listings.{First, Later, in_cases, none_in}
 use Rattle.hls_accounts.specs.Schedule.{is_name}
 use Rattle.hls_accounts.specs.Tells.{HasName}
 use Rattle.hls_answers.specs.Moment.{has_name, number_of, node_of}

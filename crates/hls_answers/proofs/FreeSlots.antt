@@ -18,9 +18,9 @@ use Rattle.hls_kinds.specs.Tenants.{tenant_at}
 use Rattle.hls_kinds.specs.Reservations.{is_held, is_held_in}
 use Rattle.hls_kinds.specs.Room.{occupant_at, terms_left, IsFree, IsFull}
 use Rattle.hls_kinds.proofs.MarkLaws.{tenant_at-mark, sits_on}
-use Rattle.hls_legal.specs.Ledgers.{with_marks}
-use Rattle.hls_legal.specs.Hierarchy.{Place, Processor, At, Seat}
-use Rattle.hls_legal.specs.Steps.{leaving_at, leavings}
+use Rattle.hls_machine.specs.Ledgers.{with_marks}
+use Rattle.hls_machine.specs.Hierarchy.{Place, Processor, At, Seat}
+use Rattle.hls_machine.specs.Steps.{leaving_at, leavings}
 
 -- the least slot at which there is nothing, below a bound
 pub record IsLeast (f : ℕ → Option Terms) (n : ℕ) : Type 0 where

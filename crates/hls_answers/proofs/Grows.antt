@@ -1,8 +1,8 @@
 -- Answers along a run that grows at its end.
 use Rattle.std.proofs.Common.{ℕ, List, [], ◌∷◌, ◌++◌}
 use Rattle.hls_report_text.specs.declared.report.Answered.{Answered}
-use Rattle.hls_legal.specs.Hierarchy.{Hierarchy}
-use Rattle.hls_legal.specs.Steps.{Step, Elapse, after, state}
+use Rattle.hls_machine.specs.Hierarchy.{Hierarchy}
+use Rattle.hls_machine.specs.Steps.{Step, Elapse, after, state}
 use Rattle.hls_answers.specs.Moment.{Boxes}
 use Rattle.hls_answers.specs.Answers.{IsAnswer}
 use Rattle.hls_answers.specs.Kit.{boxes_after, boxes_left}

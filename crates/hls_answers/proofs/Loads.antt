@@ -6,14 +6,14 @@ use Rattle.hls_chron.specs.declared.plain.Config.{Config}
 use Rattle.hls_scenario.specs.declared.scenario.Spot.{Spot}
 use Rattle.hls_scenario.specs.declared.scenario.Spot.TheVariants.{Cpu, Under}
 use Rattle.hls_scenario.specs.declared.scenario.Perch.{Perch}
-use Rattle.hls_legal.specs.Hierarchy.{Hierarchy, Node, Loaded, Scheduler, Place, Processor, At, Seat, config_of}
-use Rattle.hls_legal.specs.Hierarchy.{seat_of}
-use Rattle.hls_legal.specs.Steps.{effect, nobody}
-use Rattle.hls_legal.specs.Legal.{scheduler_at, SitsUnder, IsChain, fair_queue, fair_queues}
-use Rattle.hls_legal.specs.Linked.{SitsBelow, SitsAt}
-use Rattle.hls_legal.specs.Lists.{IsListed}
-use Rattle.hls_legal.proofs.Nodes.{nobody_sits}
-use Rattle.hls_legal.proofs.Kept.{IsSound}
+use Rattle.hls_machine.specs.Hierarchy.{Hierarchy, Node, Loaded, Scheduler, Place, Processor, At, Seat, config_of}
+use Rattle.hls_machine.specs.Hierarchy.{seat_of}
+use Rattle.hls_machine.specs.Steps.{effect, nobody}
+use Rattle.hls_machine.specs.Legal.{scheduler_at, SitsUnder, IsChain, fair_queue, fair_queues}
+use Rattle.hls_machine.specs.Linked.{SitsBelow, SitsAt}
+use Rattle.hls_machine.specs.Lists.{IsListed}
+use Rattle.hls_machine.proofs.Nodes.{nobody_sits}
+use Rattle.hls_machine.proofs.Kept.{IsSound}
 use Rattle.hls_accounts.specs.Tells.{IsSpot, IsPerch, ArePerches}
 use Rattle.hls_answers.specs.Levels.{LeadsTo, HasNewChain}
 use Rattle.hls_answers.proofs.Found.{named_found}
@@ -55,7 +55,7 @@ lone_parent h rank c port seat (At p slot) k none sits e =
     let same : p ≡ k = cc in
     let at_k : SitsBelow h rank c port seat k slot = subst (λ n. SitsBelow h rank c port seat n slot) same sits in
     nobody_sits 0 0 0 slot at_k.from seat.terms
-    (subst (λ n. Rattle.hls_kinds.specs.Tenants.tenant_at (Rattle.hls_legal.specs.Hierarchy.book_of n) slot
+    (subst (λ n. Rattle.hls_kinds.specs.Tenants.tenant_at (Rattle.hls_machine.specs.Hierarchy.book_of n) slot
     ≡ Rattle.hls_kinds.specs.declared.tenant.Tenant.TheVariants.Sits seat.terms at_k.from) none at_k.sits)
 
 module _ (h : Hierarchy) (rank : ℕ → ℕ) (sound : IsSound h rank) (listed : IsListed h) (k : ℕ)
@@ -75,7 +75,7 @@ module _ (h : Hierarchy) (rank : ℕ → ℕ) (sound : IsSound h rank) (listed :
     perch_place (At p slot) Cpu is e = absurd is
     perch_place (At p slot) (Under sched terms) is e =
         (let same : p ≡ k = cc in
-        let none = ap Rattle.hls_legal.specs.Hierarchy.name_of (ap h.nodes same ∙ unused) in
+        let none = ap Rattle.hls_machine.specs.Hierarchy.name_of (ap h.nodes same ∙ unused) in
         let both = sym is ∙ none in cc)
 
     -- the perch of a port

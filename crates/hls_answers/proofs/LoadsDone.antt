@@ -13,8 +13,8 @@ use Rattle.hls_scenario.specs.declared.scenario.Spot.{Spot}
 use Rattle.hls_scenario.specs.declared.scenario.Spot.TheVariants.{Cpu, Under}
 use Rattle.hls_scenario.specs.declared.scenario.Perch.{Perch}
 use Rattle.hls_scenario.specs.Grammar as grammar
-use Rattle.hls_legal.specs.Hierarchy.{Hierarchy, Place, Processor, At, Seat}
-use Rattle.hls_legal.specs.Legal.{scheduler_at, MayTake}
+use Rattle.hls_machine.specs.Hierarchy.{Hierarchy, Place, Processor, At, Seat}
+use Rattle.hls_machine.specs.Legal.{scheduler_at, MayTake}
 use Rattle.hls_chron.specs.Kinds.{port_count}
 use Rattle.hls_accounts.specs.Tells.{IsSpot, ArePerches}
 use Rattle.hls_answers.specs.Dues.{due_at, dues_from}
@@ -147,7 +147,7 @@ differ_places : (h : Hierarchy) (here there : Place) (one two : Spot) → IsSpot
 differ_places h Processor Processor Cpu Cpu is at same differ = differ
 differ_places h (At p slot) (At q at_slot) (Under a t) (Under b u) is at same differ =
     (let node : p ≡ q = cc in
-    let both = sym is ∙ ap (λ n. Rattle.hls_legal.specs.Hierarchy.name_of (h.nodes n)) node ∙ at in
+    let both = sym is ∙ ap (λ n. Rattle.hls_machine.specs.Hierarchy.name_of (h.nodes n)) node ∙ at in
     differ (cc))
 differ_places h Processor (At q at_slot) one two is at same differ = cc
 differ_places h (At p slot) Processor one two is at same differ = cc

@@ -21,25 +21,25 @@ use Rattle.hls_scenario.specs.declared.scenario.Command.TheVariants as said
 use Rattle.hls_scenario.specs.Grammar as grammar
 use Rattle.hls_report_text.specs.declared.refusal.Refusal.{Refusal}
 use Rattle.hls_report_text.specs.declared.refusal.Refusal.TheVariants as refusals
-use Rattle.hls_legal.specs.Derived.{Follows}
-use Rattle.hls_legal.specs.Hierarchy.{Hierarchy, Node, Loaded, Admitted, Scheduler, Thread, Place, Processor}
-use Rattle.hls_legal.specs.Hierarchy.{At, Seat}
-use Rattle.hls_legal.specs.Hierarchy.{SeatHolder, seats_of, seat_of, haves_of, config_of, book_of, name_of}
-use Rattle.hls_legal.specs.Steps.{Step, Move, after, reseated, effect}
-use Rattle.hls_legal.specs.Legal.{IsChain, IsShallow, SitsOn, NotBelow, MayMoveTo, CanMove}
+use Rattle.hls_machine.specs.Derived.{Follows}
+use Rattle.hls_machine.specs.Hierarchy.{Hierarchy, Node, Loaded, Admitted, Scheduler, Thread, Place, Processor}
+use Rattle.hls_machine.specs.Hierarchy.{At, Seat}
+use Rattle.hls_machine.specs.Hierarchy.{SeatHolder, seats_of, seat_of, haves_of, config_of, book_of, name_of}
+use Rattle.hls_machine.specs.Steps.{Step, Move, after, reseated, effect}
+use Rattle.hls_machine.specs.Legal.{IsChain, IsShallow, SitsOn, NotBelow, MayMoveTo, CanMove}
 use Rattle.hls_chron.specs.Kinds.{port_count}
-use Rattle.hls_legal.specs.Legal.{fair_queues}
-use Rattle.hls_legal.specs.Linked.{SitsBelow, SitsAt}
-use Rattle.hls_legal.specs.Readings.{IsUnderBy}
-use Rattle.hls_legal.proofs.Nodes.{IsCurrent, nobody_sits}
-use Rattle.hls_legal.proofs.Kept.{IsSound}
-use Rattle.hls_legal.proofs.Effects.{effect_sound}
-use Rattle.hls_legal.proofs.Commands.{move_owes}
-use Rattle.hls_legal.proofs.Listings.{First, Later, in_cases, none_in}
-use Rattle.hls_legal.proofs.Readings.{below_rank}
-use Rattle.hls_legal.proofs.Runs.{Kept}
-use Rattle.hls_legal.proofs.Sitters.{step_finite}
-use Rattle.hls_legal.proofs.Unique.{most_rank}
+use Rattle.hls_machine.specs.Legal.{fair_queues}
+use Rattle.hls_machine.specs.Linked.{SitsBelow, SitsAt}
+use Rattle.hls_machine.specs.Readings.{IsUnderBy}
+use Rattle.hls_machine.proofs.Nodes.{IsCurrent, nobody_sits}
+use Rattle.hls_machine.proofs.Kept.{IsSound}
+use Rattle.hls_machine.proofs.Effects.{effect_sound}
+use Rattle.hls_machine.proofs.Commands.{move_owes}
+use Rattle.hls_machine.proofs.Listings.{First, Later, in_cases, none_in}
+use Rattle.hls_machine.proofs.Readings.{below_rank}
+use Rattle.hls_machine.proofs.Runs.{Kept}
+use Rattle.hls_machine.proofs.Sitters.{step_finite}
+use Rattle.hls_machine.proofs.Unique.{most_rank}
 use Rattle.hls_accounts.specs.Tells.{IsSpot}
 use Rattle.hls_answers.specs.Moment.{Moment, number_of}
 use Rattle.hls_answers.specs.Levels.{HasChain, with_mover}
@@ -181,8 +181,8 @@ module _ (m : Moment) (is_reached : IsReached m.hierarchy) (name : Text) (perch 
 
   leaves_room : LeavesRoom h (seats_of (h.nodes k))
   leaves_room p s there not_full =
-      subst (λ (seats : List Seat). ¬ IsFull s.config (Rattle.hls_legal.specs.Ledgers.with_marks s.book
-      (Rattle.hls_legal.specs.Steps.leavings seats p))) (sym old.is)
+      subst (λ (seats : List Seat). ¬ IsFull s.config (Rattle.hls_machine.specs.Ledgers.with_marks s.book
+      (Rattle.hls_machine.specs.Steps.leavings seats p))) (sym old.is)
       (lone_free s.config s.book old.seat p not_full (λ slot at. old_takes p s there slot at))
 
   new : IsSeatFor h (seats_of (h.nodes k)) perch

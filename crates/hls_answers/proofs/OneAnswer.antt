@@ -23,7 +23,7 @@ use Rattle.hls_report_text.specs.declared.refusal.Refusal.TheVariants.{NoRoom, N
 use Rattle.hls_report_text.specs.declared.report.Seated.{Seated}
 use Rattle.hls_report_text.specs.declared.report.Answer.{Answer}
 use Rattle.hls_report_text.specs.declared.report.Answer.TheVariants.{Done, Refused}
-use Rattle.hls_legal.specs.Hierarchy.{Hierarchy, Loaded, Scheduler}
+use Rattle.hls_machine.specs.Hierarchy.{Hierarchy, Loaded, Scheduler}
 use Rattle.hls_answers.specs.Moment.{Boxes, Moment, node_of, spots_of}
 use Rattle.hls_answers.specs.Dues.{Due, AreSettled, dues}
 use Rattle.hls_answers.specs.Refusals.{IsNotEmpty, IsCycle, IsTooDeep, AreTooManyShares, IsKitEmpty}

@@ -3,18 +3,18 @@ use Rattle.std.proofs.Common.{◌≡◌, ◌≢◌, ℕ, zero, suc, inl, inr, �
 use Rattle.std.proofs.Common.{Option, Some, None}
 use Rattle.std.proofs.Common.{Bool, refl, sym, ap, ◌∙◌, subst, arith}
 use Rattle.std.proofs.lemmas.Bool.{cases_eq, cases_lt}
-use Rattle.hls_legal.specs.Hierarchy.{Hierarchy, Node, Loaded, Admitted, Scheduler, Place, Processor, At, Seat, Wake}
-use Rattle.hls_legal.specs.Hierarchy.{start, config_of, seat_of}
-use Rattle.hls_legal.specs.Steps.{Step, Refuse, Load, Admit, End, Unload, Move, Rouse, Block, Elapse, Hop}
-use Rattle.hls_legal.specs.Steps.{after, state}
-use Rattle.hls_legal.specs.Steps.{admitted, effect, nobody, roused, ticked, with_wake, elapsed, hop_at, hops_of}
-use Rattle.hls_legal.specs.Steps.{wake_by}
-use Rattle.hls_legal.specs.Hierarchy.{Asleep}
-use Rattle.hls_legal.specs.Legal.{scheduler_at, SitsUnder, IsChain, IsShallow, Can, IsLegal}
-use Rattle.hls_legal.specs.Linked.{SitsAt}
-use Rattle.hls_legal.proofs.Kept.{IsSound, at_same, at_other}
-use Rattle.hls_legal.proofs.Sitters.{IsFinite}
-use Rattle.hls_legal.proofs.Unique.{most_rank, rank_below}
+use Rattle.hls_machine.specs.Hierarchy.{Hierarchy, Node, Loaded, Admitted, Scheduler, Place, Processor, At, Seat, Wake}
+use Rattle.hls_machine.specs.Hierarchy.{start, config_of, seat_of}
+use Rattle.hls_machine.specs.Steps.{Step, Refuse, Load, Admit, End, Unload, Move, Rouse, Block, Elapse, Hop}
+use Rattle.hls_machine.specs.Steps.{after, state}
+use Rattle.hls_machine.specs.Steps.{admitted, effect, nobody, roused, ticked, with_wake, elapsed, hop_at, hops_of}
+use Rattle.hls_machine.specs.Steps.{wake_by}
+use Rattle.hls_machine.specs.Hierarchy.{Asleep}
+use Rattle.hls_machine.specs.Legal.{scheduler_at, SitsUnder, IsChain, IsShallow, Can, IsLegal}
+use Rattle.hls_machine.specs.Linked.{SitsAt}
+use Rattle.hls_machine.proofs.Kept.{IsSound, at_same, at_other}
+use Rattle.hls_machine.proofs.Sitters.{IsFinite}
+use Rattle.hls_machine.proofs.Unique.{most_rank, rank_below}
 use Rattle.hls_answers.proofs.Chains.{chain_along, queues_same, IsLikeNode, back_other, back_node, IsWithin}
 use Rattle.hls_answers.proofs.Chains.{under_other}
 
@@ -67,12 +67,12 @@ like_ticked mask hop (Some (Admitted x)) t e = absurd (cc)
 like_ticked mask hop (Some (Loaded s)) t e = record {
   like = s;
   there = refl;
-  ports = ap (λ (n : Option Node). Rattle.hls_legal.specs.Hierarchy.seats_of n) e;
+  ports = ap (λ (n : Option Node). Rattle.hls_machine.specs.Hierarchy.seats_of n) e;
   config = ap config_of e;
 }
 
 tick_within : (h : Hierarchy) (asking : ℕ → Bool) (masks : ℕ → ℕ)
-    (path : Option Rattle.hls_legal.specs.Steps.Path) → IsWithin (elapsed h asking masks path) h
+    (path : Option Rattle.hls_machine.specs.Steps.Path) → IsWithin (elapsed h asking masks path) h
 tick_within h asking masks path parent c sits = under_other (elapsed h asking masks path) h parent c sits
     (like_ticked (masks c) (hop_at (hops_of path) c) (h.nodes c) sits.scheduler sits.there)
 
@@ -107,7 +107,7 @@ pub start_shallow : IsShallow start
 start_shallow = record {
   levels = λ chain is. (let e = ap length (start_flat chain is) in omega (arith, e));
   shares = λ chain is.
-      (let e = ap (Rattle.hls_legal.specs.Legal.fair_queues start) (start_flat chain is) in omega (arith, e));
+      (let e = ap (Rattle.hls_machine.specs.Legal.fair_queues start) (start_flat chain is) in omega (arith, e));
 }
 
 -- ---- ranks rise along chains

@@ -26,15 +26,15 @@ use Rattle.hls_report_text.specs.declared.refusal.Refusal.TheVariants.{TooManyNo
 use Rattle.hls_report_text.specs.declared.refusal.Refusal.TheVariants.{TermsUnfit, PriorityTaken, SeatsFull}
 use Rattle.hls_report_text.specs.declared.refusal.Refusal.TheVariants.{Cycle, TooDeep, TooManyShares, KitEmpty}
 use Rattle.hls_report_text.specs.declared.refusal.Refusal.TheVariants.{NoRoom, NoDerivation}
-use Rattle.hls_legal.specs.Hierarchy.{Hierarchy, Node, Loaded, Admitted, Scheduler, Thread, Place, Processor, At}
-use Rattle.hls_legal.specs.Hierarchy.{Seat, seats_of, name_of}
-use Rattle.hls_legal.specs.Steps.{Step, Load, Admit, End, Unload, Move, Rouse, Block}
-use Rattle.hls_legal.specs.Legal.{MaySit, MayBeRoot, MayTakeAt, MayTake, MayMoveTo, IsThread, CanUnload, Can}
-use Rattle.hls_legal.specs.Legal.{NotBelow, IsShallow}
-use Rattle.hls_legal.specs.Readings.{IsUnderBy}
-use Rattle.hls_legal.proofs.Readings.{under_below}
-use Rattle.hls_legal.specs.Steps.{reseated, effect, nobody, loaded}
-use Rattle.hls_legal.specs.Lists.{IsListed}
+use Rattle.hls_machine.specs.Hierarchy.{Hierarchy, Node, Loaded, Admitted, Scheduler, Thread, Place, Processor, At}
+use Rattle.hls_machine.specs.Hierarchy.{Seat, seats_of, name_of}
+use Rattle.hls_machine.specs.Steps.{Step, Load, Admit, End, Unload, Move, Rouse, Block}
+use Rattle.hls_machine.specs.Legal.{MaySit, MayBeRoot, MayTakeAt, MayTake, MayMoveTo, IsThread, CanUnload, Can}
+use Rattle.hls_machine.specs.Legal.{NotBelow, IsShallow}
+use Rattle.hls_machine.specs.Readings.{IsUnderBy}
+use Rattle.hls_machine.proofs.Readings.{under_below}
+use Rattle.hls_machine.specs.Steps.{reseated, effect, nobody, loaded}
+use Rattle.hls_machine.specs.Lists.{IsListed}
 use Rattle.hls_derive.specs.declared.derivation.Derivation.{Derivation}
 use Rattle.hls_chron.specs.declared.plain.Kind.{Kind}
 use Rattle.hls_report_text.specs.declared.report.Seated.{Seated}

@@ -21,12 +21,12 @@ use Rattle.hls_scenario.specs.declared.scenario.Command.{Command}
 use Rattle.hls_scenario.specs.Grammar as grammar
 use Rattle.hls_report_text.specs.declared.refusal.Refusal.{Refusal}
 use Rattle.hls_report_text.specs.declared.refusal.Refusal.TheVariants as refusals
-use Rattle.hls_legal.specs.Ledgers.{with_marks}
-use Rattle.hls_legal.specs.Derived.{Follows}
-use Rattle.hls_legal.specs.Hierarchy.{Hierarchy, Node, Loaded, Admitted, Scheduler, Processor, At, Seat}
-use Rattle.hls_legal.specs.Hierarchy.{haves_of, config_of}
-use Rattle.hls_legal.specs.Steps.{leavings}
-use Rattle.hls_legal.specs.Legal.{SeatInRange, MayTake}
+use Rattle.hls_machine.specs.Ledgers.{with_marks}
+use Rattle.hls_machine.specs.Derived.{Follows}
+use Rattle.hls_machine.specs.Hierarchy.{Hierarchy, Node, Loaded, Admitted, Scheduler, Processor, At, Seat}
+use Rattle.hls_machine.specs.Hierarchy.{haves_of, config_of}
+use Rattle.hls_machine.specs.Steps.{leavings}
+use Rattle.hls_machine.specs.Legal.{SeatInRange, MayTake}
 use Rattle.hls_accounts.specs.Tells.{HasName, IsPerch, terms_in}
 use Rattle.hls_answers.specs.Moment.{Moment, number_of, node_of, spots_of}
 use Rattle.hls_answers.specs.Levels.{HasChainAfter}
@@ -37,7 +37,7 @@ use Rattle.hls_answers.specs.Doable.{AreDerivable}
 use Rattle.hls_answers.proofs.Found.{named_there}
 use Rattle.hls_answers.proofs.KindLaws.{kind_cases}
 use Rattle.hls_answers.proofs.FreeSlots.{some_free}
-use Rattle.hls_supply.proofs.Follows.{derivation_follows}
+use Rattle.hls_machine_supply.proofs.Follows.{derivation_follows}
 use Rattle.hls_answers.proofs.Shallow.{none_greatest}
 
 -- ---- a seat for a perch

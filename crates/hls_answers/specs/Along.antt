@@ -1,8 +1,8 @@
 -- The defined answers along a run.
 use Rattle.std.specs.Prelude.{ℕ, List, [], ◌∷◌}
 use Rattle.hls_report_text.specs.declared.report.Answered.{Answered}
-use Rattle.hls_legal.specs.Hierarchy.{Hierarchy}
-use Rattle.hls_legal.specs.Steps.{Step, Elapse, after}
+use Rattle.hls_machine.specs.Hierarchy.{Hierarchy}
+use Rattle.hls_machine.specs.Steps.{Step, Elapse, after}
 use Rattle.hls_answers.specs.Moment.{Boxes}
 use Rattle.hls_answers.specs.Answers.{IsAnswer}
 use Rattle.hls_answers.specs.Kit.{boxes_after}

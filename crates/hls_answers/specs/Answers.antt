@@ -13,7 +13,7 @@ use Rattle.hls_report_text.specs.declared.refusal.Refusal.TheVariants.{NoRoom, N
 use Rattle.hls_report_text.specs.declared.report.Seated.{Seated}
 use Rattle.hls_report_text.specs.declared.report.Answer.{Answer}
 use Rattle.hls_report_text.specs.declared.report.Answer.TheVariants.{Done, Refused}
-use Rattle.hls_legal.specs.Hierarchy.{Hierarchy}
+use Rattle.hls_machine.specs.Hierarchy.{Hierarchy}
 use Rattle.hls_answers.specs.Moment.{Moment, spots_of}
 use Rattle.hls_answers.specs.Dues.{dues, AreSettled}
 use Rattle.hls_answers.specs.Refusals.{IsNameTaken, IsNameUnknown, IsNameOfWrongSort, AreTooManyNodes}

@@ -4,9 +4,9 @@ use Rattle.hls_chron.specs.Kinds.{kind_of}
 use Rattle.hls_derive.specs.declared.derivation.Derivation.{Derivation}
 use Rattle.hls_scenario.specs.declared.scenario.Command.{Command}
 use Rattle.hls_scenario.specs.declared.scenario.Command.TheVariants.{Load}
-use Rattle.hls_legal.specs.Hierarchy.{Hierarchy}
-use Rattle.hls_legal.specs.Steps.{Step}
-use Rattle.hls_legal.specs.Legal.{Can}
+use Rattle.hls_machine.specs.Hierarchy.{Hierarchy}
+use Rattle.hls_machine.specs.Steps.{Step}
+use Rattle.hls_machine.specs.Legal.{Can}
 use Rattle.hls_accounts.specs.Tells.{Does}
 use Rattle.hls_answers.specs.Moment.{Boxes, Moment}
 use Rattle.hls_answers.specs.Dues.{Due, dues, Derives}

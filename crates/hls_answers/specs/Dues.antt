@@ -17,9 +17,9 @@ use Rattle.hls_scenario.specs.declared.scenario.Perch.{Perch}
 use Rattle.hls_scenario.specs.declared.scenario.Command.{Command}
 use Rattle.hls_scenario.specs.declared.scenario.Command.TheVariants.{Load, Thread, Move}
 use Rattle.hls_report_text.specs.declared.report.Seated.{Seated}
-use Rattle.hls_legal.specs.Hierarchy.{Hierarchy, Processor, At, Seat, SeatHolder, name_of, seat_of, haves_of}
-use Rattle.hls_legal.specs.Hierarchy.{config_of}
-use Rattle.hls_legal.specs.Hierarchy as hierarchy
+use Rattle.hls_machine.specs.Hierarchy.{Hierarchy, Processor, At, Seat, SeatHolder, name_of, seat_of, haves_of}
+use Rattle.hls_machine.specs.Hierarchy.{config_of}
+use Rattle.hls_machine.specs.Hierarchy as hierarchy
 use Rattle.hls_accounts.specs.Tells.{terms_in}
 use Rattle.hls_answers.specs.Moment.{number_of, node_of}
 

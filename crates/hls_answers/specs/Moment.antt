@@ -9,7 +9,7 @@ use Rattle.hls_scenario.specs.declared.scenario.Spot.TheVariants.{Cpu, Under}
 use Rattle.hls_scenario.specs.declared.scenario.Perch.{Perch}
 use Rattle.hls_scenario.specs.declared.scenario.Command.{Command}
 use Rattle.hls_scenario.specs.declared.scenario.Command.TheVariants as said
-use Rattle.hls_legal.specs.Hierarchy.{Hierarchy, Node, Scheduler, Thread, Loaded, Admitted, name_of}
+use Rattle.hls_machine.specs.Hierarchy.{Hierarchy, Node, Scheduler, Thread, Loaded, Admitted, name_of}
 use Rattle.hls_accounts.specs.Schedule.{is_name}
 
 -- the boxes of a kit, of each kind: how many are left, and how many were taken

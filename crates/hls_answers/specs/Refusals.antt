@@ -16,8 +16,8 @@ use Rattle.hls_scenario.specs.declared.scenario.Spot.TheVariants.{Cpu, Under}
 use Rattle.hls_scenario.specs.declared.scenario.Perch.{Perch}
 use Rattle.hls_scenario.specs.declared.scenario.Command.{Command}
 use Rattle.hls_scenario.specs.declared.scenario.Command.TheVariants.{Load, Thread, End, Unload, Move, Wake, Block}
-use Rattle.hls_legal.specs.Hierarchy.{Hierarchy, Loaded, Scheduler}
-use Rattle.hls_legal.specs.Readings.{IsUnder}
+use Rattle.hls_machine.specs.Hierarchy.{Hierarchy, Loaded, Scheduler}
+use Rattle.hls_machine.specs.Readings.{IsUnder}
 use Rattle.hls_answers.specs.Moment.{Boxes, number_of, node_of, NamesScheduler, NamesThread, NamesJoin}
 use Rattle.hls_answers.specs.Moment.{new_name, old_name, spot_name}
 use Rattle.hls_answers.specs.Levels.{HasChainAfter}

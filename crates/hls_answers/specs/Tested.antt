@@ -3,7 +3,7 @@ use Rattle.std.specs.Prelude.{◌≡◌, ◌<◌, ℕ, Some, slice_get}
 use Rattle.hls_scenario.specs.declared.scenario.Spot.{Spot}
 use Rattle.hls_scenario.specs.declared.scenario.Command.{Command}
 use Rattle.hls_report_text.specs.declared.refusal.Refusal.{Refusal}
-use Rattle.hls_legal.specs.Hierarchy.{Hierarchy}
+use Rattle.hls_machine.specs.Hierarchy.{Hierarchy}
 use Rattle.hls_answers.specs.Moment.{spots_of}
 use Rattle.hls_answers.specs.Answers.{RefusesPlace}
 

@@ -12,13 +12,13 @@ use Rattle.hls_report_text.specs.declared.stretch.Stretch.{Stretch}
 use Rattle.hls_report_text.specs.Content.{Content, path_names, stretch_of}
 use Rattle.hls_report_text.specs.WellFormed.{Cover, IsContent}
 use Rattle.hls_accounts.specs.Schedule.{path_at}
-use Rattle.hls_clauses.specs.declared.member.Member.{Member}
-use Rattle.hls_clauses.specs.Names.{after_answer, tree_of, tree_at}
-use Rattle.hls_clauses.specs.Ways.{leads_down}
-use Rattle.hls_clauses.specs.Clauses.{IsAstray}
-use Rattle.hls_findings.specs.Inside.Order.{AreInOrder}
+use Rattle.hls_audit_clauses.specs.declared.member.Member.{Member}
+use Rattle.hls_audit_clauses.specs.Names.{after_answer, tree_of, tree_at}
+use Rattle.hls_audit_clauses.specs.Ways.{leads_down}
+use Rattle.hls_audit_clauses.specs.Clauses.{IsAstray}
+use Rattle.hls_audit_threads.specs.Inside.Order.{AreInOrder}
 use Rattle.hls_audit.specs.Inside.Leading.{IsAbreast, IsReached}
-use Rattle.hls_findings.proofs.RunLaws.{run_since, run_next, path_is, one_run}
+use Rattle.hls_audit_threads.proofs.RunLaws.{run_since, run_next, path_is, one_run}
 
 -- ---- commands
 

@@ -11,10 +11,10 @@ use Rattle.hls_guarantee.specs.declared.Guarantee.{Guarantee}
 use Rattle.hls_scenario.specs.declared.scenario.Perch.{Perch}
 use Rattle.hls_report_text.specs.declared.report.Seated.{Seated}
 use Rattle.hls_answers.specs.Dues.{Due, IsSettled, AreSettled}
-use Rattle.hls_clauses.specs.declared.member.Member.{Member}
-use Rattle.hls_clauses.specs.Names.{member_of, sort_of}
-use Rattle.hls_clauses.specs.Dues.{config_in, due_at, dues_from, is_at, dues_on}
-use Rattle.hls_clauses.specs.Dues as clause
+use Rattle.hls_audit_clauses.specs.declared.member.Member.{Member}
+use Rattle.hls_audit_clauses.specs.Names.{member_of, sort_of}
+use Rattle.hls_audit_clauses.specs.Dues.{config_in, due_at, dues_from, is_at, dues_on}
+use Rattle.hls_audit_clauses.specs.Dues as clause
 use Rattle.hls_audit.specs.declared.dues.Due as dues
 use Rattle.hls_audit.proofs.Lists.{drop_here}
 use Rattle.hls_audit.specs.Inside.Told.{told, due_under, dues_under}

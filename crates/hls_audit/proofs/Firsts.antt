@@ -4,16 +4,16 @@ use Rattle.std.specs.Prelude.{Bool, true, false, Option, Some, None, cond, nat_l
 use Rattle.std.proofs.lemmas.Bool.{cases_lt, ltb-true, ltb-false, lt-ltb}
 use Rattle.hls_report_text.specs.Content.{Content}
 use Rattle.hls_report_text.specs.WellFormed.{IsContent}
-use Rattle.hls_clauses.specs.Clauses.{Clause, Placed, Leading, Ready, Supplied, Capped, Derived, Counted}
-use Rattle.hls_clauses.specs.Clauses.{number_of, Fails, IsAstray, RunsUnready, IsStarved, IsOverCap}
-use Rattle.hls_clauses.specs.Clauses.{IsMisplacedAt, IsUnderivedAt}
+use Rattle.hls_audit_clauses.specs.Clauses.{Clause, Placed, Leading, Ready, Supplied, Capped, Derived, Counted}
+use Rattle.hls_audit_clauses.specs.Clauses.{number_of, Fails, IsAstray, RunsUnready, IsStarved, IsOverCap}
+use Rattle.hls_audit_clauses.specs.Clauses.{IsMisplacedAt, IsUnderivedAt}
 use Rattle.hls_audit.specs.declared.auditing.Outcome.{Outcome}
 use Rattle.hls_audit.specs.declared.auditing.Outcome.TheVariants.{Kept, Broken}
 use Rattle.hls_audit.specs.Audits.{IsAudit}
-use Rattle.hls_watch.specs.First.{IsFirstAt, FirstAt}
+use Rattle.hls_audit_watch.specs.First.{IsFirstAt, FirstAt}
 use Rattle.hls_audit.specs.Inside.Failing.{IsLeast, LeastOf, sooner, bound}
-use Rattle.hls_findings.proofs.Formed.{stay_ends, command_early}
-use Rattle.hls_findings.proofs.OnPaths.{path_early}
+use Rattle.hls_audit_threads.proofs.Formed.{stay_ends, command_early}
+use Rattle.hls_audit_threads.proofs.OnPaths.{path_early}
 
 -- ---- from the horizon on
 

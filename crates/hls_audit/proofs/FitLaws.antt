@@ -25,15 +25,16 @@ use Rattle.hls_accounts.specs.Commands.{is_done}
 use Rattle.hls_accounts.proofs.GoodStays.{valid_narrow}
 use Rattle.hls_answers.specs.Moment.{new_name, old_name, spots_of}
 use Rattle.hls_answers.proofs.Unrefused.{spot_terms}
-use Rattle.hls_clauses.specs.declared.member.Sort.{Sort}
-use Rattle.hls_clauses.specs.declared.member.Sort.TheVariants.{Scheduler, Thread}
-use Rattle.hls_clauses.specs.declared.member.Member.{Member}
-use Rattle.hls_clauses.specs.Names.{has_name, member_of, sort_of, perches_of, is_scheduler_sort, is_join_sort}
-use Rattle.hls_clauses.specs.Names.{without, with_moved, after, after_answer, tree_of}
-use Rattle.hls_clauses.specs.Misplaced.{is_taken, is_unknown, is_of_wrong_sort, is_occupied, is_cycle, is_wrong_spot}
-use Rattle.hls_clauses.specs.Misplaced.{is_misplaced}
-use Rattle.hls_clauses.specs.Dues.{config_in, config_at, wants, haves_at, due_at, dues_from, due_under}
-use Rattle.hls_clauses.specs.Dues.{is_at, dues_under, dues}
+use Rattle.hls_audit_clauses.specs.declared.member.Sort.{Sort}
+use Rattle.hls_audit_clauses.specs.declared.member.Sort.TheVariants.{Scheduler, Thread}
+use Rattle.hls_audit_clauses.specs.declared.member.Member.{Member}
+use Rattle.hls_audit_clauses.specs.Names.{has_name, member_of, sort_of, perches_of, is_scheduler_sort, is_join_sort}
+use Rattle.hls_audit_clauses.specs.Names.{without, with_moved, after, after_answer, tree_of}
+use Rattle.hls_audit_clauses.specs.Misplaced.{is_taken, is_unknown, is_of_wrong_sort, is_occupied, is_cycle}
+use Rattle.hls_audit_clauses.specs.Misplaced.{is_wrong_spot}
+use Rattle.hls_audit_clauses.specs.Misplaced.{is_misplaced}
+use Rattle.hls_audit_clauses.specs.Dues.{config_in, config_at, wants, haves_at, due_at, dues_from, due_under}
+use Rattle.hls_audit_clauses.specs.Dues.{is_at, dues_under, dues}
 use Rattle.hls_audit.specs.Inside.Fits.{HasSeats, IsFit, IsFitDue}
 
 -- ---- one seat

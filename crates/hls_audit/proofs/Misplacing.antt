@@ -7,12 +7,12 @@ use Rattle.hls_chron.specs.declared.plain.Config.{Config}
 use Rattle.hls_scenario.specs.declared.scenario.Perch.{Perch}
 use Rattle.hls_scenario.specs.declared.scenario.Command.TheVariants.{Load, Thread, End, Unload, Move, Wake, Block}
 use Rattle.hls_accounts.specs.Under.{is_on}
-use Rattle.hls_clauses.specs.declared.member.Sort.{Sort}
-use Rattle.hls_clauses.specs.declared.member.Sort.TheVariants as sorts
-use Rattle.hls_clauses.specs.declared.member.Member.{Member}
-use Rattle.hls_clauses.specs.Names.{member_of, sort_of, is_scheduler_sort, is_thread_sort, is_there, is_scheduler}
-use Rattle.hls_clauses.specs.Names.{is_thread, is_join, is_under, sits_on}
-use Rattle.hls_clauses.specs.Misplaced.{is_wrong_spot, is_misplaced}
+use Rattle.hls_audit_clauses.specs.declared.member.Sort.{Sort}
+use Rattle.hls_audit_clauses.specs.declared.member.Sort.TheVariants as sorts
+use Rattle.hls_audit_clauses.specs.declared.member.Member.{Member}
+use Rattle.hls_audit_clauses.specs.Names.{member_of, sort_of, is_scheduler_sort, is_thread_sort, is_there, is_scheduler}
+use Rattle.hls_audit_clauses.specs.Names.{is_thread, is_join, is_under, sits_on}
+use Rattle.hls_audit_clauses.specs.Misplaced.{is_wrong_spot, is_misplaced}
 use Rattle.hls_audit.proofs.TreeLaws.{any_spot}
 
 or_ends : (a b : Bool) → (a || b) ≡ (a || false || false || false || false || b)

@@ -10,12 +10,12 @@ use Rattle.std.proofs.lemmas.Option.{slice_get_read, slice_get_within, get_or_fr
 use Rattle.hls_report_text.specs.declared.report.Answered.{Answered}
 use Rattle.hls_report_text.specs.Content.{Content}
 use Rattle.hls_accounts.specs.Commands.{is_done}
-use Rattle.hls_clauses.specs.Misplaced.{is_misplaced}
-use Rattle.hls_clauses.specs.declared.member.Member.{Member}
-use Rattle.hls_clauses.specs.Names.{after_answer, tree_of}
-use Rattle.hls_clauses.specs.Clauses.{IsMisplacedAt, IsUnderivedAt}
-use Rattle.hls_watch.specs.First.{IsFirstAt, FirstAt}
-use Rattle.hls_findings.specs.Inside.Order.{AreInOrder, IsSound}
+use Rattle.hls_audit_clauses.specs.Misplaced.{is_misplaced}
+use Rattle.hls_audit_clauses.specs.declared.member.Member.{Member}
+use Rattle.hls_audit_clauses.specs.Names.{after_answer, tree_of}
+use Rattle.hls_audit_clauses.specs.Clauses.{IsMisplacedAt, IsUnderivedAt}
+use Rattle.hls_audit_watch.specs.First.{IsFirstAt, FirstAt}
+use Rattle.hls_audit_threads.specs.Inside.Order.{AreInOrder, IsSound}
 use Rattle.hls_audit.specs.Inside.Sites.{IsMisplacedBy, IsUnderivedBy, HasBad}
 use Rattle.hls_audit.specs.Inside.Fits.{IsFit}
 use Rattle.hls_audit.proofs.FitLaws.{answer_fit}

@@ -6,8 +6,8 @@ use Rattle.std.proofs.Math.Seq.{drop-cons}
 use Rattle.std.proofs.Math.ListN.{drop_of_length-le}
 use Rattle.hls_text.specs.Lines.{Text}
 use Rattle.hls_chron.specs.Name.{IsName}
-use Rattle.hls_clauses.specs.declared.member.Member.{Member}
-use Rattle.hls_clauses.specs.Ways.{leads_on, leads_down}
+use Rattle.hls_audit_clauses.specs.declared.member.Member.{Member}
+use Rattle.hls_audit_clauses.specs.Ways.{leads_on, leads_down}
 use Rattle.hls_audit.specs.Inside.Steps.{is_seat, is_step, is_last, goes_on}
 
 leads_step : (tree : List Member) (above : Option Text) (name : Text) (names : List Text)

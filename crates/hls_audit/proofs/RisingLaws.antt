@@ -14,7 +14,7 @@ use Rattle.hls_audit_stays.specs.declared.places.Places.{Places}
 use Rattle.hls_audit_stays.specs.Places.{place_in, Sets}
 use Rattle.hls_audit_stays.proofs.Lists.{IsOf, Front, Last, of_either, get_front, get_last, get_within}
 use Rattle.hls_audit_stays.proofs.Names.{AreSame, Same, Apart, are_same, bytes_self}
-use Rattle.hls_clauses.specs.Names.{sits}
+use Rattle.hls_audit_clauses.specs.Names.{sits}
 use Rattle.hls_audit.specs.declared.rising.Rising.{Rising}
 use Rattle.hls_audit.specs.Inside.Rising.{AreNamed, IsMet, Meets, MeetsName, MeetsSpot, MeetsAll}
 

@@ -7,9 +7,9 @@ use Rattle.std.proofs.lemmas.Slice.Eq.{bytes_eq-Decides}
 use Rattle.hls_text.specs.Lines.{Text}
 use Rattle.hls_scenario.specs.declared.scenario.Spot.{Spot}
 use Rattle.hls_scenario.specs.declared.scenario.Perch.{Perch}
-use Rattle.hls_clauses.specs.declared.member.Sort.{Sort}
-use Rattle.hls_clauses.specs.declared.member.Member.{Member}
-use Rattle.hls_clauses.specs.Names.{has_name, member_of, sort_of, without, with_moved}
+use Rattle.hls_audit_clauses.specs.declared.member.Sort.{Sort}
+use Rattle.hls_audit_clauses.specs.declared.member.Member.{Member}
+use Rattle.hls_audit_clauses.specs.Names.{has_name, member_of, sort_of, without, with_moved}
 use Rattle.hls_audit.specs.Inside.Members.{member}
 
 -- whoever is found has the name

@@ -12,9 +12,9 @@ use Rattle.hls_scenario.specs.declared.scenario.Perch.{Perch}
 use Rattle.hls_accounts.specs.Under.{is_on}
 use Rattle.hls_audit_stays.specs.Places.{place_in}
 use Rattle.hls_audit_stays.proofs.Lists.{get_within}
-use Rattle.hls_clauses.specs.declared.member.Member.{Member}
-use Rattle.hls_clauses.specs.Names.{member_of, perches_of, sits, is_within, is_under}
-use Rattle.hls_clauses.proofs.Placing.{within_step, within_zero}
+use Rattle.hls_audit_clauses.specs.declared.member.Member.{Member}
+use Rattle.hls_audit_clauses.specs.Names.{member_of, perches_of, sits, is_within, is_under}
+use Rattle.hls_audit_clauses.proofs.Placing.{within_step, within_zero}
 use Rattle.hls_audit.specs.declared.rising.Rising.{Rising}
 use Rattle.hls_audit.specs.Inside.Rising.{AreNamed, IsMet, Meets, MeetsName, MeetsAll}
 use Rattle.hls_audit.proofs.UnderLaws.{under_step, sits_more, or_right}

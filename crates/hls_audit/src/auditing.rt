@@ -8,7 +8,7 @@ ghost use Rattle.hls_audit.specs.Inside.Failing as least;
 use crate::commands::{first_misplaced, first_underived};
 use crate::counts::first_miscounted;
 use crate::leading::first_astray;
-use hls_findings::Findings;
+use hls_audit_threads::Findings;
 use hls_report_text::Report;
 use std::alloc::{AllocError, Global};
 

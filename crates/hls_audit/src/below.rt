@@ -1,7 +1,7 @@
 // Who is below a name.
 ghost use Rattle.std.specs.Prelude.{◌≡◌, ◌&&◌, IfOk};
 ghost use Rattle.hls_accounts.specs.Under.{is_on};
-ghost use Rattle.hls_clauses.specs.Names as names;
+ghost use Rattle.hls_audit_clauses.specs.Names as names;
 
 use crate::rising::Rising;
 use crate::tree::{Tree, is_same};

@@ -4,10 +4,10 @@ ghost use Rattle.std.specs.List.{AllByRecursion};
 ghost use Rattle.hls_report_text.specs.Content.{content_of};
 ghost use Rattle.hls_report_text.specs.WellFormed.{IsWellFormed};
 ghost use Rattle.hls_accounts.specs.Commands as said;
-ghost use Rattle.hls_clauses.specs.Clauses.{IsMisplacedAt, IsUnderivedAt};
-ghost use Rattle.hls_watch.specs.First.{FirstAt};
+ghost use Rattle.hls_audit_clauses.specs.Clauses.{IsMisplacedAt, IsUnderivedAt};
+ghost use Rattle.hls_audit_watch.specs.First.{FirstAt};
 ghost use Rattle.hls_audit.specs.Inside.Fits.{IsFit};
-ghost use Rattle.hls_findings.specs.Inside.Order.{AreInOrder, IsSound};
+ghost use Rattle.hls_audit_threads.specs.Inside.Order.{AreInOrder, IsSound};
 ghost use Rattle.hls_audit.specs.Inside.Sites.{IsMisplacedBy, IsUnderivedBy, HasBad};
 
 use crate::tree::Tree;

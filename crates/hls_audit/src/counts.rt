@@ -4,8 +4,8 @@ ghost use Rattle.hls_report_text.specs.Content.{content_of};
 ghost use Rattle.hls_report_text.specs.WellFormed.{IsWellFormed};
 ghost use Rattle.hls_accounts.specs.Accounts as told;
 ghost use Rattle.hls_accounts.specs.Schedule as spelled;
-ghost use Rattle.hls_clauses.specs.Clauses.{IsMiscounted};
-ghost use Rattle.hls_watch.specs.First.{FirstAt};
+ghost use Rattle.hls_audit_clauses.specs.Clauses.{IsMiscounted};
+ghost use Rattle.hls_audit_watch.specs.First.{FirstAt};
 ghost use Rattle.hls_audit.specs.Inside.Leading.{IsReached};
 
 use crate::leading::{path_of, run_of};

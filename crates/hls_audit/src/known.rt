@@ -2,8 +2,8 @@
 ghost use Rattle.std.specs.Prelude.{◌≡◌, ◌≢◌, ◌<◌, ℕ, List, Some, None, OnOk, is_some, option_copied};
 ghost use Rattle.hls_audit.specs.Inside.Known.{known_as, spare_of};
 
+use hls_audit_clauses::Member;
 use hls_chron::Name;
-use hls_clauses::Member;
 use indexmap::IndexMap;
 use std::alloc::{AllocError, Global};
 

@@ -1,14 +1,14 @@
 // Paths that lead nowhere, by a tree that follows the commands from tick to tick.
 ghost use Rattle.std.specs.Prelude.{◌≡◌, ◌+◌, ◌<◌, List, IfOk, Decides, option_map, true};
-ghost use Rattle.hls_clauses.specs.declared.member.Member.{Member};
+ghost use Rattle.hls_audit_clauses.specs.declared.member.Member.{Member};
 ghost use Rattle.hls_report_text.specs.Content.{content_of, path_names};
 ghost use Rattle.hls_report_text.specs.WellFormed.{HasShort, IsWellFormed};
 ghost use Rattle.hls_accounts.specs.Schedule as spelled;
-ghost use Rattle.hls_clauses.specs.Names as told;
-ghost use Rattle.hls_clauses.specs.Clauses.{IsAstray};
-ghost use Rattle.hls_watch.specs.First.{FirstAt};
+ghost use Rattle.hls_audit_clauses.specs.Names as told;
+ghost use Rattle.hls_audit_clauses.specs.Clauses.{IsAstray};
+ghost use Rattle.hls_audit_watch.specs.First.{FirstAt};
 ghost use Rattle.hls_audit.specs.Inside.Leading.{IsAbreast, IsReached};
-ghost use Rattle.hls_findings.specs.Inside.Order.{AreInOrder};
+ghost use Rattle.hls_audit_threads.specs.Inside.Order.{AreInOrder};
 
 use crate::tree::Tree;
 use hls_report_text::{Answer, Answered, Path, Report};

@@ -3,12 +3,12 @@ ghost use Rattle.std.specs.Prelude.{◌≡◌, ◌||◌, ◌&&◌, not, IfOk};
 ghost use Rattle.std.specs.List.{list_any};
 ghost use Rattle.std.specs.Str.{bytes_eq};
 ghost use Rattle.hls_accounts.specs.Under as under;
-ghost use Rattle.hls_clauses.specs.Names as names;
-ghost use Rattle.hls_clauses.specs.Misplaced as clause;
+ghost use Rattle.hls_audit_clauses.specs.Names as names;
+ghost use Rattle.hls_audit_clauses.specs.Misplaced as clause;
 
 use crate::tree::{Tree, is_same};
+use hls_audit_clauses::{Member, Sort};
 use hls_chron::{Config, Name};
-use hls_clauses::{Member, Sort};
 use hls_scenario::{Command, Perch, Spot};
 use std::alloc::{AllocError, Global};
 

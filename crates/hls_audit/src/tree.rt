@@ -1,13 +1,13 @@
 // The plain tree of names that the commands of a report leave.
 ghost use Rattle.std.specs.Prelude.{◌≡◌, List, [], ◌∷◌, ◌++◌, IfOk, OnOk, option_copied};
 ghost use Rattle.std.specs.Str.{bytes_eq};
-ghost use Rattle.hls_clauses.specs.Names as names;
+ghost use Rattle.hls_audit_clauses.specs.Names as names;
 ghost use Rattle.hls_audit.specs.Inside.Known.{IsIndex};
 ghost use Rattle.hls_audit.specs.Inside.Members.{member};
 
 use crate::known::Known;
+use hls_audit_clauses::{Member, Sort};
 use hls_chron::{List, Name};
-use hls_clauses::{Member, Sort};
 use hls_report_text::{Answer, Answered};
 use hls_scenario::{Command, Perch};
 use std::alloc::{AllocError, Global};

@@ -3,8 +3,8 @@ ghost use Rattle.std.specs.Prelude.{◌≡◌, ◌≤◌, slice_get};
 ghost use Rattle.std.specs.List.{AllByRecursion};
 ghost use Rattle.hls_chron.specs.Name.{IsName};
 ghost use Rattle.hls_report_text.specs.Content.{path_names};
-ghost use Rattle.hls_clauses.specs.Names as names;
-ghost use Rattle.hls_clauses.specs.Ways as clause;
+ghost use Rattle.hls_audit_clauses.specs.Names as names;
+ghost use Rattle.hls_audit_clauses.specs.Ways as clause;
 ghost use Rattle.hls_audit.specs.Inside.Steps.{is_last, is_step};
 
 use crate::placing::{sits_at_cpu, sits_on};

@@ -8,28 +8,28 @@ use Rattle.std.proofs.lemmas.List.Elements.{All-nil, All-cons}
 use Rattle.hls_text.specs.Lines.{Text}
 use Rattle.hls_report_text.specs.declared.report.Path.{Path}
 use Rattle.hls_sched.specs.Seen.{Seen}
-use Rattle.hls_legal.specs.Hierarchy.{Hierarchy, Place, Processor, At, Admitted, Thread}
-use Rattle.hls_legal.specs.Hierarchy.{start, name_of}
-use Rattle.hls_legal.specs.Hierarchy.{is_ready, was_served, is_just}
-use Rattle.hls_legal.specs.Steps.{Hop, Step, Elapse, after, state, thread_of, hops_of, hop_at, ticked}
-use Rattle.hls_legal.specs.Steps as steps
-use Rattle.hls_legal.specs.Legal.{Can, Walk, MayRun}
-use Rattle.hls_legal.proofs.Goes.{state_goes, legal_goes}
-use Rattle.hls_legal.proofs.Lists.{run_listed}
-use Rattle.hls_legal.proofs.Seated.{run_seated}
-use Rattle.hls_legal.specs.Lists.{IsListed}
-use Rattle.hls_legal.specs.Seated.{IsSeated}
-use Rattle.hls_walks.specs.TreeOf as walks
+use Rattle.hls_machine.specs.Hierarchy.{Hierarchy, Place, Processor, At, Admitted, Thread}
+use Rattle.hls_machine.specs.Hierarchy.{start, name_of}
+use Rattle.hls_machine.specs.Hierarchy.{is_ready, was_served, is_just}
+use Rattle.hls_machine.specs.Steps.{Hop, Step, Elapse, after, state, thread_of, hops_of, hop_at, ticked}
+use Rattle.hls_machine.specs.Steps as steps
+use Rattle.hls_machine.specs.Legal.{Can, Walk, MayRun}
+use Rattle.hls_machine.proofs.Goes.{state_goes, legal_goes}
+use Rattle.hls_machine.proofs.Lists.{run_listed}
+use Rattle.hls_machine.proofs.Seated.{run_seated}
+use Rattle.hls_machine.specs.Lists.{IsListed}
+use Rattle.hls_machine.specs.Seated.{IsSeated}
+use Rattle.hls_tree_nodes.specs.TreeOf as walks
 use Rattle.hls_accounts.specs.Tells.{Names}
 use Rattle.hls_tree.specs.Trees.{IsTreeOf, IsReadyOf, Stands, PassesBy, Passes, ready_of}
 use Rattle.hls_tree.specs.declared.tree.Tree.{Tree}
 use Rattle.hls_manager.proofs.Outcomes.{reached_listed}
-use Rattle.hls_stays.specs.Tallies.{AreStays}
-use Rattle.hls_stays.specs.Changes.{Ticks, MayTick}
-use Rattle.hls_stays.specs.declared.stays.Stays.{Stays}
-use Rattle.hls_journal.specs.declared.journal.Journal.{Journal}
-use Rattle.hls_journal.specs.Kept.{IsWayOrIdle}
-use Rattle.hls_journal.specs.Ways.{names_by}
+use Rattle.hls_core_stays.specs.Tallies.{AreStays}
+use Rattle.hls_core_stays.specs.Changes.{Ticks, MayTick}
+use Rattle.hls_core_stays.specs.declared.stays.Stays.{Stays}
+use Rattle.hls_core_journal.specs.declared.journal.Journal.{Journal}
+use Rattle.hls_core_journal.specs.Kept.{IsWayOrIdle}
+use Rattle.hls_core_journal.specs.Ways.{names_by}
 use Rattle.hls_core.specs.Bursts.{left_in, is_last}
 use Rattle.hls_core.specs.Left.{IsLeft}
 use Rattle.hls_core.specs.Inside.Ways.{IsKnown, IsRouteOrIdle, TellsRoute}

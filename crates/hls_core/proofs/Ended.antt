@@ -11,22 +11,22 @@ use Rattle.hls_report_text.specs.declared.report.Report.{Report}
 use Rattle.hls_report_text.specs.Content.{Content, content_of}
 use Rattle.hls_report_text.specs.WellFormed.{HasShort}
 use Rattle.hls_sched.specs.Seen.{Seen}
-use Rattle.hls_legal.specs.Hierarchy.{Hierarchy, start}
-use Rattle.hls_legal.specs.Steps.{Step, Elapse, after, state, hop_at, hops_of}
-use Rattle.hls_legal.proofs.Goes.{state_goes}
-use Rattle.hls_legal.proofs.Lists.{run_listed}
-use Rattle.hls_legal.proofs.Seated.{run_seated}
+use Rattle.hls_machine.specs.Hierarchy.{Hierarchy, start}
+use Rattle.hls_machine.specs.Steps.{Step, Elapse, after, state, hop_at, hops_of}
+use Rattle.hls_machine.proofs.Goes.{state_goes}
+use Rattle.hls_machine.proofs.Lists.{run_listed}
+use Rattle.hls_machine.proofs.Seated.{run_seated}
 use Rattle.hls_accounts.specs.Tells.{TellsFrom, Tells}
 use Rattle.hls_accounts.specs.Ready.{is_ready}
 use Rattle.hls_answers.specs.Moment.{Boxes}
 use Rattle.hls_legal_report.specs.Legal.{IsRun, IsLegalReport}
 use Rattle.hls_legal_report.proofs.Growth.{run_tick}
 use Rattle.hls_tree.specs.Trees.{Stands}
-use Rattle.hls_journal.specs.Told.{answered_by, told, with_totals, IsReportOf}
-use Rattle.hls_journal.specs.Kept.{IsTicked, MayTick}
-use Rattle.hls_journal.proofs.Keeps.{kept_tick, told_tick, may_tick, way_short}
-use Rattle.hls_stays.specs.Tallies.{AreStays}
-use Rattle.hls_stays.specs.declared.stays.Stays.{Stays}
+use Rattle.hls_core_journal.specs.Told.{answered_by, told, with_totals, IsReportOf}
+use Rattle.hls_core_journal.specs.Kept.{IsTicked, MayTick}
+use Rattle.hls_core_journal.proofs.Keeps.{kept_tick, told_tick, may_tick, way_short}
+use Rattle.hls_core_stays.specs.Tallies.{AreStays}
+use Rattle.hls_core_stays.specs.declared.stays.Stays.{Stays}
 use Rattle.hls_core.specs.Marks.{HasMarksFor}
 use Rattle.hls_core.specs.Inside.Elapses.{MayElapse, Elapses}
 use Rattle.hls_report_text.specs.declared.report.Account.{Account}
@@ -150,7 +150,7 @@ module _ {V W : Type 0} {P : V → Type 0} {Q : W → Type 0}
         ahead = λ at item le there.
             (let later = ahead at item (omega (arith, le, agenda)) there in
             let ticks = noted.ticks in omega (arith, later, ticks));
-        good = subst (Rattle.hls_sched.specs.GoodKit.IsGood (Rattle.hls_walks.specs.Views.boxed seen)) (sym kit)
+        good = subst (Rattle.hls_sched.specs.GoodKit.IsGood (Rattle.hls_tree_nodes.specs.Views.boxed seen)) (sym kit)
             is.good;
         left =
             ap Rattle.hls_manager.specs.Outcomes.boxes_in kit ∙ is.left

@@ -7,27 +7,28 @@ use Rattle.hls_report_text.specs.declared.report.Answer.{Answer}
 use Rattle.hls_report_text.specs.declared.report.Answer.TheVariants.{Done, Refused}
 use Rattle.hls_sched.specs.Seen.{Seen}
 use Rattle.hls_sched.specs.declared.kit.Kit.{Kit}
-use Rattle.hls_legal.specs.Hierarchy.{Hierarchy, start}
-use Rattle.hls_legal.specs.Steps.{Step, Refuse, after, state}
-use Rattle.hls_legal.specs.Legal.{Can, IsLegal, IsBelow}
-use Rattle.hls_legal.specs.Seated.{IsSeated}
-use Rattle.hls_legal.proofs.Goes.{state_goes, legal_goes}
-use Rattle.hls_legal.proofs.Seated.{run_seated}
-use Rattle.hls_legal.proofs.Readings.{under_below, below_rank}
-use Rattle.hls_legal.proofs.Runs.{run_keeps, start_kept}
+use Rattle.hls_machine.specs.Hierarchy.{Hierarchy, start}
+use Rattle.hls_machine.specs.Steps.{Step, Refuse, after, state}
+use Rattle.hls_machine.specs.Legal.{Can, IsLegal, IsBelow}
+use Rattle.hls_machine.specs.Seated.{IsSeated}
+use Rattle.hls_machine.proofs.Goes.{state_goes, legal_goes}
+use Rattle.hls_machine.proofs.Seated.{run_seated}
+use Rattle.hls_machine.proofs.Readings.{under_below, below_rank}
+use Rattle.hls_machine.proofs.Runs.{run_keeps, start_kept}
 use Rattle.hls_accounts.specs.Tells.{Answers}
 use Rattle.hls_tree.specs.Trees.{IsTreeOf, IsReadyOf, Stands, Any}
 use Rattle.hls_tree.specs.declared.tree.Tree.{Tree}
 use Rattle.hls_answers.specs.Moment.{Moment}
 use Rattle.hls_manager.specs.Outcomes as manager
-use Rattle.hls_manager.specs.Outcomes.{IsReached, HasMarkRoom, moment}
+use Rattle.hls_machine.specs.Legal.{IsReached}
+use Rattle.hls_manager.specs.Outcomes.{HasMarkRoom, moment}
 use Rattle.hls_manager.proofs.Outcomes.{reached_listed}
-use Rattle.hls_stays.specs.Tallies.{AreStays}
-use Rattle.hls_stays.specs.Turnovers.{IsTurnover, Tells}
-use Rattle.hls_stays.specs.Changes.{Turns, MayTurn}
-use Rattle.hls_stays.specs.declared.stays.Stays.{Stays}
-use Rattle.hls_stays.specs.declared.turnover.Turnover.{Turnover}
-use Rattle.hls_stays.specs.declared.turnover.Turnover.TheVariants.{Rouses}
+use Rattle.hls_core_stays.specs.Tallies.{AreStays}
+use Rattle.hls_core_stays.specs.Turnovers.{IsTurnover, Tells}
+use Rattle.hls_core_stays.specs.Changes.{Turns, MayTurn}
+use Rattle.hls_core_stays.specs.declared.stays.Stays.{Stays}
+use Rattle.hls_core_stays.specs.declared.turnover.Turnover.{Turnover}
+use Rattle.hls_core_stays.specs.declared.turnover.Turnover.TheVariants.{Rouses}
 use Rattle.hls_core.specs.declared.bursts.Bursts.{Bursts}
 use Rattle.hls_core.specs.Standing.{IsAt}
 use Rattle.hls_core.specs.Inside.Outcomes.{CarriesOut, CarriesStays, MayCarry, Follows, MayFollow}

@@ -19,14 +19,14 @@ use Rattle.hls_report_text.specs.WellFormed as formed
 use Rattle.hls_sched.specs.Seen.{Seen}
 use Rattle.hls_sched.specs.GoodKit.{IsGood}
 use Rattle.hls_sched.specs.declared.kit.Kit.{Kit}
-use Rattle.hls_walks.specs.Views.{boxed}
+use Rattle.hls_tree_nodes.specs.Views.{boxed}
 use Rattle.hls_tree.specs.Kits.{IsSameKit}
-use Rattle.hls_legal.specs.Hierarchy.{Hierarchy, start, name_of}
-use Rattle.hls_legal.specs.Steps.{Step, after, state}
-use Rattle.hls_legal.specs.Legal.{Can, IsLegal}
-use Rattle.hls_legal.proofs.Goes.{state_goes, legal_goes}
-use Rattle.hls_legal.proofs.Lists.{run_listed}
-use Rattle.hls_legal.proofs.Seated.{run_seated}
+use Rattle.hls_machine.specs.Hierarchy.{Hierarchy, start, name_of}
+use Rattle.hls_machine.specs.Steps.{Step, after, state}
+use Rattle.hls_machine.specs.Legal.{Can, IsLegal}
+use Rattle.hls_machine.proofs.Goes.{state_goes, legal_goes}
+use Rattle.hls_machine.proofs.Lists.{run_listed}
+use Rattle.hls_machine.proofs.Seated.{run_seated}
 use Rattle.hls_accounts.specs.Tells.{Answers}
 use Rattle.hls_answers.specs.Moment.{Boxes, new_name}
 use Rattle.hls_answers.specs.Answers.{IsAnswer}
@@ -36,17 +36,17 @@ use Rattle.hls_legal_report.specs.Grown.{with_answer}
 use Rattle.hls_legal_report.proofs.Growth.{run_command}
 use Rattle.hls_tree.specs.Trees.{IsTreeOf, IsReadyOf, Stands}
 use Rattle.hls_tree.specs.declared.tree.Tree.{Tree}
-use Rattle.hls_journal.specs.declared.journal.Journal.{Journal}
-use Rattle.hls_journal.specs.Told.{answered_as, answered_by, told}
-use Rattle.hls_journal.specs.Kept.{IsNoted, MayNote, has_name, named_by}
-use Rattle.hls_journal.proofs.Keeps.{kept_note, told_note, noted_grows, may_note, answered_push}
+use Rattle.hls_core_journal.specs.declared.journal.Journal.{Journal}
+use Rattle.hls_core_journal.specs.Told.{answered_as, answered_by, told}
+use Rattle.hls_core_journal.specs.Kept.{IsNoted, MayNote, has_name, named_by}
+use Rattle.hls_core_journal.proofs.Keeps.{kept_note, told_note, noted_grows, may_note, answered_push}
 use Rattle.hls_core.specs.Bursts.{left_in}
 use Rattle.hls_core.specs.declared.bursts.Bursts.{Bursts}
 use Rattle.hls_manager.specs.Outcomes.{boxes_in, moment}
 use Rattle.hls_core.specs.Marks.{HasMarksFor}
 use Rattle.hls_core.specs.Standing.{IsAt}
-use Rattle.hls_stays.specs.Tallies.{AreStays}
-use Rattle.hls_stays.specs.declared.stays.Stays.{Stays}
+use Rattle.hls_core_stays.specs.Tallies.{AreStays}
+use Rattle.hls_core_stays.specs.declared.stays.Stays.{Stays}
 use Rattle.hls_core.specs.Inside.Outcomes.{CarriesOut, MayCarry}
 use Rattle.hls_core.proofs.Standings.{run_standing}
 use Rattle.hls_core.specs.Cores.{AreNoted, IsCoreOf}

@@ -11,7 +11,7 @@ use Rattle.hls_scenario.specs.Grammar.{AreItems, IsCommand}
 use Rattle.hls_report_text.specs.declared.report.Answer.{Answer}
 use Rattle.hls_report_text.specs.ReportText.{item_of}
 use Rattle.hls_clock.specs.Agenda.{due_of, due_command}
-use Rattle.hls_journal.specs.Told.{answered_by}
+use Rattle.hls_core_journal.specs.Told.{answered_by}
 use Rattle.hls_core.specs.Cores.{AreAhead, NoneDue}
 
 -- the command that is due

@@ -11,18 +11,18 @@ use Rattle.hls_report_text.specs.declared.report.Answered.{Answered}
 use Rattle.hls_report_text.specs.Content.{Content}
 use Rattle.hls_sched.specs.Seen.{Seen}
 use Rattle.hls_sched.specs.GoodKit.{IsGood}
-use Rattle.hls_walks.specs.Views.{boxed}
-use Rattle.hls_legal.specs.Hierarchy.{start}
+use Rattle.hls_tree_nodes.specs.Views.{boxed}
+use Rattle.hls_machine.specs.Hierarchy.{start}
 use Rattle.hls_accounts.specs.Tells.{TellsFrom}
 use Rattle.hls_answers.specs.Moment.{Boxes}
 use Rattle.hls_answers.specs.Kit.{boxes_left}
 use Rattle.hls_answers.specs.Along.{AnswersAlong}
 use Rattle.hls_legal_report.specs.Legal.{depth_in_force, IsRun}
 use Rattle.hls_tree.specs.Trees.{IsTreeOf, IsReadyOf}
-use Rattle.hls_journal.specs.Told.{answered_by, told}
-use Rattle.hls_journal.specs.Kept.{IsNew}
-use Rattle.hls_journal.proofs.Keeps.{kept_new}
-use Rattle.hls_stays.specs.Tallies.{AreStays}
+use Rattle.hls_core_journal.specs.Told.{answered_by, told}
+use Rattle.hls_core_journal.specs.Kept.{IsNew}
+use Rattle.hls_core_journal.proofs.Keeps.{kept_new}
+use Rattle.hls_core_stays.specs.Tallies.{AreStays}
 use Rattle.hls_core.specs.Bursts.{left_in}
 use Rattle.hls_core.specs.Left.{IsLeft}
 use Rattle.hls_manager.specs.Outcomes.{boxes_in}

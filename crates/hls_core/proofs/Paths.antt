@@ -7,10 +7,10 @@ use Rattle.std.proofs.lemmas.List.{map-append, length-map, take_more, take_all}
 use Rattle.hls_text.specs.Lines.{Text}
 use Rattle.hls_report_text.specs.declared.report.Path.{Path}
 use Rattle.hls_report_text.specs.Content.{path_names}
-use Rattle.hls_legal.specs.Hierarchy.{Hierarchy, name_of}
-use Rattle.hls_journal.specs.declared.journal.Journal.{Journal}
-use Rattle.hls_journal.specs.Kept.{AreWithin, has_name}
-use Rattle.hls_journal.proofs.Lists.{HasLast, last_or_none}
+use Rattle.hls_machine.specs.Hierarchy.{Hierarchy, name_of}
+use Rattle.hls_core_journal.specs.declared.journal.Journal.{Journal}
+use Rattle.hls_core_journal.specs.Kept.{AreWithin, has_name}
+use Rattle.hls_core_journal.proofs.Lists.{HasLast, last_or_none}
 use Rattle.hls_core.specs.Inside.Ways.{IsKnown, IsRoute, IsRouteOrIdle, HasNames, TellsRoute}
 
 abbrev pub names_in : Hierarchy → List ℕ → List (Option Text)

@@ -7,9 +7,9 @@ use Rattle.std.proofs.lemmas.Bool.{lt-leb, le-leb}
 use Rattle.hls_chron.specs.Ticks.{count, one_if}
 use Rattle.hls_chron.proofs.CountLaws.{count-none, count-push, count-agree}
 use Rattle.hls_scenario.specs.Grammar.{IsBurst}
-use Rattle.hls_legal.specs.Hierarchy.{Hierarchy, Thread, Node, Loaded, Admitted, Wake, Asleep, Awake, Awake_for}
-use Rattle.hls_legal.specs.Hierarchy.{is_ready, was_served, is_just}
-use Rattle.hls_legal.specs.Steps.{Path, thread_of, hops_of, hop_at, ticked, roused, wake_by, with_wake, elapsed}
+use Rattle.hls_machine.specs.Hierarchy.{Hierarchy, Thread, Node, Loaded, Admitted, Wake, Asleep, Awake, Awake_for}
+use Rattle.hls_machine.specs.Hierarchy.{is_ready, was_served, is_just}
+use Rattle.hls_machine.specs.Steps.{Path, thread_of, hops_of, hop_at, ticked, roused, wake_by, with_wake, elapsed}
 use Rattle.hls_core.specs.Bursts.{is_last}
 use Rattle.hls_core.specs.Left.{left_of, IsLeft}
 
@@ -130,7 +130,7 @@ ready_blocked flag new h k says here others c t e = by (here_or_not h k c Asleep
 -- ---- a tick
 
 -- a thread after a tick was the same before
-ticked_was : (mask : ℕ) (hop : Option Rattle.hls_legal.specs.Steps.Hop) (node : Option Node) (t : Thread)
+ticked_was : (mask : ℕ) (hop : Option Rattle.hls_machine.specs.Steps.Hop) (node : Option Node) (t : Thread)
     → ticked mask hop node ≡ Some (Admitted t) → node ≡ Some (Admitted t)
 ticked_was mask hop None t e = absurd (cc)
 ticked_was mask hop (Some (Loaded s)) t e = absurd (cc)

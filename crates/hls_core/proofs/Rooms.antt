@@ -8,15 +8,15 @@ use Rattle.std.proofs.lemmas.List.{length-append}
 use Rattle.hls_chron.specs.declared.book.Event.{Event}
 use Rattle.hls_chron.specs.declared.plain.Terms.{Terms}
 use Rattle.hls_chron.specs.Ledger.{Ledger, with_mark}
-use Rattle.hls_legal.specs.Ledgers.{with_marks}
-use Rattle.hls_legal.specs.Hierarchy.{Hierarchy, Place, Processor, At, Node, Loaded, Admitted, Seat, Wake}
-use Rattle.hls_legal.specs.Hierarchy.{Asleep, start, seats_of}
-use Rattle.hls_legal.specs.Steps.{Step, Refuse, Load, Admit, End, Unload, Move, Rouse, Block, Elapse, Hop, Path}
-use Rattle.hls_legal.specs.Steps.{loaded, admitted}
-use Rattle.hls_legal.specs.Steps.{after, state, effect, nobody, marked, renewed, reseated, roused, ticked}
-use Rattle.hls_legal.specs.Steps.{wake_by, hop_at, hops_of, leaving_at, leavings, seating_at, seatings}
-use Rattle.hls_legal.specs.Legal.{Can, IsLegal, NotBelow}
-use Rattle.hls_legal.proofs.Admissions.{OneEach, SeatsOn, Nowhere, Once, seats_on}
+use Rattle.hls_machine.specs.Ledgers.{with_marks}
+use Rattle.hls_machine.specs.Hierarchy.{Hierarchy, Place, Processor, At, Node, Loaded, Admitted, Seat, Wake}
+use Rattle.hls_machine.specs.Hierarchy.{Asleep, start, seats_of}
+use Rattle.hls_machine.specs.Steps.{Step, Refuse, Load, Admit, End, Unload, Move, Rouse, Block, Elapse, Hop, Path}
+use Rattle.hls_machine.specs.Steps.{loaded, admitted}
+use Rattle.hls_machine.specs.Steps.{after, state, effect, nobody, marked, renewed, reseated, roused, ticked}
+use Rattle.hls_machine.specs.Steps.{wake_by, hop_at, hops_of, leaving_at, leavings, seating_at, seatings}
+use Rattle.hls_machine.specs.Legal.{Can, IsLegal, NotBelow}
+use Rattle.hls_machine.proofs.Admissions.{OneEach, SeatsOn, Nowhere, Once, seats_on}
 use Rattle.hls_manager.specs.Outcomes.{IsRoomy, HasMarkRoom}
 use Rattle.hls_core.specs.Marks.{HasMarksFor}
 

@@ -12,14 +12,15 @@ use Rattle.hls_report_text.specs.declared.report.Answer.{Answer}
 use Rattle.hls_report_text.specs.declared.report.Answer.TheVariants.{Done, Refused}
 use Rattle.hls_report_text.specs.declared.report.Seated.{Seated}
 use Rattle.hls_report_text.proofs.NameLaws.{any_known}
-use Rattle.hls_legal.specs.Hierarchy.{Hierarchy, Node, Loaded, Admitted, Thread, Seat, Wake, Asleep, Awake_for}
-use Rattle.hls_legal.specs.Hierarchy.{is_ready, was_served, name_of, seats_of}
-use Rattle.hls_legal.specs.Steps.{Step, Refuse, Load, Admit, End, Unload, Move, Rouse, Block, Elapse, Hop}
-use Rattle.hls_legal.specs.Steps.{after, effect, nobody, marked, renewed, reseated, roused, ticked, leavings, seatings}
-use Rattle.hls_legal.specs.Steps.{loaded, admitted, wake_by, hop_at, hops_of}
+use Rattle.hls_machine.specs.Hierarchy.{Hierarchy, Node, Loaded, Admitted, Thread, Seat, Wake, Asleep, Awake_for}
+use Rattle.hls_machine.specs.Hierarchy.{is_ready, was_served, name_of, seats_of}
+use Rattle.hls_machine.specs.Steps.{Step, Refuse, Load, Admit, End, Unload, Move, Rouse, Block, Elapse, Hop}
+use Rattle.hls_machine.specs.Steps.{after, effect, nobody, marked, renewed, reseated, roused, ticked, leavings}
+use Rattle.hls_machine.specs.Steps.{seatings}
+use Rattle.hls_machine.specs.Steps.{loaded, admitted, wake_by, hop_at, hops_of}
 use Rattle.hls_accounts.specs.Tells.{Answers, Does}
 use Rattle.hls_answers.specs.Moment.{new_name}
-use Rattle.hls_journal.specs.Kept.{named_by}
+use Rattle.hls_core_journal.specs.Kept.{named_by}
 use Rattle.hls_core.specs.Left.{left_of, IsLeft}
 use Rattle.hls_core.specs.Inside.Outcomes.{IsOfSeats}
 

@@ -10,13 +10,13 @@ use Rattle.hls_scenario.specs.declared.scenario.Scenario.{Scenario}
 use Rattle.hls_report_text.specs.declared.report.Answer.{Answer}
 use Rattle.hls_report_text.specs.declared.report.Path.{Path}
 use Rattle.hls_sched.specs.Seen.{Seen}
-use Rattle.hls_legal.specs.Hierarchy.{Hierarchy}
+use Rattle.hls_machine.specs.Hierarchy.{Hierarchy}
 use Rattle.hls_answers.specs.Moment.{Boxes}
 use Rattle.hls_tree.specs.Trees.{Stands}
 use Rattle.hls_tree.specs.declared.tree.Tree.{Tree}
-use Rattle.hls_journal.specs.declared.journal.Journal.{Journal}
-use Rattle.hls_journal.specs.Kept.{IsWayOrIdle, IsNoted, IsTicked, MayNote, MayTick}
-use Rattle.hls_stays.specs.declared.stays.Stays.{Stays}
+use Rattle.hls_core_journal.specs.declared.journal.Journal.{Journal}
+use Rattle.hls_core_journal.specs.Kept.{IsWayOrIdle, IsNoted, IsTicked, MayNote, MayTick}
+use Rattle.hls_core_stays.specs.declared.stays.Stays.{Stays}
 use Rattle.hls_core.specs.Inside.Elapses.{MayElapse, Elapses}
 use Rattle.hls_core.specs.Cores.{IsCoreOf, Runs}
 use Rattle.hls_core.specs.Inside.Sparing.{keeping, MayGoOn, GoesOn, StaysOn}

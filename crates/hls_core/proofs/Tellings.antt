@@ -19,11 +19,11 @@ use Rattle.hls_report_text.specs.ReportText.{head_lines, answered_lines, ended}
 use Rattle.hls_report_text.specs.WellFormed.{IsAnswer}
 use Rattle.hls_sched.specs.Seen.{Seen}
 use Rattle.hls_answers.specs.Moment.{Boxes}
-use Rattle.hls_journal.specs.declared.journal.Journal.{Journal}
-use Rattle.hls_journal.specs.Told.{answered_as, answered_by}
-use Rattle.hls_journal.specs.Kept.{IsKept}
-use Rattle.hls_journal.proofs.Lists.{zip_push, all_front}
-use Rattle.hls_journal.proofs.Keeps.{answered_push}
+use Rattle.hls_core_journal.specs.declared.journal.Journal.{Journal}
+use Rattle.hls_core_journal.specs.Told.{answered_as, answered_by}
+use Rattle.hls_core_journal.specs.Kept.{IsKept}
+use Rattle.hls_core_journal.proofs.Lists.{zip_push, all_front}
+use Rattle.hls_core_journal.proofs.Keeps.{answered_push}
 use Rattle.hls_core.specs.Cores.{IsCoreOf}
 use Rattle.hls_core.specs.Inside.Sparing.{keeping, MayGoOn, GoesOn, StaysOn}
 use Rattle.hls_core.specs.Inside.Tellings.{told_by, IsToldIn, IsUntoldIn, MayTell, HasUntold, TellsLast, TellsOn}

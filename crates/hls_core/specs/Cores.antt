@@ -8,16 +8,16 @@ use Rattle.hls_scenario.specs.declared.scenario.Scenario.{Scenario}
 use Rattle.hls_scenario.specs.Grammar.{IsScenario}
 use Rattle.hls_sched.specs.Seen.{Seen}
 use Rattle.hls_sched.specs.GoodKit.{IsGood}
-use Rattle.hls_walks.specs.Views.{boxed}
-use Rattle.hls_legal.specs.Hierarchy.{Hierarchy, start, name_of}
-use Rattle.hls_legal.specs.Steps.{Step, state}
+use Rattle.hls_tree_nodes.specs.Views.{boxed}
+use Rattle.hls_machine.specs.Hierarchy.{Hierarchy, start, name_of}
+use Rattle.hls_machine.specs.Steps.{Step, state}
 use Rattle.hls_legal_report.specs.Legal.{depth_in_force, IsRun}
 use Rattle.hls_answers.specs.Moment.{Boxes}
 use Rattle.hls_answers.specs.Kit.{boxes_left}
-use Rattle.hls_journal.specs.declared.journal.Journal.{Journal}
-use Rattle.hls_journal.specs.Told.{answered_by, told}
-use Rattle.hls_journal.specs.Kept.{IsKept, has_name}
-use Rattle.hls_stays.specs.Tallies.{AreStays}
+use Rattle.hls_core_journal.specs.declared.journal.Journal.{Journal}
+use Rattle.hls_core_journal.specs.Told.{answered_by, told}
+use Rattle.hls_core_journal.specs.Kept.{IsKept, has_name}
+use Rattle.hls_core_stays.specs.Tallies.{AreStays}
 use Rattle.hls_manager.specs.Outcomes.{boxes_in}
 use Rattle.hls_core.specs.Marks.{HasMarksFor}
 use Rattle.hls_core.specs.Standing.{IsAt}

@@ -1,7 +1,8 @@
 -- What is left of the bursts of threads.
 use Rattle.std.specs.Prelude.{◌≡◌, ℕ, ◌-◌, ◌≤◌, Option, Some, None, Bool, true}
 use Rattle.hls_chron.specs.Ticks.{count}
-use Rattle.hls_legal.specs.Hierarchy.{Hierarchy, Thread, Admitted, Wake, Asleep, Awake, Awake_for, is_ready, was_served}
+use Rattle.hls_machine.specs.Hierarchy.{Hierarchy, Thread, Admitted, Wake, Asleep, Awake, Awake_for, is_ready}
+use Rattle.hls_machine.specs.Hierarchy.{was_served}
 
 -- how many ticks of a wake for so many are left; none where it is for as long as no block comes
 abbrev pub left_of : (serves : ℕ → Bool) → (now : ℕ) → Wake → Option ℕ

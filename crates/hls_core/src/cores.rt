@@ -4,18 +4,18 @@ ghost use Rattle.std.specs.Prelude.{option_copied};
 ghost use Rattle.hls_scenario.specs.declared.scenario.Scenario.{Scenario};
 ghost use Rattle.hls_scenario.specs.Grammar.{IsScenario};
 ghost use Rattle.hls_sched.specs.GoodKit.{IsGood};
-ghost use Rattle.hls_walks.specs.Views.{boxed};
+ghost use Rattle.hls_tree_nodes.specs.Views.{boxed};
 ghost use Rattle.hls_answers.specs.Moment.{Boxes};
 ghost use Rattle.hls_legal_report.specs.Legal.{depth_in_force, IsLegalReport};
 
 use crate::bursts::Bursts;
 use hls_clock::Agenda;
-use hls_journal::Journal;
+use hls_core_journal::Journal;
+use hls_core_stays::Stays;
 use hls_report_text::{Answer, Report};
 use hls_rules::RuleBook;
 use hls_scenario::Scenario;
 use hls_sched::{Kit, Scheduler};
-use hls_stays::Stays;
 use hls_tree::Tree;
 use std::alloc::{AllocError, Global};
 

@@ -1,15 +1,15 @@
 // Ticks.
 ghost use Rattle.std.specs.Prelude.{◌≡◌, ◌≤◌, ℕ, ◌-◌, true, false, length, option_map, if◌then◌else◌};
-ghost use Rattle.hls_legal.specs.Hierarchy.{Hierarchy, is_just};
+ghost use Rattle.hls_machine.specs.Hierarchy.{Hierarchy, is_just};
 ghost use Rattle.hls_tree.specs.Trees.{IsTreeOf, Stands, ready_of};
 ghost use Rattle.hls_core.specs.Bursts.{left_in, is_last};
 ghost use Rattle.hls_core.specs.Inside.Elapses.{IsThreadOrNone, MayElapse, Elapses};
 
 use crate::bursts::Bursts;
 use crate::ways::way_of;
-use hls_journal::Journal;
+use hls_core_journal::Journal;
+use hls_core_stays::Stays;
 use hls_report_text::Path;
-use hls_stays::Stays;
 use hls_tree::{NodeId, Tree};
 
 /// Uses up one tick of the burst of the thread that was served, which is not ready any more after the last.

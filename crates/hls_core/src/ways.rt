@@ -1,10 +1,10 @@
 // The way of a grant, by the names of its nodes.
 ghost use Rattle.std.specs.Prelude.{◌≡◌, ◌≤◌, length};
-ghost use Rattle.hls_legal.specs.Hierarchy.{Hierarchy};
+ghost use Rattle.hls_machine.specs.Hierarchy.{Hierarchy};
 ghost use Rattle.hls_tree.specs.Trees.{IsTreeOf, Stands, HasPassed, route_of};
 ghost use Rattle.hls_core.specs.Inside.Ways.{IsRoute, IsRouteOrIdle, HasNames, TellsRoute};
 
-use hls_journal::Journal;
+use hls_core_journal::Journal;
 use hls_report_text::Path;
 use hls_tree::{NodeId, Tree};
 

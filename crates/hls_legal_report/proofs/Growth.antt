@@ -10,10 +10,10 @@ use Rattle.hls_report_text.specs.declared.report.Answer.{Answer}
 use Rattle.hls_report_text.specs.declared.report.Answer.TheVariants.{Done, Refused}
 use Rattle.hls_report_text.specs.declared.report.Answered.{Answered}
 use Rattle.hls_report_text.specs.Content.{Content}
-use Rattle.hls_legal.specs.Hierarchy.{Hierarchy, start}
-use Rattle.hls_legal.specs.Steps.{Step, Elapse, Path, after, state}
-use Rattle.hls_legal.specs.Legal.{Can}
-use Rattle.hls_legal.proofs.Goes.{legal_goes}
+use Rattle.hls_machine.specs.Hierarchy.{Hierarchy, start}
+use Rattle.hls_machine.specs.Steps.{Step, Elapse, Path, after, state}
+use Rattle.hls_machine.specs.Legal.{Can}
+use Rattle.hls_machine.proofs.Goes.{legal_goes}
 use Rattle.hls_accounts.specs.Schedule.{path_at}
 use Rattle.hls_accounts.specs.Tells.{Names, Answers, TellsFrom}
 use Rattle.hls_answers.specs.Moment.{Boxes}

@@ -15,12 +15,12 @@ use Rattle.hls_report_text.specs.declared.report.Answered.{Answered}
 use Rattle.hls_report_text.specs.declared.stretch.Stretch.{Stretch}
 use Rattle.hls_report_text.specs.Content.{Content}
 use Rattle.hls_report_text.specs.ReportText.{item_of}
-use Rattle.hls_legal.specs.Hierarchy.{Hierarchy, start}
-use Rattle.hls_legal.specs.Steps.{Step, Elapse, Path, after}
-use Rattle.hls_legal.specs.Legal.{Can, IsLegal}
-use Rattle.hls_legal.specs.Lists.{IsListed}
-use Rattle.hls_legal.proofs.Determined.{IsKnown, elapse_one, run_known, start_known}
-use Rattle.hls_legal.proofs.Solutions.{CanGo, run_goes, start_goes}
+use Rattle.hls_machine.specs.Hierarchy.{Hierarchy, start}
+use Rattle.hls_machine.specs.Steps.{Step, Elapse, Path, after}
+use Rattle.hls_machine.specs.Legal.{Can, IsLegal}
+use Rattle.hls_machine.specs.Lists.{IsListed}
+use Rattle.hls_machine.proofs.Determined.{IsKnown, elapse_one, run_known, start_known}
+use Rattle.hls_machine.proofs.Solutions.{CanGo, run_goes, start_goes}
 use Rattle.hls_accounts.specs.Accounts.{accounts_of}
 use Rattle.hls_accounts.specs.Ready.{is_ready}
 use Rattle.hls_accounts.specs.Schedule.{path_at}

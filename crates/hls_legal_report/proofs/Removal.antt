@@ -12,9 +12,9 @@ use Rattle.hls_report_text.specs.declared.report.Answered.{Answered}
 use Rattle.hls_report_text.specs.Content.{Content}
 use Rattle.hls_report_text.specs.ReportText.{item_of}
 use Rattle.hls_report_text.specs.WellFormed.{AreAnswered, IsContent}
-use Rattle.hls_legal.specs.Hierarchy.{Hierarchy, start}
-use Rattle.hls_legal.specs.Steps.{Step, Refuse, Elapse, after, state}
-use Rattle.hls_legal.specs.Legal.{IsLegal}
+use Rattle.hls_machine.specs.Hierarchy.{Hierarchy, start}
+use Rattle.hls_machine.specs.Steps.{Step, Refuse, Elapse, after, state}
+use Rattle.hls_machine.specs.Legal.{IsLegal}
 use Rattle.hls_accounts.specs.Agrees.{accounts_in, idle_in}
 use Rattle.hls_accounts.specs.Tells.{Answers, TellsFrom}
 use Rattle.hls_accounts.proofs.Agreements.{accounts_told, idle_told}

@@ -4,17 +4,17 @@ use Rattle.std.proofs.Common.{Some, None, true, refl, sym, ap, ◌∙◌, subst,
 use Rattle.std.proofs.Common.{if◌then◌else◌}
 use Rattle.std.specs.Prelude.{option_map, Contains}
 use Rattle.std.proofs.lemmas.Bool.{cases_eq}
-use Rattle.hls_legal.specs.Hierarchy.{Hierarchy, Node, Loaded, Admitted, Place, Processor, At, Seat, SeatHolder}
-use Rattle.hls_legal.specs.Hierarchy.{seats_of, seat_of, book_of}
-use Rattle.hls_legal.specs.Steps.{is_thread, is_scheduler}
-use Rattle.hls_legal.specs.Linked.{SitsBelow, SitsAt}
-use Rattle.hls_legal.specs.Lists.{IsListed}
+use Rattle.hls_machine.specs.Hierarchy.{Hierarchy, Node, Loaded, Admitted, Place, Processor, At, Seat, SeatHolder}
+use Rattle.hls_machine.specs.Hierarchy.{seats_of, seat_of, book_of}
+use Rattle.hls_machine.specs.Steps.{is_thread, is_scheduler}
+use Rattle.hls_machine.specs.Linked.{SitsBelow, SitsAt}
+use Rattle.hls_machine.specs.Lists.{IsListed}
 use Rattle.hls_kinds.specs.declared.tenant.Tenant.TheVariants.{Sits}
 use Rattle.hls_kinds.specs.Tenants.{tenant_at}
-use Rattle.hls_legal.proofs.Kept.{at_same, at_other}
-use Rattle.hls_legal.proofs.Listings.{contains_first, contains_later}
-use Rattle.hls_legal.proofs.Nodes.{nobody_sits}
-use Rattle.hls_legal.proofs.Solutions.{CanGo}
+use Rattle.hls_machine.proofs.Kept.{at_same, at_other}
+use Rattle.hls_machine.proofs.Listings.{contains_first, contains_later}
+use Rattle.hls_machine.proofs.Nodes.{nobody_sits}
+use Rattle.hls_machine.proofs.Solutions.{CanGo}
 use Rattle.hls_legal_report.proofs.Twins.{Renaming, same_number, place_to, seat_to, holder_to}
 use Rattle.hls_legal_report.proofs.Twins.{TwinNode, NodeServedAlike, Twin, none-twin}
 

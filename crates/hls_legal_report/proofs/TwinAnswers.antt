@@ -27,11 +27,11 @@ use Rattle.hls_report_text.specs.declared.refusal.Refusal.TheVariants.{Cycle, To
 use Rattle.hls_report_text.specs.declared.refusal.Refusal.TheVariants.{NoRoom, NoDerivation}
 use Rattle.hls_report_text.specs.declared.report.Answer.{Answer}
 use Rattle.hls_report_text.specs.declared.report.Answer.TheVariants.{Done, Refused}
-use Rattle.hls_legal.specs.Hierarchy.{Hierarchy, Node, Loaded, Admitted, Scheduler, Place, Processor, At, Seat}
-use Rattle.hls_legal.specs.Hierarchy.{SeatHolder, seats_of, seat_of}
-use Rattle.hls_legal.specs.Steps.{reseated}
-use Rattle.hls_legal.specs.Legal.{SitsUnder, IsChain, fair_queue, fair_queues, SitsOn}
-use Rattle.hls_legal.specs.Readings.{IsUnderBy}
+use Rattle.hls_machine.specs.Hierarchy.{Hierarchy, Node, Loaded, Admitted, Scheduler, Place, Processor, At, Seat}
+use Rattle.hls_machine.specs.Hierarchy.{SeatHolder, seats_of, seat_of}
+use Rattle.hls_machine.specs.Steps.{reseated}
+use Rattle.hls_machine.specs.Legal.{SitsUnder, IsChain, fair_queue, fair_queues, SitsOn}
+use Rattle.hls_machine.specs.Readings.{IsUnderBy}
 use Rattle.hls_accounts.specs.Schedule.{is_name}
 use Rattle.hls_answers.specs.Moment.{Boxes, Moment, has_name, number_of, node_of, NamesScheduler, NamesThread}
 use Rattle.hls_answers.specs.Levels.{HasChain, LeadsTo, place_there, seat_there, with_mover}

@@ -8,14 +8,14 @@ use Rattle.hls_chron.specs.declared.book.Event.{Event}
 use Rattle.hls_chron.specs.declared.book.Event.TheVariants as events
 use Rattle.hls_chron.specs.Ledger.{Ledger, with_mark}
 use Rattle.hls_kinds.proofs.Rooms.{roomless}
-use Rattle.hls_legal.specs.Ledgers.{with_marks}
-use Rattle.hls_legal.specs.Hierarchy.{Hierarchy, Node, Loaded, Admitted, Scheduler, Thread, Place, Processor}
-use Rattle.hls_legal.specs.Hierarchy.{At, Seat}
-use Rattle.hls_legal.specs.Hierarchy.{SeatHolder, Wake, Asleep, Awake, Awake_for, seats_of}
-use Rattle.hls_legal.specs.Steps.{seating_at, leaving_at, seatings, leavings, marked, renewed, roused, is_processor}
-use Rattle.hls_legal.specs.Steps.{root_without, root_with, listed, is_thread, is_scheduler, sitters}
-use Rattle.hls_legal.specs.Steps.{nodes_after, effect}
-use Rattle.hls_legal.specs.Steps.{with_wake, wake_by}
+use Rattle.hls_machine.specs.Ledgers.{with_marks}
+use Rattle.hls_machine.specs.Hierarchy.{Hierarchy, Node, Loaded, Admitted, Scheduler, Thread, Place, Processor}
+use Rattle.hls_machine.specs.Hierarchy.{At, Seat}
+use Rattle.hls_machine.specs.Hierarchy.{SeatHolder, Wake, Asleep, Awake, Awake_for, seats_of}
+use Rattle.hls_machine.specs.Steps.{seating_at, leaving_at, seatings, leavings, marked, renewed, roused, is_processor}
+use Rattle.hls_machine.specs.Steps.{root_without, root_with, listed, is_thread, is_scheduler, sitters}
+use Rattle.hls_machine.specs.Steps.{nodes_after, effect}
+use Rattle.hls_machine.specs.Steps.{with_wake, wake_by}
 use Rattle.hls_legal_report.proofs.Twins.{Renaming, same_test, place_to, seat_to, holder_to}
 use Rattle.hls_legal_report.proofs.Twins.{TwinNode, ServedAlike, NodeServedAlike, Twin, seats-twin, thread-twin}
 use Rattle.hls_legal_report.proofs.Twins.{scheduler-twin}
@@ -181,8 +181,8 @@ served-past : (h g later after : Hierarchy) (k c : ℕ) (wake : Wake) → later.
 served-past h g later after k c Asleep e f now served = tt
 served-past h g later after k c Awake e f now served = tt
 served-past h g later after k c (Awake_for ticks since) e f now served =
-    λ t from lt. ap (λ p. Rattle.hls_legal.specs.Hierarchy.was_served p k t) e
-    ∙ served t from (omega (arith, lt, now)) ∙ sym (ap (λ p. Rattle.hls_legal.specs.Hierarchy.was_served p c t) f)
+    λ t from lt. ap (λ p. Rattle.hls_machine.specs.Hierarchy.was_served p k t) e
+    ∙ served t from (omega (arith, lt, now)) ∙ sym (ap (λ p. Rattle.hls_machine.specs.Hierarchy.was_served p c t) f)
 
 node-served-past : (h g later after : Hierarchy) (k c : ℕ) (a : Option Node) → later.past ≡ h.past
     → after.past ≡ g.past → later.now ≡ h.now → NodeServedAlike h g k c a → NodeServedAlike later after k c a
@@ -263,10 +263,10 @@ module _ (r : Renaming) (h g : Hierarchy) (twin : Twin r h g) (k : ℕ) (a b : O
   inner-served : (c : ℕ) → NodeServedAlike h g c (r.to c) (if c == k then a else marked (es c) (h.nodes c))
   inner-served c = elim (Rattle.std.proofs.lemmas.Bool.cases_eq c k) [
     | inl e ↦ subst (NodeServedAlike h g c (r.to c))
-        (sym (Rattle.hls_legal.proofs.Kept.at_same c k a (marked (es c) (h.nodes c)) e))
+        (sym (Rattle.hls_machine.proofs.Kept.at_same c k a (marked (es c) (h.nodes c)) e))
         (subst (λ n. NodeServedAlike h g n (r.to n) a) (sym e) served)
     | inr ne ↦ subst (NodeServedAlike h g c (r.to c))
-        (sym (Rattle.hls_legal.proofs.Kept.at_other c k a (marked (es c) (h.nodes c)) ne))
+        (sym (Rattle.hls_machine.proofs.Kept.at_other c k a (marked (es c) (h.nodes c)) ne))
         (served-marked h g c (r.to c) (es c) (h.nodes c) (twin.serves c))
   ]
 
@@ -326,11 +326,11 @@ wake-twin r h g twin k how served = record {
     served_by : (c : ℕ) → NodeServedAlike h g c (r.to c) (if c == k then roused how (h.nodes c) else h.nodes c)
     served_by c = elim (Rattle.std.proofs.lemmas.Bool.cases_eq c k) [
       | inl e ↦ subst (NodeServedAlike h g c (r.to c))
-          (sym (Rattle.hls_legal.proofs.Kept.at_same c k (roused how (h.nodes c)) (h.nodes c) e))
+          (sym (Rattle.hls_machine.proofs.Kept.at_same c k (roused how (h.nodes c)) (h.nodes c) e))
           (subst (λ n. NodeServedAlike h g n (r.to n) (roused how (h.nodes n))) (sym e)
           (served-roused h g k (r.to k) how (h.nodes k) served))
       | inr ne ↦ subst (NodeServedAlike h g c (r.to c))
-          (sym (Rattle.hls_legal.proofs.Kept.at_other c k (roused how (h.nodes c)) (h.nodes c) ne)) (twin.serves c)
+          (sym (Rattle.hls_machine.proofs.Kept.at_other c k (roused how (h.nodes c)) (h.nodes c) ne)) (twin.serves c)
     ]
 
 pub rouse-twin : (r : Renaming) (h g : Hierarchy) → Twin r h g → (k : ℕ) (burst : Option ℕ)

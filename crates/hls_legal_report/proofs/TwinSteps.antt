@@ -10,15 +10,15 @@ use Rattle.hls_scenario.specs.declared.scenario.Spot.TheVariants.{Cpu, Under}
 use Rattle.hls_scenario.specs.declared.scenario.Perch.{Perch}
 use Rattle.hls_scenario.specs.declared.scenario.Command.{Command}
 use Rattle.hls_scenario.specs.declared.scenario.Command.TheVariants as said
-use Rattle.hls_legal.specs.Ledgers.{empty_book, with_marks}
-use Rattle.hls_legal.specs.Hierarchy.{Hierarchy, Node, Loaded, Admitted, Scheduler, Place, Processor, At, Seat}
-use Rattle.hls_legal.specs.Hierarchy.{Asleep, seats_of}
-use Rattle.hls_legal.specs.Steps.{Step, Load, Admit, End, Unload, Move, Rouse, Block, after, effect, nobody, loaded}
-use Rattle.hls_legal.specs.Steps.{admitted, reseated, leavings}
-use Rattle.hls_legal.specs.Legal.{MaySit, MayTakeAt, MayTake, IsBelow, SitsOn, Can}
-use Rattle.hls_legal.specs.Lists.{IsListed}
-use Rattle.hls_legal.proofs.Solutions.{CanGo}
-use Rattle.hls_legal.proofs.Unique.{below_one}
+use Rattle.hls_machine.specs.Ledgers.{empty_book, with_marks}
+use Rattle.hls_machine.specs.Hierarchy.{Hierarchy, Node, Loaded, Admitted, Scheduler, Place, Processor, At, Seat}
+use Rattle.hls_machine.specs.Hierarchy.{Asleep, seats_of}
+use Rattle.hls_machine.specs.Steps.{Step, Load, Admit, End, Unload, Move, Rouse, Block, after, effect, nobody, loaded}
+use Rattle.hls_machine.specs.Steps.{admitted, reseated, leavings}
+use Rattle.hls_machine.specs.Legal.{MaySit, MayTakeAt, MayTake, IsBelow, SitsOn, Can}
+use Rattle.hls_machine.specs.Lists.{IsListed}
+use Rattle.hls_machine.proofs.Solutions.{CanGo}
+use Rattle.hls_machine.proofs.Unique.{below_one}
 use Rattle.hls_accounts.specs.Tells.{HasName, IsSpot, IsPerch, ArePerches, Does}
 use Rattle.hls_legal_report.proofs.Bare.{free_like}
 use Rattle.hls_legal_report.proofs.Twins.{Renaming, inverse, same_number, place_to, seat_to}

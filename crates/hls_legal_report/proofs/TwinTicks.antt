@@ -13,11 +13,11 @@ use Rattle.hls_chron.proofs.CountLaws.{count-agree}
 use Rattle.hls_kinds.specs.Asks.{asks}
 use Rattle.hls_kinds.specs.Discipline.{Serves}
 use Rattle.hls_kinds.proofs.Rooms.{roomless, asks-room}
-use Rattle.hls_legal.specs.Hierarchy.{Hierarchy, Node, Loaded, Admitted, Place, Processor, At, Seat}
-use Rattle.hls_legal.specs.Hierarchy.{Wake, Asleep, Awake, Awake_for, name_of, book_of, was_served}
-use Rattle.hls_legal.specs.Hierarchy.{is_ready, is_just}
-use Rattle.hls_legal.specs.Steps.{Hop, Path, hop_at, hops_of, thread_of, row_by, ticked, elapsed}
-use Rattle.hls_legal.specs.Legal.{asks_now, IsAsking, Enters, Ends, Walk, root_asks, MayRun}
+use Rattle.hls_machine.specs.Hierarchy.{Hierarchy, Node, Loaded, Admitted, Place, Processor, At, Seat}
+use Rattle.hls_machine.specs.Hierarchy.{Wake, Asleep, Awake, Awake_for, name_of, book_of, was_served}
+use Rattle.hls_machine.specs.Hierarchy.{is_ready, is_just}
+use Rattle.hls_machine.specs.Steps.{Hop, Path, hop_at, hops_of, thread_of, row_by, ticked, elapsed}
+use Rattle.hls_machine.specs.Legal.{asks_now, IsAsking, Enters, Ends, Walk, root_asks, MayRun}
 use Rattle.hls_accounts.specs.Tells.{Names}
 use Rattle.hls_legal_report.proofs.Bare.{terms_like, serves_like}
 use Rattle.hls_legal_report.proofs.Twins.{Renaming, inverse, same_test, place_to, seat_to}

@@ -4,12 +4,12 @@ use Rattle.std.proofs.Common.{Some, None, refl, sym, ap, ◌∙◌, subst, arith
 use Rattle.std.specs.Prelude.{option_map}
 use Rattle.std.proofs.lemmas.Bool.{cases_eq, eq-eqb, ne_eqb}
 use Rattle.hls_kinds.proofs.Rooms.{roomless}
-use Rattle.hls_legal.specs.Hierarchy.{Hierarchy, Node, Loaded, Admitted, Scheduler, Thread, Place, Processor}
-use Rattle.hls_legal.specs.Hierarchy.{At, Seat}
-use Rattle.hls_legal.specs.Hierarchy.{Wake, Asleep, Awake, Awake_for, SeatHolder, name_of, seats_of, seat_of}
-use Rattle.hls_legal.specs.Hierarchy.{haves_of, book_of, config_of, was_served}
-use Rattle.hls_legal.specs.Steps.{is_thread, is_scheduler}
-use Rattle.hls_legal.specs.Legal.{scheduler_at}
+use Rattle.hls_machine.specs.Hierarchy.{Hierarchy, Node, Loaded, Admitted, Scheduler, Thread, Place, Processor}
+use Rattle.hls_machine.specs.Hierarchy.{At, Seat}
+use Rattle.hls_machine.specs.Hierarchy.{Wake, Asleep, Awake, Awake_for, SeatHolder, name_of, seats_of, seat_of}
+use Rattle.hls_machine.specs.Hierarchy.{haves_of, book_of, config_of, was_served}
+use Rattle.hls_machine.specs.Steps.{is_thread, is_scheduler}
+use Rattle.hls_machine.specs.Legal.{scheduler_at}
 
 -- ---- other numbers
 

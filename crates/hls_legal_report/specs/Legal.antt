@@ -5,9 +5,9 @@ use Rattle.hls_report_text.specs.declared.report.Report.{Report}
 use Rattle.hls_report_text.specs.Content.{Content, content_of}
 use Rattle.hls_report_text.specs.ReportText.{item_of}
 use Rattle.hls_report_text.specs.WellFormed.{IsContent, IsWellFormed}
-use Rattle.hls_legal.specs.Hierarchy.{start}
-use Rattle.hls_legal.specs.Steps.{Step}
-use Rattle.hls_legal.specs.Legal.{IsLegal}
+use Rattle.hls_machine.specs.Hierarchy.{start}
+use Rattle.hls_machine.specs.Steps.{Step}
+use Rattle.hls_machine.specs.Legal.{IsLegal}
 use Rattle.hls_accounts.specs.Accounts.{accounts_of, idle_of}
 use Rattle.hls_accounts.specs.Tells.{Tells}
 use Rattle.hls_answers.specs.Moment.{Boxes}

@@ -19,7 +19,7 @@ use Rattle.hls_report_text.specs.declared.refusal.Refusal.TheVariants.{TooManyNo
 use Rattle.hls_report_text.specs.declared.refusal.Refusal.TheVariants.{TermsUnfit, PriorityTaken, SeatsFull}
 use Rattle.hls_report_text.specs.declared.refusal.Refusal.TheVariants.{Cycle, TooDeep, TooManyShares, KitEmpty}
 use Rattle.hls_report_text.specs.declared.refusal.Refusal.TheVariants.{NoRoom, NoDerivation}
-use Rattle.hls_legal.specs.Hierarchy.{Hierarchy, Loaded, Admitted, Scheduler, Thread}
+use Rattle.hls_machine.specs.Hierarchy.{Hierarchy, Loaded, Admitted, Scheduler, Thread}
 use Rattle.hls_answers.specs.Moment.{Moment, node_of}
 use Rattle.hls_answers.specs.Dues.{Due, due_at, Derives, IsUnderivable}
 use Rattle.hls_answers.specs.Answers.{number, RefusesCommand, RefusesPlace, RefusesFirstPlace, Applies, IsRefused}

@@ -13,12 +13,12 @@ use Rattle.hls_scenario.specs.declared.scenario.Perch.{Perch}
 use Rattle.hls_scenario.specs.declared.scenario.Command.TheVariants as said
 use Rattle.hls_scenario.specs.Grammar.{IsCommand}
 use Rattle.hls_report_text.specs.declared.refusal.Refusal.{Refusal}
-use Rattle.hls_legal.specs.Ledgers.{with_marks}
-use Rattle.hls_legal.specs.Hierarchy.{Hierarchy, Node, Place, Processor, At, Seat}
-use Rattle.hls_legal.specs.Hierarchy.{book_of, config_of, start}
-use Rattle.hls_legal.specs.Steps.{Step, Admit, state, leavings}
-use Rattle.hls_legal.specs.Legal.{MaySit, MayTake, MayTakeAt, CanAdmit, Can, IsLegal}
-use Rattle.hls_legal.specs.Lists.{IsListed}
+use Rattle.hls_machine.specs.Ledgers.{with_marks}
+use Rattle.hls_machine.specs.Hierarchy.{Hierarchy, Node, Place, Processor, At, Seat}
+use Rattle.hls_machine.specs.Hierarchy.{book_of, config_of, start}
+use Rattle.hls_machine.specs.Steps.{Step, Admit, state, leavings}
+use Rattle.hls_machine.specs.Legal.{MaySit, MayTake, MayTakeAt, CanAdmit, Can, IsLegal}
+use Rattle.hls_machine.specs.Lists.{IsListed}
 use Rattle.hls_accounts.specs.Tells.{IsSpot, IsPerch, Does}
 use Rattle.hls_answers.specs.Moment.{Moment}
 use Rattle.hls_answers.specs.Dues.{Due, due_at, Derives}

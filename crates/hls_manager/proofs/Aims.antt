@@ -17,10 +17,10 @@ use Rattle.hls_report_text.specs.declared.refusal.Refusal.{Refusal}
 use Rattle.hls_report_text.specs.declared.refusal.Refusal.TheVariants.{NoSuchName, WrongSort, TermsUnfit}
 use Rattle.hls_report_text.specs.declared.refusal.Refusal.TheVariants.{PriorityTaken, SeatsFull, Cycle, TooDeep}
 use Rattle.hls_report_text.specs.declared.refusal.Refusal.TheVariants.{TooManyShares, NoRoom}
-use Rattle.hls_legal.specs.Hierarchy.{Hierarchy, Node, Loaded, config_of, book_of}
-use Rattle.hls_legal.specs.Legal.{fair_queues, scheduler_at}
-use Rattle.hls_legal.specs.Lists.{IsListed}
-use Rattle.hls_legal.specs.Readings.{IsUnder}
+use Rattle.hls_machine.specs.Hierarchy.{Hierarchy, Node, Loaded, config_of, book_of}
+use Rattle.hls_machine.specs.Legal.{fair_queues, scheduler_at}
+use Rattle.hls_machine.specs.Lists.{IsListed}
+use Rattle.hls_machine.specs.Readings.{IsUnder}
 use Rattle.hls_accounts.specs.Tells.{HasName, terms_in}
 use Rattle.hls_answers.specs.Moment.{Moment, number_of, node_of, spot_name, NamesJoin, NamesThread}
 use Rattle.hls_answers.specs.Levels.{HasChain, with_mover, seat_there, place_on, place_there}

@@ -3,10 +3,10 @@ use Rattle.std.proofs.Common.{◌≡◌, ℕ, ◌≤◌, Option, Some, None, ref
 use Rattle.hls_chron.specs.declared.plain.Kind.{Kind}
 use Rattle.hls_scenario.specs.declared.scenario.Spot.{Spot}
 use Rattle.hls_scenario.specs.declared.scenario.Spot.TheVariants.{Cpu, Under}
-use Rattle.hls_legal.specs.Hierarchy.{Hierarchy, Node, Loaded, Admitted}
-use Rattle.hls_legal.specs.Hierarchy.{Seat as TakenSeat}
-use Rattle.hls_legal.specs.Legal.{scheduler_at}
-use Rattle.hls_legal.specs.Readings.{IsUnder}
+use Rattle.hls_machine.specs.Hierarchy.{Hierarchy, Node, Loaded, Admitted}
+use Rattle.hls_machine.specs.Hierarchy.{Seat as TakenSeat}
+use Rattle.hls_machine.specs.Legal.{scheduler_at}
+use Rattle.hls_machine.specs.Readings.{IsUnder}
 use Rattle.hls_tree.specs.Offers.{MovesTo, IsNoCycle, moved_to}
 use Rattle.hls_tree.specs.Reads.{IsParent, IsSort, IsGreatestLevel, AreMostShares, MayAskAbout}
 use Rattle.hls_tree.specs.declared.seat.Sort.TheVariants as sorts

@@ -7,9 +7,9 @@ use Rattle.hls_scenario.specs.declared.scenario.Command.TheVariants as said
 use Rattle.hls_report_text.specs.declared.refusal.Refusal.{Refusal}
 use Rattle.hls_report_text.specs.declared.refusal.Refusal.TheVariants.{NoSuchName, WrongSort, NotEmpty}
 use Rattle.hls_report_text.specs.declared.report.Answer.TheVariants.{Done, Refused}
-use Rattle.hls_legal.specs.Hierarchy.{Hierarchy, Node, Loaded, Admitted, Scheduler, name_of}
-use Rattle.hls_legal.specs.Legal.{IsThread}
-use Rattle.hls_legal.specs.Lists.{IsListed}
+use Rattle.hls_machine.specs.Hierarchy.{Hierarchy, Node, Loaded, Admitted, Scheduler, name_of}
+use Rattle.hls_machine.specs.Legal.{IsThread}
+use Rattle.hls_machine.specs.Lists.{IsListed}
 use Rattle.hls_accounts.specs.Tells.{HasName}
 use Rattle.hls_answers.specs.Moment.{Moment, node_of, number_of, NamesScheduler, NamesThread}
 use Rattle.hls_answers.specs.Dues.{Due, dues, AreSettled}

@@ -6,7 +6,7 @@ use Rattle.std.proofs.lemmas.List.{take_more, take_all, length-map}
 use Rattle.std.proofs.lemmas.Option.{slice_get-map, slice_get_within, slice_get_cases, get_or_from_slice_get}
 use Rattle.hls_chron.specs.Kinds.{port_count}
 use Rattle.hls_guarantee.specs.declared.Guarantee.{Guarantee}
-use Rattle.hls_legal.specs.Hierarchy.{Node, Loaded, Admitted, Seat, seat_of, seats_of, config_of, haves_of}
+use Rattle.hls_machine.specs.Hierarchy.{Node, Loaded, Admitted, Seat, seat_of, seats_of, config_of, haves_of}
 use Rattle.hls_tree.specs.Reads.{IsLoaded}
 use Rattle.hls_tree.specs.Trees.{IsPorted}
 

@@ -23,11 +23,11 @@ use Rattle.hls_report_text.specs.declared.report.Seated.{Seated}
 use Rattle.hls_report_text.specs.declared.report.Answer.TheVariants.{Done}
 use Rattle.hls_kinds.specs.Faults as kinds_faults
 use Rattle.hls_sched.specs.Seen.{Seen}
-use Rattle.hls_legal.specs.Hierarchy.{Hierarchy, Place, Processor, At, name_of}
-use Rattle.hls_legal.specs.Hierarchy.{Seat as TakenSeat}
-use Rattle.hls_legal.specs.Steps.{Load}
-use Rattle.hls_legal.specs.Legal.{scheduler_at}
-use Rattle.hls_legal.specs.Lists.{IsListed}
+use Rattle.hls_machine.specs.Hierarchy.{Hierarchy, Place, Processor, At, name_of}
+use Rattle.hls_machine.specs.Hierarchy.{Seat as TakenSeat}
+use Rattle.hls_machine.specs.Steps.{Load}
+use Rattle.hls_machine.specs.Legal.{scheduler_at}
+use Rattle.hls_machine.specs.Lists.{IsListed}
 use Rattle.hls_accounts.specs.Tells.{HasName, IsSpot, IsPerch, ArePerches, terms_in}
 use Rattle.hls_answers.specs.Moment.{Moment}
 use Rattle.hls_answers.proofs.Found.{named_is}
@@ -38,7 +38,8 @@ use Rattle.hls_tree.specs.Trees.{Loads}
 use Rattle.hls_tree.specs.declared.seat.Seat.{Seat}
 use Rattle.hls_tree.specs.declared.tree.Tree.{Tree}
 use Rattle.hls_manager.specs.Faults.{fault_refusal}
-use Rattle.hls_manager.specs.Outcomes.{IsReached, HasMarkRoom, CarriesOut}
+use Rattle.hls_machine.specs.Legal.{IsReached}
+use Rattle.hls_manager.specs.Outcomes.{HasMarkRoom, CarriesOut}
 use Rattle.hls_manager.specs.Inside.Ports.{IsAt, IsWanted, AreWanted, RefusesSpot, ArePerchesInRange}
 use Rattle.hls_manager.specs.Inside.Loads.{IsPlaced, IsOpen, AreTold}
 use Rattle.hls_manager.proofs.Places.{to_fault}

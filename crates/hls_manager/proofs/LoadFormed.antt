@@ -11,9 +11,9 @@ use Rattle.hls_scenario.specs.declared.scenario.Command.TheVariants.{Load}
 use Rattle.hls_report_text.specs.declared.report.Seated.{Seated}
 use Rattle.hls_report_text.specs.declared.report.Answer.TheVariants.{Done}
 use Rattle.hls_report_text.specs.WellFormed.{IsSeated, IsAnswer}
-use Rattle.hls_legal.specs.Hierarchy.{Hierarchy}
+use Rattle.hls_machine.specs.Hierarchy.{Hierarchy}
 use Rattle.hls_tree.specs.declared.seat.Seat.{Seat}
-use Rattle.hls_manager.specs.Outcomes.{IsReached}
+use Rattle.hls_machine.specs.Legal.{IsReached}
 use Rattle.hls_manager.specs.Inside.Ports.{AreAtParents}
 use Rattle.hls_manager.specs.Inside.Loads.{AreTold}
 use Rattle.hls_manager.proofs.PortLaws.{item_at}

@@ -16,8 +16,8 @@ use Rattle.hls_report_text.specs.declared.refusal.Refusal.{Refusal}
 use Rattle.hls_report_text.specs.declared.refusal.Refusal.TheVariants.{NameTaken}
 use Rattle.hls_report_text.specs.declared.refusal.Refusal.TheVariants.{TooManyNodes}
 use Rattle.hls_report_text.specs.declared.refusal.Refusal.TheVariants.{TooDeep, TooManyShares, KitEmpty}
-use Rattle.hls_legal.specs.Hierarchy.{Hierarchy, Node}
-use Rattle.hls_legal.specs.Lists.{IsListed}
+use Rattle.hls_machine.specs.Hierarchy.{Hierarchy, Node}
+use Rattle.hls_machine.specs.Lists.{IsListed}
 use Rattle.hls_accounts.specs.Tells.{HasName}
 use Rattle.hls_answers.specs.Moment.{Moment, node_of, spots_of}
 use Rattle.hls_answers.specs.Refusals.{IsFirst, IsTooDeep, AreTooManyShares}
@@ -63,7 +63,7 @@ perch_of [] port spot e = absurd (cc)
 perch_of (perch ∷ perches) zero spot e = (perch, refl, (cc))
 perch_of (perch ∷ perches) (suc port) spot e = perch_of perches port spot e
 
-some_there : (node : Option Node) (name : Text) → Rattle.hls_legal.specs.Hierarchy.name_of node ≡ Some name
+some_there : (node : Option Node) (name : Text) → Rattle.hls_machine.specs.Hierarchy.name_of node ≡ Some name
     → IsSome node
 some_there None name e = absurd (cc)
 some_there (Some node) name e = refl

@@ -9,11 +9,11 @@ use Rattle.hls_scenario.specs.declared.scenario.Command.{Command}
 use Rattle.hls_scenario.specs.declared.scenario.Command.TheVariants as said
 use Rattle.hls_scenario.specs.Grammar.{IsCommand}
 use Rattle.hls_report_text.specs.declared.refusal.Refusal.{Refusal}
-use Rattle.hls_legal.specs.Hierarchy.{Hierarchy, Loaded, Scheduler, At, Seat}
-use Rattle.hls_legal.specs.Hierarchy.{book_of, config_of, start}
-use Rattle.hls_legal.specs.Steps.{Step, Load, state, effect, nobody, loaded}
-use Rattle.hls_legal.specs.Legal.{MayTake, CanLoad, Can, IsLegal, IsChain, fair_queues}
-use Rattle.hls_legal.specs.Lists.{IsListed}
+use Rattle.hls_machine.specs.Hierarchy.{Hierarchy, Loaded, Scheduler, At, Seat}
+use Rattle.hls_machine.specs.Hierarchy.{book_of, config_of, start}
+use Rattle.hls_machine.specs.Steps.{Step, Load, state, effect, nobody, loaded}
+use Rattle.hls_machine.specs.Legal.{MayTake, CanLoad, Can, IsLegal, IsChain, fair_queues}
+use Rattle.hls_machine.specs.Lists.{IsListed}
 use Rattle.hls_accounts.specs.Tells.{ArePerches, Does}
 use Rattle.hls_answers.specs.Moment.{Moment}
 use Rattle.hls_answers.specs.Answers.{Applies}

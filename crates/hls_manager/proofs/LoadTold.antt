@@ -11,8 +11,8 @@ use Rattle.hls_scenario.specs.declared.scenario.Command.{Command}
 use Rattle.hls_scenario.specs.declared.scenario.Command.TheVariants as said
 use Rattle.hls_report_text.specs.declared.refusal.Refusal.TheVariants.{NoDerivation}
 use Rattle.hls_report_text.specs.declared.report.Seated.{Seated}
-use Rattle.hls_legal.specs.Hierarchy.{Hierarchy, config_of, haves_of}
-use Rattle.hls_legal.specs.Lists.{IsListed}
+use Rattle.hls_machine.specs.Hierarchy.{Hierarchy, config_of, haves_of}
+use Rattle.hls_machine.specs.Lists.{IsListed}
 use Rattle.hls_answers.specs.Moment.{Moment}
 use Rattle.hls_answers.specs.Dues.{Due, dues_from, due_at, Derives, IsUnderivable, config_there, haves_there}
 use Rattle.hls_answers.specs.Dues.{IsSettled, AreSettled}

@@ -17,7 +17,7 @@ use Rattle.hls_report_text.specs.declared.refusal.Refusal.TheVariants.{TermsUnfi
 use Rattle.hls_report_text.specs.declared.refusal.Refusal.TheVariants.{Cycle, TooDeep, TooManyShares, KitEmpty}
 use Rattle.hls_report_text.specs.declared.refusal.Refusal.TheVariants.{NoRoom, NoDerivation}
 use Rattle.hls_report_text.specs.declared.report.Seated.{Seated}
-use Rattle.hls_legal.specs.Hierarchy.{Hierarchy}
+use Rattle.hls_machine.specs.Hierarchy.{Hierarchy}
 use Rattle.hls_answers.specs.Moment.{Moment, node_of, spots_of}
 use Rattle.hls_answers.specs.Dues.{dues, AreSettled}
 use Rattle.hls_answers.specs.Refusals.{IsFirst, IsTooDeep, AreTooManyShares, IsUnderived}

@@ -14,8 +14,8 @@ use Rattle.hls_scenario.specs.declared.scenario.Command.TheVariants as said
 use Rattle.hls_report_text.specs.declared.refusal.Refusal.{Refusal}
 use Rattle.hls_report_text.specs.declared.refusal.Refusal.TheVariants.{NoSuchName, WrongSort, TermsUnfit}
 use Rattle.hls_report_text.specs.declared.refusal.Refusal.TheVariants.{PriorityTaken, SeatsFull, NoRoom}
-use Rattle.hls_legal.specs.Hierarchy.{Hierarchy, Node, Scheduler, Loaded, Admitted, name_of}
-use Rattle.hls_legal.specs.Lists.{IsListed}
+use Rattle.hls_machine.specs.Hierarchy.{Hierarchy, Node, Scheduler, Loaded, Admitted, name_of}
+use Rattle.hls_machine.specs.Lists.{IsListed}
 use Rattle.hls_accounts.specs.Tells.{HasName}
 use Rattle.hls_answers.specs.Moment.{Moment, node_of, NamesJoin, NamesThread}
 use Rattle.hls_answers.specs.Answers.{number, RefusesPlace, IsRefused}

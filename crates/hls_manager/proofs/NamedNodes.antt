@@ -4,12 +4,12 @@ use Rattle.std.specs.Prelude.{if◌then◌else◌, ◌==◌}
 use Rattle.hls_text.specs.Lines.{Text}
 use Rattle.hls_chron.specs.Name.{IsName}
 use Rattle.hls_chron.specs.declared.book.Event.{Event}
-use Rattle.hls_legal.specs.Hierarchy.{Hierarchy, Node, Loaded, Admitted, Seat, Wake, Asleep, start, name_of, seats_of}
-use Rattle.hls_legal.specs.Steps.{Step, Refuse, Load, Admit, End, Unload, Move, Rouse, Block, Elapse, Hop}
-use Rattle.hls_legal.specs.Steps.{after, state, effect, nobody, marked, renewed, reseated, roused, ticked}
-use Rattle.hls_legal.specs.Steps.{wake_by, hop_at, hops_of, leavings, seatings}
-use Rattle.hls_legal.specs.Legal.{Can, IsLegal}
-use Rattle.hls_manager.specs.Outcomes.{IsReached}
+use Rattle.hls_machine.specs.Hierarchy.{Hierarchy, Node, Loaded, Admitted, Seat, Wake, Asleep, start, name_of, seats_of}
+use Rattle.hls_machine.specs.Steps.{Step, Refuse, Load, Admit, End, Unload, Move, Rouse, Block, Elapse, Hop}
+use Rattle.hls_machine.specs.Steps.{after, state, effect, nobody, marked, renewed, reseated, roused, ticked}
+use Rattle.hls_machine.specs.Steps.{wake_by, hop_at, hops_of, leavings, seatings}
+use Rattle.hls_machine.specs.Legal.{Can, IsLegal}
+use Rattle.hls_machine.specs.Legal.{IsReached}
 
 abbrev IsNamedNode : Option Node → Type 0
 IsNamedNode None = Unit {0}

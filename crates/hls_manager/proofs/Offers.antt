@@ -24,12 +24,12 @@ use Rattle.hls_report_text.specs.declared.report.Answer.TheVariants.{Done}
 use Rattle.hls_kinds.specs.declared.fault.SeatFault.{SeatFault}
 use Rattle.hls_kinds.specs.Faults.{IsAnswer}
 use Rattle.hls_sched.specs.Seen.{Seen}
-use Rattle.hls_legal.specs.Hierarchy.{Hierarchy, Node, Loaded, Place, Processor, At}
-use Rattle.hls_legal.specs.Hierarchy.{config_of, haves_of, book_of, name_of}
-use Rattle.hls_legal.specs.Hierarchy.{Seat as TakenSeat}
-use Rattle.hls_legal.specs.Steps.{Admit}
-use Rattle.hls_legal.specs.Legal.{scheduler_at}
-use Rattle.hls_legal.specs.Lists.{IsListed}
+use Rattle.hls_machine.specs.Hierarchy.{Hierarchy, Node, Loaded, Place, Processor, At}
+use Rattle.hls_machine.specs.Hierarchy.{config_of, haves_of, book_of, name_of}
+use Rattle.hls_machine.specs.Hierarchy.{Seat as TakenSeat}
+use Rattle.hls_machine.specs.Steps.{Admit}
+use Rattle.hls_machine.specs.Legal.{scheduler_at}
+use Rattle.hls_machine.specs.Lists.{IsListed}
 use Rattle.hls_accounts.specs.Tells.{HasName, IsSpot, terms_in}
 use Rattle.hls_answers.specs.Moment.{Moment, node_of}
 use Rattle.hls_answers.specs.Dues.{Due, due_at, Derives, IsUnderivable, config_there, haves_there}
@@ -45,7 +45,8 @@ use Rattle.hls_manager.specs.Finds.{IsNoScheduler}
 use Rattle.hls_manager.specs.Faults.{fault_refusal}
 use Rattle.hls_manager.specs.Seats.{config_at, haves_at, due_for}
 use Rattle.hls_manager.specs.Offers.{IsOffered}
-use Rattle.hls_manager.specs.Outcomes.{IsReached, HasMarkRoom, CarriesOut}
+use Rattle.hls_machine.specs.Legal.{IsReached}
+use Rattle.hls_manager.specs.Outcomes.{HasMarkRoom, CarriesOut}
 use Rattle.hls_manager.proofs.Admissions.{name_taken, on_processor, on_nobody, on_thread, too_many, seat_fault}
 use Rattle.hls_manager.proofs.Admissions.{underived, derived}
 use Rattle.hls_manager.proofs.Admits.{IsTakenFor, can_admit}

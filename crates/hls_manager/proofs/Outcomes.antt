@@ -11,15 +11,15 @@ use Rattle.hls_report_text.specs.declared.refusal.Refusal.{Refusal}
 use Rattle.hls_report_text.specs.declared.refusal.Refusal.TheVariants.{NotEmpty}
 use Rattle.hls_report_text.specs.declared.report.Answer.TheVariants.{Done, Refused}
 use Rattle.hls_sched.specs.Seen.{Seen}
-use Rattle.hls_legal.specs.Hierarchy.{Hierarchy, Node, Loaded, Admitted, Scheduler, At, Seat}
-use Rattle.hls_legal.specs.Hierarchy.{book_of, name_of, seat_of}
-use Rattle.hls_legal.specs.Steps.{Step, Refuse, End, Unload, after}
-use Rattle.hls_legal.specs.Legal.{Can, CanUnload, IsThread}
-use Rattle.hls_legal.specs.Lists.{IsListed}
-use Rattle.hls_legal.specs.Seated.{IsSeated}
-use Rattle.hls_legal.proofs.Lists.{run_listed}
-use Rattle.hls_legal.proofs.Seated.{run_seated}
-use Rattle.hls_legal.proofs.Commands.{thread_empty, unload_empty}
+use Rattle.hls_machine.specs.Hierarchy.{Hierarchy, Node, Loaded, Admitted, Scheduler, At, Seat}
+use Rattle.hls_machine.specs.Hierarchy.{book_of, name_of, seat_of}
+use Rattle.hls_machine.specs.Steps.{Step, Refuse, End, Unload, after}
+use Rattle.hls_machine.specs.Legal.{Can, CanUnload, IsThread}
+use Rattle.hls_machine.specs.Lists.{IsListed}
+use Rattle.hls_machine.specs.Seated.{IsSeated}
+use Rattle.hls_machine.proofs.Lists.{run_listed}
+use Rattle.hls_machine.proofs.Seated.{run_seated}
+use Rattle.hls_machine.proofs.Commands.{thread_empty, unload_empty}
 use Rattle.hls_accounts.specs.Tells.{HasName, Does}
 use Rattle.hls_answers.specs.Moment.{Boxes, Moment, NamesScheduler}
 use Rattle.hls_answers.specs.Answers.{IsAnswer}
@@ -30,7 +30,8 @@ use Rattle.hls_tree.specs.Offers.{MayGo}
 use Rattle.hls_tree.specs.Reads.{IsLoaded}
 use Rattle.hls_tree.specs.Trees.{IsTreeOf, IsReadyOf, Stands}
 use Rattle.hls_tree.specs.declared.tree.Tree.{Tree}
-use Rattle.hls_manager.specs.Outcomes.{IsReached, HasMarkRoom, CarriesOut}
+use Rattle.hls_machine.specs.Legal.{IsReached}
+use Rattle.hls_manager.specs.Outcomes.{HasMarkRoom, CarriesOut}
 use Rattle.hls_manager.proofs.Finds.{named_scheduler, unload_done, unload_full}
 
 -- ---- where a legal run leads

@@ -15,7 +15,7 @@ use Rattle.hls_report_text.specs.declared.refusal.Refusal.TheVariants.{TooManyNo
 use Rattle.hls_report_text.specs.declared.refusal.Refusal.TheVariants.{TermsUnfit, PriorityTaken, SeatsFull}
 use Rattle.hls_report_text.specs.declared.refusal.Refusal.TheVariants.{Cycle, TooDeep, TooManyShares, KitEmpty}
 use Rattle.hls_report_text.specs.declared.refusal.Refusal.TheVariants.{NoRoom, NoDerivation}
-use Rattle.hls_legal.specs.Hierarchy.{Hierarchy, Node, Loaded, Scheduler}
+use Rattle.hls_machine.specs.Hierarchy.{Hierarchy, Node, Loaded, Scheduler}
 use Rattle.hls_answers.specs.Moment.{node_of}
 use Rattle.hls_answers.specs.Refusals.{HasFault}
 use Rattle.hls_answers.specs.Answers.{number, RefusesPlace}

@@ -25,8 +25,8 @@ use Rattle.hls_report_text.specs.declared.refusal.Refusal.{Refusal}
 use Rattle.hls_report_text.specs.declared.refusal.Refusal.TheVariants.{NoSuchName, WrongSort}
 use Rattle.hls_report_text.specs.declared.refusal.Refusal.TheVariants.{TermsUnfit, PriorityTaken, SeatsFull}
 use Rattle.hls_report_text.specs.declared.refusal.Refusal.TheVariants.{NoRoom}
-use Rattle.hls_legal.specs.Hierarchy.{Hierarchy, Node, Loaded, Scheduler, config_of, book_of}
-use Rattle.hls_legal.specs.Lists.{IsListed}
+use Rattle.hls_machine.specs.Hierarchy.{Hierarchy, Node, Loaded, Scheduler, config_of, book_of}
+use Rattle.hls_machine.specs.Lists.{IsListed}
 use Rattle.hls_accounts.specs.Tells.{HasName, terms_in}
 use Rattle.hls_answers.specs.Moment.{node_of}
 use Rattle.hls_answers.specs.Answers.{number, RefusesPlace}

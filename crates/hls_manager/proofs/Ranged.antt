@@ -8,12 +8,12 @@ use Rattle.hls_chron.specs.declared.plain.Config.TheVariants as configs
 use Rattle.hls_chron.specs.declared.plain.Kind.TheVariants as kinds
 use Rattle.hls_chron.specs.Kinds.{kind_of, port_count}
 use Rattle.hls_chron.specs.Ranges.{ConfigInRange}
-use Rattle.hls_legal.specs.Hierarchy.{Hierarchy, Node, Loaded, Admitted, Seat, Wake, Asleep}
-use Rattle.hls_legal.specs.Hierarchy.{Place, start, seats_of}
-use Rattle.hls_legal.specs.Steps.{Step, Refuse, Load, Admit, End, Unload, Move, Rouse, Block, Elapse, Hop}
-use Rattle.hls_legal.specs.Steps.{after, state, effect, nobody, marked, renewed, reseated, roused, ticked}
-use Rattle.hls_legal.specs.Steps.{wake_by, hop_at, hops_of, leavings, seatings}
-use Rattle.hls_legal.specs.Legal.{SeatInRange, MayMoveTo, Can, IsLegal}
+use Rattle.hls_machine.specs.Hierarchy.{Hierarchy, Node, Loaded, Admitted, Seat, Wake, Asleep}
+use Rattle.hls_machine.specs.Hierarchy.{Place, start, seats_of}
+use Rattle.hls_machine.specs.Steps.{Step, Refuse, Load, Admit, End, Unload, Move, Rouse, Block, Elapse, Hop}
+use Rattle.hls_machine.specs.Steps.{after, state, effect, nobody, marked, renewed, reseated, roused, ticked}
+use Rattle.hls_machine.specs.Steps.{wake_by, hop_at, hops_of, leavings, seatings}
+use Rattle.hls_machine.specs.Legal.{SeatInRange, MayMoveTo, Can, IsLegal}
 
 abbrev pub AreInRange : List Seat → Type 0
 AreInRange seats = (port : ℕ) (seat : Seat) → slice_get seats port ≡ Some seat → SeatInRange seat

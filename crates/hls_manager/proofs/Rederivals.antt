@@ -19,16 +19,17 @@ use Rattle.hls_derive.specs.Derivation.{conversions}
 use Rattle.hls_derive.specs.Derives.{IsDerivation}
 use Rattle.hls_search.specs.Search.{CanSearch}
 use Rattle.hls_report_text.specs.declared.report.Seated.{Seated}
-use Rattle.hls_legal.specs.Hierarchy.{Hierarchy, Node, Loaded, Admitted, Place as Spot, Processor, At, Seat, SeatHolder}
-use Rattle.hls_legal.specs.Hierarchy.{seat_of, config_of, name_of}
-use Rattle.hls_legal.specs.Legal.{SeatInRange}
+use Rattle.hls_machine.specs.Hierarchy.{Hierarchy, Node, Loaded, Admitted, Place as Spot, Processor, At, Seat}
+use Rattle.hls_machine.specs.Hierarchy.{SeatHolder}
+use Rattle.hls_machine.specs.Hierarchy.{seat_of, config_of, name_of}
+use Rattle.hls_machine.specs.Legal.{SeatInRange}
 use Rattle.hls_answers.specs.Dues.{Due, Derives, IsUnderivable, dues_on, dues_of, dues_in, told_name, IsSettled}
 use Rattle.hls_answers.specs.Dues.{AreSettled}
 use Rattle.hls_answers.specs.Refusals.{IsFirst, LacksDerivation}
 use Rattle.hls_tree.specs.Lists.{is_on, holder_view}
 use Rattle.hls_tree.specs.Reads.{taken_on}
 use Rattle.hls_tree.specs.declared.lists.Holder.{Holder}
-use Rattle.hls_manager.specs.Outcomes.{IsReached}
+use Rattle.hls_machine.specs.Legal.{IsReached}
 use Rattle.hls_manager.specs.Rederived.{IsLone}
 use Rattle.hls_manager.specs.Inside.Holders.{due_held, terms_of, kept_of}
 use Rattle.hls_manager.proofs.Ranged.{IsRangedNode, AllRanged, legal_ranged, one_port}

@@ -19,13 +19,13 @@ use Rattle.hls_derive.specs.declared.derivation.Derivation.{Derivation}
 use Rattle.hls_derive.specs.Derivation.{PortFits, IsWithinGrammar}
 use Rattle.hls_derive.proofs.Derivings.{follow-valid, follow-start}
 use Rattle.hls_search.specs.Search.{CanSearch}
-use Rattle.hls_legal.specs.Hierarchy.{Hierarchy, Node, Loaded, Admitted, Seat as TakenSeat}
-use Rattle.hls_legal.specs.Hierarchy.{config_of, haves_of}
+use Rattle.hls_machine.specs.Hierarchy.{Hierarchy, Node, Loaded, Admitted, Seat as TakenSeat}
+use Rattle.hls_machine.specs.Hierarchy.{config_of, haves_of}
 use Rattle.hls_answers.specs.Dues.{Derives}
 use Rattle.hls_tree.specs.Reads.{IsLoaded, IsParent}
 use Rattle.hls_tree.specs.declared.seat.Seat.{Seat}
 use Rattle.hls_manager.specs.Seats.{config_at, haves_at, due_for}
-use Rattle.hls_manager.specs.Outcomes.{IsReached}
+use Rattle.hls_machine.specs.Legal.{IsReached}
 use Rattle.hls_manager.proofs.Ranged.{AreInRange, AllRanged, IsRangedNode, legal_ranged}
 
 -- ---- what is asked

@@ -21,9 +21,9 @@ use Rattle.hls_scenario.specs.declared.scenario.Perch.{Perch}
 use Rattle.hls_scenario.specs.declared.scenario.Command.TheVariants as said
 use Rattle.hls_report_text.specs.declared.report.Seated.{Seated}
 use Rattle.hls_report_text.specs.WellFormed.{IsSeated}
-use Rattle.hls_legal.specs.Hierarchy.{Hierarchy, Node, Loaded, Admitted, SeatHolder, Seat as TakenSeat}
-use Rattle.hls_legal.specs.Hierarchy.{seat_of, seats_of, config_of, haves_of, name_of}
-use Rattle.hls_legal.specs.Lists.{IsListed}
+use Rattle.hls_machine.specs.Hierarchy.{Hierarchy, Node, Loaded, Admitted, SeatHolder, Seat as TakenSeat}
+use Rattle.hls_machine.specs.Hierarchy.{seat_of, seats_of, config_of, haves_of, name_of}
+use Rattle.hls_machine.specs.Lists.{IsListed}
 use Rattle.hls_answers.specs.Moment.{number_of}
 use Rattle.hls_answers.specs.Dues.{Due, dues, due_at, dues_on, Derives, IsUnderivable, IsSettled, AreSettled}
 use Rattle.hls_answers.specs.Dues.{config_there, haves_there, told_name}
@@ -32,7 +32,7 @@ use Rattle.hls_answers.proofs.Found.{named_is}
 use Rattle.hls_tree.specs.Reads.{IsParent, taken_on}
 use Rattle.hls_tree.specs.declared.seat.Seat.{Seat}
 use Rattle.hls_manager.specs.Seats.{config_at, haves_at, due_for}
-use Rattle.hls_manager.specs.Outcomes.{IsReached}
+use Rattle.hls_machine.specs.Legal.{IsReached}
 use Rattle.hls_manager.specs.Inside.Holders.{due_held}
 use Rattle.hls_manager.specs.Inside.Shifts.{IsAtSpot, IsAimed}
 use Rattle.hls_manager.proofs.Ranged.{IsRangedNode, AllRanged, legal_ranged}

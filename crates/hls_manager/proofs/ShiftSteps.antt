@@ -16,13 +16,13 @@ use Rattle.hls_scenario.specs.declared.scenario.Command.{Command}
 use Rattle.hls_scenario.specs.declared.scenario.Command.TheVariants as said
 use Rattle.hls_scenario.specs.Grammar.{IsCommand}
 use Rattle.hls_report_text.specs.declared.refusal.Refusal.{Refusal}
-use Rattle.hls_legal.specs.Hierarchy.{Hierarchy, Node, Loaded, Admitted, Scheduler, Place, Processor, At}
-use Rattle.hls_legal.specs.Hierarchy.{seat_of, seats_of, book_of, config_of}
-use Rattle.hls_legal.specs.Hierarchy.{Seat as TakenSeat}
-use Rattle.hls_legal.specs.Steps.{Step, Move}
-use Rattle.hls_legal.specs.Legal.{IsBelow, Can, scheduler_at}
-use Rattle.hls_legal.specs.Seated.{IsSeated}
-use Rattle.hls_legal.proofs.Readings.{under_below, below_rank}
+use Rattle.hls_machine.specs.Hierarchy.{Hierarchy, Node, Loaded, Admitted, Scheduler, Place, Processor, At}
+use Rattle.hls_machine.specs.Hierarchy.{seat_of, seats_of, book_of, config_of}
+use Rattle.hls_machine.specs.Hierarchy.{Seat as TakenSeat}
+use Rattle.hls_machine.specs.Steps.{Step, Move}
+use Rattle.hls_machine.specs.Legal.{IsBelow, Can, scheduler_at}
+use Rattle.hls_machine.specs.Seated.{IsSeated}
+use Rattle.hls_machine.proofs.Readings.{under_below, below_rank}
 use Rattle.hls_accounts.specs.Tells.{HasName, IsSpot, IsPerch, Does}
 use Rattle.hls_answers.specs.Moment.{Moment}
 use Rattle.hls_answers.specs.Answers.{Applies}
@@ -32,7 +32,8 @@ use Rattle.hls_answers.proofs.Converse.{may_do}
 use Rattle.hls_tree.specs.Offers.{IsTakenAs, MayMove, HasMoveRoom, TakesAt}
 use Rattle.hls_tree.specs.Reads.{IsSeatAnswer, IsLoaded}
 use Rattle.hls_tree.specs.declared.seat.Seat.{Seat}
-use Rattle.hls_manager.specs.Outcomes.{IsReached, HasMarkRoom}
+use Rattle.hls_machine.specs.Legal.{IsReached}
+use Rattle.hls_manager.specs.Outcomes.{HasMarkRoom}
 use Rattle.hls_manager.specs.Inside.Shifts.{IsAtSpot, IsAimed, IsPlaced}
 use Rattle.hls_manager.proofs.Outcomes.{reached_done}
 use Rattle.hls_manager.proofs.Admits.{IsTakenFor, same_seat}

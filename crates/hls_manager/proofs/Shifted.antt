@@ -16,9 +16,9 @@ use Rattle.hls_report_text.specs.declared.report.Answer.{Answer}
 use Rattle.hls_report_text.specs.declared.report.Answer.TheVariants.{Done, Refused}
 use Rattle.hls_report_text.specs.WellFormed.{IsAnswer as IsWellFormed, IsSeated}
 use Rattle.hls_sched.specs.Seen.{Seen}
-use Rattle.hls_legal.specs.Hierarchy.{Hierarchy}
-use Rattle.hls_legal.specs.Lists.{IsListed}
-use Rattle.hls_legal.specs.Steps.{Move}
+use Rattle.hls_machine.specs.Hierarchy.{Hierarchy}
+use Rattle.hls_machine.specs.Lists.{IsListed}
+use Rattle.hls_machine.specs.Steps.{Move}
 use Rattle.hls_answers.specs.Moment.{Moment}
 use Rattle.hls_answers.specs.Dues.{Due, due_at, dues, dues_on, AreSettled, IsSettled}
 use Rattle.hls_answers.specs.Refusals.{IsFirst, LacksDerivation}
@@ -30,7 +30,8 @@ use Rattle.hls_tree.specs.Trees.{IsTreeOf, Moves}
 use Rattle.hls_tree.specs.declared.seat.Seat.{Seat}
 use Rattle.hls_tree.specs.declared.tree.Tree.{Tree}
 use Rattle.hls_manager.specs.Seats.{due_for}
-use Rattle.hls_manager.specs.Outcomes.{IsReached, HasMarkRoom, CarriesOut}
+use Rattle.hls_machine.specs.Legal.{IsReached}
+use Rattle.hls_manager.specs.Outcomes.{HasMarkRoom, CarriesOut}
 use Rattle.hls_manager.specs.Rederived.{AreRederived}
 use Rattle.hls_manager.specs.Inside.Shifts.{IsAimed, IsMovable}
 use Rattle.hls_manager.specs.Inside.Told.{IsTakenBy, told_first}

@@ -4,19 +4,19 @@ use Rattle.std.proofs.Common.{ap, ◌∙◌, subst}
 use Rattle.std.specs.Prelude.{flat_map}
 use Rattle.std.proofs.lemmas.Bool.{cases_eq, ne_eqb}
 use Rattle.hls_guarantee.specs.declared.Guarantee.{Guarantee}
-use Rattle.hls_legal.specs.Hierarchy.{Hierarchy, Loaded, Admitted, Place, Processor, At, Seat}
-use Rattle.hls_legal.specs.Hierarchy.{SeatHolder, seat_of}
-use Rattle.hls_legal.specs.Steps.{reseated}
-use Rattle.hls_legal.specs.Legal.{IsThread, SitsOn, IsChain, fair_queues}
-use Rattle.hls_legal.specs.Readings.{IsUnderBy}
-use Rattle.hls_legal.specs.Seated.{IsSeated, SitsThere}
-use Rattle.hls_legal.proofs.Commands.{thread_empty}
-use Rattle.hls_legal.proofs.Kept.{at_same, at_other}
+use Rattle.hls_machine.specs.Hierarchy.{Hierarchy, Loaded, Admitted, Place, Processor, At, Seat}
+use Rattle.hls_machine.specs.Hierarchy.{SeatHolder, seat_of}
+use Rattle.hls_machine.specs.Steps.{reseated}
+use Rattle.hls_machine.specs.Legal.{IsThread, SitsOn, IsChain, fair_queues}
+use Rattle.hls_machine.specs.Readings.{IsUnderBy}
+use Rattle.hls_machine.specs.Seated.{IsSeated, SitsThere}
+use Rattle.hls_machine.proofs.Commands.{thread_empty}
+use Rattle.hls_machine.proofs.Kept.{at_same, at_other}
 use Rattle.hls_answers.specs.Dues.{dues_on, dues_of, dues_in}
 use Rattle.hls_answers.proofs.Chains.{chain_along, queues_same, IsWithin, under_other}
 use Rattle.hls_tree.specs.Offers.{IsNoCycle, moved_to}
 use Rattle.hls_tree.specs.Reads.{IsParent}
-use Rattle.hls_manager.specs.Outcomes.{IsReached}
+use Rattle.hls_machine.specs.Legal.{IsReached}
 use Rattle.hls_manager.specs.Inside.Shifts.{IsPlaced}
 use Rattle.hls_manager.proofs.Outcomes.{reached_seated, reached_done}
 

@@ -4,7 +4,7 @@ use Rattle.hls_text.specs.Lines.{Text}
 use Rattle.hls_kinds.specs.Faults.{IsAnswer}
 use Rattle.hls_scenario.specs.declared.scenario.Perch.{Perch}
 use Rattle.hls_scenario.specs.declared.scenario.Spot.TheVariants.{Under}
-use Rattle.hls_legal.specs.Hierarchy.{Hierarchy, Scheduler, Loaded}
+use Rattle.hls_machine.specs.Hierarchy.{Hierarchy, Scheduler, Loaded}
 use Rattle.hls_accounts.specs.Tells.{HasName}
 use Rattle.hls_answers.specs.Moment.{node_of}
 use Rattle.hls_tree.specs.declared.seat.Seat.{Seat}

@@ -6,21 +6,15 @@ use Rattle.hls_report_text.specs.declared.report.Answer.{Answer}
 use Rattle.hls_sched.specs.Seen.{Seen}
 use Rattle.hls_sched.specs.GoodKit.{boxes_of, place_of}
 use Rattle.hls_sched.specs.declared.kit.Kit.{Kit}
-use Rattle.hls_legal.specs.Hierarchy.{Hierarchy, Scheduler, Loaded, start}
-use Rattle.hls_legal.specs.Steps as steps
-use Rattle.hls_legal.specs.Steps.{Step, after, state}
-use Rattle.hls_legal.specs.Legal.{Can, IsLegal}
+use Rattle.hls_machine.specs.Hierarchy.{Hierarchy, Scheduler, Loaded}
+use Rattle.hls_machine.specs.Steps as steps
+use Rattle.hls_machine.specs.Steps.{Step, after}
+use Rattle.hls_machine.specs.Legal.{Can}
 use Rattle.hls_accounts.specs.Tells.{Answers}
 use Rattle.hls_answers.specs.Moment.{Boxes, Moment}
 use Rattle.hls_answers.specs.Answers.{IsAnswer}
 use Rattle.hls_tree.specs.Trees.{IsTreeOf, IsReadyOf}
 use Rattle.hls_tree.specs.declared.tree.Tree.{Tree}
-
--- a legal run leads here
-pub record IsReached (h : Hierarchy) : Type 0 where
-  pub past : List Step
-  pub legal : IsLegal start past
-  pub leads : h ≡ state start past
 
 -- each book has room for two marks
 abbrev pub HasMarkRoom : Hierarchy → Type 0

@@ -2,7 +2,7 @@
 use Rattle.std.specs.Prelude.{◌≡◌, ◌≢◌, List, Option, Some}
 use Rattle.hls_chron.specs.declared.plain.Kind.TheVariants as kinds
 use Rattle.hls_chron.specs.Kinds.{kind_of}
-use Rattle.hls_legal.specs.Hierarchy.{Node, Loaded, Scheduler}
+use Rattle.hls_machine.specs.Hierarchy.{Node, Loaded, Scheduler}
 use Rattle.hls_answers.specs.Dues.{Due, AreSettled}
 use Rattle.hls_answers.specs.Refusals.{IsFirst, LacksDerivation}
 use Rattle.hls_manager.specs.declared.rederiving.Rederived.{Rederived}

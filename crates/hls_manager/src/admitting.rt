@@ -3,12 +3,13 @@ ghost use Rattle.std.specs.Prelude.{◌≡◌, ◌≤◌, IfOk, OnErr};
 ghost use Rattle.hls_scenario.specs.Grammar.{IsCommand};
 ghost use Rattle.hls_report_text.specs.WellFormed.{IsAnswer as IsWellFormed};
 ghost use Rattle.hls_sched.specs.GoodKit.{IsGood};
-ghost use Rattle.hls_legal.specs.Hierarchy.{Hierarchy};
+ghost use Rattle.hls_machine.specs.Hierarchy.{Hierarchy};
 ghost use Rattle.hls_answers.specs.Kit.{boxes_after};
-ghost use Rattle.hls_walks.specs.Views.{boxed};
+ghost use Rattle.hls_tree_nodes.specs.Views.{boxed};
 ghost use Rattle.hls_tree.specs.Kits.{IsSameKit};
 ghost use Rattle.hls_tree.specs.Trees.{IsTreeOf, Stands, IsAsBefore};
-ghost use Rattle.hls_manager.specs.Outcomes.{CarriesOut, HasMarkRoom, IsReached, IsAdmission, boxes_in, moment};
+ghost use Rattle.hls_machine.specs.Legal.{IsReached};
+ghost use Rattle.hls_manager.specs.Outcomes.{CarriesOut, HasMarkRoom, IsAdmission, boxes_in, moment};
 
 use crate::loading::load;
 use crate::threads::admit_thread;

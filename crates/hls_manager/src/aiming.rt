@@ -5,8 +5,8 @@ ghost use Rattle.hls_scenario.specs.declared.scenario.Command.TheVariants.{Move}
 ghost use Rattle.hls_scenario.specs.Grammar.{IsCommand};
 ghost use Rattle.hls_chron.specs.Name.{IsName};
 ghost use Rattle.hls_report_text.specs.WellFormed.{IsRefusal};
-ghost use Rattle.hls_legal.specs.Hierarchy.{Hierarchy};
-ghost use Rattle.hls_legal.specs.Lists.{IsListed};
+ghost use Rattle.hls_machine.specs.Hierarchy.{Hierarchy};
+ghost use Rattle.hls_machine.specs.Lists.{IsListed};
 ghost use Rattle.hls_accounts.specs.Tells.{HasName, terms_in};
 ghost use Rattle.hls_answers.specs.Moment.{Moment};
 ghost use Rattle.hls_answers.specs.Answers.{IsRefused};

@@ -4,11 +4,11 @@ ghost use Rattle.hls_text.specs.Lines.{Text};
 ghost use Rattle.hls_chron.specs.Ranges.{TermsInRange};
 ghost use Rattle.hls_guarantee.specs.Limits.{IsNarrow};
 ghost use Rattle.hls_chron.specs.Kinds.{port_count};
-ghost use Rattle.hls_legal.specs.Hierarchy.{Hierarchy, haves_of};
+ghost use Rattle.hls_machine.specs.Hierarchy.{Hierarchy, haves_of};
 ghost use Rattle.hls_answers.specs.Dues.{Derives, IsUnderivable};
 ghost use Rattle.hls_tree.specs.Reads.{IsLoaded, IsParent};
 ghost use Rattle.hls_tree.specs.Trees.{IsTreeOf, Stands};
-ghost use Rattle.hls_manager.specs.Outcomes.{IsReached};
+ghost use Rattle.hls_machine.specs.Legal.{IsReached};
 ghost use Rattle.hls_manager.specs.Seats.{config_at, haves_at, due_for};
 
 use hls_chron::Config;

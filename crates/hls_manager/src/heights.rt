@@ -3,10 +3,10 @@ ghost use Rattle.std.specs.Prelude.{◌≡◌, ◌≤◌, length, List, IfSome, 
 ghost use Rattle.hls_text.specs.Lines.{Text};
 ghost use Rattle.hls_scenario.specs.declared.scenario.Perch.{Perch};
 ghost use Rattle.hls_report_text.specs.WellFormed.{IsRefusal};
-ghost use Rattle.hls_legal.specs.Hierarchy.{Hierarchy};
-ghost use Rattle.hls_legal.specs.Legal.{fair_queue, fair_queues};
+ghost use Rattle.hls_machine.specs.Hierarchy.{Hierarchy};
+ghost use Rattle.hls_machine.specs.Legal.{fair_queue, fair_queues};
 ghost use Rattle.hls_tree.specs.Trees.{IsTreeOf, Stands};
-ghost use Rattle.hls_manager.specs.Outcomes.{IsReached};
+ghost use Rattle.hls_machine.specs.Legal.{IsReached};
 ghost use Rattle.hls_manager.specs.Inside.Ports.{AreAtParents, AreWanted};
 ghost use Rattle.hls_manager.specs.Inside.Heights.{IsMost, IsHeightRefusal, IsLowEnough};
 

@@ -5,14 +5,14 @@ ghost use Rattle.hls_scenario.specs.Grammar.{IsSpot};
 ghost use Rattle.hls_chron.specs.Name.{IsName};
 ghost use Rattle.hls_chron.specs.Ranges.{TermsInRange};
 ghost use Rattle.hls_report_text.specs.WellFormed.{IsRefusal};
-ghost use Rattle.hls_legal.specs.Hierarchy.{Hierarchy};
+ghost use Rattle.hls_machine.specs.Hierarchy.{Hierarchy};
 ghost use Rattle.hls_answers.specs.Moment.{Moment, spot_name};
 ghost use Rattle.hls_answers.specs.Answers.{IsRefused};
 ghost use Rattle.hls_tree.specs.Offers.{MovesTo, IsNoCycle};
 ghost use Rattle.hls_tree.specs.Reads.{IsLoaded, IsSeatAnswer, MayAskAbout};
 ghost use Rattle.hls_tree.specs.Trees.{IsTreeOf, Stands};
 ghost use Rattle.hls_manager.specs.Inside.Shifts.{IsAtSpot, IsAimed, IsLoop, IsMisplaced, IsPlaced, spot_refusal};
-ghost use Rattle.hls_manager.specs.Outcomes.{IsReached};
+ghost use Rattle.hls_machine.specs.Legal.{IsReached};
 
 use crate::lookups::fault_refusal;
 use hls_chron::Name;

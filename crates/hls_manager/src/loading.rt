@@ -6,15 +6,16 @@ ghost use Rattle.hls_scenario.specs.declared.scenario.Command.TheVariants.{Load}
 ghost use Rattle.hls_scenario.specs.Grammar.{IsCommand};
 ghost use Rattle.hls_report_text.specs.WellFormed.{IsAnswer as IsWellFormed, IsRefusal};
 ghost use Rattle.hls_sched.specs.GoodKit.{IsGood};
-ghost use Rattle.hls_legal.specs.Hierarchy.{Hierarchy};
-ghost use Rattle.hls_legal.specs.Lists.{IsListed};
+ghost use Rattle.hls_machine.specs.Hierarchy.{Hierarchy};
+ghost use Rattle.hls_machine.specs.Lists.{IsListed};
 ghost use Rattle.hls_answers.specs.Moment.{Moment};
 ghost use Rattle.hls_answers.specs.Answers.{IsRefused};
 ghost use Rattle.hls_answers.specs.Kit.{boxes_after};
-ghost use Rattle.hls_walks.specs.Views.{boxed};
+ghost use Rattle.hls_tree_nodes.specs.Views.{boxed};
 ghost use Rattle.hls_tree.specs.Kits.{IsSameKit};
 ghost use Rattle.hls_tree.specs.Trees.{IsTreeOf, Stands, IsAsBefore, Any, Loads};
-ghost use Rattle.hls_manager.specs.Outcomes.{CarriesOut, HasMarkRoom, IsReached, boxes_in, moment};
+ghost use Rattle.hls_machine.specs.Legal.{IsReached};
+ghost use Rattle.hls_manager.specs.Outcomes.{CarriesOut, HasMarkRoom, boxes_in, moment};
 ghost use Rattle.hls_manager.specs.Inside.Ports.{AreAtParents, AreInRange, ArePerchesInRange};
 ghost use Rattle.hls_manager.specs.Inside.Loads.{IsPlaced, AreTold, IsUntold};
 

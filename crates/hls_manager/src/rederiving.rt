@@ -1,12 +1,12 @@
 // Derivations of the seats on a scheduler that has another guarantee.
 ghost use Rattle.std.specs.Prelude.{◌≡◌, ◌≤◌, ℕ, IfOk, IfSome, IsNone, Some, slice_get};
 ghost use Rattle.hls_guarantee.specs.Limits.{IsNarrow};
-ghost use Rattle.hls_legal.specs.Hierarchy.{Hierarchy};
+ghost use Rattle.hls_machine.specs.Hierarchy.{Hierarchy};
 ghost use Rattle.hls_answers.specs.Dues.{Derives, IsUnderivable, dues_on};
 ghost use Rattle.hls_tree.specs.Reads.{taken_on};
 ghost use Rattle.hls_tree.specs.Trees.{IsTreeOf, Stands};
 ghost use Rattle.hls_manager.specs.Inside.Holders.{due_held};
-ghost use Rattle.hls_manager.specs.Outcomes.{IsReached};
+ghost use Rattle.hls_machine.specs.Legal.{IsReached};
 ghost use Rattle.hls_manager.specs.Rederived.{AreRederived, IsLone};
 
 use hls_chron::{List, Name};

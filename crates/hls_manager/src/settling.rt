@@ -2,7 +2,7 @@
 ghost use Rattle.std.specs.Prelude.{◌≡◌, ◌≤◌, ◌∷◌, Some, IfOk};
 ghost use Rattle.hls_chron.specs.Ranges.{TermsInRange};
 ghost use Rattle.hls_guarantee.specs.Limits.{IsNarrow};
-ghost use Rattle.hls_legal.specs.Hierarchy.{Hierarchy};
+ghost use Rattle.hls_machine.specs.Hierarchy.{Hierarchy};
 ghost use Rattle.hls_answers.specs.Dues.{dues_on};
 ghost use Rattle.hls_tree.specs.Offers.{MovesTo};
 ghost use Rattle.hls_tree.specs.Reads.{IsParent};
@@ -10,7 +10,7 @@ ghost use Rattle.hls_tree.specs.Trees.{IsTreeOf, Stands};
 ghost use Rattle.hls_manager.specs.Inside.Told.{told_first};
 ghost use Rattle.hls_manager.specs.Rederived.{AreRederived};
 ghost use Rattle.hls_manager.specs.Seats.{due_for};
-ghost use Rattle.hls_manager.specs.Outcomes.{IsReached};
+ghost use Rattle.hls_machine.specs.Legal.{IsReached};
 
 use crate::derivations::derive;
 use crate::rederiving::{Rederived, rederive};

@@ -3,14 +3,15 @@ ghost use Rattle.std.specs.Prelude.{◌≡◌, ◌≤◌, ℕ, IfOk, IfErr, OnEr
 ghost use Rattle.hls_scenario.specs.declared.scenario.Command.TheVariants.{Move};
 ghost use Rattle.hls_scenario.specs.Grammar.{IsCommand};
 ghost use Rattle.hls_report_text.specs.WellFormed.{IsAnswer as IsWellFormed, IsRefusal};
-ghost use Rattle.hls_legal.specs.Hierarchy.{Hierarchy};
+ghost use Rattle.hls_machine.specs.Hierarchy.{Hierarchy};
 ghost use Rattle.hls_answers.specs.Moment.{Moment};
 ghost use Rattle.hls_answers.specs.Answers.{IsRefused};
 ghost use Rattle.hls_tree.specs.Offers.{MayMove};
 ghost use Rattle.hls_tree.specs.Trees.{IsTreeOf, Stands, IsAsBefore, Moves};
 ghost use Rattle.hls_manager.specs.Inside.Shifts.{IsMovable};
 ghost use Rattle.hls_manager.specs.Inside.Told.{IsTakenBy};
-ghost use Rattle.hls_manager.specs.Outcomes.{CarriesOut, HasMarkRoom, IsReached, IsMove};
+ghost use Rattle.hls_machine.specs.Legal.{IsReached};
+ghost use Rattle.hls_manager.specs.Outcomes.{CarriesOut, HasMarkRoom, IsMove};
 
 use crate::aiming::aim;
 use crate::hindrances::hindrance;

@@ -5,14 +5,15 @@ ghost use Rattle.hls_scenario.specs.declared.scenario.Command.TheVariants.{Threa
 ghost use Rattle.hls_scenario.specs.Grammar.{IsCommand};
 ghost use Rattle.hls_report_text.specs.declared.report.Answer.TheVariants.{Done};
 ghost use Rattle.hls_report_text.specs.WellFormed.{IsAnswer as IsWellFormed, IsRefusal};
-ghost use Rattle.hls_legal.specs.Hierarchy.{Hierarchy};
-ghost use Rattle.hls_legal.specs.Lists.{IsListed};
+ghost use Rattle.hls_machine.specs.Hierarchy.{Hierarchy};
+ghost use Rattle.hls_machine.specs.Lists.{IsListed};
 ghost use Rattle.hls_answers.specs.Moment.{Moment, node_of};
 ghost use Rattle.hls_answers.specs.Answers.{IsRefused};
 ghost use Rattle.hls_tree.specs.Offers.{MayAdmit};
 ghost use Rattle.hls_tree.specs.Trees.{IsTreeOf, Stands, IsAsBefore, Any, Admits};
 ghost use Rattle.hls_manager.specs.Offers.{IsOffered};
-ghost use Rattle.hls_manager.specs.Outcomes.{CarriesOut, HasMarkRoom, IsReached};
+ghost use Rattle.hls_machine.specs.Legal.{IsReached};
+ghost use Rattle.hls_manager.specs.Outcomes.{CarriesOut, HasMarkRoom};
 
 use crate::derivations::derive;
 use crate::lookups::{fault_refusal, find_scheduler};

@@ -6,11 +6,12 @@ ghost use Rattle.hls_scenario.specs.Grammar.{IsCommand};
 ghost use Rattle.hls_chron.specs.Name.{IsName};
 ghost use Rattle.hls_report_text.specs.WellFormed.{IsAnswer as IsWellFormed, IsRefusal};
 ghost use Rattle.hls_answers.specs.Moment.{Moment};
-ghost use Rattle.hls_legal.specs.Hierarchy.{Hierarchy};
+ghost use Rattle.hls_machine.specs.Hierarchy.{Hierarchy};
 ghost use Rattle.hls_accounts.specs.Tells.{HasName};
 ghost use Rattle.hls_tree.specs.Reads.{IsLoaded};
 ghost use Rattle.hls_tree.specs.Trees.{IsTreeOf, Stands};
-ghost use Rattle.hls_manager.specs.Outcomes.{CarriesOut, HasMarkRoom, IsReached, IsWithdrawal};
+ghost use Rattle.hls_machine.specs.Legal.{IsReached};
+ghost use Rattle.hls_manager.specs.Outcomes.{CarriesOut, HasMarkRoom, IsWithdrawal};
 
 use crate::lookups::{find_scheduler, find_thread};
 use hls_chron::{List, Name};

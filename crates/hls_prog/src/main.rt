@@ -3,7 +3,7 @@
 #![tactic(auto)]
 
 use hls_io::{Status, StdSink, StdSource};
-use hls_start::start;
+use hls_prog_start::start;
 use std::process::ExitCode;
 use std::{env, io};
 

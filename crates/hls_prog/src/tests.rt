@@ -1,6 +1,6 @@
 // What a run comes to, over sources and sinks in memory.
 use hls_io::{MemSink, MemSource, Status};
-use hls_start::start;
+use hls_prog_start::start;
 use std::alloc::{AllocError, Global};
 use std::test::Fail;
 

@@ -5,9 +5,9 @@ use Rattle.hls_io.specs.declared.status.Status.{Status}
 use Rattle.hls_io.specs.declared.status.Status.TheVariants.{Done, Broken, Usage, RefusedText, ReadFault}
 use Rattle.hls_io.specs.declared.status.Status.TheVariants.{WriteFault, Memory, TooLong}
 use Rattle.hls_text.specs.Lines.{Text}
-use Rattle.hls_words.specs.Table.{IsJob, IsNoJob}
-use Rattle.hls_words.specs.declared.jobs.Job.{Job}
-use Rattle.hls_words.specs.declared.jobs.Job.TheVariants.{Run, Check, Gen, Trial}
+use Rattle.hls_top_words.specs.Table.{IsJob, IsNoJob}
+use Rattle.hls_top_words.specs.declared.jobs.Job.{Job}
+use Rattle.hls_top_words.specs.declared.jobs.Job.TheVariants.{Run, Check, Gen, Trial}
 use Rattle.hls_scenario.specs.declared.scenario.Scenario.{Scenario}
 use Rattle.hls_scenario.specs.Grammar.{IsScenarioText}
 use Rattle.hls_report_text.specs.declared.report.Report.{Report}
@@ -15,7 +15,7 @@ use Rattle.hls_report_text.specs.Content.{content_of}
 use Rattle.hls_report_text.specs.WellFormed.{IsReportText}
 use Rattle.hls_report.proofs.Sections.{report_same}
 use Rattle.hls_answers.specs.Moment.{Boxes}
-use Rattle.hls_clauses.specs.Kept.{IsKept, IsBroken}
+use Rattle.hls_audit_clauses.specs.Kept.{IsKept, IsBroken}
 use Rattle.hls_top.specs.Exchange.{Drawn, Exchange, scenario_limit, report_limit, limit, IsFaultless}
 use Rattle.hls_top.specs.Refusing.{IsNoScenarioText, IsNoReportText}
 use Rattle.hls_top.specs.Outputs.{IsReportOf, IsOfRun, IsOfCheck, IsOfGen, IsOfTrial, IsOutput}

@@ -8,10 +8,10 @@ use Rattle.hls_io.specs.declared.status.Status.{Status}
 use Rattle.hls_io.specs.declared.status.Status.TheVariants.{Done, Broken, Usage, RefusedText, ReadFault}
 use Rattle.hls_io.specs.declared.status.Status.TheVariants.{WriteFault, Memory, TooLong}
 use Rattle.hls_text.specs.Lines.{Text}
-use Rattle.hls_words.specs.Table.{IsJob}
-use Rattle.hls_words.specs.declared.jobs.Job.{Job}
-use Rattle.hls_words.specs.declared.jobs.Job.TheVariants.{Run, Check, Gen, Trial}
-use Rattle.hls_words.proofs.OneJob.{same_job}
+use Rattle.hls_top_words.specs.Table.{IsJob}
+use Rattle.hls_top_words.specs.declared.jobs.Job.{Job}
+use Rattle.hls_top_words.specs.declared.jobs.Job.TheVariants.{Run, Check, Gen, Trial}
+use Rattle.hls_top_words.proofs.OneJob.{same_job}
 use Rattle.hls_answers.specs.Moment.{Boxes}
 use Rattle.hls_top.specs.Exchange.{Drawn, Exchange, limit, IsFaultless, Takes, IsOrderly}
 use Rattle.hls_top.specs.Outputs.{IsOutput}

@@ -20,10 +20,10 @@ use Rattle.hls_report_text.specs.declared.stretch.Stretch.{Stretch}
 use Rattle.hls_report_text.specs.declared.report.Report.{Report}
 use Rattle.hls_report_text.specs.Content.{Content, content_of}
 use Rattle.hls_report_text.specs.ReportText.{report_text}
-use Rattle.hls_legal.specs.Hierarchy.{Hierarchy, start}
-use Rattle.hls_legal.specs.Steps.{Step, Elapse, after, state}
-use Rattle.hls_legal.specs.Legal.{IsLegal}
-use Rattle.hls_supply.proofs.Runs as supply
+use Rattle.hls_machine.specs.Hierarchy.{Hierarchy, start}
+use Rattle.hls_machine.specs.Steps.{Step, Elapse, after, state}
+use Rattle.hls_machine.specs.Legal.{IsLegal}
+use Rattle.hls_machine_supply.proofs.Runs as supply
 use Rattle.hls_accounts.specs.Schedule.{last_name, is_name, is_served, path_at}
 use Rattle.hls_accounts.proofs.Keeping.{stays_kept}
 use Rattle.hls_accounts.proofs.Agreements.{ran_ready}
@@ -35,7 +35,7 @@ use Rattle.hls_answers.specs.Kit.{boxes_left, boxes_after}
 use Rattle.hls_legal_report.specs.Legal.{IsLegalContent, IsLegalReport}
 use Rattle.hls_legal_report.proofs.Keeping.{report_kept}
 use Rattle.hls_legal_report.proofs.Removal.{removed}
-use Rattle.hls_clauses.proofs.Kept.{report_kept as never_fails}
+use Rattle.hls_audit_clauses.proofs.Kept.{report_kept as never_fails}
 use Rattle.hls_core.specs.Texts.{IsLegalText}
 use Rattle.hls_top.specs.Outputs.{IsReportOf}
 use Rattle.hls_top.specs.Promises.{IsRefusal, HasRoom, IsAnswerIn, AnswersEach, KeepsPromises}

@@ -9,8 +9,8 @@ use Rattle.hls_io.specs.declared.status.Status.{Status}
 use Rattle.hls_io.specs.declared.status.Status.TheVariants.{Done, Broken, Usage, RefusedText}
 use Rattle.hls_io.specs.declared.status.Status.TheVariants.{ReadFault, WriteFault, Memory, TooLong}
 use Rattle.hls_text.specs.Lines.{Text}
-use Rattle.hls_words.specs.Table.{IsJob, IsNoJob}
-use Rattle.hls_words.specs.declared.jobs.Job.{Job}
+use Rattle.hls_top_words.specs.Table.{IsJob, IsNoJob}
+use Rattle.hls_top_words.specs.declared.jobs.Job.{Job}
 use Rattle.hls_top.specs.Exchange.{Drawn, Shown, Exchange, limit}
 use Rattle.hls_top.specs.Outputs.{IsOutput}
 use Rattle.hls_top.specs.Words.{usage_line}

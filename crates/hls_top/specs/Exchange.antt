@@ -3,9 +3,9 @@ use Rattle.std.specs.Prelude.{ℕ, ◌+◌, ◌≡◌, ◌≤◌, List, Option, 
 use Rattle.hls_io.specs.Bytes.{TellsAlike, TakesAtMost}
 use Rattle.hls_io.specs.Faults.{Rose}
 use Rattle.hls_text.specs.Lines.{Text}
-use Rattle.hls_words.specs.Table.{IsJob, IsNoJob}
-use Rattle.hls_words.specs.declared.jobs.Job.{Job}
-use Rattle.hls_words.specs.declared.jobs.Job.TheVariants.{Run, Check, Gen, Trial}
+use Rattle.hls_top_words.specs.Table.{IsJob, IsNoJob}
+use Rattle.hls_top_words.specs.declared.jobs.Job.{Job}
+use Rattle.hls_top_words.specs.declared.jobs.Job.TheVariants.{Run, Check, Gen, Trial}
 use Rattle.hls_answers.specs.Moment.{Boxes}
 
 -- what a source shows before a call and after it: the bytes that are left to be read, where they are told, and the

@@ -4,8 +4,8 @@ use Rattle.hls_io.specs.Bytes.{IsWhole}
 use Rattle.hls_io.specs.declared.status.Status.{Status}
 use Rattle.hls_io.specs.declared.status.Status.TheVariants as statuses
 use Rattle.hls_text.specs.Lines.{Text}
-use Rattle.hls_words.specs.declared.jobs.Job.{Job}
-use Rattle.hls_words.specs.declared.jobs.Job.TheVariants.{Run, Check, Gen, Trial}
+use Rattle.hls_top_words.specs.declared.jobs.Job.{Job}
+use Rattle.hls_top_words.specs.declared.jobs.Job.TheVariants.{Run, Check, Gen, Trial}
 use Rattle.hls_scenario.specs.declared.scenario.Scenario.{Scenario}
 use Rattle.hls_scenario.specs.Grammar.{IsScenarioText}
 use Rattle.hls_scenario.specs.Forms.{scenario_text}
@@ -17,7 +17,7 @@ use Rattle.hls_answers.specs.Moment.{Boxes}
 use Rattle.hls_legal_report.specs.Legal.{IsLegalReport}
 use Rattle.hls_audit.specs.declared.auditing.Outcome.{Outcome}
 use Rattle.hls_audit.specs.declared.auditing.Outcome.TheVariants.{Kept, Broken}
-use Rattle.hls_clauses.specs.Kept.{IsKept}
+use Rattle.hls_audit_clauses.specs.Kept.{IsKept}
 use Rattle.hls_audit.specs.Audits.{IsAudit}
 use Rattle.hls_gen.specs.Generated.{generated}
 use Rattle.hls_top.specs.Exchange.{Drawn, scenario_limit, report_limit}

@@ -17,8 +17,8 @@ use Rattle.hls_answers.specs.Kit.{boxes_left}
 use Rattle.hls_legal_report.specs.Legal.{IsLegalContent}
 use Rattle.hls_legal_report.specs.Kept.{KeepsAccount}
 use Rattle.hls_legal_report.specs.Without.{scenario_without, content_without}
-use Rattle.hls_manager.specs.Outcomes.{IsReached}
-use Rattle.hls_clauses.specs.Kept.{IsKept}
+use Rattle.hls_machine.specs.Legal.{IsReached}
+use Rattle.hls_audit_clauses.specs.Kept.{IsKept}
 
 -- each tick runs at most one thread, which is ready
 pub record RunsReady (c : Content) : Type 0 where

@@ -5,7 +5,7 @@ ghost use Rattle.std.specs.Prelude.{◌≡◌, ◌≤◌, ℕ, length};
 ghost use Rattle.hls_text.specs.Lines.{Text};
 ghost use Rattle.hls_io.specs.declared.status.Status.{Status};
 ghost use Rattle.hls_io.specs.declared.status.Status.TheVariants.{Done};
-ghost use Rattle.hls_words.specs.declared.jobs.Job.TheVariants.{Check};
+ghost use Rattle.hls_top_words.specs.declared.jobs.Job.TheVariants.{Check};
 ghost use Rattle.hls_answers.specs.Moment.{Boxes};
 ghost use Rattle.hls_top.specs.Exchange.{Exchange, report_limit};
 ghost use Rattle.hls_top.specs.Outputs.{IsReportOf};

@@ -1,7 +1,7 @@
 // What is to be written at words that ask for a job.
 ghost use Rattle.std.specs.Prelude.{◌≡◌, ◌≤◌, ℕ, IfOk, IfErr, OnOk};
 ghost use Rattle.hls_sched.specs.GoodKit.{IsGood};
-ghost use Rattle.hls_walks.specs.Views.{boxed};
+ghost use Rattle.hls_tree_nodes.specs.Views.{boxed};
 ghost use Rattle.hls_manager.specs.Outcomes.{boxes_in};
 ghost use Rattle.hls_top.specs.Exchange.{drawn, limit};
 ghost use Rattle.hls_top.specs.Outputs.{IsOutput};
@@ -16,7 +16,7 @@ use crate::trying::trial_of;
 use hls_io::{ReadError, Source, Status};
 use hls_rules::RuleBook;
 use hls_sched::{Kit, Scheduler};
-use hls_words::Job;
+use hls_top_words::Job;
 use std::alloc::Global;
 
 /// The most bytes that are taken for the text of a scenario.

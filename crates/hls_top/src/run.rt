@@ -2,9 +2,9 @@
 ghost use Rattle.std.specs.Prelude.{◌≡◌, ◌≤◌, ℕ, List, map, string_bytes};
 ghost use Rattle.hls_text.specs.Lines.{Text};
 ghost use Rattle.hls_sched.specs.GoodKit.{IsGood};
-ghost use Rattle.hls_walks.specs.Views.{boxed};
+ghost use Rattle.hls_tree_nodes.specs.Views.{boxed};
 ghost use Rattle.hls_manager.specs.Outcomes.{boxes_in};
-ghost use Rattle.hls_words.specs.Table.{IsJob};
+ghost use Rattle.hls_top_words.specs.Table.{IsJob};
 ghost use Rattle.hls_top.specs.Exchange.{exchange, shown, IsOrderly};
 ghost use Rattle.hls_top.specs.Ends.{Ends};
 ghost use Rattle.hls_top.specs.Musts.{MustAnswer};
@@ -14,7 +14,7 @@ use crate::outputs::output_of;
 use hls_io::{ReadError, Sink, Source, Status, write_all};
 use hls_rules::RuleBook;
 use hls_sched::{Kit, Scheduler};
-use hls_words::{Job, asked_for};
+use hls_top_words::{Job, asked_for};
 use std::alloc::{AllocError, Global};
 
 /// Writes the whole output and returns the status, or the status of a failed write.

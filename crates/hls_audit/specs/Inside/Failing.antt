@@ -1,7 +1,7 @@
 -- The least failure among the first clauses.
 use Rattle.std.specs.Prelude.{◌≡◌, ℕ, ◌<◌, ◌≤◌, Option, Some, None, nat_lt, if◌then◌else◌}
 use Rattle.hls_report_text.specs.Content.{Content}
-use Rattle.hls_clauses.specs.Clauses.{Clause, number_of, Fails}
+use Rattle.hls_audit_clauses.specs.Clauses.{Clause, number_of, Fails}
 use Rattle.hls_audit.specs.declared.auditing.Outcome.{Outcome}
 use Rattle.hls_audit.specs.declared.auditing.Outcome.TheVariants.{Kept, Broken}
 

@@ -6,9 +6,9 @@ use Rattle.hls_guarantee.specs.Limits.{IsValid}
 use Rattle.hls_scenario.specs.declared.scenario.Perch.{Perch}
 use Rattle.hls_scenario.specs.Grammar.{IsLoad, IsPerch}
 use Rattle.hls_answers.specs.Dues.{Due}
-use Rattle.hls_clauses.specs.declared.member.Sort.{Sort}
-use Rattle.hls_clauses.specs.declared.member.Sort.TheVariants.{Scheduler, Thread}
-use Rattle.hls_clauses.specs.declared.member.Member.{Member}
+use Rattle.hls_audit_clauses.specs.declared.member.Sort.{Sort}
+use Rattle.hls_audit_clauses.specs.declared.member.Sort.TheVariants.{Scheduler, Thread}
+use Rattle.hls_audit_clauses.specs.declared.member.Member.{Member}
 
 -- the seats of a scheduler or a thread are as the grammar has them
 abbrev pub HasSeats : Sort → List Perch → Type 0

@@ -2,8 +2,8 @@
 use Rattle.std.specs.Prelude.{◌≡◌, ℕ, ◌+◌, ◌-◌, ◌<◌, ◌≤◌, List, Some, take, length, slice_get}
 use Rattle.hls_report_text.specs.declared.report.Answered.{Answered}
 use Rattle.hls_report_text.specs.declared.report.Run.{Run}
-use Rattle.hls_clauses.specs.declared.member.Member.{Member}
-use Rattle.hls_clauses.specs.Names.{tree_of}
+use Rattle.hls_audit_clauses.specs.declared.member.Member.{Member}
+use Rattle.hls_audit_clauses.specs.Names.{tree_of}
 
 -- the commands before a tick are the first so many, and this is the tree that they leave
 pub record IsAbreast (all : List Answered) (t next : ℕ) (tree : List Member) : Type 0 where

@@ -7,7 +7,7 @@ use Rattle.hls_scenario.specs.declared.scenario.Spot.TheVariants.{Cpu, Under}
 use Rattle.hls_scenario.specs.declared.scenario.Perch.{Perch}
 use Rattle.hls_accounts.specs.Under.{is_on}
 use Rattle.hls_audit_stays.specs.Places.{place_in}
-use Rattle.hls_clauses.specs.Names.{sits}
+use Rattle.hls_audit_clauses.specs.Names.{sits}
 use Rattle.hls_audit.specs.declared.rising.Rising.{Rising}
 
 -- a name that has a place stands there

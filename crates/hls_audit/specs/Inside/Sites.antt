@@ -3,11 +3,11 @@ use Rattle.std.specs.Prelude.{◌≡◌, ℕ, List, Some, true, take, slice_get}
 use Rattle.hls_report_text.specs.declared.report.Answered.{Answered}
 use Rattle.hls_accounts.specs.Commands.{is_done}
 use Rattle.hls_answers.specs.Dues.{AreSettled}
-use Rattle.hls_clauses.specs.declared.member.Member.{Member}
-use Rattle.hls_clauses.specs.Names.{tree_of}
-use Rattle.hls_clauses.specs.Misplaced.{is_misplaced}
-use Rattle.hls_clauses.specs.Dues.{dues}
-use Rattle.hls_clauses.specs.Clauses.{seats_in}
+use Rattle.hls_audit_clauses.specs.declared.member.Member.{Member}
+use Rattle.hls_audit_clauses.specs.Names.{tree_of}
+use Rattle.hls_audit_clauses.specs.Misplaced.{is_misplaced}
+use Rattle.hls_audit_clauses.specs.Dues.{dues}
+use Rattle.hls_audit_clauses.specs.Clauses.{seats_in}
 
 pub record IsMisplacedBy (tree : List Member) (a : Answered) : Type 0 where
   pub done : is_done a.answer ≡ true

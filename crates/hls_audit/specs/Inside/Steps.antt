@@ -1,9 +1,9 @@
 -- A path step by step.
 use Rattle.std.specs.Prelude.{List, [], ◌∷◌, Option, Some, None, Bool, false, ◌&&◌}
 use Rattle.hls_text.specs.Lines.{Text}
-use Rattle.hls_clauses.specs.declared.member.Member.{Member}
-use Rattle.hls_clauses.specs.Names.{member_of, sits_on, sits_at_cpu, is_thread}
-use Rattle.hls_clauses.specs.Ways.{passes}
+use Rattle.hls_audit_clauses.specs.declared.member.Member.{Member}
+use Rattle.hls_audit_clauses.specs.Names.{member_of, sits_on, sits_at_cpu, is_thread}
+use Rattle.hls_audit_clauses.specs.Ways.{passes}
 
 -- somebody sits where a path has come to
 abbrev pub is_seat : (above : Option Text) → Member → Bool

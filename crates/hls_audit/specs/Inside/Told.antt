@@ -6,7 +6,7 @@ use Rattle.hls_guarantee.specs.declared.Guarantee.{Guarantee}
 use Rattle.hls_scenario.specs.declared.scenario.Perch.{Perch}
 use Rattle.hls_accounts.specs.Tells.{terms_in}
 use Rattle.hls_answers.specs.Dues.{Due}
-use Rattle.hls_clauses.specs.Dues.{is_at}
+use Rattle.hls_audit_clauses.specs.Dues.{is_at}
 use Rattle.hls_audit.specs.declared.dues.Due as dues
 
 abbrev pub told : dues.Due → Due

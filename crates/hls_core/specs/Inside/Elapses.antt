@@ -2,18 +2,18 @@
 use Rattle.std.specs.Prelude.{ℕ, ◌<◌, ◌+◌, ◌^◌, Option, Some, None, Bool}
 use Rattle.hls_report_text.specs.declared.report.Path.{Path}
 use Rattle.hls_sched.specs.Seen.{Seen}
-use Rattle.hls_legal.specs.Hierarchy.{Hierarchy}
-use Rattle.hls_legal.specs.Steps.{Elapse, after}
-use Rattle.hls_legal.specs.Steps as steps
-use Rattle.hls_legal.specs.Legal.{Can, IsThread}
+use Rattle.hls_machine.specs.Hierarchy.{Hierarchy}
+use Rattle.hls_machine.specs.Steps.{Elapse, after}
+use Rattle.hls_machine.specs.Steps as steps
+use Rattle.hls_machine.specs.Legal.{Can, IsThread}
 use Rattle.hls_accounts.specs.Tells.{Names}
 use Rattle.hls_tree.specs.Trees.{IsTreeOf, IsReadyOf}
 use Rattle.hls_tree.specs.declared.tree.Tree.{Tree}
-use Rattle.hls_stays.specs.Tallies.{AreStays, IsStanding}
-use Rattle.hls_stays.specs.declared.stays.Stays.{Stays}
-use Rattle.hls_journal.specs.declared.journal.Journal.{Journal}
-use Rattle.hls_journal.specs.Kept.{IsWayOrIdle}
-use Rattle.hls_journal.specs.Ways.{names_by}
+use Rattle.hls_core_stays.specs.Tallies.{AreStays, IsStanding}
+use Rattle.hls_core_stays.specs.declared.stays.Stays.{Stays}
+use Rattle.hls_core_journal.specs.declared.journal.Journal.{Journal}
+use Rattle.hls_core_journal.specs.Kept.{IsWayOrIdle}
+use Rattle.hls_core_journal.specs.Ways.{names_by}
 use Rattle.hls_core.specs.Bursts.{left_in}
 use Rattle.hls_core.specs.Left.{IsLeft}
 use Rattle.hls_core.specs.Standing.{IsAt}

@@ -4,17 +4,17 @@ use Rattle.hls_scenario.specs.declared.scenario.Command.{Command}
 use Rattle.hls_scenario.specs.declared.scenario.Command.TheVariants.{Wake, Block}
 use Rattle.hls_report_text.specs.declared.report.Answer.{Answer}
 use Rattle.hls_sched.specs.Seen.{Seen}
-use Rattle.hls_legal.specs.Hierarchy.{Hierarchy}
-use Rattle.hls_legal.specs.Steps.{Step, after}
-use Rattle.hls_legal.specs.Legal.{Can}
+use Rattle.hls_machine.specs.Hierarchy.{Hierarchy}
+use Rattle.hls_machine.specs.Steps.{Step, after}
+use Rattle.hls_machine.specs.Legal.{Can, IsReached}
 use Rattle.hls_accounts.specs.Tells.{Answers}
 use Rattle.hls_answers.specs.Moment.{Moment}
 use Rattle.hls_tree.specs.Trees.{IsTreeOf, IsReadyOf}
 use Rattle.hls_tree.specs.declared.tree.Tree.{Tree}
-use Rattle.hls_stays.specs.Tallies.{AreStays, IsStanding}
-use Rattle.hls_stays.specs.Turnovers.{IsTurnover}
-use Rattle.hls_stays.specs.declared.stays.Stays.{Stays}
-use Rattle.hls_stays.specs.declared.turnover.Turnover.{Turnover}
+use Rattle.hls_core_stays.specs.Tallies.{AreStays, IsStanding}
+use Rattle.hls_core_stays.specs.Turnovers.{IsTurnover}
+use Rattle.hls_core_stays.specs.declared.stays.Stays.{Stays}
+use Rattle.hls_core_stays.specs.declared.turnover.Turnover.{Turnover}
 use Rattle.hls_manager.specs.Outcomes as manager
 use Rattle.hls_core.specs.Standing.{IsAt}
 use Rattle.hls_core.specs.Left.{IsLeft}
@@ -55,7 +55,7 @@ module _ {V : Type 0} {P : V → Type 0} where
       (answer : Answer) (h : Hierarchy) (command : Command) (step : Step) : Type 0 where
     pub stays : AreStays tallies h
     pub standing : IsStanding h
-    pub reached : manager.IsReached h
+    pub reached : IsReached h
     pub of : IsTurnover h command turnover
     pub answers : Answers h command answer step
     pub can : Can h step

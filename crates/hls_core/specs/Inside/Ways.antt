@@ -3,9 +3,9 @@ use Rattle.std.specs.Prelude.{◌≡◌, ℕ, ◌<◌, List, Option, Some, None,
 use Rattle.hls_text.specs.Lines.{Text}
 use Rattle.hls_report_text.specs.declared.report.Path.{Path}
 use Rattle.hls_report_text.specs.Content.{path_names}
-use Rattle.hls_legal.specs.Hierarchy.{Hierarchy, name_of}
-use Rattle.hls_journal.specs.declared.journal.Journal.{Journal}
-use Rattle.hls_journal.specs.Kept.{IsWay, has_name}
+use Rattle.hls_machine.specs.Hierarchy.{Hierarchy, name_of}
+use Rattle.hls_core_journal.specs.declared.journal.Journal.{Journal}
+use Rattle.hls_core_journal.specs.Kept.{IsWay, has_name}
 
 -- a node whose name was noted
 pub record IsKnown (h : Hierarchy) (j : Journal) (k : ℕ) : Type 0 where

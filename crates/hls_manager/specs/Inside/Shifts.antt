@@ -8,10 +8,10 @@ use Rattle.hls_scenario.specs.declared.scenario.Spot.TheVariants.{Cpu, Under}
 use Rattle.hls_scenario.specs.declared.scenario.Perch.{Perch}
 use Rattle.hls_report_text.specs.declared.refusal.Refusal.{Refusal}
 use Rattle.hls_report_text.specs.declared.refusal.Refusal.TheVariants.{SeatsFull, Cycle, TooDeep, TooManyShares}
-use Rattle.hls_legal.specs.Hierarchy.{Hierarchy}
-use Rattle.hls_legal.specs.Hierarchy.{Seat as TakenSeat}
-use Rattle.hls_legal.specs.Legal.{IsChain, fair_queues, scheduler_at}
-use Rattle.hls_legal.specs.Readings.{IsUnder}
+use Rattle.hls_machine.specs.Hierarchy.{Hierarchy}
+use Rattle.hls_machine.specs.Hierarchy.{Seat as TakenSeat}
+use Rattle.hls_machine.specs.Legal.{IsChain, fair_queues, scheduler_at}
+use Rattle.hls_machine.specs.Readings.{IsUnder}
 use Rattle.hls_accounts.specs.Tells.{HasName, terms_in}
 use Rattle.hls_answers.specs.Moment.{spot_name}
 use Rattle.hls_tree.specs.Offers.{MovesTo, IsNoCycle, moved_to}

@@ -1,4 +1,4 @@
-use Rattle.hls_supply.proofs.Runs as supply
+use Rattle.hls_machine_supply.proofs.Runs as supply
 use Rattle.hls_accounts.proofs.Keeping.{stays_kept}
 use Rattle.hls_accounts.proofs.laws.reports_keep_their_stays.Goals as goal
 

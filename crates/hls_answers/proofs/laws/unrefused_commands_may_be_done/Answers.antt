@@ -1,5 +1,5 @@
 use Rattle.std.proofs.Common.{sym, subst}
-use Rattle.hls_legal.specs.Hierarchy.{Hierarchy}
+use Rattle.hls_machine.specs.Hierarchy.{Hierarchy}
 use Rattle.hls_answers.proofs.Done.{IsReached, reached}
 use Rattle.hls_answers.proofs.Converse.{may_do}
 use Rattle.hls_answers.proofs.laws.unrefused_commands_may_be_done.Goals as goal

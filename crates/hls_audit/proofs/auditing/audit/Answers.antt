@@ -1,6 +1,6 @@
 use Rattle.std.proofs.Common.{refl, arith}
 use Rattle.hls_report_text.specs.Content.{content_of}
-use Rattle.hls_clauses.specs.Clauses.{Placed, Leading, Ready, Supplied, Capped, Derived, Counted}
+use Rattle.hls_audit_clauses.specs.Clauses.{Placed, Leading, Ready, Supplied, Capped, Derived, Counted}
 use Rattle.hls_audit.specs.declared.auditing.Outcome.TheVariants.{Kept}
 use Rattle.hls_audit.proofs.Firsts.{least_none, step, step_below, placed_to, underived_early, least_all}
 use Rattle.hls_audit.proofs.auditing.audit.Goals as goal

@@ -1,9 +1,9 @@
 use Rattle.std.proofs.lemmas.Result.{IfOk-weaker}
 use Rattle.hls_report_text.specs.Content.{content_of}
-use Rattle.hls_clauses.specs.Clauses.{IsMisplacedAt}
-use Rattle.hls_watch.specs.First.{FirstAt}
+use Rattle.hls_audit_clauses.specs.Clauses.{IsMisplacedAt}
+use Rattle.hls_audit_watch.specs.First.{FirstAt}
 use Rattle.hls_audit.specs.Inside.Sites.{IsMisplacedBy, HasBad}
-use Rattle.hls_findings.proofs.Formed.{are_in_order}
+use Rattle.hls_audit_threads.proofs.Formed.{are_in_order}
 use Rattle.hls_audit.proofs.Orders.{misplaced_first}
 use Rattle.hls_audit.proofs.commands.first_misplaced.Goals as goal
 

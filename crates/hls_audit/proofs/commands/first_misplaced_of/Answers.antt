@@ -1,7 +1,7 @@
 use Rattle.std.proofs.Common.{List, subst, sym}
-use Rattle.hls_clauses.specs.declared.member.Member.{Member}
+use Rattle.hls_audit_clauses.specs.declared.member.Member.{Member}
 use Rattle.hls_audit.specs.Inside.Sites.{IsMisplacedBy}
-use Rattle.hls_findings.proofs.Deciding.{is_not}
+use Rattle.hls_audit_threads.proofs.Deciding.{is_not}
 use Rattle.hls_audit.proofs.Orders.{AreGood, good_none, good_more, first_bad, none_bad}
 use Rattle.hls_audit.proofs.commands.first_misplaced_of.Goals as goal
 

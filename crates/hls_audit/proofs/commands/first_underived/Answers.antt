@@ -1,10 +1,10 @@
 use Rattle.std.proofs.Common.{◌<◌}
 use Rattle.std.proofs.lemmas.Result.{IfOk-weaker}
 use Rattle.hls_report_text.specs.Content.{content_of}
-use Rattle.hls_clauses.specs.Clauses.{IsUnderivedAt}
-use Rattle.hls_watch.specs.First.{FirstAt}
+use Rattle.hls_audit_clauses.specs.Clauses.{IsUnderivedAt}
+use Rattle.hls_audit_watch.specs.First.{FirstAt}
 use Rattle.hls_audit.specs.Inside.Sites.{IsUnderivedBy, HasBad}
-use Rattle.hls_findings.proofs.Formed.{are_in_order, all_sound}
+use Rattle.hls_audit_threads.proofs.Formed.{are_in_order, all_sound}
 use Rattle.hls_audit.proofs.Orders.{underived_first, placed_below}
 use Rattle.hls_audit.proofs.commands.first_underived.Goals as goal
 

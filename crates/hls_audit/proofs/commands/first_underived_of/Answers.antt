@@ -1,6 +1,6 @@
 use Rattle.std.proofs.Common.{List, subst, sym}
-use Rattle.hls_clauses.specs.declared.member.Member.{Member}
-use Rattle.hls_findings.proofs.Deciding.{is_not}
+use Rattle.hls_audit_clauses.specs.declared.member.Member.{Member}
+use Rattle.hls_audit_threads.proofs.Deciding.{is_not}
 use Rattle.hls_audit.proofs.Orders.{AreFit, fit_none, fit_more, not_misplaced, is_sound, first_below, none_below}
 use Rattle.hls_audit.proofs.Orders.{none_at_all}
 use Rattle.hls_audit.proofs.commands.first_underived_of.Goals as goal

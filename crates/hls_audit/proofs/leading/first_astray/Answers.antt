@@ -1,13 +1,13 @@
 use Rattle.std.proofs.Common.{refl, ◌+◌, subst, List, arith}
 use Rattle.hls_report_text.specs.declared.report.Answered.{Answered}
 use Rattle.hls_report_text.specs.Content.{content_of}
-use Rattle.hls_clauses.specs.Clauses.{IsAstray}
+use Rattle.hls_audit_clauses.specs.Clauses.{IsAstray}
 use Rattle.hls_audit.specs.Inside.Leading.{IsAbreast, IsReached}
 use Rattle.hls_audit.proofs.Abreast.{abreast_none, reach_first, tree_here, same_before}
-use Rattle.hls_findings.proofs.Deciding.{is_not, none_more}
+use Rattle.hls_audit_threads.proofs.Deciding.{is_not, none_more}
 use Rattle.hls_audit.proofs.Firsts.{astray_early}
-use Rattle.hls_findings.proofs.Deciding.{nowhere}
-use Rattle.hls_findings.proofs.Formed.{are_in_order}
+use Rattle.hls_audit_threads.proofs.Deciding.{nowhere}
+use Rattle.hls_audit_threads.proofs.Formed.{are_in_order}
 use Rattle.hls_audit.proofs.leading.first_astray.Goals as goal
 use Rattle.hls_audit.proofs.leading.first_astray.Goals.{
   else-not-is_as_before-via-then-not-is_as_before+else-is_astray,

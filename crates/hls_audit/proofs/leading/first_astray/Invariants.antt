@@ -1,6 +1,6 @@
 use Rattle.std.proofs.Common.{ℕ, ◌<◌}
 use Rattle.hls_report_text.specs.Content.{content_of}
-use Rattle.hls_clauses.specs.Clauses.{IsAstray}
+use Rattle.hls_audit_clauses.specs.Clauses.{IsAstray}
 use Rattle.hls_audit.specs.Inside.Leading.{IsAbreast, IsReached}
 use Rattle.hls_audit.proofs.leading.first_astray.Given as goal
 

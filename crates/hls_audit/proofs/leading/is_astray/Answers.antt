@@ -4,7 +4,7 @@ use Rattle.std.specs.List.{AllByRecursion}
 use Rattle.hls_text.specs.Lines.{Text}
 use Rattle.hls_chron.specs.Name.{IsName}
 use Rattle.hls_report_text.specs.Content.{content_of, path_names}
-use Rattle.hls_findings.proofs.OnPaths.{all_named}
+use Rattle.hls_audit_threads.proofs.OnPaths.{all_named}
 use Rattle.hls_audit.proofs.leading.is_astray.Goals as goal
 
 pub leads_down-requires-clause-named : goal.leads_down-requires-clause-named

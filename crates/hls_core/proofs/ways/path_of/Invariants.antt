@@ -1,4 +1,4 @@
-use Rattle.hls_legal.specs.Hierarchy.{Hierarchy}
+use Rattle.hls_machine.specs.Hierarchy.{Hierarchy}
 use Rattle.hls_tree.specs.Trees.{IsTreeOf}
 use Rattle.hls_core.proofs.Paths.{SoFar}
 use Rattle.hls_core.proofs.ways.path_of.Given as goal

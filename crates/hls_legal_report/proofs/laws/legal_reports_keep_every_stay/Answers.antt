@@ -1,4 +1,4 @@
-use Rattle.hls_supply.proofs.Runs as supply
+use Rattle.hls_machine_supply.proofs.Runs as supply
 use Rattle.hls_accounts.proofs.Keeping.{stays_kept}
 use Rattle.hls_legal_report.proofs.Keeping.{report_kept}
 use Rattle.hls_legal_report.proofs.laws.legal_reports_keep_every_stay.Goals as goal

@@ -1,5 +1,5 @@
 use Rattle.std.proofs.Common.{◌≡◌, take}
-use Rattle.hls_legal.specs.Hierarchy.{Hierarchy, haves_of}
+use Rattle.hls_machine.specs.Hierarchy.{Hierarchy, haves_of}
 use Rattle.hls_tree.specs.Trees.{IsTreeOf}
 use Rattle.hls_manager.proofs.derivations.haves_of.Given as goal
 

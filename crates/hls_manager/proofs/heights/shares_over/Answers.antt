@@ -1,6 +1,6 @@
 use Rattle.std.proofs.Common.{◌≡◌, ℕ, Some, refl, subst, arith, length, slice_get}
 use Rattle.std.proofs.lemmas.Option.{slice_get_read}
-use Rattle.hls_legal.specs.Legal.{fair_queues}
+use Rattle.hls_machine.specs.Legal.{fair_queues}
 use Rattle.hls_manager.specs.Inside.Heights.{IsMost}
 use Rattle.hls_manager.proofs.HeightLaws.{none_over, root_over, one_over, shares_to, few_shares, at_scheduler}
 use Rattle.hls_manager.proofs.HeightLaws.{max_within}

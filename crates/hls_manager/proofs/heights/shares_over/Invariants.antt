@@ -1,8 +1,8 @@
 use Rattle.std.proofs.Common.{◌≤◌}
-use Rattle.hls_legal.specs.Legal.{fair_queues}
-use Rattle.hls_legal.specs.Hierarchy.{Hierarchy}
+use Rattle.hls_machine.specs.Legal.{fair_queues}
+use Rattle.hls_machine.specs.Hierarchy.{Hierarchy}
 use Rattle.hls_tree.specs.Trees.{IsTreeOf}
-use Rattle.hls_manager.specs.Outcomes.{IsReached}
+use Rattle.hls_machine.specs.Legal.{IsReached}
 use Rattle.hls_manager.specs.Inside.Heights.{IsMost}
 use Rattle.hls_manager.proofs.heights.shares_over.Given as goal
 

@@ -1,6 +1,6 @@
-use Rattle.hls_legal.specs.Hierarchy.{Hierarchy}
+use Rattle.hls_machine.specs.Hierarchy.{Hierarchy}
 use Rattle.hls_tree.specs.Trees.{IsTreeOf}
-use Rattle.hls_manager.specs.Outcomes.{IsReached}
+use Rattle.hls_machine.specs.Legal.{IsReached}
 use Rattle.hls_manager.specs.Inside.Loads.{AreTold}
 use Rattle.hls_manager.proofs.loading.derive_all.Given as goal
 

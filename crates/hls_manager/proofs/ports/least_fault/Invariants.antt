@@ -2,8 +2,8 @@ use Rattle.std.proofs.Common.{List, length}
 use Rattle.std.specs.Prelude.{IfSome}
 use Rattle.hls_scenario.specs.declared.scenario.Perch.{Perch}
 use Rattle.hls_report_text.specs.WellFormed.{IsRefusal}
-use Rattle.hls_legal.specs.Hierarchy.{Hierarchy}
-use Rattle.hls_legal.specs.Lists.{IsListed}
+use Rattle.hls_machine.specs.Hierarchy.{Hierarchy}
+use Rattle.hls_machine.specs.Lists.{IsListed}
 use Rattle.hls_tree.specs.Trees.{IsTreeOf}
 use Rattle.hls_manager.specs.Inside.Least.{IsLeast}
 use Rattle.hls_manager.specs.Inside.Ports.{AreWanted, ArePerchesInRange, IsPortRefused}

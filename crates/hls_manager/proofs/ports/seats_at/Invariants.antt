@@ -1,7 +1,7 @@
 use Rattle.std.specs.Prelude.{IfSome}
 use Rattle.hls_report_text.specs.WellFormed.{IsRefusal}
-use Rattle.hls_legal.specs.Hierarchy.{Hierarchy}
-use Rattle.hls_legal.specs.Lists.{IsListed}
+use Rattle.hls_machine.specs.Hierarchy.{Hierarchy}
+use Rattle.hls_machine.specs.Lists.{IsListed}
 use Rattle.hls_tree.specs.Trees.{IsTreeOf}
 use Rattle.hls_manager.proofs.PortLaws.{AreNamed}
 use Rattle.hls_manager.proofs.ports.seats_at.Given as goal

@@ -1,5 +1,5 @@
 use Rattle.std.proofs.Common.{◌≡◌, ◌∙◌, ◌++◌, ◌∷◌, [], List, Some, ap, sym, subst}
-use Rattle.hls_clauses.specs.declared.member.Member.{Member}
+use Rattle.hls_audit_clauses.specs.declared.member.Member.{Member}
 use Rattle.hls_audit.specs.Inside.Known.{IsIndex}
 use Rattle.hls_audit.specs.Inside.Members.{member}
 use Rattle.hls_audit.proofs.KnownLaws.{index_new, index_again}

@@ -6,8 +6,8 @@ use Rattle.hls_scenario.specs.declared.scenario.Perch.{Perch}
 use Rattle.hls_scenario.specs.declared.scenario.Command.{Command}
 use Rattle.hls_scenario.specs.declared.scenario.Command.TheVariants.{Load}
 use Rattle.hls_accounts.specs.Under.{is_on}
-use Rattle.hls_clauses.specs.Names.{is_there, is_join, is_scheduler, is_under}
-use Rattle.hls_clauses.specs.Misplaced.{is_wrong_spot, is_misplaced}
+use Rattle.hls_audit_clauses.specs.Names.{is_there, is_join, is_scheduler, is_under}
+use Rattle.hls_audit_clauses.specs.Misplaced.{is_wrong_spot, is_misplaced}
 use Rattle.hls_audit.proofs.Misplacing.{load_misplaced, move_misplaced, end_misplaced, wake_misplaced, block_misplaced}
 use Rattle.hls_audit.proofs.tree.Tree.is_misplaced.Goals as goal
 

@@ -1,8 +1,8 @@
 use Rattle.std.proofs.Common.{◌≡◌, List, rules, sym, subst}
 use Rattle.std.specs.Prelude.{not}
 use Rattle.std.proofs.lemmas.Fn.{filter_same}
-use Rattle.hls_clauses.specs.declared.member.Member.{Member}
-use Rattle.hls_clauses.specs.Names.{has_name, without}
+use Rattle.hls_audit_clauses.specs.declared.member.Member.{Member}
+use Rattle.hls_audit_clauses.specs.Names.{has_name, without}
 use Rattle.hls_audit.specs.Inside.Known.{IsIndex}
 use Rattle.hls_audit.proofs.KnownLaws.{index_gone}
 use Rattle.hls_audit.proofs.tree.Tree.remove.Goals as goal

@@ -1,5 +1,5 @@
 use Rattle.std.proofs.Common.{◌∙◌, ◌++◌, ◌∷◌, [], List, ap, sym}
-use Rattle.hls_clauses.specs.declared.member.Member.{Member}
+use Rattle.hls_audit_clauses.specs.declared.member.Member.{Member}
 use Rattle.hls_audit.specs.Inside.Members.{member}
 use Rattle.hls_audit.proofs.TreeLaws.{reseated, unseated, ok_then}
 use Rattle.hls_audit.proofs.tree.Tree.reseat.Goals as goal

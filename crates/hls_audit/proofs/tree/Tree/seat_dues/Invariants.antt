@@ -1,5 +1,5 @@
 use Rattle.std.proofs.Common.{drop}
-use Rattle.hls_clauses.specs.Dues.{dues_from}
+use Rattle.hls_audit_clauses.specs.Dues.{dues_from}
 use Rattle.hls_audit.proofs.DueLaws.{AreSoFar}
 use Rattle.hls_audit.proofs.tree.Tree.seat_dues.Given as goal
 

@@ -1,8 +1,8 @@
 use Rattle.std.proofs.Common.{refl, arith, ap, length, ◌≤◌}
 use Rattle.std.proofs.lemmas.Option.{slice_get_within}
 use Rattle.hls_scenario.specs.declared.scenario.Scenario.{Scenario}
-use Rattle.hls_legal.specs.Hierarchy.{start}
-use Rattle.hls_legal.specs.Steps.{state}
+use Rattle.hls_machine.specs.Hierarchy.{start}
+use Rattle.hls_machine.specs.Steps.{state}
 use Rattle.hls_core.specs.Inside.Sparing.{keeping}
 use Rattle.hls_core.proofs.Going.{core_stands, core_may_note, carried, stayed, due_for, due_command_is, due_small}
 use Rattle.hls_core.proofs.Sparing.{note_spared, noted_kept, on_fault}

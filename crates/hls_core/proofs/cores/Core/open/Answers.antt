@@ -1,5 +1,5 @@
 use Rattle.std.proofs.Common.{refl, subst}
-use Rattle.hls_journal.specs.Kept.{IsNew}
+use Rattle.hls_core_journal.specs.Kept.{IsNew}
 use Rattle.hls_core.proofs.Opened.{opened}
 use Rattle.hls_core.proofs.cores.Core.open.Goals as goal
 

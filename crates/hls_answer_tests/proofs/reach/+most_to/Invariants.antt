@@ -1,4 +1,0 @@
-use Rattle.hls_answer_tests.proofs.reach.+most_to.Given as goal
-
-abbrev pub decreases-most_to : goal.decreases-most_to
-decreases-most_to l = l.steps

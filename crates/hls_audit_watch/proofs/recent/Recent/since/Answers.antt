@@ -1,0 +1,42 @@
+use Rattle.std.proofs.Common.{◌≡◌, ℕ, ◌+◌, ◌-◌, ◌≤◌, ◌<◌, ◌%◌, length, get_or, arith, ap, subst, List, Bool, ◌∙◌}
+use Rattle.std.proofs.lemmas.List.{get_or_default}
+use Rattle.hls_chron.specs.Ticks.{count}
+use Rattle.hls_guarantee.specs.Service.{schedule_of}
+use Rattle.hls_audit_watch.specs.Inside.Lately.{Lately}
+use Rattle.hls_audit_watch.specs.Inside.Counts.{AreCounts}
+use Rattle.hls_audit_watch.proofs.Rings.{counts_since}
+use Rattle.hls_audit_watch.proofs.recent.Recent.since.Goals as goal
+
+-- what was read and the service from there on are all
+read : (w k total now : ℕ) (before : List ℕ) (l : List Bool) (t : ℕ) → AreCounts w k total before l →
+    now ≡ get_or before (t % w) now → t ≤ length l → length l < t + w →
+    now + count (schedule_of l) t (length l - t) ≡ total
+read w k total now before l t c is le near =
+    let some = c.some in
+    let room = c.room in
+    let inside : t % w < length before = omega arith in
+    let at : now ≡ get_or before (t % w) 0 = is ∙ get_or_default before (t % w) now 0 inside in
+    let sum = counts_since w k total before l t c le near in
+    omega arith
+
+pub overflow_sub-result : goal.overflow_sub-result
+overflow_sub-result c =
+    let l : List Bool = c.self.inside.past.list in
+    let same = ap (λ (r : Lately). length r.list) c.self.view_is in
+    let late : length l < c.args.start + c.self.inside.period =
+    omega (arith, c.requires.late, ap (λ (r : Lately). r.period) c.self.view_is) in
+    let sum = read c.self.inside.period c.self.inside.pushed c.self.inside.total c.index.result.now
+    c.self.inside.before.items l c.args.start c.self.invariant c.index.ensures (omega (arith, c.requires.start)) late in
+    omega arith
+
+pub returns : goal.returns
+returns c =
+    let l : List Bool = c.self.inside.past.list in
+    let same = ap (λ (r : Lately). length r.list) c.self.view_is in
+    let late : length l < c.args.start + c.self.inside.period =
+    omega (arith, c.requires.late, ap (λ (r : Lately). r.period) c.self.view_is) in
+    let sum = read c.self.inside.period c.self.inside.pushed c.self.inside.total c.index.result.now
+    c.self.inside.before.items l c.args.start c.self.invariant c.index.ensures (omega (arith, c.requires.start)) late in
+    let view = ap (λ (r : Lately). r.list) c.self.view_is in
+    subst (λ (m : List Bool). c.self.inside.total - c.index.result.now ≡
+    count (schedule_of m) c.args.start (length m - c.args.start)) view (omega arith)

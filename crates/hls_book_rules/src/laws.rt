@@ -1,0 +1,40 @@
+//! What holds of the definitions: each function's contract is a law, and its body does nothing.
+
+ghost use Rattle.std.specs.Prelude.{ℕ, Bool, ◌<◌};
+ghost use Rattle.hls_chron.specs.Ledger.{Ledger};
+ghost use Rattle.hls_kinds.specs.Made.{IsMade};
+ghost use Rattle.hls_book_rules.specs.Budgets.{KeepsBudgetRules, KeepsClaimRules};
+ghost use Rattle.hls_book_rules.specs.Tags.{KeepsTagRules};
+ghost use Rattle.hls_book_rules.specs.Turns.{KeepsTurnRules};
+ghost use Rattle.hls_book_rules.specs.Places.{KeepsPlaceRules};
+
+use hls_chron::Config;
+use hls_kinds::Reservation;
+
+/// The budget and the deadline of a reservation go from tick to tick by their rules, whatever it asks and is served in
+/// ticks in which it asks (after Abeni and Buttazzo 1998).
+pub fn budgets_meet_their_rules(reservation: Reservation)
+    ensures { (asks serves : ℕ → Bool) (n : ℕ) → KeepsBudgetRules reservation asks serves n }
+{}
+
+/// So do those by which a tick is given away.
+pub fn claims_meet_their_rules(reservation: Reservation)
+    ensures { (b : Ledger) (mask slot : ℕ) → KeepsClaimRules b mask slot reservation }
+{}
+
+/// The virtual time and the tags of fair queueing go from tick to tick, and from seat to seat, by their rules (after
+/// Goyal, Guo and Vin 1996).
+pub fn tags_meet_their_rules(total: u32, most: u32)
+    ensures { (b : Ledger) → IsMade (Config.Sfq total most) b → KeepsTagRules b }
+{}
+
+/// The turns of round robin go from tick to tick, and from seat to seat, by their rules.
+pub fn turns_meet_their_rules(quantum: u32)
+    requires { 0 < quantum }
+    ensures { (b : Ledger) → IsMade (Config.Rr quantum) b → KeepsTurnRules quantum b }
+{}
+
+/// The places of a frame come to seats and go by their rules.
+pub fn places_meet_their_rules()
+    ensures { (b : Ledger) → KeepsPlaceRules b }
+{}

@@ -1,0 +1,98 @@
+-- The report that a journal makes has a text.
+use Rattle.std.proofs.Common.{◌≡◌, ℕ, ◌≤◌, List, [], ◌∷◌, length, sym, ap, ◌∙◌}
+use Rattle.std.proofs.Common.{subst, arith, is_none}
+use Rattle.std.specs.Prelude.{Result, Ok, Err, IfOk, All, zip}
+use Rattle.std.specs.List.{AllByRecursion}
+use Rattle.std.proofs.lemmas.List.{length-map}
+use Rattle.std.proofs.lemmas.List.Elements.{All-head, All-tail, All-weaker, recursion_from_All}
+use Rattle.std.proofs.lemmas.Slice.Zip.{length-zip}
+use Rattle.hls_chron.specs.Ranges.{IsWithin}
+use Rattle.hls_chron.proofs.CountLaws.{count-le}
+use Rattle.hls_scenario.specs.declared.scenario.Item.{Item}
+use Rattle.hls_scenario.specs.declared.scenario.Scenario.{Scenario}
+use Rattle.hls_scenario.specs.Grammar.{AreItems, IsScenario}
+use Rattle.hls_report_text.specs.declared.report.Answer.{Answer}
+use Rattle.hls_report_text.specs.declared.report.Run.{Run}
+use Rattle.hls_report_text.specs.declared.report.Account.{Account}
+use Rattle.hls_report_text.specs.declared.report.Report.{Report}
+use Rattle.hls_report_text.specs.Content.{content_of}
+use Rattle.hls_report_text.specs.WellFormed.{AreAnswered, IsAnswer, HasShort, IsContent}
+use Rattle.hls_accounts.specs.Schedule.{path_at}
+use Rattle.hls_accounts.specs.Accounts.{accounts_of, idle_of}
+use Rattle.hls_core_journal.specs.declared.journal.Journal.{Journal}
+use Rattle.hls_core_journal.specs.Told.{answered_as, answered_by, stretches_of, told, with_totals, IsTotalled}
+use Rattle.hls_core_journal.specs.Told.{IsReportOf}
+use Rattle.hls_core_journal.specs.Kept.{AreWithin, IsWayOrIdle, IsKept}
+use Rattle.hls_core_journal.proofs.Keeps.{within_of, way_short}
+use Rattle.hls_core_journal.proofs.Totals.{accounts_formed}
+use Rattle.hls_core_journal.proofs.Few.{few_names}
+
+are_answered : (horizon last : ℕ) (items : List Item) (answers : List Answer) → AreItems horizon last items
+    → All (λ (p : Item × Answer). IsAnswer p.0.command p.1) (zip items answers)
+    → AreAnswered horizon last (answered_by items answers)
+are_answered horizon last [] answers are fit = tt
+are_answered horizon last (item ∷ items) [] are fit = tt
+are_answered horizon last (item ∷ items) (answer ∷ answers) are fit =
+    let P = λ (p : Item × Answer). IsAnswer p.0.command p.1 in (
+      are.0,
+      All-head P (item, answer) (zip items answers) fit,
+      are.1,
+      are.2,
+      are_answered horizon item.tick items answers are.3 (All-tail P (item, answer) (zip items answers) fit),
+    )
+
+pub content_formed : (s : Scenario) (depth : ℕ) (j : Journal) → IsScenario s → IsKept s j → depth ≤ 6
+    → j.ticks ≡ s.horizon → IsContent (with_totals (told s.items depth j))
+content_formed s depth j is kept deep whole =
+    let horizon : IsWithin 1 100000 j.ticks = subst (IsWithin 1 100000) (sym whole) is.horizon in
+    let answered : AreAnswered j.ticks 0 (answered_by s.items j.answers.items) =
+    subst (λ h. AreAnswered h 0 (answered_by s.items j.answers.items)) (sym whole)
+    (are_answered s.horizon 0 s.items j.answers.items is.items kept.fit) in
+    let zipped = length-zip s.items j.answers.items in
+    let counted = length-map (zip s.items j.answers.items) (λ (p : Item × Answer). answered_as p.0 p.1) in
+    let few = is.few in
+    let answers = kept.few in
+    let names = kept.fewer in
+    let most = count-le (λ t. is_none (path_at (stretches_of j) t)) 0 j.ticks in
+    record {
+      horizon = horizon;
+      depth = deep;
+      few = omega (arith, counted, zipped, few);
+      answered = answered;
+      cover = kept.cover;
+      names = few_names j.names.keys j.runs.items (omega (arith, few, answers, names))
+          (All-weaker (λ (run : Run). IsWayOrIdle j run.path)
+          (λ (run : Run). AreWithin (length j.names.keys) run.path) (λ run way. within_of j run.path way)
+          j.runs.items kept.ways);
+      accounts = accounts_formed (told s.items depth j) horizon.1 answered;
+      idle = let upper = horizon.1 in omega (arith, most, upper);
+    }
+
+report_formed : (s : Scenario) (depth : ℕ) (j : Journal) (accounts : List Account) (idle : ℕ) (r : Report)
+    → IsScenario s → IsKept s j → depth ≤ 6 → j.ticks ≡ s.horizon → accounts ≡ accounts_of (told s.items depth j)
+    → idle ≡ idle_of (told s.items depth j) → IsTotalled s.items depth j accounts idle r
+    → IsReportOf (told s.items depth j) r
+report_formed s depth j accounts idle r is kept deep whole all none totalled =
+    let bare = told s.items depth j in
+    let same : content_of r ≡ with_totals bare =
+    totalled.content ∙ ap (λ (l : List Account). record bare { accounts = l; idle = idle }) all
+    ∙ ap (λ (n : ℕ). record bare { accounts = accounts_of bare; idle = n }) none in
+    record {
+      formed = record {
+        paths =
+            subst (AllByRecursion (λ (run : Run). HasShort run.path)) (sym totalled.runs)
+            (recursion_from_All (λ (run : Run). HasShort run.path) j.runs.items
+            (All-weaker (λ (run : Run). IsWayOrIdle j run.path) (λ (run : Run). HasShort run.path)
+            (λ run way. way_short j run.path way) j.runs.items kept.ways));
+        content = subst IsContent (sym same) (content_formed s depth j is kept deep whole);
+      };
+      content = same;
+    }
+
+pub result_formed : {E : Type 0} (s : Scenario) (depth : ℕ) (j : Journal) (accounts : List Account) (idle : ℕ)
+    (result : Result Report E) → IsScenario s → IsKept s j → depth ≤ 6 → j.ticks ≡ s.horizon
+    → accounts ≡ accounts_of (told s.items depth j) → idle ≡ idle_of (told s.items depth j)
+    → IfOk result (IsTotalled s.items depth j accounts idle) → IfOk result (IsReportOf (told s.items depth j))
+result_formed s depth j accounts idle (Ok r) is kept deep whole all none totalled =
+    report_formed s depth j accounts idle r is kept deep whole all none totalled
+result_formed s depth j accounts idle (Err e) is kept deep whole all none totalled = tt

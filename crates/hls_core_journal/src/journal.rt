@@ -1,0 +1,187 @@
+// A journal.
+ghost use Rattle.std.specs.Prelude.{◌≡◌, ◌↔◌, ◌+◌, ◌-◌, ◌^◌, ◌<◌, ◌≤◌, [], ◌∷◌, ◌++◌, List, Some, true, All};
+ghost use Rattle.std.specs.Prelude.{IfOk, IfSome, IsNone, IsTrue, false, get_or, length, slice_get};
+ghost use Rattle.std.specs.Prelude.{OnOk, codes, flat_map, option_copied, option_to_list, vec_capacity};
+ghost use Rattle.std.specs.List.{list_any};
+ghost use Rattle.std.specs.Str.{bytes_eq};
+ghost use Rattle.indexmap.specs.IndexSet.{spare};
+ghost use Rattle.hls_report_text.specs.declared.report.Run.{Run};
+ghost use Rattle.hls_report_text.specs.Content.{path_names};
+ghost use Rattle.hls_report_text.specs.ReportText.{stretch_text, with_end};
+ghost use Rattle.hls_report_text.specs.WellFormed.{HasShort};
+ghost use Rattle.hls_accounts.specs.Commands.{is_done};
+ghost use Rattle.hls_answers.specs.Moment.{new_name};
+ghost use Rattle.hls_core_journal.specs.Kept.{naming};
+
+use crate::runs::{Runs, last_place, put_all, put_tick};
+use crate::sums::{NAMES, sum_of_name};
+use crate::ways::{insert, is_at, place_of, push};
+use hls_chron::Name;
+use hls_core_guesses::Guesses;
+use hls_report_text::{Answer, Path};
+use hls_scenario::{Command, Item};
+use hls_text::put;
+use indexmap::IndexSet;
+use std::alloc::{AllocError, Global};
+
+/// What became of the first commands of a scenario and of the ticks that have passed. It has all the
+/// room that the scenario needs: no call but the first and the last takes memory.
+#[derive(Debug, Drop)]
+pub struct Journal {
+    pub(crate) ticks: u32,
+    pub(crate) answers: Vec<Answer>,
+    pub(crate) names: IndexSet<Name>,
+    pub(crate) guesses: Guesses,
+    pub(crate) runs: Runs,
+}
+
+/// The name that a command gives to a new node.
+fn new_name(command: &Command) -> Option<Name>
+    ensures { result ≡ new_name command.now }
+{
+    match command {
+        Command::Load { name, .. } => Some(*name),
+        Command::Thread { name, .. } => Some(*name),
+        _ => None,
+    }
+}
+
+/// How many commands give a name to a node, where they are done.
+fn naming(items: &[Item]) -> usize
+    ensures counted { result ≡ naming items.now }
+    ensures few { result ≤ length items.now }
+{
+    let mut count = 0;
+    for item in items {
+        if new_name(&item.command).is_some() {
+            count += 1;
+        }
+    }
+    count
+}
+
+/// Whether a command was carried out.
+fn is_done(answer: &Answer) -> bool
+    ensures { result ≡ is_done answer.now }
+{
+    match answer {
+        Answer::Done(_) => true,
+        Answer::Refused(_) => false,
+    }
+}
+
+impl Journal {
+    ghost use Rattle.hls_core_journal.specs.Told.{stretches_of};
+    ghost use Rattle.hls_core_journal.specs.Kept.{IsNew, MayNote, MayTick, AreWithin, has_name, IsNoted, IsTicked};
+    ghost use Rattle.hls_core_journal.specs.Ways.{names_by, last_names};
+
+    /// A journal of nothing yet, with room for these commands and so many ticks.
+    ///
+    /// # Errors
+    /// Returns `AllocError` for want of memory.
+    pub fn open(alloc: Global, items: &[Item], horizon: u32) -> Result<Journal, AllocError>
+        ensures { IfOk result (IsNew items.now horizon) }
+    {
+        let mut guesses = Guesses::new(alloc);
+        guesses.reserve(NAMES)?;
+        Ok(Journal {
+            ticks: 0,
+            answers: Vec::with_capacity(alloc, items.len())?,
+            names: IndexSet::with_capacity(alloc, naming(items))?,
+            guesses,
+            runs: Runs::with_capacity(alloc, horizon)?,
+        })
+    }
+
+    /// How many ticks have passed.
+    pub fn ticks(&self) -> u32
+        ensures { result ≡ self.now.ticks }
+    {
+        self.ticks
+    }
+
+    /// The answer that was noted last.
+    pub fn last(&self) -> Option<&Answer>
+        ensures { option_copied result ≡ slice_get self.now.answers.items (length self.now.answers.items - 1) }
+    {
+        self.answers.last()
+    }
+
+    /// Takes the answer away that was noted last.
+    pub fn take_last(&mut self) -> Option<Answer>
+        ensures taken { self.old.answers.items ≡ self.new.answers.items ++ option_to_list result }
+        ensures fewer { length self.new.answers.items ≡ length self.old.answers.items - 1 }
+        ensures room { vec_capacity self.new.answers ≡ vec_capacity self.old.answers }
+        ensures others { self.new ≡ record self.old { answers = self.new.answers } }
+    {
+        self.answers.pop()
+    }
+
+    /// Notes the answer to the next command.
+    pub fn note(&mut self, command: &Command, answer: Answer)
+        requires { MayNote command.now self.old }
+        ensures { IsNoted command.now answer self.old self.new }
+    {
+        if is_done(&answer) {
+            if let Some(name) = new_name(command) {
+                let place = insert(&mut self.names, name);
+                self.guesses.note(sum_of_name(&name), place);
+            }
+        }
+        self.answers.push_reserved(answer);
+    }
+
+    /// The place of a name, if it is there, which is to stand at this position of a path.
+    fn place_at(&self, at: u8, name: &Name) -> Option<usize>
+        requires { at < 9 }
+        ensures found { IfSome result (λ place. (place < length self.now.names.keys)
+            × (get_or self.now.names.keys place [] ≡ name.now)) }
+        ensures none { IsNone result → list_any (bytes_eq name.now) self.now.names.keys ≡ false }
+    {
+        let last = last_place(&self.runs, at);
+        if is_at(&self.names, last, name) {
+            return Some(last);
+        }
+        place_of(&self.names, self.guesses.at(sum_of_name(name)), name)
+    }
+
+    /// Goes on along a path to a node with a name that was noted.
+    pub fn extend(&self, path: &mut Path, name: &Name)
+        requires known { has_name self.now name.now ≡ true }
+        requires few { length self.now.names.keys ≤ 2 ^ 16 }
+        requires short { path.old.len < 9 }
+        ensures len { path.new.len ≡ path.old.len + 1 }
+        ensures names { path_names self.now.names.keys path.new
+            ≡ path_names self.now.names.keys path.old ++ name.now ∷ [] }
+        ensures within { AreWithin (length self.now.names.keys) (Some path.old) →
+            AreWithin (length self.now.names.keys) (Some path.new) }
+    {
+        match self.place_at(path.len, name) {
+            Some(place) => push(path, place as u16),
+            None => unreachable!(),
+        }
+    }
+
+    /// Notes that a tick passes with a path, or idle.
+    pub fn tick(&mut self, path: Option<Path>)
+        requires may { MayTick self.old }
+        requires short { HasShort path }
+        ensures { IsTicked path self.old self.new }
+    {
+        put_tick(&self.names, &mut self.runs, self.ticks, path);
+        self.ticks += 1;
+    }
+
+    /// Appends the schedule of the ticks that have passed.
+    ///
+    /// # Errors
+    /// Returns `AllocError` for want of memory.
+    pub fn put_schedule(&self, out: &mut Vec<u8>) -> Result<(), AllocError>
+        requires { All (λ (run : Run). HasShort run.path) self.now.runs.items }
+        ensures { OnOk result (out.new.items ≡ out.old.items
+            ++ (codes "schedule\n" ++ flat_map (λ s. with_end (stretch_text s)) (stretches_of self.now))) }
+    {
+        put(out, b"schedule\n")?;
+        put_all(out, self.names.as_slice(), &self.runs)
+    }
+}

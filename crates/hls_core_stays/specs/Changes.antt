@@ -1,0 +1,64 @@
+-- What a command and a tick do to stays.
+use Rattle.std.specs.Prelude.{◌≡◌, ℕ, ◌<◌, ◌+◌, ◌^◌, Option, Some, Bool, false}
+use Rattle.hls_scenario.specs.declared.scenario.Command.{Command}
+use Rattle.hls_sched.specs.Seen.{Seen}
+use Rattle.hls_machine.specs.Hierarchy.{Hierarchy, Thread, Admitted, is_just, is_ready, was_served}
+use Rattle.hls_machine.specs.Steps.{Step, Path, Elapse, after, thread_of}
+use Rattle.hls_machine.specs.Legal.{Can, IsThread}
+use Rattle.hls_machine.specs.Lists.{IsListed}
+use Rattle.hls_machine.specs.Seated.{IsSeated}
+use Rattle.hls_accounts.specs.Tells.{Does}
+use Rattle.hls_tree.specs.Trees.{IsTreeOf, IsReadyOf, ready_of}
+use Rattle.hls_tree.specs.declared.tree.Tree.{Tree}
+use Rattle.hls_core_stays.specs.Tallies.{AreStays, IsStanding}
+use Rattle.hls_core_stays.specs.Turnovers.{IsTurnover, Tells}
+use Rattle.hls_core_stays.specs.declared.stays.Stays.{Stays}
+use Rattle.hls_core_stays.specs.declared.turnover.Turnover.{Turnover}
+use Rattle.hls_machine.specs.Legal.{IsBelow}
+
+-- V and P are what the checker knows a box by
+module _ {V : Type 0} {P : V → Type 0} where
+  -- A command was carried out by a step, after which the tree is. Before it the stays were those of the
+  -- hierarchy, and this is what it will have ended and begun.
+  pub record Turns (seen : (x : V) × P x → Seen) (s : Stays) (t : Tree V P) (turnover : Turnover) (h : Hierarchy)
+      (command : Command) (step : Step) : Type 0 where
+    pub stays : AreStays s h
+    pub standing : IsStanding h
+    pub listed : IsListed h
+    pub of : IsTurnover h command turnover
+    pub does : Does h command step
+    pub can : Can h step
+    pub tells : (k : ℕ) (below : ℕ → Bool) → IsBelow h k below → Tells h k below
+    pub tree : IsTreeOf seen t (after h step)
+    pub ready : IsReadyOf seen t (after h step)
+
+  pub record MayTurn (seen : (x : V) × P x → Seen) (s : Stays) (t : Tree V P) (turnover : Turnover) : Type 0 where
+    pub h : Hierarchy
+    pub command : Command
+    pub step : Step
+    pub turns : Turns seen s t turnover h command step
+    pub seated : IsSeated (after h step)
+    pub listed : IsListed (after h step)
+
+  -- A tick has elapsed by a path that leads to this thread, or idly, after which the tree is. Before it the stays
+  -- were those of the hierarchy. Who was not served is ready as before.
+  pub record Ticks (seen : (x : V) × P x → Seen) (s : Stays) (t : Tree V P) (thread : Option ℕ) (h : Hierarchy)
+      (asking : ℕ → Bool) (masks : ℕ → ℕ) (path : Option Path) : Type 0 where
+    pub stays : AreStays s h
+    pub standing : IsStanding h
+    pub listed : IsListed h
+    pub can : Can h (Elapse asking masks path)
+    pub to : thread_of path ≡ thread
+    pub comes : (k : ℕ) → thread ≡ Some k → IsThread (h.nodes k)
+    pub tree : IsTreeOf seen t (after h (Elapse asking masks path))
+    pub ready : IsReadyOf seen t (after h (Elapse asking masks path))
+    pub others : (k : ℕ) (x : Thread) → is_just thread k ≡ false → h.nodes k ≡ Some (Admitted x)
+        → is_ready (was_served h.past k) h.now x.wake ≡ ready_of seen t k
+    pub early : h.now + 1 < 2 ^ 32
+
+  pub record MayTick (seen : (x : V) × P x → Seen) (s : Stays) (t : Tree V P) (thread : Option ℕ) : Type 0 where
+    pub h : Hierarchy
+    pub asking : ℕ → Bool
+    pub masks : ℕ → ℕ
+    pub path : Option Path
+    pub ticks : Ticks seen s t thread h asking masks path

@@ -1,7 +1,0 @@
-use Rattle.hls_depths.proofs.Asked.{each_read}
-use Rattle.hls_depths.proofs.paths.level_after.Goals as goal
-
-pub returns : goal.returns
-returns g c = λ h later of may new.
-    each_read _ c.args.schedulers.now h of c.args.id c.args.parent may later new c.greatest_after.result _
-    c.from.ensures (c.greatest_after.ensures h later of may new)

@@ -1,6 +1,0 @@
-use Rattle.std.proofs.Common.{take}
-use Rattle.hls_findings.specs.Inside.Lookups.{AreKeys, Rouses}
-use Rattle.hls_findings.proofs.lookup.all_roused.Given as goal
-
-abbrev pub invariant-loop-a : goal.invariant-loop-a
-invariant-loop-a l = AreKeys Rouses Rouses (take l.a-index l.answered) l.keys.items

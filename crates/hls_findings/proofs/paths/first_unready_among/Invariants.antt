@@ -1,9 +1,0 @@
-use Rattle.hls_report_text.specs.Content.{content_of}
-use Rattle.hls_watch.specs.First.{FirstAt}
-use Rattle.hls_findings.specs.Inside.Unready.{IsUnready}
-use Rattle.hls_findings.proofs.EachStay.{HasEarly}
-use Rattle.hls_findings.proofs.paths.first_unready_among.Given as goal
-
-abbrev pub invariant-loop-name : goal.invariant-loop-name
-invariant-loop-name l =
-    FirstAt (λ t. HasEarly (IsUnready (content_of l.report) t) l.names l.name-index) l.first

@@ -1,5 +1,0 @@
-use Rattle.hls_kind_rules.proofs.Budgets.{budget_rules}
-use Rattle.hls_kind_rules.proofs.laws.budgets_meet_their_rules.Goals as goal
-
-pub returns : goal.returns
-returns c = budget_rules c.args.reservation

@@ -1,5 +1,0 @@
-use Rattle.hls_kind_rules.proofs.Places.{place_rules}
-use Rattle.hls_kind_rules.proofs.laws.places_meet_their_rules.Goals as goal
-
-pub returns : goal.returns
-returns c = place_rules

@@ -1,5 +1,0 @@
-use Rattle.hls_legal.proofs.Lists.{run_listed}
-use Rattle.hls_legal.proofs.laws.legal_runs_list_what_is_there.Goals as goal
-
-pub returns : goal.returns
-returns c = λ steps legal. run_listed steps legal

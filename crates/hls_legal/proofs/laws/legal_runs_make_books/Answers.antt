@@ -1,7 +1,0 @@
-use Rattle.hls_legal.specs.Hierarchy.{start}
-use Rattle.hls_legal.specs.Steps.{state}
-use Rattle.hls_legal.proofs.Books.{legal_made, made_at}
-use Rattle.hls_legal.proofs.laws.legal_runs_make_books.Goals as goal
-
-pub returns : goal.returns
-returns c = λ steps legal k s. made_at (state start steps) k s (legal_made steps legal)

@@ -1,5 +1,0 @@
-use Rattle.hls_legal.proofs.Seated.{run_seated}
-use Rattle.hls_legal.proofs.laws.legal_runs_seat_one_in_each_place.Goals as goal
-
-pub returns : goal.returns
-returns c = λ steps legal. run_seated steps legal

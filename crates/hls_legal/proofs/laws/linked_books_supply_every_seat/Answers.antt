@@ -1,5 +1,0 @@
-use Rattle.hls_legal.proofs.Moments.{supplied}
-use Rattle.hls_legal.proofs.laws.linked_books_supply_every_seat.Goals as goal
-
-pub returns : goal.returns
-returns c = λ h rank linked promises. supplied h rank linked promises

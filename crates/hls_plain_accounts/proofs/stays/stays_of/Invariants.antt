@@ -1,7 +1,0 @@
-use Rattle.std.proofs.Common.{◌≡◌, ◌++◌, take, drop}
-use Rattle.hls_accounts.specs.Stays.{stays_from, stays}
-use Rattle.hls_plain_accounts.proofs.stays.stays_of.Given as goal
-
-abbrev pub invariant-loop-place : goal.invariant-loop-place
-invariant-loop-place l =
-    l.all.items ++ stays_from (take l.place l.answered) (drop l.place l.answered) ≡ stays l.answered

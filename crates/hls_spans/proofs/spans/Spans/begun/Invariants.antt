@@ -1,9 +1,0 @@
-use Rattle.std.proofs.Common.{◌-◌}
-use Rattle.hls_spans.proofs.Halves.{IsBetween}
-use Rattle.hls_spans.proofs.spans.Spans.begun.Given as goal
-
-abbrev pub invariant-loop-low : goal.invariant-loop-low
-invariant-loop-low l = IsBetween (λ s. s.from) l.self.spans.items l.tick l.low l.high
-
-abbrev pub decreases-loop-low : goal.decreases-loop-low
-decreases-loop-low l = l.high - l.low

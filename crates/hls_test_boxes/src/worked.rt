@@ -1,0 +1,297 @@
+// Worked schedules.
+use crate::harness::{Step, check_served, rows_of, take_all};
+use hls_chron::{Config, Event, Mark, Terms, TickRow};
+use hls_fp::Fp;
+use hls_join::Join;
+use hls_rr::Rr;
+use hls_sched::{Scheduler, SeatFault};
+use hls_sfq::Sfq;
+use hls_wheel::Wheel;
+use std::process::Abort;
+use std::test::Fail;
+
+#[test]
+fn takes_turns_of_a_quantum(rt: HostRuntime) -> Result<(), Fail> {
+    let tick = Step::Tick(Some(0));
+    let steps = [
+        Step::Seat(Terms::Turn, 0),
+        Step::Seat(Terms::Turn, 1),
+        Step::Seat(Terms::Turn, 2),
+        Step::Request(0),
+        Step::Request(1),
+        Step::Request(2),
+        tick,
+        tick,
+        tick,
+        Step::Release(1),
+        tick,
+        tick,
+        tick,
+        tick,
+        tick,
+    ];
+    let served = [
+        Some(0),
+        Some(0),
+        Some(1),
+        Some(2),
+        Some(2),
+        Some(0),
+        Some(0),
+        Some(2),
+    ];
+    let mut rr = Rr::blank(rt.alloc());
+    take_all(&mut rr, &Config::Rr { quantum: 2 }, &steps, &rt)?;
+    check_served(&rows_of(rr.book(), rt.alloc())?, &served, &rt);
+    Ok(())
+}
+
+#[test]
+fn serves_owners_of_places_alone(rt: HostRuntime) -> Result<(), Fail> {
+    let tick = Step::Tick(Some(0));
+    let steps = [
+        Step::Seat(Terms::Slots(2), 0),
+        Step::Seat(Terms::Slots(3), 1),
+        Step::Refuse(Terms::Slots(1), SeatFault::NoRoom { free: 0, asked: 1 }),
+        Step::Refuse(Terms::Slots(6), SeatFault::Unfit),
+        Step::Request(0),
+        tick,
+        tick,
+        tick,
+        tick,
+        tick,
+        tick,
+        tick,
+    ];
+    let served = [Some(0), Some(0), None, None, None, Some(0), Some(0)];
+    let mut wheel = Wheel::blank(rt.alloc());
+    take_all(&mut wheel, &Config::Wheel { frame: 5 }, &steps, &rt)?;
+    check_served(&rows_of(wheel.book(), rt.alloc())?, &served, &rt);
+    Ok(())
+}
+
+/// Checks through which port each tick served.
+fn check_ports(rows: &[TickRow], ports: &[Option<u8>], rt: &impl Abort) {
+    assert_eq!(rt; rows.len(), ports.len());
+    for (row, port) in rows.iter().zip(ports) {
+        assert_eq!(rt; row.to.map(|_| row.port), *port);
+    }
+}
+
+/// A join asks at a reservation of two ticks in ten, its port 0, and at turns of a tick, its port 1, where a
+/// thread has the other turns.
+#[test]
+fn serves_its_seat_by_reservation_and_by_turns(rt: HostRuntime) -> Result<(), Fail> {
+    let reserved = Step::Tick(Some(0));
+    let turn = Step::Tick(Some(1));
+    let passed = Step::Tick(None);
+    let steps = [
+        Step::Seat(Terms::Sole, 0),
+        Step::Request(0),
+        reserved,
+        reserved,
+        turn,
+        passed,
+        turn,
+        passed,
+        turn,
+        passed,
+        turn,
+        passed,
+        reserved,
+        reserved,
+    ];
+    let ports = [
+        Some(0),
+        Some(0),
+        Some(1),
+        None,
+        Some(1),
+        None,
+        Some(1),
+        None,
+        Some(1),
+        None,
+        Some(0),
+        Some(0),
+    ];
+    let mut join = Join::blank(rt.alloc());
+    take_all(&mut join, &Config::Join { ports: 2 }, &steps, &rt)?;
+    check_ports(&rows_of(join.book(), rt.alloc())?, &ports, &rt);
+    Ok(())
+}
+
+/// The turns of that join, at slot 0, and of the thread.
+#[test]
+fn waits_with_its_turns_while_it_is_not_granted(rt: HostRuntime) -> Result<(), Fail> {
+    let turn = Step::Tick(Some(0));
+    let passed = Step::Tick(None);
+    let steps = [
+        Step::Seat(Terms::Turn, 0),
+        Step::Seat(Terms::Turn, 1),
+        Step::Request(0),
+        Step::Request(1),
+        passed,
+        passed,
+        turn,
+        turn,
+        turn,
+        turn,
+        turn,
+        turn,
+        turn,
+        turn,
+        passed,
+        passed,
+    ];
+    let served = [
+        None,
+        None,
+        Some(0),
+        Some(1),
+        Some(0),
+        Some(1),
+        Some(0),
+        Some(1),
+        Some(0),
+        Some(1),
+        None,
+        None,
+    ];
+    let mut rr = Rr::blank(rt.alloc());
+    take_all(&mut rr, &Config::Rr { quantum: 1 }, &steps, &rt)?;
+    check_served(&rows_of(rr.book(), rt.alloc())?, &served, &rt);
+    Ok(())
+}
+
+#[test]
+fn serves_its_seat_through_any_port(rt: HostRuntime) -> Result<(), Fail> {
+    let steps = [
+        Step::Seat(Terms::Sole, 0),
+        Step::Refuse(Terms::Sole, SeatFault::Full { seats: 1 }),
+        Step::Tick(Some(0)),
+        Step::Request(0),
+        Step::Tick(Some(0)),
+        Step::Tick(Some(1)),
+        Step::Tick(None),
+        Step::Leave(0),
+        Step::Tick(Some(1)),
+    ];
+    let served = [None, Some(0), Some(0), None, None];
+    let mut join = Join::blank(rt.alloc());
+    take_all(&mut join, &Config::Join { ports: 2 }, &steps, &rt)?;
+    check_served(&rows_of(join.book(), rt.alloc())?, &served, &rt);
+    Ok(())
+}
+
+fn row(mask: u32, to: Option<u8>, port: u8) -> TickRow {
+    TickRow { mask, to, port }
+}
+
+fn seat_mark(tick: u32, slot: u8, priority: u32) -> Mark {
+    let terms = Terms::Prio(priority);
+    Mark {
+        tick,
+        event: Event::Seat { slot, terms },
+    }
+}
+
+#[test]
+fn serves_the_least_priority_number(rt: HostRuntime) -> Result<(), Fail> {
+    let steps = [
+        Step::Seat(Terms::Prio(7), 0),
+        Step::Seat(Terms::Prio(2), 1),
+        Step::Seat(Terms::Prio(9), 2),
+        Step::Refuse(Terms::Prio(2), SeatFault::PriorityTaken { priority: 2 }),
+        Step::Tick(Some(0)),
+        Step::Request(0),
+        Step::Request(2),
+        Step::Tick(Some(1)),
+        Step::Request(1),
+        Step::Tick(Some(2)),
+        Step::Tick(None),
+        Step::Release(0),
+        Step::Tick(Some(0)),
+        Step::Leave(1),
+        Step::Tick(Some(3)),
+        Step::Settle,
+        Step::Seat(Terms::Prio(0), 1),
+        Step::Tick(Some(0)),
+    ];
+    let rows = [
+        row(0, None, 0),
+        row(5, Some(0), 1),
+        row(7, Some(1), 2),
+        row(7, None, 0),
+        row(6, Some(1), 0),
+        row(4, Some(2), 3),
+        row(4, Some(2), 0),
+    ];
+    let marks = [
+        seat_mark(0, 0, 7),
+        seat_mark(0, 1, 2),
+        seat_mark(0, 2, 9),
+        Mark {
+            tick: 5,
+            event: Event::Leave { slot: 1 },
+        },
+        Mark {
+            tick: 6,
+            event: Event::Settle,
+        },
+        seat_mark(6, 1, 0),
+    ];
+    let mut fp = Fp::blank(rt.alloc());
+    take_all(&mut fp, &Config::Fp, &steps, &rt)?;
+    assert_eq!(rt; rows_of(fp.book(), rt.alloc())?.as_slice(), rows.as_slice());
+    assert_eq!(rt; fp.book().marks(), marks.as_slice());
+    Ok(())
+}
+
+#[test]
+fn serves_by_weight(rt: HostRuntime) -> Result<(), Fail> {
+    let tick = Step::Tick(Some(0));
+    let steps = [
+        Step::Seat(Terms::Weight(1), 0),
+        Step::Seat(Terms::Weight(3), 1),
+        Step::Request(0),
+        Step::Request(1),
+        Step::Refuse(Terms::Weight(1), SeatFault::Full { seats: 2 }),
+        tick,
+        tick,
+        tick,
+        tick,
+        tick,
+        tick,
+        tick,
+        tick,
+        tick,
+        tick,
+        tick,
+    ];
+    let served = [1, 1, 0, 1, 1, 1, 0, 1, 1, 1, 0].map(|slot| Some(slot));
+    let mut sfq = Sfq::blank(rt.alloc());
+    take_all(&mut sfq, &Config::Sfq { total: 4, most: 2 }, &steps, &rt)?;
+    check_served(&rows_of(sfq.book(), rt.alloc())?, &served, &rt);
+    Ok(())
+}
+
+#[test]
+fn weights_fill_up(rt: HostRuntime) -> Result<(), Fail> {
+    let room = SeatFault::NoRoom { free: 1, asked: 2 };
+    let steps = [
+        Step::Seat(Terms::Weight(3), 0),
+        Step::Refuse(Terms::Weight(2), room),
+        Step::Refuse(Terms::Weight(5), SeatFault::Unfit),
+        Step::Tick(Some(0)),
+        Step::Seat(Terms::Weight(1), 1),
+        Step::Request(0),
+        Step::Leave(0),
+        Step::Seat(Terms::Weight(2), 0),
+        Step::Refuse(Terms::Weight(2), room),
+    ];
+    let mut sfq = Sfq::blank(rt.alloc());
+    take_all(&mut sfq, &Config::Sfq { total: 4, most: 3 }, &steps, &rt)?;
+    check_served(&rows_of(sfq.book(), rt.alloc())?, &[None], &rt);
+    Ok(())
+}

@@ -1,0 +1,20 @@
+use Rattle.std.proofs.Common.{refl}
+use Rattle.hls_chron.specs.Ticks.{count}
+use Rattle.hls_machine_supply.proofs.Runs.{stays_kept}
+use Rattle.hls_test_runs.specs.Reserved.{reserved}
+use Rattle.hls_test_runs.proofs.Reserved.{reserved_legal}
+use Rattle.hls_test_runs.proofs.reservations.the_reservation_is_legal.Goals as goal
+
+pub returns-clause-legal : goal.returns-clause-legal
+returns-clause-legal c = reserved_legal
+
+pub returns-clause-ready : goal.returns-clause-ready
+unfolding count
+returns-clause-ready c = refl
+
+pub returns-clause-served : goal.returns-clause-served
+unfolding count
+returns-clause-served c = refl
+
+pub returns-clause-kept : goal.returns-clause-kept
+returns-clause-kept c = stays_kept reserved reserved_legal

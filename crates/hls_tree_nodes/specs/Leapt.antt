@@ -1,0 +1,48 @@
+-- What many ticks, one after the other, leave of nodes, and for how many they stand.
+use Rattle.std.specs.Prelude.{◌≡◌, ◌≢◌, ℕ, zero, suc, ◌+◌, ◌<◌, ◌≤◌, Bool, Option, Some, None}
+use Rattle.hls_machine.specs.Hierarchy.{Hierarchy, Thread, Admitted, is_ready, was_served}
+use Rattle.hls_machine.specs.Steps.{Path, Elapse, after, elapsed, hop_at, hops_of}
+use Rattle.hls_sched.specs.Seen.{leapt}
+use Rattle.hls_sched.specs.Stands.{Stands, seen_stands, always}
+use Rattle.hls_tree_nodes.specs.Shown.{Post, What, Scheduler, Shown, on_post, ServesIn}
+use Rattle.hls_tree_nodes.specs.Shown as shown
+
+-- a station after n ticks
+abbrev pub post_leapt : ℕ → Option ℕ → Post → Post
+post_leapt n choice post = record post { unit = leapt n choice post.unit }
+
+-- the nodes after n ticks
+abbrev pub nodes_by : (ℕ → Option Shown) → (choices : ℕ → Option ℕ) → ℕ → ℕ → Option Shown
+nodes_by s choices n k = on_post (post_leapt n (choices k)) (s k)
+
+abbrev pub StandsWhat : ℕ → Option ℕ → What → Type 0
+StandsWhat n choice (Scheduler post) = Stands n choice post.unit
+StandsWhat n choice (shown.Thread ready) = Unit {0}
+
+abbrev pub StandsIn : ℕ → Option ℕ → Option Shown → Type 0
+StandsIn n choice None = Unit {0}
+StandsIn n choice (Some s) = StandsWhat n choice s.what
+
+-- for how many ticks a node stands, a thread always
+abbrev pub stands_what : Option ℕ → What → ℕ
+stands_what choice (Scheduler post) = seen_stands choice post.unit
+stands_what choice (shown.Thread ready) = always
+
+abbrev pub stands_in : Option ℕ → Option Shown → ℕ
+stands_in choice None = always
+stands_in choice (Some s) = stands_what choice s.what
+
+-- a hierarchy after n such ticks
+abbrev pub later : Hierarchy → (asking : ℕ → Bool) → (slots : ℕ → ℕ) → Option Path → ℕ → Hierarchy
+later h asking slots path zero = h
+later h asking slots path (suc n) = after (later h asking slots path n) (Elapse asking slots path)
+
+-- In each of n ticks but the last one a slot to serve is the choice, on the path, and who is ready stays so.
+pub record MayLeap (s : ℕ → Option Shown) (choices : ℕ → Option ℕ) (h : Hierarchy) (asking : ℕ → Bool) (slots : ℕ → ℕ)
+    (path : Option Path) (n : ℕ) : Type 0 where
+  pub one : (j k slot : ℕ) → suc j < n → hop_at (hops_of path) k ≢ None → ServesIn (nodes_by s choices j k) slot
+      → choices k ≡ Some slot
+  pub ready : (j k : ℕ) (t : Thread) → suc j < n → (later h asking slots path j).nodes k ≡ Some (Admitted t)
+      → is_ready (was_served (elapsed (later h asking slots path j) asking slots path).past k)
+      ((later h asking slots path j).now + 1) t.wake
+      ≡ is_ready (was_served (later h asking slots path j).past k) (later h asking slots path j).now t.wake

@@ -1,0 +1,658 @@
+// Walks over the nodes.
+ghost use Rattle.std.specs.Prelude.{◌≡◌, ◌≢◌, ℕ, ◌+◌, ◌<◌, ◌≤◌, Option, Some, None, true, IfSome, IsNone, []};
+ghost use Rattle.std.specs.Prelude.{length, map, option_map, slice_get, get_or};
+ghost use Rattle.std.specs.Int.{bit_at};
+ghost use Rattle.slab.specs.Slab.{get};
+ghost use Rattle.hls_chron.specs.Seats.{terms_at};
+ghost use Rattle.hls_machine.specs.Hierarchy.{Processor, Seat};
+ghost use Rattle.hls_tree_nodes.specs.Shown.{PostedIn, ToldIn, RoomIn, ServesIn};
+ghost use Rattle.hls_tree_nodes.specs.Shown.{book_in, asks_in, level_in, place_in, seats_in};
+ghost use Rattle.hls_tree_nodes.specs.Shown.{grant_in, is_sched, on_post, post_revoked, post_granted, post_turned};
+ghost use Rattle.hls_tree_nodes.specs.Shown.{with_ready};
+ghost use Rattle.hls_tree_nodes.specs.Views.{shown_at, choice_at, told_place, is_place, place_view, seat_view};
+ghost use Rattle.hls_tree_nodes.specs.Inside.Levels.{IsLevel, AreByLevel};
+ghost use Rattle.hls_tree_nodes.specs.TreeOf.{IsLaid, IsRanked, IsAlike, IsTelling, ToldBy, Sitter, Led, Ran, RootAt};
+ghost use Rattle.hls_tree_nodes.specs.TreeOf.{Passed, Tells, NoScheduler, IsNew, IsOn, IsRoll, AllFrom, AllUpTo, Each};
+ghost use Rattle.hls_tree_nodes.specs.TreeOf.{AreTold};
+ghost use Rattle.hls_sched.specs.Stands.{always};
+ghost use Rattle.hls_tree_nodes.specs.Leapt.{post_leapt, stands_in, StandsIn};
+
+use crate::node::same_place;
+use crate::{Changed, Node, NodeId, Place, Role, Route, TakenSeat};
+use hls_sched::ALWAYS;
+use slab::Slab;
+
+/// Tells a scheduler whether a seat on it asks.
+fn tell_at(nodes: &mut Slab<Node>, key: usize, slot: u32, asks: bool)
+    requires posted { PostedIn (shown_at seen nodes.old key) }
+    requires taken { terms_at (book_in (shown_at seen nodes.old key)) slot ≢ None }
+    requires within { slot < 32 }
+    ensures here { ToldIn slot asks (shown_at seen nodes.old key) (shown_at seen nodes.new key) }
+    ensures others { (k : ℕ) → k ≢ key → shown_at seen nodes.new k ≡ shown_at seen nodes.old k }
+{
+    match nodes.get_mut(key) {
+        Some(node) => match &mut node.role {
+            Role::Sched(station) => station.tell(slot, asks),
+            Role::Thread { .. } => {}
+        },
+        None => {}
+    }
+}
+
+/// Whether a node asks.
+fn asks_at(nodes: &Slab<Node>, key: usize) -> bool
+    requires posted { PostedIn (shown_at seen nodes.now key) }
+    ensures { result ≡ asks_in (shown_at seen nodes.now key) }
+{
+    match nodes.get(key) {
+        Some(node) => node.role.asks(),
+        None => false,
+    }
+}
+
+/// The level of a node.
+pub fn level_at(nodes: &Slab<Node>, key: usize) -> u8
+    ensures { result ≡ level_in (shown_at seen nodes.now key) }
+{
+    match nodes.get(key) {
+        Some(node) => node.level,
+        None => 0,
+    }
+}
+
+/// The scheduler and the slot of a place that is not the processor.
+fn slot_of(place: Place) -> Option<(usize, u32)>
+    ensures { result ≡ told_place (Some (place_view place)) }
+{
+    match place {
+        Place::Processor => None,
+        Place::At { scheduler, slot } => Some((scheduler, slot)),
+    }
+}
+
+/// The scheduler and the slot where the seat of a port is.
+fn slot_on(seats: &[TakenSeat], port: u8) -> Option<(usize, u32)>
+    ensures { result ≡ told_place (option_map (λ (s : Seat). s.place) (slice_get (map seat_view seats.now) port)) }
+{
+    match seats.get(port as usize) {
+        Some(seat) => slot_of(seat.place),
+        None => None,
+    }
+}
+
+/// The scheduler and the slot where a port sits.
+fn slot_at(nodes: &Slab<Node>, key: usize, port: u8) -> Option<(usize, u32)>
+    ensures { result ≡ told_place (place_in (shown_at seen nodes.now key) port) }
+{
+    match nodes.get(key) {
+        Some(node) => slot_on(&node.seats, port),
+        None => None,
+    }
+}
+
+/// Tells the scheduler where somebody sits whether that one asks.
+fn tell_slot(nodes: &mut Slab<Node>, at: Option<(usize, u32)>, asks: bool)
+    requires posted { (k : ℕ) → PostedIn (shown_at seen nodes.old k) }
+    requires taken { IfSome at (λ a. terms_at (book_in (shown_at seen nodes.old a.0)) a.1 ≢ None) }
+    requires within { IfSome at (λ a. a.1 < 32) }
+    ensures { ToldBy at asks (shown_at seen nodes.old) (shown_at seen nodes.new) }
+{
+    match at {
+        Some((scheduler, slot)) => tell_at(nodes, scheduler, slot, asks),
+        None => {}
+    }
+}
+
+/// Tells where a port sits whether the node asks.
+fn tell_port(nodes: &mut Slab<Node>, key: usize, port: u8, asks: bool)
+    requires laid { IsLaid (shown_at seen nodes.old) }
+    requires posted { (k : ℕ) → PostedIn (shown_at seen nodes.old k) }
+    ensures { ToldBy (told_place (place_in (shown_at seen nodes.old key) port)) asks
+        (shown_at seen nodes.old) (shown_at seen nodes.new) }
+{
+    let at = slot_at(nodes, key, port);
+    tell_slot(nodes, at, asks);
+}
+
+/// Whether a node asks, how many ports it has, and the scheduler and the slot where the first one sits.
+fn voice_at(nodes: &Slab<Node>, key: usize) -> (bool, u8, Option<(usize, u32)>)
+    requires posted { PostedIn (shown_at seen nodes.now key) }
+    requires few { length (seats_in (shown_at seen nodes.now key)) ≤ 4 }
+    ensures asks { result.0 ≡ asks_in (shown_at seen nodes.now key) }
+    ensures ports { result.1 ≡ length (seats_in (shown_at seen nodes.now key)) }
+    ensures first { result.2 ≡ told_place (place_in (shown_at seen nodes.now key) 0) }
+{
+    match nodes.get(key) {
+        Some(node) => (
+            node.role.asks(),
+            node.seats.len() as u8,
+            slot_on(&node.seats, 0),
+        ),
+        None => (false, 0, None),
+    }
+}
+
+/// Tells at each port of a node what it asks. Most have one, which is found with the node.
+fn tell_ports(nodes: &mut Slab<Node>, key: usize)
+    requires laid { IsLaid (shown_at seen nodes.old) }
+    requires posted { (k : ℕ) → PostedIn (shown_at seen nodes.old k) }
+    ensures { Tells key (shown_at seen nodes.old) (shown_at seen nodes.new) }
+{
+    let (asks, ports, first) = voice_at(nodes, key);
+    tell_slot(nodes, first, asks);
+    for port in 1..ports {
+        tell_port(nodes, key, port, asks);
+    }
+}
+
+/// Whether a node is a scheduler.
+fn is_sched_at(nodes: &Slab<Node>, key: usize) -> bool
+    ensures { result ≡ is_sched (shown_at seen nodes.now key) }
+{
+    match nodes.get(key) {
+        Some(node) => !node.role.is_thread(),
+        None => false,
+    }
+}
+
+/// Tells what a thread asks.
+fn tell_thread(nodes: &mut Slab<Node>, key: usize)
+    requires telling { IsTelling (shown_at seen nodes.old) (λ c. NoScheduler (shown_at seen nodes.old) c × (c < key)) }
+    ensures telling { IsTelling (shown_at seen nodes.new)
+        (λ c. NoScheduler (shown_at seen nodes.new) c × (c < key + 1)) }
+    ensures alike { IsAlike (shown_at seen nodes.old) (shown_at seen nodes.new) }
+{
+    if is_sched_at(nodes, key) {
+        return;
+    }
+    tell_ports(nodes, key);
+}
+
+/// Tells what each thread asks.
+fn tell_threads(nodes: &mut Slab<Node>)
+    requires telling { IsTelling (shown_at seen nodes.old)
+        (λ c. NoScheduler (shown_at seen nodes.old) c × ¬ IsNew None c) }
+    ensures telling { IsTelling (shown_at seen nodes.new) (NoScheduler (shown_at seen nodes.new)) }
+    ensures alike { IsAlike (shown_at seen nodes.old) (shown_at seen nodes.new) }
+{
+    let end = nodes.capacity();
+    for key in 0..end {
+        tell_thread(nodes, key);
+    }
+}
+
+/// Tells what these threads ask.
+fn tell_listed(nodes: &mut Slab<Node>, threads: &[NodeId])
+    requires telling { IsTelling (shown_at seen nodes.old)
+        (λ c. NoScheduler (shown_at seen nodes.old) c × ¬ IsNew (Some threads.now) c) }
+    ensures telling { IsTelling (shown_at seen nodes.new) (NoScheduler (shown_at seen nodes.new)) }
+    ensures alike { IsAlike (shown_at seen nodes.old) (shown_at seen nodes.new) }
+{
+    for id in threads {
+        tell_ports(nodes, id.key());
+    }
+}
+
+/// Tells what those threads ask that have something new to tell.
+fn tell_changed(nodes: &mut Slab<Node>, changed: &Option<Changed>)
+    requires telling { IsTelling (shown_at seen nodes.old)
+        (λ c. NoScheduler (shown_at seen nodes.old) c × ¬ IsNew changed.now c) }
+    ensures telling { IsTelling (shown_at seen nodes.new) (NoScheduler (shown_at seen nodes.new)) }
+    ensures alike { IsAlike (shown_at seen nodes.old) (shown_at seen nodes.new) }
+{
+    match changed {
+        Some(changed) => tell_listed(nodes, changed.threads()),
+        None => tell_threads(nodes),
+    }
+}
+
+/// Tells what a scheduler asks, if it is at the level.
+fn tell_scheduler(nodes: &mut Slab<Node>, schedulers: &[NodeId], at: usize, level: u8)
+    requires within { at < length schedulers.now }
+    requires telling { IsTelling (shown_at seen nodes.old) (AllUpTo (shown_at seen nodes.old) level schedulers.now at) }
+    ensures telling { IsTelling (shown_at seen nodes.new)
+        (AllUpTo (shown_at seen nodes.new) level schedulers.now (at + 1)) }
+    ensures alike { IsAlike (shown_at seen nodes.old) (shown_at seen nodes.new) }
+{
+    let key = schedulers[at].key();
+    if level_at(nodes, key) != level {
+        return;
+    }
+    tell_ports(nodes, key);
+}
+
+/// Tells what the schedulers at these places of the list ask, a bit for each place.
+fn tell_places(nodes: &mut Slab<Node>, schedulers: &[NodeId], places: u64)
+    requires roll { IsRoll (shown_at seen nodes.old) schedulers.now }
+    requires within { (at : ℕ) → bit_at places at ≡ 1 → at < length schedulers.now }
+    requires laid { IsLaid (shown_at seen nodes.old) }
+    requires posted { (k : ℕ) → PostedIn (shown_at seen nodes.old k) }
+    ensures telling { (level : ℕ) → IsLevel (shown_at seen nodes.old) level schedulers.now places →
+        IsTelling (shown_at seen nodes.old) (AllFrom (shown_at seen nodes.old) (level + 1)) →
+        IsTelling (shown_at seen nodes.new) (AllUpTo (shown_at seen nodes.new) level schedulers.now 64) }
+    ensures alike { IsAlike (shown_at seen nodes.old) (shown_at seen nodes.new) }
+{
+    let mut left = places;
+    while left != 0 {
+        let at = left.trailing_zeros();
+        tell_ports(nodes, schedulers[at as usize].key());
+        left &= !(1 << at);
+    }
+}
+
+/// Tells what the schedulers at a level ask. They stand at these places of the list; those past the 64th are
+/// looked for.
+fn tell_level(nodes: &mut Slab<Node>, schedulers: &[NodeId], level: u8, places: u64)
+    requires roll { IsRoll (shown_at seen nodes.old) schedulers.now }
+    requires places { IsLevel (shown_at seen nodes.old) level schedulers.now places }
+    requires telling { IsTelling (shown_at seen nodes.old) (AllFrom (shown_at seen nodes.old) (level + 1)) }
+    ensures telling { IsTelling (shown_at seen nodes.new) (AllFrom (shown_at seen nodes.new) level) }
+    ensures alike { IsAlike (shown_at seen nodes.old) (shown_at seen nodes.new) }
+{
+    tell_places(nodes, schedulers, places);
+    for at in 64..schedulers.len() {
+        tell_scheduler(nodes, schedulers, at, level);
+    }
+}
+
+/// The deepest level with a place.
+fn deepest_placed(places: &[u64; 10]) -> u8
+    ensures most { (level : ℕ) → level < 10 → get_or places.now level 0 ≢ 0 → level ≤ result }
+    ensures within { result < 10 }
+{
+    let mut deep = 0u8;
+    for level in 0..10u8 {
+        if places[usize::from(level)] != 0 {
+            deep = level;
+        }
+    }
+    deep
+}
+
+/// The deepest level of these nodes. The first 64 stand at these places by their levels.
+fn deepest(nodes: &Slab<Node>, keys: &[NodeId], places: &[u64; 10]) -> u8
+    requires ranked { IsRanked (shown_at seen nodes.now) }
+    requires places { AreByLevel (shown_at seen nodes.now) keys.now places.now }
+    ensures most { (c : ℕ) → IsOn keys.now c → level_in (shown_at seen nodes.now c) ≤ result }
+    ensures within { result < 10 }
+{
+    let mut deep = deepest_placed(places);
+    for at in 64..keys.len() {
+        deep = deep.max(level_at(nodes, keys[at].key()));
+    }
+    deep
+}
+
+/// Tells what each scheduler asks, from the deepest level up. Those at level 1 sit at the processor alone.
+fn tell_schedulers(nodes: &mut Slab<Node>, schedulers: &[NodeId], places: &[u64; 10])
+    requires roll { IsRoll (shown_at seen nodes.old) schedulers.now }
+    requires places { AreByLevel (shown_at seen nodes.old) schedulers.now places.now }
+    requires telling { IsTelling (shown_at seen nodes.old) (NoScheduler (shown_at seen nodes.old)) }
+    ensures telling { IsTelling (shown_at seen nodes.new) Each }
+    ensures alike { IsAlike (shown_at seen nodes.old) (shown_at seen nodes.new) }
+{
+    let deep = deepest(nodes, schedulers, places);
+    if deep < 2 {
+        return;
+    }
+    for step in 1..deep {
+        let level = deep - step + 1;
+        tell_level(nodes, schedulers, level, places[usize::from(level)]);
+    }
+}
+
+/// Takes the processor back from a node, if it has it, and tells the level of the node.
+fn revoke_at(nodes: &mut Slab<Node>, key: usize) -> u8
+    requires posted { PostedIn (shown_at seen nodes.old key) }
+    ensures level { result ≡ level_in (shown_at seen nodes.old key) }
+    ensures here { shown_at seen nodes.new key ≡ on_post post_revoked (shown_at seen nodes.old key) }
+    ensures others { (k : ℕ) → k ≢ key → shown_at seen nodes.new k ≡ shown_at seen nodes.old k }
+{
+    match nodes.get_mut(key) {
+        Some(node) => {
+            match &mut node.role {
+                Role::Sched(station) => station.revoke(),
+                Role::Thread { .. } => {}
+            }
+            node.level
+        }
+        None => 0,
+    }
+}
+
+/// Takes the processor back from all, and tells their places by their levels, a bit for each of the first 64.
+fn revoke_all(nodes: &mut Slab<Node>, schedulers: &[NodeId]) -> [u64; 10]
+    requires roll { IsRoll (shown_at seen nodes.old) schedulers.now }
+    requires ranked { IsRanked (shown_at seen nodes.old) }
+    requires posted { (k : ℕ) → PostedIn (shown_at seen nodes.old k) }
+    ensures revoked { (k : ℕ) → shown_at seen nodes.new k ≡ on_post post_revoked (shown_at seen nodes.old k) }
+    ensures places { AreByLevel (shown_at seen nodes.old) schedulers.now result }
+{
+    let mut places = [0u64; 10];
+    for at in 0..schedulers.len() {
+        let level = revoke_at(nodes, schedulers[at].key());
+        if at < 64 {
+            places[usize::from(level)] |= 1 << at;
+        }
+    }
+    places
+}
+
+/// Grants a scheduler through a port, and names the slot that it serves; nothing at a thread.
+fn grant_at(nodes: &mut Slab<Node>, key: usize, port: u8) -> Option<u32>
+    requires posted { PostedIn (shown_at seen nodes.old key) }
+    requires asks { asks_in (shown_at seen nodes.old key) ≡ true }
+    requires free { grant_in (shown_at seen nodes.old key) ≡ None }
+    ensures others { (k : ℕ) → k ≢ key → get nodes.new k ≡ get nodes.old k }
+    ensures granted { shown_at seen nodes.new key ≡ on_post (post_granted port) (shown_at seen nodes.old key) }
+    ensures choice { choice_at choice nodes.new key ≡ choice_at choice nodes.old key }
+    ensures value { result ≡ choice_at choice nodes.old key }
+    ensures serves { IfSome result (ServesIn (shown_at seen nodes.old key)) }
+    ensures some { is_sched (shown_at seen nodes.old key) ≡ true → result ≢ None }
+{
+    match nodes.get_mut(key) {
+        Some(node) => match &mut node.role {
+            Role::Sched(station) => station.grant(port),
+            Role::Thread { .. } => None,
+        },
+        None => None,
+    }
+}
+
+/// Whether the seat of a port is at a place.
+fn sits_at(seats: &[TakenSeat], port: u8, place: Place) -> bool
+    ensures { result ≡ is_place (option_map (λ (s : Seat). s.place) (slice_get (map seat_view seats.now) port))
+        (place_view place) }
+{
+    match seats.get(port as usize) {
+        Some(seat) => same_place(seat.place, place),
+        None => false,
+    }
+}
+
+/// The port of these seats that is at a place.
+fn port_on(seats: &[TakenSeat], place: Place) -> Option<u8>
+    ensures some { IfSome result (λ port. is_place
+        (option_map (λ (s : Seat). s.place) (slice_get (map seat_view seats.now) port)) (place_view place) ≡ true) }
+    ensures none { IsNone result → (port : ℕ) → port < 4 → is_place
+        (option_map (λ (s : Seat). s.place) (slice_get (map seat_view seats.now) port)) (place_view place) ≢ true }
+{
+    for port in 0..4u8 {
+        if sits_at(seats, port, place) {
+            return Some(port);
+        }
+    }
+    None
+}
+
+/// The port of a node that sits at a place.
+fn port_at(nodes: &Slab<Node>, key: usize, place: Place) -> Option<u8>
+    ensures some { IfSome result
+        (λ port. is_place (place_in (shown_at seen nodes.now key) port) (place_view place) ≡ true) }
+    ensures none { IsNone result → (port : ℕ) → port < 4 →
+        is_place (place_in (shown_at seen nodes.now key) port) (place_view place) ≢ true }
+{
+    match nodes.get(key) {
+        Some(node) => port_on(&node.seats, place),
+        None => None,
+    }
+}
+
+/// Who sits at a place, and by which port, of all nodes.
+fn find_sitter(nodes: &Slab<Node>, place: Place) -> Option<(usize, u8)>
+    ensures some { IfSome result
+        (λ who. is_place (place_in (shown_at seen nodes.now who.0) who.1) (place_view place) ≡ true) }
+    ensures none { IsNone result → (key port : ℕ) → port < 4 →
+        is_place (place_in (shown_at seen nodes.now key) port) (place_view place) ≢ true }
+{
+    let end = nodes.capacity();
+    for key in 0..end {
+        if let Some(port) = port_at(nodes, key, place) {
+            return Some((key, port));
+        }
+    }
+    None
+}
+
+/// Who sits at a place, and by which port: the one who was seen there last, if it still does.
+fn sitter_at(nodes: &Slab<Node>, place: Place, last: usize) -> Option<(usize, u8)>
+    ensures some { IfSome result
+        (λ who. is_place (place_in (shown_at seen nodes.now who.0) who.1) (place_view place) ≡ true) }
+    ensures none { IsNone result → (key port : ℕ) → port < 4 →
+        is_place (place_in (shown_at seen nodes.now key) port) (place_view place) ≢ true }
+{
+    match port_at(nodes, last, place) {
+        Some(port) => Some((last, port)),
+        None => find_sitter(nodes, place),
+    }
+}
+
+/// Who was seen last at a slot of a scheduler.
+fn last_on(nodes: &Slab<Node>, key: usize, slot: u32) -> usize {
+    match nodes.get(key) {
+        Some(node) => match &node.role {
+            Role::Sched(station) => station.last_at(slot),
+            Role::Thread { .. } => 0,
+        },
+        None => 0,
+    }
+}
+
+/// Who was seen last at a place; at the processor the root.
+fn last_seen(nodes: &Slab<Node>, place: Place, root: usize) -> usize {
+    match place {
+        Place::Processor => root,
+        Place::At { scheduler, slot } => last_on(nodes, scheduler, slot),
+    }
+}
+
+/// Notes who was seen at a slot of a scheduler.
+fn note_on(nodes: &mut Slab<Node>, key: usize, slot: u32, id: NodeId)
+    requires posted { PostedIn (shown_at seen nodes.old key) }
+    ensures here { shown_at seen nodes.new key ≡ shown_at seen nodes.old key }
+    ensures choice { choice_at choice nodes.new key ≡ choice_at choice nodes.old key }
+    ensures others { (k : ℕ) → k ≢ key → get nodes.new k ≡ get nodes.old k }
+{
+    match nodes.get_mut(key) {
+        Some(node) => match &mut node.role {
+            Role::Sched(station) => station.note(slot, id),
+            Role::Thread { .. } => {}
+        },
+        None => {}
+    }
+}
+
+/// Notes who was seen at a place, if it is another one than the last.
+fn note_seen(nodes: &mut Slab<Node>, place: Place, last: usize, id: NodeId)
+    requires posted { (k : ℕ) → PostedIn (shown_at seen nodes.old k) }
+    ensures same { (k : ℕ) → shown_at seen nodes.new k ≡ shown_at seen nodes.old k }
+    ensures choices { (k : ℕ) → choice_at choice nodes.new k ≡ choice_at choice nodes.old k }
+{
+    if id.key() == last {
+        return;
+    }
+    match place {
+        Place::Processor => {}
+        Place::At { scheduler, slot } => note_on(nodes, scheduler, slot, id),
+    }
+}
+
+/// Grants along the choices down to a thread, and tells the way.
+fn grant_path(nodes: &mut Slab<Node>, root: NodeId, route: &mut Route)
+    requires telling { IsTelling (shown_at seen nodes.old) Each }
+    requires root { (sitter : Sitter (shown_at seen nodes.old) Processor) ×
+        (asks_in (shown_at seen nodes.old sitter.node) ≡ true) }
+    requires empty { route.old ≡ [] }
+    ensures { Led (shown_at seen nodes.old) (shown_at seen nodes.new) (choice_at choice nodes.new) route.new }
+{
+    let mut place = Place::Processor;
+    for step in 0..9u8 {
+        let last = last_seen(nodes, place, root.key());
+        let Some((key, port)) = sitter_at(nodes, place, last) else {
+            unreachable!()
+        };
+        let id = NodeId::of(key);
+        note_seen(nodes, place, last, id);
+        route.push(id);
+        match grant_at(nodes, key, port) {
+            None => return,
+            Some(slot) => {
+                place = Place::At {
+                    scheduler: key,
+                    slot,
+                }
+            }
+        }
+    }
+    unreachable!()
+}
+
+/// Grants from the root down, if it asks, and tells the way.
+fn grant_root(nodes: &mut Slab<Node>, root: Option<NodeId>, route: &mut Option<Route>)
+    requires telling { IsTelling (shown_at seen nodes.old) Each }
+    requires root { RootAt (shown_at seen nodes.old) root }
+    ensures { Ran (shown_at seen nodes.old) (shown_at seen nodes.new) (choice_at choice nodes.new) root route.new }
+{
+    match root {
+        None => *route = None,
+        Some(root) => {
+            if asks_at(nodes, root.key()) {
+                grant_path(nodes, root, route.insert(Route::new()));
+            } else {
+                *route = None;
+            }
+        }
+    }
+}
+
+/// Tells what asks, where it is new, grants along the choices, and tells the way.
+pub fn pass(
+    nodes: &mut Slab<Node>,
+    schedulers: &[NodeId],
+    changed: &Option<Changed>,
+    root: Option<NodeId>,
+    route: &mut Option<Route>,
+)
+    requires roll { IsRoll (shown_at seen nodes.old) schedulers.now }
+    requires told { AreTold (shown_at seen nodes.old) changed.now }
+    requires laid { IsLaid (shown_at seen nodes.old) }
+    requires posted { (k : ℕ) → PostedIn (shown_at seen nodes.old k) }
+    requires root { RootAt (shown_at seen nodes.old) root }
+    ensures { Passed (shown_at seen nodes.old) (shown_at seen nodes.new) (choice_at choice nodes.new) root route.new }
+{
+    let places = revoke_all(nodes, schedulers);
+    tell_changed(nodes, changed);
+    tell_schedulers(nodes, schedulers, &places);
+    grant_root(nodes, root, route);
+}
+
+/// One tick of a node.
+fn turn_at(nodes: &mut Slab<Node>, key: usize)
+    requires posted { PostedIn (shown_at seen nodes.old key) }
+    requires room { RoomIn 1 (shown_at seen nodes.old key) }
+    ensures here { shown_at seen nodes.new key ≡
+        on_post (post_turned (choice_at choice nodes.old key)) (shown_at seen nodes.old key) }
+    ensures others { (k : ℕ) → k ≢ key → get nodes.new k ≡ get nodes.old k }
+{
+    match nodes.get_mut(key) {
+        Some(node) => match &mut node.role {
+            Role::Sched(station) => station.turn(),
+            Role::Thread { .. } => {}
+        },
+        None => {}
+    }
+}
+
+/// One tick of each scheduler.
+pub fn turn_all(nodes: &mut Slab<Node>, schedulers: &[NodeId])
+    requires roll { IsRoll (shown_at seen nodes.old) schedulers.now }
+    requires posted { (k : ℕ) → PostedIn (shown_at seen nodes.old k) }
+    requires room { (k : ℕ) → RoomIn 1 (shown_at seen nodes.old k) }
+    ensures { (k : ℕ) → shown_at seen nodes.new k ≡
+        on_post (post_turned (choice_at choice nodes.old k)) (shown_at seen nodes.old k) }
+{
+    for id in schedulers {
+        turn_at(nodes, id.key());
+    }
+}
+
+/// For how many ticks a node stands.
+fn stands_at(nodes: &Slab<Node>, key: usize) -> u32
+    requires posted { PostedIn (shown_at seen nodes.now key) }
+    ensures value { result ≡ stands_in (choice_at choice nodes.now key) (shown_at seen nodes.now key) }
+    ensures within { result ≤ always }
+    ensures some { 0 < result }
+    ensures law { StandsIn result (choice_at choice nodes.now key) (shown_at seen nodes.now key) }
+{
+    match nodes.get(key) {
+        Some(node) => match &node.role {
+            Role::Sched(station) => station.stands(),
+            Role::Thread { .. } => ALWAYS,
+        },
+        None => ALWAYS,
+    }
+}
+
+/// So many ticks of a node.
+fn leap_at(nodes: &mut Slab<Node>, key: usize, ticks: u32)
+    requires posted { PostedIn (shown_at seen nodes.old key) }
+    requires some { 0 < ticks }
+    requires stands { ticks ≤ stands_in (choice_at choice nodes.old key) (shown_at seen nodes.old key) }
+    requires room { RoomIn ticks (shown_at seen nodes.old key) }
+    ensures here { shown_at seen nodes.new key ≡
+        on_post (post_leapt ticks (choice_at choice nodes.old key)) (shown_at seen nodes.old key) }
+    ensures others { (k : ℕ) → k ≢ key → get nodes.new k ≡ get nodes.old k }
+{
+    match nodes.get_mut(key) {
+        Some(node) => match &mut node.role {
+            Role::Sched(station) => station.leap(ticks),
+            Role::Thread { .. } => {}
+        },
+        None => {}
+    }
+}
+
+/// So many ticks of each scheduler.
+pub fn leap_all(nodes: &mut Slab<Node>, schedulers: &[NodeId], ticks: u32)
+    requires roll { IsRoll (shown_at seen nodes.old) schedulers.now }
+    requires posted { (k : ℕ) → PostedIn (shown_at seen nodes.old k) }
+    requires some { 0 < ticks }
+    requires stands { (k : ℕ) → ticks ≤ stands_in (choice_at choice nodes.old k) (shown_at seen nodes.old k) }
+    requires room { (k : ℕ) → RoomIn ticks (shown_at seen nodes.old k) }
+    ensures { (k : ℕ) → shown_at seen nodes.new k ≡
+        on_post (post_leapt ticks (choice_at choice nodes.old k)) (shown_at seen nodes.old k) }
+{
+    for id in schedulers {
+        leap_at(nodes, id.key(), ticks);
+    }
+}
+
+/// For how many ticks all schedulers stand.
+pub fn stands_all(nodes: &Slab<Node>, schedulers: &[NodeId]) -> u32
+    requires roll { IsRoll (shown_at seen nodes.now) schedulers.now }
+    requires posted { (k : ℕ) → PostedIn (shown_at seen nodes.now k) }
+    ensures least { (k : ℕ) → result ≤ stands_in (choice_at choice nodes.now k) (shown_at seen nodes.now k) }
+    ensures law { (k : ℕ) → StandsIn result (choice_at choice nodes.now k) (shown_at seen nodes.now k) }
+    ensures some { 0 < result }
+    ensures within { result ≤ always }
+{
+    let mut least = ALWAYS;
+    for id in schedulers {
+        least = least.min(stands_at(nodes, id.key()));
+    }
+    least
+}
+
+/// Sets whether a thread is ready.
+pub fn set_ready(nodes: &mut Slab<Node>, key: usize, to: bool)
+    ensures here { shown_at seen nodes.new key ≡ with_ready to (shown_at seen nodes.old key) }
+    ensures others { (k : ℕ) → k ≢ key → shown_at seen nodes.new k ≡ shown_at seen nodes.old k }
+{
+    match nodes.get_mut(key) {
+        Some(node) => match &mut node.role {
+            Role::Sched(_) => {}
+            Role::Thread { ready } => *ready = to,
+        },
+        None => {}
+    }
+}

@@ -1,5 +1,0 @@
-use Rattle.hls_watch.proofs.Shorts.{IsShortless}
-use Rattle.hls_watch.proofs.shortage.find_short.Given as goal
-
-abbrev pub invariant-loop-at : goal.invariant-loop-at
-invariant-loop-at l = IsShortless l.fn.watch.guarantee l.ready l.served l.watch l.at

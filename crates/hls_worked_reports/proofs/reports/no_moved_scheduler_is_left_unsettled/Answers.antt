@@ -1,5 +1,0 @@
-use Rattle.hls_worked_reports.proofs.Settled.{no_unsettled}
-use Rattle.hls_worked_reports.proofs.reports.no_moved_scheduler_is_left_unsettled.Goals as goal
-
-pub returns : goal.returns
-returns c = λ f. no_unsettled f

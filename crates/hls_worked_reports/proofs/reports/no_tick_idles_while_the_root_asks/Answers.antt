@@ -1,5 +1,0 @@
-use Rattle.hls_worked_reports.proofs.Wrong.{no_idling}
-use Rattle.hls_worked_reports.proofs.reports.no_tick_idles_while_the_root_asks.Goals as goal
-
-pub returns : goal.returns
-returns c = λ f. no_idling f

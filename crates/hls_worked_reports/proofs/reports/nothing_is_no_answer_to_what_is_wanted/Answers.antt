@@ -1,5 +1,0 @@
-use Rattle.hls_worked_reports.proofs.Wrong.{no_null}
-use Rattle.hls_worked_reports.proofs.reports.nothing_is_no_answer_to_what_is_wanted.Goals as goal
-
-pub returns : goal.returns
-returns c = λ f. no_null f

@@ -1,5 +1,0 @@
-use Rattle.hls_worked_reports.proofs.Settled.{settled_legal}
-use Rattle.hls_worked_reports.proofs.reports.the_report_of_a_moved_scheduler_is_legal.Goals as goal
-
-pub returns : goal.returns
-returns c = settled_legal

@@ -1,5 +1,0 @@
-use Rattle.hls_worked_reports.proofs.Joined.{joined_legal}
-use Rattle.hls_worked_reports.proofs.reports.the_report_with_a_join_is_legal.Goals as goal
-
-pub returns : goal.returns
-returns c = joined_legal

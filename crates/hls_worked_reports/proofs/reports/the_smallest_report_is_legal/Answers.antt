@@ -1,5 +1,0 @@
-use Rattle.hls_worked_reports.proofs.Smallest.{smallest_legal}
-use Rattle.hls_worked_reports.proofs.reports.the_smallest_report_is_legal.Goals as goal
-
-pub returns : goal.returns
-returns c = smallest_legal
