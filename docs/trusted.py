@@ -1,0 +1,227 @@
+#!/usr/bin/env python3
+"""Lists the definitions that the clauses of public functions unfold to, by file and in reading order.
+
+    docs/trusted.py                  the page TRUSTED.md, on standard output
+    docs/trusted.py CRATE FUNCTION   the same list for one function, with a count
+
+A definition counts where a clause names it, or a definition that counts does. What a clause of a
+type's invariant or a private function says does not count: nobody has to believe it.
+"""
+import re
+import sys
+from pathlib import Path
+
+TOP = Path(__file__).resolve().parent.parent
+CRATES = TOP / "crates"
+WORD = re.compile(r"[^\W\d][\w'-]*(?:\.[^\W\d][\w'-]*)*")
+USE = re.compile(r"^\s*(?:ghost )?use Rattle\.(\w+(?:\.\w+)*)(?:\.\{([^}]*)\}| as (\w+))?;?", re.M)
+HEAD = re.compile(r"^(\s*)(?:(?:abbrev|unfoldable|unfolding [\w. ,]+?|pub|module _.*where)\s+)*"
+                  r"(record|data)?\s*([^\W\d][\w'-]*)\s*(?:[({:]|$)")
+
+
+class Module:
+    """A file of specs/: what it imports, and its definitions with their texts."""
+
+    def __init__(self, crate, path):
+        self.crate, self.path = crate, path
+        self.name = f"{crate}.specs." + ".".join(path.relative_to(CRATES / crate / "specs").with_suffix("").parts)
+        self.text = path.read_text(encoding="utf-8")
+        self.imports = imports_of(self.text)
+        self.definitions = dict(definitions_of(self.text))
+
+
+def imports_of(text):
+    """Which names stand for which: a name by its module and its name there, a module's own by itself alone."""
+    found = {}
+    for module, names, alias in USE.findall(text):
+        if names:
+            for name in names.split(","):
+                there, _, here = name.strip().partition(" as ")
+                found[here or there] = (module, there)
+        else:
+            found[alias or module.split(".")[-1]] = (module, None)
+    return found
+
+
+def definitions_of(text):
+    """Each definition with its lines: from its head to the next one."""
+    name, lines = None, []
+    for line in text.split("\n"):
+        if line.lstrip().startswith(("--", "use ")) or re.match(r"\s*module _", line):
+            continue
+        start = head_of(line)
+        if start and start != name:
+            if name:
+                yield name, lines
+            name, lines = start, []
+        if name and line.strip():
+            lines.append(line)
+    if name:
+        yield name, lines
+
+
+def head_of(line):
+    """The name that a line begins to define, if it does: at the margin, or within a module of parameters."""
+    indent = len(line) - len(line.lstrip())
+    words = line.strip()
+    if indent > 2 or not words:
+        return None
+    found = re.match(r"(?:(?:abbrev|unfoldable|unfolding [\w.-]+)\s+)*(?:pub )?(?:record |data )([^\W\d][\w'-]*)", words)
+    if not found:
+        found = re.match(r"(?:(?:abbrev|unfoldable)\s+)*(?:pub )?([^\W\d][\w'-]*)\s*:(?!:)", words)
+        if found and indent == 2 and not words.startswith(("abbrev", "unfoldable")):
+            return None
+    return found and found[1]
+
+
+def modules():
+    found = {}
+    for path in sorted(CRATES.glob("*/specs/**/*.antt")):
+        if path.name != "Lib.antt":
+            module = Module(path.relative_to(CRATES).parts[0], path)
+            found[module.name] = module
+    return found
+
+
+MODULES = modules()
+
+
+def cited(text, imports, own):
+    """The definitions of the repository that a text names."""
+    for word in WORD.findall(re.sub(r"--.*", "", text)):
+        first, _, rest = word.partition(".")
+        if first in own:
+            yield own[first]
+        elif first in imports:
+            module, name = imports[first]
+            name = name or rest
+            if module in MODULES and name in MODULES[module].definitions:
+                yield module, name
+
+
+def closure(starts):
+    """All that these definitions unfold to, themselves included."""
+    found, left = set(), list(starts)
+    while left:
+        at = left.pop()
+        if at not in found:
+            found.add(at)
+            module = MODULES[at[0]]
+            own = {name: (at[0], name) for name in module.definitions}
+            left += cited("\n".join(module.definitions[at[1]]), module.imports, own)
+    return found
+
+
+def clauses_of(crate, function):
+    """The clauses of a public function, with what its file imports."""
+    for path in sorted((CRATES / crate / "src").glob("**/*.rt")):
+        text = path.read_text(encoding="utf-8")
+        at = re.search(rf"pub fn {function}\b", text)
+        if at:
+            end = re.search(r"^\s*\{\s*(\}\s*)?$", text[at.start():], re.M)
+            return text[at.start():at.start() + end.start()], imports_of(text)
+    raise SystemExit(f"no public function {function} in {crate}")
+
+
+def unfolded(functions):
+    starts = []
+    for crate, function in functions:
+        text, imports = clauses_of(crate, function)
+        starts += cited(text, imports, {})
+    return closure(starts)
+
+
+def crate_order():
+    lines = (TOP / "crates.txt").read_text(encoding="utf-8").split("\n")
+    deps = {it.split(":")[0]: it.split(":")[1].split() for it in lines if ":" in it and not it.startswith("#")}
+    order = []
+
+    def visit(name):
+        if name in deps and name not in order:
+            for dep in deps[name]:
+                visit(dep)
+            order.append(name)
+
+    for name in deps:
+        visit(name)
+    return order
+
+
+def module_order(names):
+    """Modules in reading order: what a module imports comes before it."""
+    order, crates = [], crate_order()
+
+    def visit(name):
+        if name in names and name not in order:
+            for module, _ in MODULES[name].imports.values():
+                visit(module)
+            order.append(name)
+
+    for name in sorted(names, key=lambda it: (crates.index(MODULES[it].crate), it)):
+        visit(name)
+    return order
+
+
+def page_of(found):
+    """The list, crate by crate."""
+    by_module = {}
+    for module, name in found:
+        by_module.setdefault(module, set()).add(name)
+    out, crate = [], None
+    for name in module_order(set(by_module)):
+        module = MODULES[name]
+        if module.crate != crate:
+            crate = module.crate
+            out += ["", f"**{crate}**", ""]
+        there = [it for it in module.definitions if it in by_module[name]]
+        shown = name.split(".specs.")[1].replace(".", "/")
+        out.append(f"- `{shown}`: {', '.join(f'`{it}`' for it in there)}")
+    return out
+
+
+def lines_in(found):
+    return sum(len(MODULES[module].definitions[name]) for module, name in found)
+
+
+def wrapped(line, width=120):
+    """A line of the list, broken at spaces, with what follows set in."""
+    if len(line) <= width:
+        return [line]
+    cut = line.rfind(" ", 0, width + 1)
+    return [line[:cut], *wrapped("  " + line[cut + 1:], width)]
+
+
+def laws():
+    """The functions that THEOREMS.md names, with their crates."""
+    text = (TOP / "docs" / "THEOREMS.md").read_text(encoding="utf-8")
+    for row in re.findall(r"^\|.*\|$", text, re.M):
+        crate = None
+        for word in re.findall(r"`(\w+)`", row):
+            if (CRATES / word).is_dir():
+                crate = word
+            elif crate and any(re.search(rf"pub fn {word}\b", it.read_text(encoding="utf-8"))
+                               for it in (CRATES / crate / "src").glob("**/*.rt")):
+                yield crate, word
+
+
+HEADER = (TOP / "docs" / "trusted.head").read_text(encoding="utf-8") if (TOP / "docs" / "trusted.head").exists() else ""
+
+
+def main():
+    if len(sys.argv) == 3:
+        found = unfolded([(sys.argv[1], sys.argv[2])])
+        print("\n".join(page_of(found)))
+        print(f"\n{len(found)} definitions, {lines_in(found)} lines")
+        return
+    first = unfolded([("hls_top", "hls_run"), ("hls_prog_start", "start")])
+    others = unfolded(dict.fromkeys(laws())) - first
+    print(HEADER.replace("{count}", str(len(first))).replace("{lines}", str(lines_in(first))).rstrip())
+    for line in page_of(first):
+        print("\n".join(wrapped(line)))
+    print(f"\n## What the other lines of THEOREMS.md rest on besides\n\n{len(others)} more definitions of {lines_in(others)} lines.")
+    for line in page_of(others):
+        print("\n".join(wrapped(line)))
+
+
+if __name__ == "__main__":
+    main()
