@@ -5,6 +5,7 @@ mod jobs;
 pub mod laws;
 mod parsing;
 mod table;
+mod told;
 
 pub use jobs::Job;
 pub use parsing::asked_for;

@@ -1,12 +1,14 @@
 // The words, by clap beside the table.
 ghost use Rattle.std.specs.Prelude.{◌≡◌, IfOk, IfErr, map, string_bytes, false, MatchOption};
 ghost use Rattle.clap.specs.declared.builder.command.Command.TheViews.{out-Command};
-ghost use Rattle.clap.specs.Words.{kind_of, app_of};
+ghost use Rattle.clap.specs.Words.{kind_of, app_of, subcommand_of, subcommand_rows_of};
 ghost use Rattle.hls_top_words.specs.Table.{IsJob, IsNoJob};
 ghost use Rattle.hls_top_words.specs.Inside.Commands.{run, check, numbered, bare, hls};
+ghost use Rattle.hls_top_words.specs.Inside.Shapes.{told};
 
 use crate::Job;
-use crate::table::listed;
+use crate::table::has_shape;
+use crate::told::job_told;
 use clap::error::ErrorKind;
 use clap::{Arg, ArgAction, ArgMatches, Command, Error};
 use std::alloc::{AllocError, Global};
@@ -64,30 +66,17 @@ fn hls_command<'a>(alloc: Global) -> Result<Command<'a>, AllocError>
 
 /// What clap makes of the words. It refuses none of the table but for want of memory.
 fn matched<'a>(alloc: Global, words: &'a Vec<String>) -> Result<ArgMatches<'a>, Error>
-    ensures { IfErr result (λ e. (job : Job) → IsJob (map string_bytes words.entry.now.items) job →
+    ensures told { IfOk result (λ m. told (subcommand_rows_of m)
+        ≡ told (subcommand_of hls (map string_bytes words.entry.now.items))) }
+    ensures refused { IfErr result (λ e. (job : Job) → IsJob (map string_bytes words.entry.now.items) job →
         kind_of e ≡ ErrorKind.OutOfMemory) }
 {
     let hls = hls_command(alloc)?;
     hls.try_get_matches_from(words.as_slice())
 }
 
-/// Lets clap read words of the table.
-fn clap_reads(alloc: Global, words: &Vec<String>, job: Job) -> Result<(), AllocError>
-    requires { IsJob (map string_bytes words.now.items) job }
-{
-    match matched(alloc, words) {
-        Ok(_matches) => Ok(()),
-        Err(error) => {
-            if error.kind() == ErrorKind::OutOfMemory {
-                Err(AllocError)
-            } else {
-                unreachable!()
-            }
-        }
-    }
-}
-
-/// What the words ask for, or `None` where they are not in the table. Clap reads what is in it.
+/// What the words ask for, or `None` where they are not in the table. The table tells how words may stand, and clap
+/// reads what they state.
 ///
 /// # Errors
 ///
@@ -96,9 +85,12 @@ pub fn asked_for(alloc: Global, words: &Vec<String>) -> Result<Option<Job>, Allo
     ensures { IfOk result (λ found. MatchOption found (IsNoJob (map string_bytes words.now.items))
         (IsJob (map string_bytes words.now.items))) }
 {
-    let Some(job) = listed(words) else {
+    if !has_shape(words) {
         return Ok(None);
-    };
-    clap_reads(alloc, words, job)?;
-    Ok(Some(job))
+    }
+    match matched(alloc, words) {
+        Ok(matches) => Ok(job_told(&matches)),
+        Err(error) if error.kind() == ErrorKind::OutOfMemory => Err(AllocError),
+        Err(_) => Ok(None),
+    }
 }

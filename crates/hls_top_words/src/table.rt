@@ -1,104 +1,79 @@
-// The table of words.
-ghost use Rattle.std.specs.Prelude.{◌≡◌, ◌≤◌, ◌<◌, ◌^◌, ◌++◌, codes, decimal, map, string_bytes, IfSome, IsNone, ℕ};
-ghost use Rattle.hls_top_words.specs.Table.{usual_depth, StatesDepth, HasDepth, HasNumber, IsJob, IsNoJob};
+// The table of words: how the words of each job stand.
+ghost use Rattle.std.specs.Prelude.{◌≡◌, ◌≢◌, ◌≤◌, ◌∷◌, ◌++◌, codes, decimal, map, string_bytes, true, IfSome, IsNone, List, ℕ};
+ghost use Rattle.hls_top_words.specs.Table.{HasDepth, HasNumber, IsNoJob};
+ghost use Rattle.hls_top_words.specs.Inside.Shapes.{begins_with_digit as has_digit, Gives, HasShape, MayState};
 
-use crate::Job;
-use hls_text::decimal_number;
-
-/// The depth where the words state none.
-const USUAL_DEPTH: u8 = 3;
-
-/// The most conversions of a derivation.
-const MOST_DEPTH: u128 = 6;
-
-/// The greatest number of a scenario that is made.
-const MOST_NUMBER: u128 = 4_294_967_295;
-
-/// The depth that a word spells, of at most 6 conversions.
-fn depth_of(word: &str) -> Option<u8>
-    ensures found { IfSome result (λ depth. (depth ≤ 6) × (word.now ≡ decimal depth)) }
-    ensures none { IsNone result → (depth : ℕ) → depth ≤ 6 → word.now ≡ decimal depth → ⊥ }
+/// Whether a word begins with a digit, so that it is no option.
+fn begins_with_digit(word: &str) -> bool
+    ensures { result ≡ has_digit word.now }
 {
-    match decimal_number(word.as_bytes()) {
-        Some(n) if n <= MOST_DEPTH => Some(n as u8),
-        _ => None,
+    match word.as_bytes() {
+        [letter, ..] => letter.is_ascii_digit(),
+        [] => false,
     }
 }
 
-/// The depth that one word after `run` states.
-fn stated_in(word: &str) -> Option<u8>
-    ensures found { IfSome result (λ depth. (depth ≤ 6) × (word.now ≡ codes "--depth=" ++ decimal depth)) }
-    ensures none { IsNone result → (depth : ℕ) → depth ≤ 6 → word.now ≡ codes "--depth=" ++ decimal depth → ⊥ }
-{
-    depth_of(word.strip_prefix("--depth=")?)
-}
-
-/// The depth that two words after `run` state.
-fn stated_by(option: &str, word: &str) -> Option<u8>
-    ensures found { IfSome result (λ depth. (depth ≤ 6) × (option.now ≡ codes "--depth") ×
-        (word.now ≡ decimal depth)) }
-    ensures none { IsNone result → (depth : ℕ) → depth ≤ 6 → option.now ≡ codes "--depth" →
+/// Whether two words after `run` may state a depth.
+fn may_stand_apart(option: &str, word: &str) -> bool
+    ensures yes { result ≡ true → (option.now ≡ codes "--depth") × (has_digit word.now ≡ true) }
+    ensures no { result ≢ true → (depth : ℕ) → depth ≤ 6 → option.now ≡ codes "--depth" →
         word.now ≡ decimal depth → ⊥ }
 {
-    if option == "--depth" {
-        depth_of(word)
-    } else {
-        None
+    option == "--depth" && begins_with_digit(word)
+}
+
+/// What a word after `run` states for a depth.
+fn stated_in(word: &str) -> Option<&str>
+    ensures found { IfSome result (λ value. word.now ≡ codes "--depth=" ++ value.now) }
+    ensures none { IsNone result → (value : List ℕ) → word.now ≢ codes "--depth=" ++ value }
+{
+    word.strip_prefix("--depth=")
+}
+
+/// Whether the words after `run` may leave the depth open, or state it.
+fn may_state(options: &[String]) -> bool
+    ensures yes { result ≡ true → MayState (map string_bytes options.now) }
+    ensures no { result ≢ true → (depth : ℕ) → ¬ HasDepth (map string_bytes options.now) depth }
+{
+    match options {
+        [] => true,
+        [word] => stated_in(word.as_str()).is_some(),
+        [option, word] => may_stand_apart(option.as_str(), word.as_str()),
+        _ => false,
     }
 }
 
-/// The depth that the words after `run` ask for.
-fn depth_after(words: &[String]) -> Option<u8>
-    ensures found { IfSome result (HasDepth (map string_bytes words.now)) }
-    ensures none { IsNone result → (depth : ℕ) → ¬ HasDepth (map string_bytes words.now) depth }
+/// Whether the words after `gen` or `trial` may be a number.
+fn may_give(options: &[String]) -> bool
+    ensures yes { result ≡ true → Gives (map string_bytes options.now) }
+    ensures no { result ≢ true → (number : ℕ) → ¬ HasNumber (map string_bytes options.now) number }
 {
-    match words {
-        [] => Some(USUAL_DEPTH),
-        [word] => stated_in(word.as_str()),
-        [option, word] => stated_by(option.as_str(), word.as_str()),
-        _ => None,
+    match options {
+        [word] => begins_with_digit(word.as_str()),
+        _ => false,
     }
 }
 
-/// The number of 32 bits that a word spells.
-fn number_in(word: &str) -> Option<u32>
-    ensures found { IfSome result (λ number. (number < 2 ^ 32) × (word.now ≡ decimal number)) }
-    ensures none { IsNone result → (number : ℕ) → number < 2 ^ 32 → word.now ≡ decimal number → ⊥ }
+/// Whether a first word and those behind it stand as those of a job.
+fn may_ask(first: &str, options: &[String]) -> bool
+    ensures yes { result ≡ true → HasShape (first.now ∷ map string_bytes options.now) }
+    ensures no { result ≢ true → IsNoJob (first.now ∷ map string_bytes options.now) }
 {
-    match decimal_number(word.as_bytes()) {
-        Some(n) if n <= MOST_NUMBER => Some(n as u32),
-        _ => None,
+    match first {
+        "run" => may_state(options),
+        "check" => options.is_empty(),
+        "gen" | "trial" => may_give(options),
+        _ => false,
     }
 }
 
-/// The number that the words after `gen` or `trial` are.
-fn number_after(words: &[String]) -> Option<u32>
-    ensures found { IfSome result (HasNumber (map string_bytes words.now)) }
-    ensures none { IsNone result → (number : ℕ) → ¬ HasNumber (map string_bytes words.now) number }
+/// Whether words stand as those of a job. What they state may still be no depth, or no number of 32 bits.
+pub fn has_shape(words: &[String]) -> bool
+    ensures yes { result ≡ true → HasShape (map string_bytes words.now) }
+    ensures no { result ≢ true → IsNoJob (map string_bytes words.now) }
 {
-    match words {
-        [word] => number_in(word.as_str()),
-        _ => None,
-    }
-}
-
-/// What the words ask for, or `None` where they ask for nothing that the program knows.
-pub fn listed(words: &[String]) -> Option<Job>
-    ensures found { IfSome result (IsJob (map string_bytes words.now)) }
-    ensures none { IsNone result → IsNoJob (map string_bytes words.now) }
-{
-    let (first, options) = words.split_first()?;
-    match first.as_str() {
-        "run" => Some(Job::Run {
-            depth: depth_after(options)?,
-        }),
-        "check" if options.is_empty() => Some(Job::Check),
-        "gen" => Some(Job::Gen {
-            number: number_after(options)?,
-        }),
-        "trial" => Some(Job::Trial {
-            number: number_after(options)?,
-        }),
-        _ => None,
+    match words.split_first() {
+        Some((first, options)) => may_ask(first.as_str(), options),
+        None => false,
     }
 }
