@@ -1,0 +1,4 @@
+pub mod Ways
+pub mod Playing
+pub mod Winning
+pub mod Replaying

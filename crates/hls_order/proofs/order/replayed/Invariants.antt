@@ -1,0 +1,13 @@
+use Rattle.std.proofs.Common.{◌≡◌, ◌<◌, length}
+use Rattle.hls_order.specs.Inside.Rising.{IsRightBut}
+use Rattle.hls_order.proofs.order.replayed.Given as goal
+
+abbrev pub invariant-loop-at : goal.invariant-loop-at
+invariant-loop-at l = record {
+  size : length l.winners ≡ 63;
+  within : l.at < 63;
+  right : IsRightBut l.keys l.winners l.at;
+}
+
+abbrev pub decreases-loop-at : goal.decreases-loop-at
+decreases-loop-at l = l.at

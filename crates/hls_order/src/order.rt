@@ -1,0 +1,154 @@
+// A tournament over 32 slots.
+ghost use Rattle.std.specs.Prelude.{◌≡◌, ◌<◌, None, Some, replicate, slice_set, MatchOption};
+ghost use Rattle.hls_order.specs.Order.{IsEmpty, IsLeast, IsTournament, better as better_of, key_of};
+ghost use Rattle.hls_order.specs.Inside.Rising.{IsRightBut};
+
+use std::marker::Model;
+
+/// How many slots there are.
+const SLOTS: usize = 32;
+
+/// How many entries a tournament has. Those of the slots come last, and an entry is that one of the two behind it
+/// that goes first.
+const ENTRIES: usize = 63;
+
+/// The entry of the first slot.
+const FIRST: usize = 31;
+
+/// What stands where no slot is present.
+const NONE: u8 = 32;
+
+/// At most 32 slots, each with a key. Contracts see it as the keys, slot by slot.
+#[derive(Debug, Drop)]
+pub struct Order {
+    keys: [Option<u128>; SLOTS],
+    winners: [u8; ENTRIES],
+}
+
+impl Model for Order {
+    ghost use Rattle.std.specs.Prelude.{List, ℕ, Option};
+    ghost use Rattle.hls_order.specs.Order.{IsTournament};
+
+    ghost Value = { List (Option ℕ) };
+
+    ghost view = { λ o. o.keys };
+
+    ghost invariant = { λ o. IsTournament o.keys o.winners };
+}
+
+/// The key of a slot that is present.
+fn key_at(keys: &[Option<u128>; SLOTS], slot: u8) -> Option<u128>
+    ensures { result ≡ key_of keys.now slot }
+{
+    match keys.get(usize::from(slot)) {
+        Some(key) => *key,
+        None => None,
+    }
+}
+
+/// That one of two entries which goes first.
+fn better(keys: &[Option<u128>; SLOTS], one: u8, other: u8) -> u8
+    ensures { result ≡ better_of keys.now one other }
+{
+    match (key_at(keys, one), key_at(keys, other)) {
+        (Some(key), Some(its)) => {
+            if key < its || (key == its && one <= other) {
+                one
+            } else {
+                other
+            }
+        }
+        (Some(_), None) => one,
+        (None, Some(_)) => other,
+        (None, None) => NONE,
+    }
+}
+
+/// The tournament, where what stands at an entry is new: each entry above it is played again.
+fn replayed(keys: &[Option<u128>; SLOTS], winners: [u8; ENTRIES], from: usize) -> [u8; ENTRIES]
+    requires within { from < 63 }
+    requires right { IsRightBut keys.now winners from }
+    ensures { IsTournament keys.now result }
+{
+    let mut winners = winners;
+    let mut at = from;
+    while at > 0 {
+        at = (at - 1) / 2;
+        winners[at] = better(keys, winners[2 * at + 1], winners[2 * at + 2]);
+    }
+    winners
+}
+
+impl Order {
+    /// No slot. Takes no memory.
+    pub fn new() -> Order
+        ensures { result ≡ replicate 32 None }
+    {
+        Order {
+            keys: [None; SLOTS],
+            winners: [NONE; ENTRIES],
+        }
+    }
+
+    /// Gives a slot a key, whether it is present or not.
+    pub fn put(&mut self, slot: u32, key: u128)
+        requires { slot < 32 }
+        ensures { self.new ≡ slice_set self.old slot (Some key) }
+    {
+        let at = slot as usize;
+        self.keys[at] = Some(key);
+        let mut winners = self.winners;
+        winners[FIRST + at] = slot as u8;
+        self.winners = replayed(&self.keys, winners, FIRST + at);
+    }
+
+    /// Takes a slot out, whether it is present or not.
+    pub fn take(&mut self, slot: u32)
+        requires { slot < 32 }
+        ensures { self.new ≡ slice_set self.old slot None }
+    {
+        let at = slot as usize;
+        self.keys[at] = None;
+        let mut winners = self.winners;
+        winners[FIRST + at] = NONE;
+        self.winners = replayed(&self.keys, winners, FIRST + at);
+    }
+
+    /// The present slot of least key, and of these the least.
+    pub fn least(&self) -> Option<u32>
+        ensures { MatchOption result (IsEmpty self.now) (IsLeast self.now) }
+    {
+        let first = self.winners[0];
+        if first < NONE {
+            Some(u32::from(first))
+        } else {
+            None
+        }
+    }
+
+    /// The entries: that of a slot is the slot, or 32 where it is absent; each of the others is that one of the two
+    /// behind it which goes first. The first entry is the least slot, or 32.
+    pub fn winners(&self) -> &[u8; ENTRIES]
+        ensures { IsTournament self.now result.now }
+    {
+        &self.winners
+    }
+}
+
+#[cfg(test)]
+mod tests {
+    use super::*;
+
+    #[test]
+    fn tells_the_least_key_and_of_these_the_least_slot(rt: HostRuntime) {
+        let mut order = Order::new();
+        order.put(3, 10);
+        order.put(1, 10);
+        order.put(2, 7);
+        assert_eq!(rt; order.least(), Some(2));
+        order.put(2, 11);
+        assert_eq!(rt; order.least(), Some(1));
+        order.take(1);
+        assert_eq!(rt; order.least(), Some(3));
+    }
+}
