@@ -65,7 +65,7 @@ first_of P [] (suc at) all = tt
 first_of P (a ∷ left) (suc at) all = (all.0, first_of P left at all.1)
 
 -- a command has its defined answer where the first steps lead, which the report has told by then
-record IsBehind (short : Content) (depth : ℕ) (h : Hierarchy) (boxes : Boxes) (steps : List Step)
+pub record IsBehind (short : Content) (depth : ℕ) (h : Hierarchy) (boxes : Boxes) (steps : List Step)
     (before : List Answered) (a : Answered) : Type 0 where
   pub past : List Step
   pub rest : List Step
@@ -122,8 +122,8 @@ module _ (c : Content) (told : List Answered) (depth : ℕ) (a : Answered) where
   behind h boxes (step ∷ steps) [] at tells along there = absurd along
   behind h boxes (step ∷ steps) (b ∷ left) zero tells along there =
       let same : b ≡ a = (let both : Some b ≡ Some a = there in cc) in
-      first_behind short depth h boxes (step ∷ steps) b a same (sym tells.0 ∙ ap (λ
-      (x : Answered). x.tick) same) along.0
+      first_behind short depth h boxes (step ∷ steps) b a same
+      (sym tells.0 ∙ ap (λ (x : Answered). x.tick) same) along.0
   behind h boxes (step ∷ steps) (b ∷ left) (suc at) tells along there =
       further short depth h boxes (boxes_after boxes b.command b.answer) step steps (take at left) (b ∷ take at left) a
       refl (λ past rest. (tells.0, tells.1, rest))
