@@ -6,3 +6,4 @@ pub mod Withheld
 pub mod Smallest
 pub mod SettledRun
 pub mod Settled
+pub mod Refused

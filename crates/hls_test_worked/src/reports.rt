@@ -1,8 +1,10 @@
 //! Worked reports: each function's contract is a fact about one, and its body does nothing.
 
 ghost use Rattle.hls_legal_report.specs.Legal.{IsLegalContent};
+ghost use Rattle.hls_top.specs.Promises.{AnswersEach};
 ghost use Rattle.hls_test_worked.specs.Said.{full_kit};
 ghost use Rattle.hls_test_worked.specs.Joined.{joined, joined_scenario};
+ghost use Rattle.hls_test_worked.specs.Refused.{refuses_the_thread};
 ghost use Rattle.hls_test_worked.specs.Settled.{settled, settled_scenario, unsettled};
 ghost use Rattle.hls_test_worked.specs.Smallest.{smallest, smallest_scenario};
 ghost use Rattle.hls_test_worked.specs.Withheld.{withheld, withheld_scenario};
@@ -50,4 +52,10 @@ pub fn no_tick_idles_while_the_root_asks()
 /// A report that keeps nothing for what was wanted is not legal.
 pub fn nothing_is_no_answer_to_what_is_wanted()
     ensures { ¬ IsLegalContent joined_scenario 3 full_kit keeps_null_for_what_was_wanted }
+{}
+
+/// A report that refuses a thread without cause, and is right in all that comes of it, does not keep the promise on
+/// answers.
+pub fn no_wrong_refusal_is_a_defined_answer()
+    ensures { ¬ AnswersEach full_kit refuses_the_thread }
 {}

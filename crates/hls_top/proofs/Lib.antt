@@ -1,4 +1,5 @@
 pub mod Promised
+pub mod Answered
 pub mod Cores
 pub mod Outcomes
 pub mod Answering

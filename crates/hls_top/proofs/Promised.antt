@@ -1,7 +1,8 @@
 -- A legal report keeps what the program promises of it.
-use Rattle.std.proofs.Common.{◌≡◌, ℕ, zero, suc, ◌≤◌, List, [], ◌∷◌, ◌++◌, refl, sym, ap, ◌∙◌, subst, arith}
+use Rattle.std.proofs.Common.{◌≡◌, ℕ, zero, suc, ◌<◌, ◌≤◌, List, [], ◌∷◌, ◌++◌, refl, sym, ap, ◌∙◌, subst, arith}
 use Rattle.std.proofs.Common.{inl, inr, take, true}
 use Rattle.std.specs.Prelude.{Option, None, Some, ◌↔◌, slice_get, option_and_then, Result, Ok, Err, IfOk}
+use Rattle.std.specs.List.{AllByRecursion}
 use Rattle.std.proofs.lemmas.Slice.Eq.{bytes_eq-Decides}
 use Rattle.hls_text.specs.Lines.{Text}
 use Rattle.hls_scenario.specs.declared.scenario.Scenario.{Scenario}
@@ -17,14 +18,13 @@ use Rattle.hls_report_text.specs.declared.report.Answer.{Answer}
 use Rattle.hls_report_text.specs.declared.report.Answer.TheVariants.{Done, Refused}
 use Rattle.hls_report_text.specs.declared.report.Answered.{Answered}
 use Rattle.hls_report_text.specs.declared.stretch.Stretch.{Stretch}
-use Rattle.hls_report_text.specs.declared.report.Report.{Report}
 use Rattle.hls_report_text.specs.Content.{Content, content_of}
-use Rattle.hls_report_text.specs.ReportText.{report_text}
 use Rattle.hls_machine.specs.Hierarchy.{Hierarchy, start}
 use Rattle.hls_machine.specs.Steps.{Step, Elapse, after, state}
 use Rattle.hls_machine.specs.Legal.{IsLegal}
 use Rattle.hls_machine_supply.proofs.Runs as supply
 use Rattle.hls_accounts.specs.Schedule.{last_name, is_name, is_served, path_at}
+use Rattle.hls_accounts.specs.Tells.{TellsFrom, Tells}
 use Rattle.hls_accounts.proofs.Keeping.{stays_kept}
 use Rattle.hls_accounts.proofs.Agreements.{ran_ready}
 use Rattle.hls_answers.specs.Moment.{Boxes, Moment}
@@ -32,13 +32,15 @@ use Rattle.hls_answers.specs.Refusals.{IsUnderived}
 use Rattle.hls_answers.specs.Answers.{number, Applies, IsAnswer}
 use Rattle.hls_answers.specs.Along.{AnswersAlong}
 use Rattle.hls_answers.specs.Kit.{boxes_left, boxes_after}
-use Rattle.hls_legal_report.specs.Legal.{IsLegalContent, IsLegalReport}
+use Rattle.hls_legal_report.specs.Legal.{IsLegalContent}
 use Rattle.hls_legal_report.proofs.Keeping.{report_kept}
+use Rattle.hls_legal_jobs.proofs.Kept.{jobs_kept}
 use Rattle.hls_legal_report.proofs.Removal.{removed}
 use Rattle.hls_audit_clauses.proofs.Kept.{report_kept as never_fails}
 use Rattle.hls_core.specs.Texts.{IsLegalText}
 use Rattle.hls_top.specs.Outputs.{IsReportOf}
-use Rattle.hls_top.specs.Promises.{IsRefusal, HasRoom, IsAnswerIn, AnswersEach, KeepsPromises}
+use Rattle.hls_top.specs.Promises.{IsRefusal, HasRoom, IsAnswerIn, moment_before, AnswersEach}
+use Rattle.hls_top.specs.Promises.{KeepsPromises}
 
 -- ---- one thread at most
 
@@ -56,30 +58,34 @@ one_served stretches t name other is also =
 
 -- ---- the answers along a run
 
--- the first steps of a legal run are one
-begun : (h : Hierarchy) (past rest : List Step) → IsLegal h (past ++ rest) → IsLegal h past
-begun h [] rest legal = tt
-begun h (step ∷ past) rest legal = (legal.0, begun (after h step) past rest legal.1)
+first_of : (P : Answered → Type 0) (left : List Answered) (at : ℕ) → AllByRecursion P left
+    → AllByRecursion P (take at left)
+first_of P left zero all = tt
+first_of P [] (suc at) all = tt
+first_of P (a ∷ left) (suc at) all = (all.0, first_of P left at all.1)
 
--- a command has its defined answer where the first steps lead
-record IsBehind (depth : ℕ) (h : Hierarchy) (boxes : Boxes) (steps : List Step) (before : List Answered)
-    (a : Answered) : Type 0 where
+-- a command has its defined answer where the first steps lead, which the report has told by then
+pub record IsBehind (short : Content) (depth : ℕ) (h : Hierarchy) (boxes : Boxes) (steps : List Step)
+    (before : List Answered) (a : Answered) : Type 0 where
   pub past : List Step
   pub rest : List Step
   pub whole : past ++ rest ≡ steps
+  pub tells : TellsFrom short h past before
   pub answer : IsAnswer (record {
     hierarchy = state h past;
     boxes = boxes_left boxes before;
     depth = depth;
   }) a.command a.answer
 
-further : (depth : ℕ) (h : Hierarchy) (boxes later : Boxes) (step : Step) (steps : List Step)
+further : (short : Content) (depth : ℕ) (h : Hierarchy) (boxes later : Boxes) (step : Step) (steps : List Step)
     (before now : List Answered) (a : Answered) → boxes_left boxes now ≡ boxes_left later before
-    → IsBehind depth (after h step) later steps before a → IsBehind depth h boxes (step ∷ steps) now a
-further depth h boxes later step steps before now a same b = record {
+    → ((past : List Step) → TellsFrom short (after h step) past before → TellsFrom short h (step ∷ past) now)
+    → IsBehind short depth (after h step) later steps before a → IsBehind short depth h boxes (step ∷ steps) now a
+further short depth h boxes later step steps before now a same told b = record {
   past = step ∷ b.past;
   rest = b.rest;
   whole = ap (λ l. step ∷ l) b.whole;
+  tells = told b.past b.tells;
   answer = subst (λ (left : Boxes). IsAnswer (record {
     hierarchy = state (after h step) b.past;
     boxes = left;
@@ -87,31 +93,41 @@ further depth h boxes later step steps before now a same b = record {
   }) a.command a.answer) (sym same) b.answer;
 }
 
-first_behind : (depth : ℕ) (h : Hierarchy) (boxes : Boxes) (steps : List Step) (b a : Answered) → b ≡ a
+first_behind : (short : Content) (depth : ℕ) (h : Hierarchy) (boxes : Boxes) (steps : List Step) (b a : Answered)
+    → b ≡ a → h.now ≡ short.horizon
     → IsAnswer (record { hierarchy = h; boxes = boxes; depth = depth }) b.command b.answer
-    → IsBehind depth h boxes steps [] a
-first_behind depth h boxes steps b a same answer = record {
+    → IsBehind short depth h boxes steps [] a
+first_behind short depth h boxes steps b a same now answer = record {
   past = [];
   rest = steps;
   whole = refl;
+  tells = now;
   answer = subst (λ (x : Answered). IsAnswer (record { hierarchy = h; boxes = boxes; depth = depth }) x.command
       x.answer) same answer;
 }
 
-behind : (depth : ℕ) (h : Hierarchy) (boxes : Boxes) (steps : List Step) (left : List Answered) (at : ℕ)
-    (a : Answered) → AnswersAlong depth h boxes steps left → slice_get left at ≡ Some a
-    → IsBehind depth h boxes steps (take at left) a
-behind depth h boxes [] [] at a along there = absurd (let no : None ≡ Some a = there in cc)
-behind depth h boxes [] (b ∷ left) at a along there = absurd along
-behind depth h boxes (Elapse asking masks path ∷ steps) left at a along there =
-    further depth h boxes boxes (Elapse asking masks path) steps (take at left) (take at left) a refl
-    (behind depth (after h (Elapse asking masks path)) boxes steps left at a along there)
-behind depth h boxes (step ∷ steps) [] at a along there = absurd along
-behind depth h boxes (step ∷ steps) (b ∷ left) zero a along there =
-    first_behind depth h boxes (step ∷ steps) b a (let same : Some b ≡ Some a = there in cc) along.0
-behind depth h boxes (step ∷ steps) (b ∷ left) (suc at) a along there =
-    further depth h boxes (boxes_after boxes b.command b.answer) step steps (take at left) (b ∷ take at left) a refl
-    (behind depth (after h step) (boxes_after boxes b.command b.answer) steps left at a along.1 there)
+module _ (c : Content) (told : List Answered) (depth : ℕ) (a : Answered) where
+  abbrev short : Content
+  short = record c { horizon = a.tick; answered = told }
+
+  behind : (h : Hierarchy) (boxes : Boxes) (steps : List Step) (left : List Answered) (at : ℕ)
+      → TellsFrom c h steps left → AnswersAlong depth h boxes steps left → slice_get left at ≡ Some a
+      → IsBehind short depth h boxes steps (take at left) a
+  behind h boxes [] [] at tells along there = absurd (let no : None ≡ Some a = there in cc)
+  behind h boxes [] (b ∷ left) at tells along there = absurd along
+  behind h boxes (Elapse asking masks path ∷ steps) left at tells along there =
+      further short depth h boxes boxes (Elapse asking masks path) steps (take at left) (take at left) a refl
+      (λ past rest. (first_of (λ (b : Answered). h.now < b.tick) left at tells.0, tells.1, rest))
+      (behind (after h (Elapse asking masks path)) boxes steps left at tells.2 along there)
+  behind h boxes (step ∷ steps) [] at tells along there = absurd along
+  behind h boxes (step ∷ steps) (b ∷ left) zero tells along there =
+      let same : b ≡ a = (let both : Some b ≡ Some a = there in cc) in
+      first_behind short depth h boxes (step ∷ steps) b a same
+      (sym tells.0 ∙ ap (λ (x : Answered). x.tick) same) along.0
+  behind h boxes (step ∷ steps) (b ∷ left) (suc at) tells along there =
+      further short depth h boxes (boxes_after boxes b.command b.answer) step steps (take at left) (b ∷ take at left) a
+      refl (λ past rest. (tells.0, tells.1, rest))
+      (behind (after h step) (boxes_after boxes b.command b.answer) steps left at tells.2 along.1 there)
 
 -- ---- what has room is refused exactly where there is no derivation
 
@@ -144,26 +160,22 @@ answer_in : (m : Moment) (command : Command) (answer : Answer) → IsAnswer m co
     → IsAnswerIn m command answer
 answer_in m command answer is = record { defined = is; refused = exact m command answer is }
 
-answers_each : (boxes : Boxes) (c : Content) (steps : List Step) → IsLegal start steps
+answers_each : (boxes : Boxes) (c : Content) (steps : List Step) → IsLegal start steps → Tells c steps
     → AnswersAlong c.depth start boxes steps c.answered → AnswersEach boxes c
-answers_each boxes c steps legal along = λ at a there.
-    let b = behind c.depth start boxes steps c.answered at a along there in
-    let m : Moment = record {
-      hierarchy = state start b.past;
-      boxes = boxes_left boxes (take at c.answered);
-      depth = c.depth;
-    } in
-    record {
-      moment = m;
-      reached = record {
+answers_each boxes c steps legal tells along = record {
+  steps = steps;
+  legal = legal;
+  tells = tells;
+  each = λ at a there.
+      let b = behind c (take at c.answered) c.depth a start boxes steps c.answered at tells along there in
+      record {
         past = b.past;
-        legal = begun start b.past b.rest (subst (λ all. IsLegal start all) (sym b.whole) legal);
-        leads = refl;
+        rest = b.rest;
+        whole = b.whole;
+        tells = b.tells;
+        answer = answer_in (moment_before c boxes b.past at) a.command a.answer b.answer;
       };
-      boxes_are = refl;
-      depth_is = refl;
-      answer = answer_in m a.command a.answer b.answer;
-    }
+}
 
 -- ---- all of it
 
@@ -177,7 +189,8 @@ promises_kept s given boxes c legal = record {
   stays = report_kept c legal.accounts
       (stays_kept c legal.steps legal.run.legal legal.run.tells
       (supply.stays_kept legal.steps legal.run.legal));
-  answers = answers_each boxes c legal.steps legal.run.legal legal.run.answers;
+  jobs = jobs_kept s given boxes c legal;
+  answers = answers_each boxes c legal.steps legal.run.legal legal.run.tells legal.run.answers;
   refusals = λ at a r there refused. removed s given boxes c at a r legal there refused;
   kept = λ clause t. never_fails s given boxes c legal clause t;
 }

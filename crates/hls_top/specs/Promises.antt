@@ -1,5 +1,5 @@
 -- What every legal report promises.
-use Rattle.std.specs.Prelude.{◌≡◌, ℕ, ◌≤◌, ◌<◌, ◌↔◌, true, List, Some, All, slice_get, take}
+use Rattle.std.specs.Prelude.{◌≡◌, ℕ, ◌≤◌, ◌<◌, ◌↔◌, ◌++◌, true, List, Some, All, slice_get, take}
 use Rattle.hls_text.specs.Lines.{Text}
 use Rattle.hls_scenario.specs.declared.scenario.Scenario.{Scenario}
 use Rattle.hls_scenario.specs.declared.scenario.Command.{Command}
@@ -10,6 +10,7 @@ use Rattle.hls_report_text.specs.declared.report.Answered.{Answered}
 use Rattle.hls_report_text.specs.Content.{Content}
 use Rattle.hls_accounts.specs.Schedule.{is_served}
 use Rattle.hls_accounts.specs.Ready.{is_ready}
+use Rattle.hls_accounts.specs.Tells.{Tells}
 use Rattle.hls_answers.specs.Moment.{Boxes, Moment}
 use Rattle.hls_answers.specs.Refusals.{IsUnderived}
 use Rattle.hls_answers.specs.Answers.{number, Applies, IsAnswer}
@@ -17,7 +18,10 @@ use Rattle.hls_answers.specs.Kit.{boxes_left}
 use Rattle.hls_legal_report.specs.Legal.{IsLegalContent}
 use Rattle.hls_legal_report.specs.Kept.{KeepsAccount}
 use Rattle.hls_legal_report.specs.Without.{scenario_without, content_without}
-use Rattle.hls_machine.specs.Legal.{IsReached}
+use Rattle.hls_legal_jobs.specs.Kept.{KeepsJobs}
+use Rattle.hls_machine.specs.Hierarchy.{start}
+use Rattle.hls_machine.specs.Steps.{Step, state}
+use Rattle.hls_machine.specs.Legal.{IsLegal}
 use Rattle.hls_audit_clauses.specs.Kept.{IsKept}
 
 -- each tick runs at most one thread, which is ready
@@ -41,19 +45,33 @@ pub record IsAnswerIn (m : Moment) (command : Command) (answer : Answer) : Type 
   pub refused : HasRoom m command
       → (IsRefusal answer ↔ ((name : Text) × IsUnderived m.hierarchy m.depth command name))
 
--- so it is in the hierarchy where a legal run leads by the commands and the ticks before it, with the boxes that these
--- commands left
-pub record IsAnsweredBehind (depth : ℕ) (boxes : Boxes) (before : List Answered) (a : Answered) : Type 0 where
-  pub moment : Moment
-  pub reached : IsReached moment.hierarchy
-  pub boxes_are : moment.boxes ≡ boxes_left boxes before
-  pub depth_is : moment.depth ≡ depth
-  pub answer : IsAnswerIn moment a.command a.answer
+-- what a report has told before a command: the commands before it, and the ticks before its tick
+abbrev pub told_before : Content → (at : ℕ) → Answered → Content
+told_before c at a = record c { horizon = a.tick; answered = take at c.answered }
 
--- each command of the report
-abbrev pub AnswersEach : Boxes → Content → Type 0
-AnswersEach boxes c = (at : ℕ) (a : Answered) → slice_get c.answered at ≡ Some a
-    → IsAnsweredBehind c.depth boxes (take at c.answered) a
+-- the hierarchy where these steps lead, with the boxes that the commands before one have left
+abbrev pub moment_before : Content → Boxes → (past : List Step) → (at : ℕ) → Moment
+moment_before c boxes past at = record {
+  hierarchy = state start past;
+  boxes = boxes_left boxes (take at c.answered);
+  depth = c.depth;
+}
+
+-- a run is cut before a command of the report: its first steps are those that the report has told by then, and where
+-- they lead the answer is the defined one
+pub record IsAnsweredBehind (boxes : Boxes) (c : Content) (steps : List Step) (at : ℕ) (a : Answered) : Type 0 where
+  pub past : List Step
+  pub rest : List Step
+  pub whole : past ++ rest ≡ steps
+  pub tells : Tells (told_before c at a) past
+  pub answer : IsAnswerIn (moment_before c boxes past at) a.command a.answer
+
+-- the report tells one legal run, and along it each of its commands is answered so
+pub record AnswersEach (boxes : Boxes) (c : Content) : Type 0 where
+  pub steps : List Step
+  pub legal : IsLegal start steps
+  pub tells : Tells c steps
+  pub each : (at : ℕ) (a : Answered) → slice_get c.answered at ≡ Some a → IsAnsweredBehind boxes c steps at a
 
 -- a refused command changes nothing: without it the same report, with its answer left out, is legal
 abbrev pub RefusesIdly : Scenario → (given : ℕ) → Boxes → Content → Type 0
@@ -66,6 +84,8 @@ pub record KeepsPromises (s : Scenario) (given : ℕ) (boxes : Boxes) (c : Conte
   pub ready : RunsReady c
   -- every stay meets its printed guarantee in every window in which its thread is ready, and keeps its cap
   pub stays : All (KeepsAccount c) c.accounts
+  -- what a wake asks for is served in time, by the thread's reservation and by its guarantee
+  pub jobs : KeepsJobs c
   pub answers : AnswersEach boxes c
   pub refusals : RefusesIdly s given boxes c
   -- no clause of the audit fails at any tick: `check` finds the report kept

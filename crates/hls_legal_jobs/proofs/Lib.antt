@@ -1,0 +1,12 @@
+pub mod Releases
+pub mod InTime
+pub mod SeatedSince
+pub mod Agreeing
+pub mod Legal
+pub mod Wakes
+pub mod Cuts
+pub mod Standing
+pub mod Reports
+pub mod Lasting
+pub mod Prompt
+pub mod Kept

@@ -1,0 +1,4 @@
+pub mod Jobs
+pub mod Runs
+pub mod Reports
+pub mod Kept

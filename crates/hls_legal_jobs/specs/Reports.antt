@@ -1,0 +1,105 @@
+-- Jobs of a thread by the commands and the schedule of a report: each wake releases one.
+use Rattle.std.specs.Prelude.{◌≡◌, ℕ, ◌+◌, ◌*◌, ◌-◌, ◌≤◌, ◌<◌, List, ◌++◌}
+use Rattle.std.specs.Prelude.{Option, Some, None, Bool, true, false, slice_get}
+use Rattle.std.specs.Int.{div_ceil}
+use Rattle.hls_text.specs.Lines.{Text}
+use Rattle.hls_chron.specs.declared.plain.Terms.TheVariants.{Res}
+use Rattle.hls_chron.specs.Ticks.{count}
+use Rattle.hls_kinds.specs.declared.reservations.Reservation.{Reservation}
+use Rattle.hls_guarantee.specs.declared.Guarantee.TheVariants.{All}
+use Rattle.hls_scenario.specs.declared.scenario.Spot.TheVariants.{Under}
+use Rattle.hls_scenario.specs.declared.scenario.Perch.{Perch}
+use Rattle.hls_scenario.specs.declared.scenario.Command.{Command}
+use Rattle.hls_scenario.specs.declared.scenario.Command.TheVariants.{Wake}
+use Rattle.hls_report_text.specs.declared.report.Answered.{Answered}
+use Rattle.hls_report_text.specs.Content.{Content}
+use Rattle.hls_accounts.specs.declared.stay.Stay.{Stay}
+use Rattle.hls_accounts.specs.Commands.{last_rousing, last_seating}
+use Rattle.hls_accounts.specs.Schedule.{is_served}
+use Rattle.hls_accounts.specs.Ready.{is_ready}
+use Rattle.hls_accounts.specs.Stays.{stays}
+use Rattle.hls_answers.specs.Moment.{perches_of}
+
+-- ---- who has a reservation
+
+-- one of the last seats that these commands give the node of a name
+pub record IsLastSeat (answered : List Answered) (name : Text) (perch : Perch) : Type 0 where
+  pub by : Answered
+  pub last : last_seating name answered ≡ Some by
+  pub port : ℕ
+  pub seat : slice_get (perches_of by.command) port ≡ Some perch
+
+-- By these commands the thread of a name sits as this reservation, hard or soft, on a scheduler for which every tick is
+-- guaranteed.
+pub record SitsReserved (answered : List Answered) (name : Text) (r : Reservation) : Type 0 where
+  pub scheduler : Text
+  pub hard : Bool
+  pub seat : Perch
+  pub seated : IsLastSeat answered name seat
+  pub spot : seat.spot ≡ Under scheduler (Res hard r.x r.y)
+  pub above : Perch
+  pub loaded : IsLastSeat answered scheduler above
+  pub all : above.want ≡ All
+
+-- the stay at a place among all goes on after the first commands
+abbrev pub GoesOnAfter : (before : List Answered) → (place : ℕ) → Stay → Type 0
+GoesOnAfter before place stay = slice_get (stays before) place ≡ Some (record stay { until = None })
+
+-- For a stay of the report its thread has this reservation: after some of the commands, those up to the one that begins
+-- the stay or more, the stay goes on and the thread sits so.
+pub record IsReservedStay (c : Content) (stay : Stay) (r : Reservation) : Type 0 where
+  pub place : ℕ
+  pub there : slice_get (stays c.answered) place ≡ Some stay
+  pub since : stay.since ≡ r.since
+  pub before : List Answered
+  pub left : List Answered
+  pub all : c.answered ≡ before ++ left
+  pub goes_on : GoesOnAfter before place stay
+  pub sits : SitsReserved before stay.name r
+
+-- ---- its jobs
+
+-- for how many ticks a wake is, where it says so
+abbrev pub burst_in : Command → Option ℕ
+burst_in (Wake name burst) = burst
+burst_in _ = None
+
+-- A command of a tick wakes the thread of a name for so many ticks, and is the last word on it in that tick.
+pub record IsWake (c : Content) (name : Text) (a : Answered) (ticks : ℕ) : Type 0 where
+  pub last : last_rousing name a.tick c.answered ≡ Some a
+  pub burst : burst_in a.command ≡ Some ticks
+
+-- how many periods the budgets of so many ticks take
+abbrev pub periods_for : Reservation → (ticks : ℕ) → ℕ
+periods_for r ticks = div_ceil ticks r.x
+
+-- in how many ticks a job has so many: in those of its periods, but for what is left of its budgets
+abbrev pub due_in : Reservation → (ticks : ℕ) → ℕ
+due_in r ticks = periods_for r ticks * r.y + ticks - periods_for r ticks * r.x
+
+-- In tick t the last word on the thread of a name is a wake for so many ticks, in or after another tick.
+pub record IsCounted (c : Content) (name : Text) (from t : ℕ) : Type 0 where
+  pub by : Answered
+  pub last : last_rousing name t c.answered ≡ Some by
+  pub since : from ≤ by.tick
+  pub ticks : ℕ
+  pub burst : burst_in by.command ≡ Some ticks
+
+-- From a tick on, and before another, the thread of a name is ready by wakes of these ticks for so many ticks each, and
+-- none comes before the periods of the one before have passed. At first its stay begins, or it was not ready for a
+-- period.
+pub record IsWokenInTurn (c : Content) (name : Text) (r : Reservation) (from until : ℕ) : Type 0 where
+  pub since : r.since ≤ from
+  pub rested : (t : ℕ) → r.since ≤ t → t < from → t < until → from ≤ t + r.y → is_ready c name t ≡ false
+  pub counted : (t : ℕ) → from ≤ t → t < until → is_ready c name t ≡ true → IsCounted c name from t
+  pub apart : (a b : Answered) (m n : ℕ) → from ≤ a.tick → a.tick < b.tick → b.tick < until → IsWake c name a m
+      → IsWake c name b n → a.tick + periods_for r m * r.y ≤ b.tick
+
+pub record IsServedInTime (c : Content) (name : Text) (r : Reservation) (from until : ℕ) : Type 0 where
+  -- each tick in which it is ready lies less than the periods of its last wake after that
+  pub soon : (t : ℕ) (a : Answered) (m : ℕ) → from ≤ t → t < until → is_ready c name t ≡ true
+      → last_rousing name t c.answered ≡ Some a → burst_in a.command ≡ Some m → t < a.tick + periods_for r m * r.y
+  -- after a wake it has its nth tick in these ticks, unless there was a further word on it
+  pub done : (a : Answered) (m n : ℕ) → from ≤ a.tick → IsWake c name a m → n ≤ m → a.tick + due_in r n ≤ until
+      → ((t : ℕ) → a.tick ≤ t → t < a.tick + due_in r n → last_rousing name t c.answered ≡ Some a)
+      → n ≤ count (is_served c.stretches name) a.tick (due_in r n)

@@ -1,0 +1,67 @@
+//! What holds of jobs: each function's contract is a law, and its body does nothing.
+
+ghost use Rattle.std.specs.Prelude.{◌≡◌, ℕ, ◌+◌, ◌-◌, ◌≤◌, ◌<◌, Bool, List};
+ghost use Rattle.hls_chron.specs.Ledger.{Ledger, now_of};
+ghost use Rattle.hls_chron.specs.Seats.{asked, served};
+ghost use Rattle.hls_kinds.specs.Tenants.{tenant_at};
+ghost use Rattle.hls_kinds.specs.Made.{IsMade};
+ghost use Rattle.hls_book_edf.specs.Books.{IsGiven};
+ghost use Rattle.hls_scenario.specs.declared.scenario.Scenario.{Scenario};
+ghost use Rattle.hls_report_text.specs.Content.{Content};
+ghost use Rattle.hls_machine.specs.Hierarchy.{start, had_asked, was_served};
+ghost use Rattle.hls_machine.specs.Steps.{Step, state};
+ghost use Rattle.hls_machine.specs.Legal.{IsLegal};
+ghost use Rattle.hls_accounts.specs.declared.stay.Stay.{Stay};
+ghost use Rattle.hls_accounts.specs.Accounts.{end_of};
+ghost use Rattle.hls_accounts.specs.Tells.{Tells};
+ghost use Rattle.hls_answers.specs.Moment.{Boxes};
+ghost use Rattle.hls_legal_report.specs.Legal.{IsLegalContent};
+ghost use Rattle.hls_legal_jobs.specs.Jobs.{AsksForJobs, AreInTime};
+ghost use Rattle.hls_legal_jobs.specs.Runs.{HasReservation};
+ghost use Rattle.hls_legal_jobs.specs.Kept.{KeepsJobs};
+ghost use Rattle.hls_legal_jobs.specs.Reports.{IsReservedStay, periods_for, due_in, IsWokenInTurn, IsServedInTime};
+
+use hls_chron::{Config, Terms};
+use hls_kinds::{Reservation, Tenant};
+
+/// Jobs of a reservation, hard or soft, are in time, where its scheduler was given every tick in which it asked, since
+/// its start or its last settling: each has what it asks for within the periods whose budgets that takes, and all that
+/// is left of these budgets before their end, whatever else sits on the scheduler.
+pub fn jobs_are_in_time()
+    ensures { (b : Ledger) (slot : ℕ) (hard : Bool) (r : Reservation) (periods : ℕ → ℕ) (from : ℕ)
+        (released : ℕ → Bool) → IsMade Config.Edf b → IsGiven b →
+        tenant_at b slot ≡ Tenant.Sits (Terms.Res hard r.x r.y) r.since →
+        AsksForJobs r periods from released (asked b slot) (served b slot) (now_of b) →
+        AreInTime r periods from released (asked b slot) (served b slot) (now_of b) }
+{}
+
+/// So are those of each thread of a legal run, since its stay began, that has a reservation on a scheduler for which
+/// every tick is guaranteed. What the run was before a stay ended is a legal run too, in which the stay goes on.
+pub fn jobs_of_legal_runs_are_in_time()
+    ensures { (steps : List Step) (k : ℕ) (r : Reservation) (periods : ℕ → ℕ) (from : ℕ)
+        (released : ℕ → Bool) → IsLegal start steps → HasReservation (state start steps) k r →
+        AsksForJobs r periods from released (had_asked (state start steps).past k)
+        (was_served (state start steps).past k) (state start steps).now →
+        AreInTime r periods from released (had_asked (state start steps).past k)
+        (was_served (state start steps).past k) (state start steps).now }
+{}
+
+/// So are those of a thread by the commands and the schedule of a report that tells a legal run, up to the end of its
+/// stay.
+pub fn jobs_of_reports_are_in_time()
+    ensures { (c : Content) (steps : List Step) (stay : Stay) (r : Reservation) (from : ℕ) → IsLegal start steps →
+        Tells c steps → IsReservedStay c stay r → IsWokenInTurn c stay.name r from (end_of c stay) →
+        IsServedInTime c stay.name r from (end_of c stay) }
+{}
+
+/// A wake for no more than the budget takes one period.
+pub fn jobs_of_one_budget_take_one_period(r: Reservation)
+    ensures { (ticks : ℕ) → 0 < ticks → ticks ≤ r.x →
+        (periods_for r ticks ≡ 1) × (due_in r ticks ≡ r.y + ticks - r.x) }
+{}
+
+/// In a legal report all jobs are in time: those of reservations that are woken in turn, below a scheduler for which
+/// every tick is guaranteed, and those of any thread by its printed guarantee alone, wherever it sits.
+pub fn legal_reports_keep_their_jobs()
+    ensures { (s : Scenario) (given : ℕ) (boxes : Boxes) (c : Content) → IsLegalContent s given boxes c → KeepsJobs c }
+{}
