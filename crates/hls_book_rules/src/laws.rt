@@ -12,8 +12,8 @@ ghost use Rattle.hls_book_rules.specs.Places.{KeepsPlaceRules};
 use hls_chron::Config;
 use hls_kinds::Reservation;
 
-/// What each kind begins with in a new book: virtual time 0, the first slot next with a whole quantum, no owners, and no
-/// budgets.
+/// What each kind begins with in a new book: virtual time 0, the first slot next with a whole quantum, no owners, and
+/// no budgets.
 pub fn new_books_begin_anew()
     ensures { (b : Ledger) → IsNew b → BeginsAnew b }
 {}
@@ -35,8 +35,8 @@ pub fn tags_meet_their_rules(total: u32, most: u32)
     ensures { (b : Ledger) → IsMade (Config.Sfq total most) b → KeepsTagRules b }
 {}
 
-/// The virtual time never falls. A start tag is fixed when its seat begins to ask, stays while the seat asks and waits,
-/// and is a step later once it was served.
+/// The virtual time never falls. A start tag is fixed when its seat begins to ask: it stays while the seat asks and
+/// waits, and is a step later once it was served.
 pub fn tags_keep_their_order(total: u32, most: u32)
     ensures { (b : Ledger) → IsMade (Config.Sfq total most) b → KeepsTagOrderInTicks total most b }
 {}
