@@ -83,7 +83,7 @@ had_by : (quantum rest : ℕ) → ℕ
 had_by quantum rest = if rest == 0 then quantum else rest
 
 module _ (quantum : ℕ) (some : 0 < quantum) where
-  had_none : had_of quantum 0 ≡ quantum
+  pub had_none : had_of quantum 0 ≡ quantum
   had_none = rw (zero-mod quantum) refl
 
   had_rest : (ticks rest : ℕ) → ticks % quantum ≡ rest → 0 < rest → had_of quantum ticks ≡ rest
@@ -140,7 +140,7 @@ module _ (quantum : ℕ) (some : 0 < quantum) where
 
 -- ---- ticks
 
-turn_is : (quantum : ℕ) (b : Ledger) (slot had : ℕ) → turn_slot b ≡ slot
+pub turn_is : (quantum : ℕ) (b : Ledger) (slot had : ℕ) → turn_slot b ≡ slot
     → had_of quantum (turn_ticks b slot) ≡ had → turn_of quantum b ≡ record { slot = slot; had = had }
 turn_is quantum b slot had is all =
     ap (λ (s : ℕ). record { slot = s; had = had_of quantum (turn_ticks b s) }) is

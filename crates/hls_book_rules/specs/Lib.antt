@@ -2,3 +2,4 @@ pub mod Budgets
 pub mod Tags
 pub mod Turns
 pub mod Places
+pub mod NewBooks

@@ -1,12 +1,14 @@
 -- The rules of the virtual time and the tags of fair queueing.
-use Rattle.std.specs.Prelude.{◌≡◌, ◌≢◌, ℕ, ◌+◌, Some, None, max}
+use Rattle.std.specs.Prelude.{◌≡◌, ◌≢◌, ℕ, ◌+◌, ◌≤◌, Some, None, max}
 use Rattle.hls_chron.specs.declared.book.TickRow.{TickRow}
 use Rattle.hls_chron.specs.declared.book.Event.{Event}
 use Rattle.hls_chron.specs.declared.book.Event.TheVariants.{Seat, Leave, Settle}
+use Rattle.hls_chron.specs.declared.plain.Config.TheVariants.{Sfq}
 use Rattle.hls_chron.specs.declared.plain.Terms.{Terms}
 use Rattle.hls_chron.specs.declared.plain.Terms.TheVariants.{Weight}
 use Rattle.hls_chron.specs.Ledger.{Ledger, now_of, with_row, with_mark}
-use Rattle.hls_chron.specs.Seats.{terms_at}
+use Rattle.hls_chron.specs.Seats.{SlotAsks, terms_at}
+use Rattle.hls_kinds.specs.Made.{IsRow}
 use Rattle.hls_kinds.specs.Tags.{tag_step, share_in, time_by, finish_by, start_tag}
 use Rattle.hls_kinds.specs.Tenants.{tenant_then}
 
@@ -41,3 +43,17 @@ pub record KeepsTagRules (b : Ledger) : Type 0 where
       → finish_of (with_mark b (Seat other terms)) slot ≡ finish_of b slot
   pub without : (slot other : ℕ) → other ≢ slot → finish_of (with_mark b (Leave other)) slot ≡ finish_of b slot
   pub stays : (event : Event) → time_of (with_mark b event) ≡ time_of b
+
+-- what a tick leaves of the virtual time and of start tags
+pub record KeepsTagOrder (total most : ℕ) (b : Ledger) (row : TickRow) : Type 0 where
+  -- the virtual time never falls
+  pub grows : time_of b ≤ time_of (with_row b row)
+  -- a start tag is fixed when its seat begins to ask, until the seat is served
+  pub fixed : (slot weight : ℕ) → terms_at b slot ≡ Some (Weight weight) → SlotAsks row.mask slot
+      → row.to ≢ Some slot → start_of (with_row b row) slot ≡ start_of b slot
+  -- and then it is a step later
+  pub goes_on : (slot weight : ℕ) → terms_at b slot ≡ Some (Weight weight) → row.to ≡ Some slot
+      → start_of (with_row b row) slot ≡ start_of b slot + tag_step weight
+
+abbrev pub KeepsTagOrderInTicks : (total most : ℕ) → Ledger → Type 0
+KeepsTagOrderInTicks total most b = (row : TickRow) → IsRow (Sfq total most) b row → KeepsTagOrder total most b row

@@ -4,12 +4,19 @@ ghost use Rattle.std.specs.Prelude.{ℕ, Bool, ◌<◌};
 ghost use Rattle.hls_chron.specs.Ledger.{Ledger};
 ghost use Rattle.hls_kinds.specs.Made.{IsMade};
 ghost use Rattle.hls_book_rules.specs.Budgets.{KeepsBudgetRules, KeepsClaimRules};
-ghost use Rattle.hls_book_rules.specs.Tags.{KeepsTagRules};
+ghost use Rattle.hls_book_rules.specs.NewBooks.{IsNew, BeginsAnew};
+ghost use Rattle.hls_book_rules.specs.Tags.{KeepsTagRules, KeepsTagOrderInTicks};
 ghost use Rattle.hls_book_rules.specs.Turns.{KeepsTurnRules};
 ghost use Rattle.hls_book_rules.specs.Places.{KeepsPlaceRules};
 
 use hls_chron::Config;
 use hls_kinds::Reservation;
+
+/// What each kind begins with in a new book: virtual time 0, the first slot next with a whole quantum, no owners, and
+/// no budgets.
+pub fn new_books_begin_anew()
+    ensures { (b : Ledger) → IsNew b → BeginsAnew b }
+{}
 
 /// The budget and the deadline of a reservation go from tick to tick by their rules, whatever it asks and is served in
 /// ticks in which it asks (after Abeni and Buttazzo 1998).
@@ -26,6 +33,12 @@ pub fn claims_meet_their_rules(reservation: Reservation)
 /// Goyal, Guo and Vin 1996).
 pub fn tags_meet_their_rules(total: u32, most: u32)
     ensures { (b : Ledger) → IsMade (Config.Sfq total most) b → KeepsTagRules b }
+{}
+
+/// The virtual time never falls. A start tag is fixed when its seat begins to ask: it stays while the seat asks and
+/// waits, and is a step later once it was served.
+pub fn tags_keep_their_order(total: u32, most: u32)
+    ensures { (b : Ledger) → IsMade (Config.Sfq total most) b → KeepsTagOrderInTicks total most b }
 {}
 
 /// The turns of round robin go from tick to tick, and from seat to seat, by their rules.

@@ -1,0 +1,17 @@
+-- The bound between two seats, from both sides.
+use Rattle.std.proofs.Common.{ℕ, arith}
+use Rattle.hls_chron.specs.declared.plain.Config.TheVariants.{Sfq}
+use Rattle.hls_chron.specs.Ledger.{Ledger}
+use Rattle.hls_kinds.specs.Made.{IsMade}
+use Rattle.hls_kinds.specs.Shares.{KeepsSharesByWeight}
+use Rattle.hls_book_made.proofs.Books.{shares_made}
+use Rattle.hls_book_sfq.proofs.Runs.{keeps-shares}
+use Rattle.hls_book_fairness.specs.Fairness.{ServesAlike}
+
+pub serves_alike : (total most : ℕ) (b : Ledger) → IsMade (Sfq total most) b → ServesAlike b
+serves_alike total most b made =
+    let shares : KeepsSharesByWeight b = keeps-shares total most b (shares_made total most b made) in
+    λ i n slot weight other rival lt one two.
+    let more = shares i n slot other weight rival lt one two in
+    let less = shares i n other slot rival weight lt two one in
+    record { not_less = omega (arith, less); not_more = more }

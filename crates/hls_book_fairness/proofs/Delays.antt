@@ -1,0 +1,115 @@
+-- When a seat has had its turns.
+use Rattle.std.proofs.Common.{◌≡◌, ℕ, ◌+◌, ◌*◌, ◌-◌, ◌<◌, ◌≤◌, suc, refl, sym, arith, ap, ◌∙◌, true, inl, inr}
+use Rattle.std.proofs.Common.{add-one}
+use Rattle.std.specs.Prelude.{◌/◌}
+use Rattle.std.proofs.Math.Nat.{mul-le-mul_left, mul-add}
+use Rattle.std.proofs.lemmas.Bool.{cases_lt}
+use Rattle.hls_chron.specs.declared.plain.Config.TheVariants.{Sfq}
+use Rattle.hls_chron.specs.declared.plain.Terms.TheVariants.{Weight}
+use Rattle.hls_chron.specs.Ledger.{Ledger, now_of}
+use Rattle.hls_chron.specs.Seats.{asked, served}
+use Rattle.hls_chron.specs.Ticks.{count}
+use Rattle.hls_kinds.specs.Made.{IsMade}
+use Rattle.hls_kinds.specs.Shares.{AsksThroughout}
+use Rattle.hls_kinds.specs.Tags.{share_in}
+use Rattle.hls_kinds.proofs.MarkLaws.{sits_on}
+use Rattle.hls_kinds.proofs.Sums.{sum-at}
+use Rattle.hls_book_made.proofs.Books.{shares_made}
+use Rattle.hls_book_sfq.specs.ShareBook.{KeepsShareBook}
+use Rattle.hls_book_sfq.proofs.Follows.{to_of}
+use Rattle.hls_book_sfq.proofs.Rooms.{weights-at, slot-at, fits-at}
+use Rattle.hls_book_sfq.proofs.Nexts.{share_at}
+use Rattle.hls_book_sfq.proofs.Runs.{has-share}
+use Rattle.hls_book_sfq.proofs.Windows.{given_in, served_in}
+use Rattle.hls_book_fairness.specs.Runs.{given_ticks, served_ticks}
+use Rattle.hls_book_fairness.specs.Delays.{IsLevel, KeepsDelays}
+use Rattle.hls_book_fairness.proofs.Level.{level_share}
+
+-- n / w, rounded down, times w
+rounded : (n w : ℕ) → 0 < w → n < w * (n / w) + w
+rounded n w some = omega arith
+
+-- a share of T, with an error of r ticks of weight w and what is less than a turn
+in_time : (w T r N G turns rest q : ℕ) → 0 < w → w * G ≤ T * N + rest + w * r → T * turns < w * q + w
+    → T + rest ≤ T * 1 + (T - w) → w ≤ T → q + r ≤ G → turns ≤ N
+in_time w T r N G turns rest q some share part small less had = elim (cases_lt N turns) [
+  | inl few ↦
+      let turn : T * (N + 1) ≤ T * turns = mul-le-mul_left T (omega (arith, few)) in
+      let all : w * (q + r) ≤ w * G = mul-le-mul_left w had in
+      let split = mul-add w q r in
+      let one = mul-add T N 1 in
+      absurd (omega (arith, share, part, small, less, turn, all, split, one))
+  | inr enough ↦ enough
+]
+
+level_in_time : (w T r N G turns q : ℕ) → 0 < w → w * G ≤ T * N + w * r → T * (turns - 1) < w * q + w → q + (r + 1) ≤ G
+    → turns ≤ N
+level_in_time w T r N G turns q some share part had = elim (cases_lt N turns) [
+  | inl few ↦
+      let turn : T * N ≤ T * (turns - 1) = mul-le-mul_left T (omega (arith, few)) in
+      let all : w * (q + (r + 1)) ≤ w * G = mul-le-mul_left w had in
+      let split : w * (q + (r + 1)) ≡ w * q + (w * r + w) = mul-add w q (r + 1) ∙ ap (λ n. w * q + n) (mul-add w r 1
+      ∙ omega arith) in
+      absurd (omega (arith, share, part, turn, all, split))
+  | inr enough ↦ enough
+]
+
+module _ (T M : ℕ) (b : Ledger) (made : IsMade (Sfq T M) b) where
+  book : KeepsShareBook T M b
+  book = shares_made T M b made
+
+  served_same : (slot from n : ℕ) → count (served b slot) from n ≡ served_in (to_of b) slot from n
+  unfolding served
+  served_same slot from n = refl
+
+  module _ (i n slot weight turns : ℕ) (lt : i + n < now_of b) (on : AsksThroughout b slot weight i n) where
+    le : i + suc n ≤ now_of b
+    le = omega (arith, lt)
+
+    asks : (t : ℕ) → i ≤ t → t < i + suc n → asked b slot t ≡ true
+    asks t ge before = on.asks t ge (omega (arith, before))
+
+    some : 0 < weight
+    some =
+        let range = (weights-at T M b book (i + n) (omega (arith, lt))).ranged slot weight
+        (sits_on _ slot on.since (Weight weight) on.sits) in
+        omega (arith, range.0)
+
+    fits : weight ≤ T
+    fits =
+        let here : (share_at b (i + n) slot).weight ≡ weight = ap (λ tenant. (share_in tenant).weight) on.sits in
+        let below = slot-at T M b book (i + n) slot (omega (arith, lt)) (omega (arith, here, some)) in
+        let one = sum-at (λ k. (share_at b (i + n) k).weight) 32 slot (omega (arith, below, book.range.1.1)) in
+        let all = fits-at T M b book (i + n) (omega (arith, lt)) in
+        omega (arith, one, all, here)
+
+    served_more : served_in (to_of b) slot i (suc n) ≡ served_ticks b slot i (n + 1)
+    served_more = sym (served_same slot i (suc n)) ∙ ap (count (served b slot) i) (sym (add-one n))
+
+    given_more : given_in (to_of b) i (suc n) ≡ given_ticks b i (n + 1)
+    given_more = ap (given_in (to_of b) i) (sym (add-one n))
+
+    any : T * turns / weight + (M - 1) ≤ given_ticks b i (n + 1) → turns ≤ served_ticks b slot i (n + 1)
+    any had =
+        let share = has-share T M b book slot on.since weight i n le on.early on.sits asks in
+        let share' : weight * given_ticks b i (n + 1)
+        ≤ T * served_ticks b slot i (n + 1) + (T - weight) + weight * (M - 1) =
+        rw (← given_more, ← served_more) (
+        let one : (M - 1) * 1 ≡ M - 1 = omega arith in
+        let same = ap (λ r. weight * r) one in
+        omega (arith, share, same)) in
+        in_time weight T (M - 1) (served_ticks b slot i (n + 1)) (given_ticks b i (n + 1)) turns (T - weight)
+        (T * turns / weight) some share' (rounded (T * turns) weight some) (omega arith) fits had
+
+    level : IsLevel b slot i → T * (turns - 1) / weight + M ≤ given_ticks b i (n + 1)
+        → turns ≤ served_ticks b slot i (n + 1)
+    level is had =
+        let share = level_share T M b book slot on.since weight i n le on.early on.sits asks is in
+        let share' : weight * given_ticks b i (n + 1) ≤ T * served_ticks b slot i (n + 1) + weight * (M - 1) =
+        rw (← given_more, ← served_more) share in
+        let others : M ≡ M - 1 + 1 = omega (arith, book.range.1.0) in
+        level_in_time weight T (M - 1) (served_ticks b slot i (n + 1)) (given_ticks b i (n + 1)) turns
+        (T * (turns - 1) / weight) some share' (rounded (T * (turns - 1)) weight some) (omega (arith, others, had))
+
+  pub keeps_delays : KeepsDelays T M b
+  keeps_delays = record { any = any; level = level }

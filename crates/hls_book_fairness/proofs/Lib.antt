@@ -1,0 +1,4 @@
+mod Alike
+mod Work
+mod Level
+mod Delays
