@@ -1,0 +1,227 @@
+-- What is lent gives no more of a window or a block than one of the candidates, which it gives as soon.
+use Rattle.std.proofs.Common.{◌≡◌, ℕ, ◌+◌, ◌*◌, ◌≤◌, inl, inr, false, refl, sym, subst, arith}
+use Rattle.std.proofs.Math.Nat.{le_of_mul-le-mul_right, mul-le-mul}
+use Rattle.hls_guarantee.specs.declared.Guarantee.{Guarantee}
+use Rattle.hls_guarantee.specs.declared.Guarantee.TheVariants.{Null, Resb, Resc, Psbe}
+use Rattle.hls_guarantee.specs.Limits.{IsReservation, IsValid}
+use Rattle.hls_search_laws.proofs.Quads.{Quad, IsQuad, quad, quad-ok, IsCovered, covered-from}
+use Rattle.hls_search_laws.proofs.Numbers.{covered-rate}
+use Rattle.hls_search_laws.proofs.Closed.{Least, Closed}
+use Rattle.hls_search_laws.proofs.Closed.Rates.{by4, by5}
+use Rattle.hls_search_laws.proofs.Closed.Shape.{s1, s2h, s2s, s3, s4, c2, c3h, c3s, c4h, c4s, c5h, c5s}
+use Rattle.hls_search_laws.proofs.Closed.Least.{least-all, least-blocks, least-windows, least-share}
+use Rattle.hls_search_laws.proofs.Closed.Gives.{windows, blocks}
+use Rattle.hls_search_laws.proofs.Closed.Closed.{bound, shape, same, rates}
+use Rattle.hls_offer_laws.specs.Candidates.{IsMost, Assures, SharesTicks, IsWindow}
+use Rattle.hls_offer_laws.proofs.Shares.{share-even, share-some}
+use Rattle.hls_offer_laws.proofs.Extremes.{most_of, most-ticks}
+
+-- a candidate that is no less, of the form, from what is lent
+pub record Better (lent : Guarantee) (n : ℕ) (form : ℕ → Guarantee) (x y : ℕ) : Type 0 where
+  pub best : ℕ
+  pub candidate : IsWindow lent best y
+  pub no_less : x ≤ best
+  pub size : IsReservation best y
+  pub closed : Closed n lent (form best)
+
+pub least-not-null : {g : Guarantee} {k : ℕ} → Least g k → g ≡ Null → ⊥
+least-not-null least-all none = (let no : ⊥ = cc in no)
+least-not-null least-blocks none = (let no : ⊥ = cc in no)
+least-not-null least-windows none = (let no : ⊥ = cc in no)
+least-not-null least-share none = (let no : ⊥ = cc in no)
+
+-- what a rate of at most 1 covers is no more than all ticks
+pub covered-fits : (k : Quad) (x y : ℕ) → IsQuad k → IsCovered k x y → x ≤ y
+covered-fits k x y ok under =
+    let rate : x * k.b ≤ k.a * y = covered-rate k.a k.b k.p k.q x y ok.under under in
+    let most : k.a * y ≤ k.b * y = mul-le-mul ok.fits (omega arith) in
+    le_of_mul-le-mul_right {k = k.b} (omega (arith, rate, most)) (omega (arith, ok.some, ok.fits))
+
+covers-some : (x y sn sd dn dd : ℕ) → (x * dd + dn) * sd ≤ sn * y * dd → dn * sd ≤ sn * y * dd
+covers-some x y sn sd dn dd under = omega (arith, under)
+
+-- what a bound of rate and error gives
+pub record Paced (lent : Guarantee) (x y : ℕ) : Type 0 where
+  pub best : ℕ
+  pub shares : SharesTicks lent best y
+  pub no_less : x ≤ best
+  pub size : IsReservation best y
+  pub covered : IsCovered (quad lent) best y
+
+pub paced : (lent : Guarantee) (x y : ℕ) → IsValid lent → (lent ≡ Null → ⊥) → IsReservation x y
+    → IsCovered (quad lent) x y → Paced lent x y
+paced lent x y valid some size under =
+    let its = share-some lent valid some in
+    let even = share-even lent its.0 valid its.1 in
+    let s = even.s in
+    let d = even.d in
+    let ok : IsQuad (quad lent) = quad-ok lent valid in
+    let oks : IsQuad (quad (Psbe s d)) = quad-ok (Psbe s d) even.valid in
+    let own : IsCovered (quad (Psbe s d)) x y = covered-from x y ok even.no_worse under in
+    let least : d.num * s.den ≤ s.num * y * d.den = covers-some x y s.num s.den d.num d.den own in
+    let best : ℕ = most_of s.num s.den d.num d.den y in
+    let most = most-ticks s d y least in
+    let no_less : x ≤ best = most.most x own in
+    let over : IsCovered (quad lent) best y = covered-from best y oks even.no_better most.meets in
+    record {
+      best = best;
+      shares = record {
+        share = its.0;
+        is = its.1;
+        some = omega (arith, size.some, no_less);
+        most = subst (λ v. IsMost (λ ticks. Assures v ticks y) best) (sym even.is) most;
+      };
+      no_less = no_less;
+      size = record {
+        some = omega (arith, size.some, no_less);
+        fits = covered-fits (quad lent) best y ok over;
+        size = size.size;
+      };
+      covered = over;
+    }
+
+bound-blocks : {n k : ℕ} (lent : Guarantee) (x y : ℕ) → IsValid lent → IsReservation x y → Least lent k → k ≤ n
+    → IsCovered (quad lent) x y → Better lent n (λ ticks. Resb false ticks y) x y
+bound-blocks lent x y valid size least le under =
+    let p = paced lent x y valid (least-not-null least) size under in
+    record {
+      best = p.best;
+      candidate = inr p.shares;
+      no_less = p.no_less;
+      size = p.size;
+      closed = bound least le (blocks p.covered);
+    }
+
+bound-windows : {n k : ℕ} (lent : Guarantee) (x y : ℕ) → IsValid lent → IsReservation x y → Least lent k → k ≤ n
+    → IsCovered (quad lent) x y → Better lent n (λ ticks. Resc false ticks y) x y
+bound-windows lent x y valid size least le under =
+    let p = paced lent x y valid (least-not-null least) size under in
+    record {
+      best = p.best;
+      candidate = inr p.shares;
+      no_less = p.no_less;
+      size = p.size;
+      closed = bound least le (windows p.covered);
+    }
+
+pub best-blocks : {n : ℕ} {lent : Guarantee} (x y : ℕ) → IsValid lent → IsReservation x y
+    → Closed n lent (Resb false x y) → Better lent n (λ ticks. Resb false ticks y) x y
+best-blocks x y vl vw same = record {
+  best = x;
+  candidate = inl (refl, vl.fits);
+  no_less = omega arith;
+  size = vw;
+  closed = same;
+}
+best-blocks x y vl vw (shape (s1 c)) = record {
+  best = x;
+  candidate = inl (refl, vl.fits);
+  no_less = omega arith;
+  size = vl;
+  closed = shape (s1 c);
+}
+best-blocks x y vl vw (shape (s2h {x = a} c d)) = record {
+  best = a;
+  candidate = inl (refl, vl.fits);
+  no_less = d;
+  size = vl;
+  closed = shape (s1 (omega arith));
+}
+best-blocks x y vl vw (shape (s2s {x = a} c d)) = record {
+  best = a;
+  candidate = inl (refl, vl.fits);
+  no_less = d;
+  size = vl;
+  closed = same;
+}
+best-blocks x y vl vw (shape (s4 {x = a} {y = b} c d k)) =
+    let fits : a ≤ y = omega (arith, vl.fits) in
+    record {
+      best = a;
+      candidate = inl (refl, fits);
+      no_less = d;
+      size = record { some = vl.some; fits = fits; size = vw.size };
+      closed = shape (s4 c (omega arith) k);
+    }
+best-blocks x y vl vw (shape (c3h c)) = record {
+  best = x;
+  candidate = inl (refl, vl.fits);
+  no_less = omega arith;
+  size = vl;
+  closed = shape (c3h c);
+}
+best-blocks x y vl vw (shape (c3s c)) = record {
+  best = x;
+  candidate = inl (refl, vl.fits);
+  no_less = omega arith;
+  size = vl;
+  closed = shape (c3s c);
+}
+best-blocks x y vl vw (shape (c5h {x = a} c d k)) =
+    let fits : a ≤ y = omega (arith, vl.fits) in
+    record {
+      best = a;
+      candidate = inl (refl, fits);
+      no_less = d;
+      size = record { some = vl.some; fits = fits; size = vw.size };
+      closed = shape (c5h c (omega arith) k);
+    }
+best-blocks x y vl vw (shape (c5s {x = a} c d k)) =
+    let fits : a ≤ y = omega (arith, vl.fits) in
+    record {
+      best = a;
+      candidate = inl (refl, fits);
+      no_less = d;
+      size = record { some = vl.some; fits = fits; size = vw.size };
+      closed = shape (c5s c (omega arith) k);
+    }
+best-blocks x y vl vw (rates le (by4 way)) = elim way [ ]
+best-blocks x y vl vw (rates le (by5 way)) = elim way [ ]
+best-blocks {lent = lent} x y vl vw (bound least le (blocks u)) = bound-blocks lent x y vl vw least le u
+
+pub best-windows : {n : ℕ} {lent : Guarantee} (x y : ℕ) → IsValid lent → IsReservation x y
+    → Closed n lent (Resc false x y) → Better lent n (λ ticks. Resc false ticks y) x y
+best-windows x y vl vw same = record {
+  best = x;
+  candidate = inl (refl, vl.fits);
+  no_less = omega arith;
+  size = vw;
+  closed = same;
+}
+best-windows x y vl vw (shape (s3 {x = a} {y = b} c d k)) =
+    let fits : a ≤ y = omega (arith, vl.fits) in
+    record {
+      best = a;
+      candidate = inl (refl, fits);
+      no_less = d;
+      size = record { some = vl.some; fits = fits; size = vw.size };
+      closed = shape (s3 c (omega arith) k);
+    }
+best-windows x y vl vw (shape (c2 c)) = record {
+  best = x;
+  candidate = inl (refl, vl.fits);
+  no_less = omega arith;
+  size = vl;
+  closed = shape (c2 c);
+}
+best-windows x y vl vw (shape (c4h {x = a} c d k)) =
+    let fits : a ≤ y = omega (arith, vl.fits) in
+    record {
+      best = a;
+      candidate = inl (refl, fits);
+      no_less = d;
+      size = record { some = vl.some; fits = fits; size = vw.size };
+      closed = shape (c4h c (omega arith) k);
+    }
+best-windows x y vl vw (shape (c4s {x = a} c d k)) =
+    let fits : a ≤ y = omega (arith, vl.fits) in
+    record {
+      best = a;
+      candidate = inl (refl, fits);
+      no_less = d;
+      size = record { some = vl.some; fits = fits; size = vw.size };
+      closed = shape (c4s c (omega arith) k);
+    }
+best-windows x y vl vw (rates le (by4 way)) = elim way [ ]
+best-windows x y vl vw (rates le (by5 way)) = elim way [ ]
+best-windows {lent = lent} x y vl vw (bound least le (windows u)) = bound-windows lent x y vl vw least le u

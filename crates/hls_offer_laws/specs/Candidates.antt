@@ -1,0 +1,82 @@
+-- A few numbers among which the best one of a form is.
+use Rattle.std.specs.Prelude.{◌≡◌, ◌≢◌, ◌⊎◌, ℕ, ◌+◌, ◌-◌, ◌*◌, ◌≤◌, false}
+use Rattle.hls_frac.specs.declared.Frac.{Frac}
+use Rattle.hls_guarantee.specs.declared.Guarantee.{Guarantee}
+use Rattle.hls_guarantee.specs.declared.Guarantee.TheVariants.{Null, Resb, Resc, Psbe}
+use Rattle.hls_guarantee.specs.Conversions.{Covers}
+use Rattle.hls_offer_laws.specs.Offered.{IsShareOf}
+
+pub record IsLeast (P : ℕ → Type 0) (n : ℕ) : Type 0 where
+  pub meets : P n
+  pub least : (less : ℕ) → P less → n ≤ less
+
+pub record IsMost (P : ℕ → Type 0) (n : ℕ) : Type 0 where
+  pub meets : P n
+  pub most : (more : ℕ) → P more → more ≤ n
+
+-- a share gives x of any y ticks in a row
+abbrev pub Assures : Guarantee → (x y : ℕ) → Type 0
+Assures (Psbe s d) x y = Covers s d x y
+Assures _ x y = ⊥
+
+-- ---- windows: how many ticks of any y, or of each block of y, what is lent gives
+
+-- its own number of ticks, of no longer windows
+abbrev pub HasTicks : Guarantee → (x y : ℕ) → Type 0
+HasTicks (Resb hard ticks period) x y = (x ≡ ticks) × (x ≤ y)
+HasTicks (Resc hard ticks period) x y = (x ≡ ticks) × (x ≤ y)
+HasTicks _ x y = ⊥
+
+-- the most that its share gives
+pub record SharesTicks (lent : Guarantee) (x y : ℕ) : Type 0 where
+  pub share : Guarantee
+  pub is : IsShareOf lent share
+  pub some : 1 ≤ x
+  pub most : IsMost (λ ticks. Assures share ticks y) x
+
+abbrev pub IsWindow : (lent : Guarantee) → (x y : ℕ) → Type 0
+IsWindow lent x y = HasTicks lent x y ⊎ SharesTicks lent x y
+
+-- ---- waits: within how many ticks one comes
+
+-- by blocks one may come first and the next one last
+abbrev pub HasWait : Guarantee → (wait : ℕ) → Type 0
+HasWait (Resb hard ticks period) wait = (wait ≡ period) ⊎ (wait + ticks ≡ 2 * period)
+HasWait (Resc hard ticks period) wait = wait ≡ period
+HasWait _ wait = ⊥
+
+-- the least within which its share gives one
+pub record SharesWait (lent : Guarantee) (wait : ℕ) : Type 0 where
+  pub share : Guarantee
+  pub is : IsShareOf lent share
+  pub least : IsLeast (λ ticks. Assures share 1 ticks) wait
+
+abbrev pub IsWait : (lent : Guarantee) → (wait : ℕ) → Type 0
+IsWait lent wait = HasWait lent wait ⊎ SharesWait lent wait
+
+-- ---- sizes: how many ticks of a period a reservation is to have
+
+-- x of each block of y are so many of any so many ticks
+abbrev pub Slides : (ticks period x y : ℕ) → Type 0
+Slides ticks period x y = (ticks ≤ x) × (2 * y ≤ x + period)
+
+-- and the share of x of each block of y gives so many of so many ticks
+abbrev pub Spreads : (ticks period x y : ℕ) → Type 0
+Spreads ticks period x y = ticks * y + x * (2 * (y - x)) ≤ x * period
+
+-- the share of x of each block of y has this rate, and starts no later
+abbrev pub Provides : (s d : Frac) → (x y : ℕ) → Type 0
+Provides s d x y = (s.num * y ≤ x * s.den) × (2 * (y - x) * s.num * d.den ≤ d.num * s.den)
+
+abbrev pub IsWindowSize : (ticks period x y : ℕ) → Type 0
+IsWindowSize ticks period x y =
+    IsLeast (λ size. Slides ticks period size y) x ⊎ IsLeast (λ size. Spreads ticks period size y) x
+
+-- the sizes for what is wanted, but hard blocks
+abbrev pub IsSize : (wanted : Guarantee) → (x y : ℕ) → Type 0
+IsSize Null x y = x ≡ 1
+IsSize (Resb false ticks period) x y =
+    ((y ≡ period) × (x ≡ ticks)) ⊎ ((y ≢ period) × IsWindowSize ticks period x y)
+IsSize (Resc false ticks period) x y = IsWindowSize ticks period x y
+IsSize (Psbe s d) x y = IsLeast (λ size. Provides s d size y) x
+IsSize _ x y = ⊥

@@ -1,0 +1,69 @@
+//! What holds of offers: each function's contract is a law, and its body does nothing.
+
+ghost use Rattle.std.specs.Prelude.{◌≡◌, ◌≢◌, ◌≤◌, ◌⊎◌, ℕ, true, false};
+ghost use Rattle.hls_frac.specs.declared.Frac.{Frac};
+ghost use Rattle.hls_guarantee.specs.declared.Guarantee.{Guarantee};
+ghost use Rattle.hls_guarantee.specs.Conversions.{Converts};
+ghost use Rattle.hls_guarantee.specs.Limits.{IsNarrow};
+ghost use Rattle.hls_offer_laws.specs.Offered.{CanOffer, IsLent, IsOffered, IsShareOf};
+ghost use Rattle.hls_offer_laws.specs.Candidates.{IsWait, IsWindow};
+
+use hls_derive::Place;
+use hls_guarantee::{Guarantee, RuleName};
+
+/// More than nothing is offered only where something is lent.
+pub fn offers_need_lending(place: &Place, haves: &[Guarantee], depth: u8)
+    requires { CanOffer place.now haves.now }
+    ensures { (wanted : Guarantee) → IsNarrow wanted → wanted ≢ Guarantee.Null →
+        IsOffered place.now haves.now depth wanted → (lent : Guarantee) × IsLent place.now haves.now lent }
+{}
+
+/// Every tick and hard reservations are offered only where they are lent, hard blocks also where hard windows of
+/// the same numbers are.
+pub fn hard_offers_are_lent(place: &Place, haves: &[Guarantee], depth: u8)
+    requires { CanOffer place.now haves.now }
+    ensures all { IsOffered place.now haves.now depth Guarantee.All → IsLent place.now haves.now Guarantee.All }
+    ensures blocks { (x y : ℕ) → IsOffered place.now haves.now depth (Guarantee.Resb true x y) →
+        IsLent place.now haves.now (Guarantee.Resb true x y) ⊎ IsLent place.now haves.now (Guarantee.Resc true x y) }
+    ensures windows { (x y : ℕ) → IsOffered place.now haves.now depth (Guarantee.Resc true x y) →
+        IsLent place.now haves.now (Guarantee.Resc true x y) }
+{}
+
+/// What is offered of a window or a block is no more than one of the candidates, which is offered too.
+pub fn windows_have_candidates(place: &Place, haves: &[Guarantee], depth: u8)
+    requires { CanOffer place.now haves.now }
+    ensures blocks { (x y : ℕ) → IsOffered place.now haves.now depth (Guarantee.Resb false x y) →
+        (lent : Guarantee) × (best : ℕ) × IsLent place.now haves.now lent × IsWindow lent best y × (x ≤ best) ×
+        IsOffered place.now haves.now depth (Guarantee.Resb false best y) }
+    ensures windows { (x y : ℕ) → IsOffered place.now haves.now depth (Guarantee.Resc false x y) →
+        (lent : Guarantee) × (best : ℕ) × IsLent place.now haves.now lent × IsWindow lent best y × (x ≤ best) ×
+        IsOffered place.now haves.now depth (Guarantee.Resc false best y) }
+{}
+
+/// One tick is offered within no shorter a time than one of the candidates, within which it is offered too.
+pub fn waits_have_candidates(place: &Place, haves: &[Guarantee], depth: u8)
+    requires { CanOffer place.now haves.now }
+    ensures { (wait : ℕ) → IsOffered place.now haves.now depth (Guarantee.Resc false 1 wait) →
+        (lent : Guarantee) × (best : ℕ) × IsLent place.now haves.now lent × IsWait lent best × (best ≤ wait) ×
+        IsOffered place.now haves.now depth (Guarantee.Resc false 1 best) }
+{}
+
+/// A share that is offered is that of something lent, or follows from it by `R1`, and that share is offered too.
+pub fn shares_have_candidates(place: &Place, haves: &[Guarantee], depth: u8)
+    requires { CanOffer place.now haves.now }
+    ensures { (s d : Frac) → IsNarrow (Guarantee.Psbe s d) →
+        IsOffered place.now haves.now depth (Guarantee.Psbe s d) →
+        (lent share : Guarantee) × IsLent place.now haves.now lent × IsShareOf lent share ×
+        ((share ≡ Guarantee.Psbe s d) ⊎ Converts RuleName.R1 share (Guarantee.Psbe s d)) ×
+        IsOffered place.now haves.now depth share }
+{}
+
+/// Where there may be two conversions, the share of what is lent is offered, and all that follows from it by `R1`.
+pub fn lesser_shares_are_offered(place: &Place, haves: &[Guarantee], depth: u8)
+    requires can { CanOffer place.now haves.now }
+    requires two { 2 ≤ depth }
+    ensures share { (lent share : Guarantee) → IsLent place.now haves.now lent → IsShareOf lent share →
+        IsOffered place.now haves.now depth share }
+    ensures lesser { (lent share lesser : Guarantee) → IsLent place.now haves.now lent → IsShareOf lent share →
+        Converts RuleName.R1 share lesser → IsOffered place.now haves.now depth lesser }
+{}
