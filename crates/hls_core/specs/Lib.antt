@@ -5,3 +5,4 @@ pub mod Standing
 pub mod Cores
 pub mod Inside
 pub mod Texts
+pub mod Asking

@@ -1,6 +1,7 @@
 //! A scenario is carried out: commands at their ticks, and ticks, on a tree of boxes.
 #![tactic(auto)]
 
+mod asking;
 mod bursts;
 mod commands;
 mod cores;

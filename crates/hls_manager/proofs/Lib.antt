@@ -28,4 +28,5 @@ mod NamedNodes
 mod ShiftSteps
 mod ShiftDues
 mod Shifted
+mod Asked
 mod Haves

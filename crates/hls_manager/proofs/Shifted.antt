@@ -144,7 +144,7 @@ module _ (m : Moment) (reached : IsReached m.hierarchy) (name : Text) (perch : P
     settled : AreSettled m.depth (dues g move) seats
     settled = settled_so g reached name perch within id seat movable m.depth seats are
 
-    done_answer : IsDone m move seats
+    pub done_answer : IsDone m move seats
     done_answer =
         shift_done m name perch seats (clear_all g heard name perch id seat movable.aimed movable.placed 24)
         (fits_here g heard name perch id seat movable.aimed movable.fits)

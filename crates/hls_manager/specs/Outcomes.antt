@@ -1,5 +1,5 @@
 -- What a command leaves of a tree.
-use Rattle.std.specs.Prelude.{◌≡◌, ◌≤◌, ◌*◌, ℕ, List, Some, length, slice_index}
+use Rattle.std.specs.Prelude.{◌≡◌, ◌≤◌, ◌*◌, ℕ, Some, length, slice_index}
 use Rattle.hls_scenario.specs.declared.scenario.Command.{Command}
 use Rattle.hls_scenario.specs.declared.scenario.Command.TheVariants.{Load, Thread, End, Unload, Move}
 use Rattle.hls_report_text.specs.declared.report.Answer.{Answer}
@@ -33,6 +33,12 @@ IsWithdrawal _ = ⊥
 abbrev pub IsMove : Command → Type 0
 IsMove (Move name perch) = Unit {0}
 IsMove _ = ⊥
+
+-- a thread is to be admitted, or a thread or a scheduler moved
+abbrev pub IsRequest : Command → Type 0
+IsRequest (Thread name perch) = Unit {0}
+IsRequest (Move name perch) = Unit {0}
+IsRequest _ = ⊥
 
 -- a new book has room for two marks for each of so many commands
 abbrev pub IsRoomy : (commands : ℕ) → Step → Type 0

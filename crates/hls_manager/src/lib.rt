@@ -3,6 +3,7 @@
 
 mod admitting;
 mod aiming;
+mod asking;
 mod derivations;
 mod heights;
 mod hindrances;
@@ -17,6 +18,7 @@ mod threads;
 mod withdrawals;
 
 pub use admitting::admit;
+pub use asking::ask;
 pub use lookups::find_thread;
 pub use rederiving::{Rederived, rederive};
 pub use shifting::shift;

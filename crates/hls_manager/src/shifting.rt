@@ -99,7 +99,7 @@ fn take(tree: &mut Tree, depth: u8, id: NodeId, seat: Seat, told: Rederived) -> 
 }
 
 /// What is to be moved, and the seat that is wanted for it, which only the want of a derivation can still refuse.
-fn place(tree: &Tree, name: &Name, perch: &Perch) -> Result<(NodeId, Seat), Refusal>
+pub(crate) fn place(tree: &Tree, name: &Name, perch: &Perch) -> Result<(NodeId, Seat), Refusal>
     requires command { IsCommand (Move name.now perch.now) }
     requires stands { Stands seen tree.now IsReached }
     ensures placed { IfOk result (λ placed. (h : Hierarchy) → IsTreeOf seen tree.now h → IsReached h →

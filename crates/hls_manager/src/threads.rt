@@ -62,7 +62,7 @@ pub(crate) fn admit_thread(
 }
 
 /// The seat that a thread is offered, of which a derivation is still to be looked for, or why there is none.
-fn offer(tree: &Tree, name: &Name, perch: &Perch) -> Result<Seat, Refusal>
+pub(crate) fn offer(tree: &Tree, name: &Name, perch: &Perch) -> Result<Seat, Refusal>
     requires command { IsCommand (Thread name.now perch.now) }
     requires stands { Stands seen tree.now Any }
     ensures offered { IfOk result (λ seat. (h : Hierarchy) → IsTreeOf seen tree.now h → IsListed h →
@@ -131,12 +131,25 @@ fn take_seat(
     ensures unchanged { OnErr result (IsAsBefore seen tree.old tree.new) }
     ensures horizon { tree.new.horizon ≡ tree.old.horizon }
 {
+    let answer = done_with(alloc, name, derivation)?;
+    let _ = tree.attach_thread(*name, seat)?;
+    Ok(answer)
+}
+
+/// That a thread has its seat, by this derivation.
+pub(crate) fn done_with(
+    alloc: Global,
+    name: &Name,
+    derivation: Derivation,
+) -> Result<Answer, AllocError>
+    ensures { IfOk result (λ answer. answer ≡
+        Done ((record { name = name.now; port = 0; derivation = derivation }) ∷ [])) }
+{
     let mut seats = Vec::with_capacity(alloc, 1)?;
     seats.push(Seated {
         name: *name,
         port: 0,
         derivation,
     })?;
-    let _ = tree.attach_thread(*name, seat)?;
     Ok(Answer::Done(List::of(seats)))
 }

@@ -16,3 +16,7 @@ told_first first (Lacks name) = Lacks name
 abbrev pub IsTakenBy : (depth : ℕ) → Rederived → Answer → (unchanged changed : Type 0) → Type 0
 IsTakenBy depth (All seats) answer unchanged changed = (answer ≡ Done seats) × changed
 IsTakenBy depth (Lacks name) answer unchanged changed = (answer ≡ Refused (NoDerivation name depth)) × unchanged
+
+-- the same of a question, by which nothing can change
+abbrev pub IsToldBy : (depth : ℕ) → Rederived → Answer → Type 0
+IsToldBy depth told answer = IsTakenBy depth told answer (Unit {0}) (Unit {0})

@@ -1,0 +1,56 @@
+-- The lines of an answer.
+use Rattle.std.specs.Prelude.{ℕ, List, [], ◌∷◌, ◌++◌, codes, decimal, flat_map}
+use Rattle.hls_text.specs.Lines.{Text}
+use Rattle.hls_chron.specs.declared.plain.Config.{Config}
+use Rattle.hls_guarantee.specs.declared.Guarantee.{Guarantee}
+use Rattle.hls_guarantee.specs.Spelling.{spelling}
+use Rattle.hls_scenario.specs.Forms.{spaced, config_forms}
+use Rattle.hls_report_text.specs.ReportText.{two_words, span_text, ended}
+use Rattle.hls_offer_text.specs.declared.left.Span.{Span}
+use Rattle.hls_offer_text.specs.declared.left.Fit.{Fit}
+use Rattle.hls_offer_text.specs.declared.left.Left.{Left}
+use Rattle.hls_offer_text.specs.declared.left.Left.TheVariants.{Full, Priorities, Parts, Weight, Slots, Turn, Sole}
+
+-- ---- what is left on a scheduler
+
+abbrev pub one_span_text : Span → Text
+one_span_text span = codes " " ++ span_text span.first span.last
+
+abbrev pub fit_text : Fit → Text
+fit_text fit = codes " , res " ++ two_words (decimal fit.x) (decimal fit.y)
+
+abbrev pub left_text : Left → Text
+left_text Full = codes "full"
+left_text (Priorities spans) = codes "prio" ++ flat_map one_span_text spans
+left_text (Parts free fits) = codes "parts " ++ (decimal free ++ flat_map fit_text fits)
+left_text (Weight weight) = codes "weight " ++ decimal weight
+left_text (Slots places) = codes "slots " ++ decimal places
+left_text Turn = codes "turn"
+left_text Sole = codes "sole"
+
+abbrev pub more_text : Guarantee → Text
+more_text g = codes " , " ++ spelling g
+
+-- with commas between them
+abbrev pub guarantees_text : List Guarantee → Text
+guarantees_text [] = []
+guarantees_text (g ∷ gs) = spelling g ++ flat_map more_text gs
+
+-- a loaded scheduler: its name, its configuration, what its ports are guaranteed, and what is left
+pub record Free : Type 0 where
+  pub name : Text
+  pub config : Config
+  pub haves : List Guarantee
+  pub left : Left
+
+abbrev pub free_text : Free → Text
+free_text f = codes "free " ++ (f.name ++ (spaced (config_forms f.config)
+    ++ (codes " has " ++ (guarantees_text f.haves ++ (codes " : " ++ left_text f.left)))))
+
+-- ---- the whole
+
+abbrev pub head_lines : (tick depth : ℕ) → List Text
+head_lines tick depth = codes "hls-offer 1" ∷ (codes "tick " ++ decimal tick) ∷ (codes "depth " ++ decimal depth) ∷ []
+
+abbrev pub answer_text : (tick depth : ℕ) → (lines : List Text) → Text
+answer_text tick depth lines = ended (head_lines tick depth ++ (lines ++ codes "end" ∷ []))
