@@ -4,6 +4,7 @@ pub mod Covers
 pub mod Lists
 pub mod Keeps
 pub mod Ticks
+pub mod Leaps
 pub mod Totals
 pub mod Few
 pub mod Formed

@@ -1,5 +1,5 @@
 -- What a journal keeps while a scenario is carried out.
-use Rattle.std.specs.Prelude.{◌≡◌, ℕ, ◌+◌, ◌^◌, ◌≤◌, ◌<◌, List, [], ◌∷◌, ◌++◌, Option, Some, None, Bool, All}
+use Rattle.std.specs.Prelude.{◌≡◌, ℕ, zero, suc, ◌+◌, ◌^◌, ◌≤◌, ◌<◌, List, [], ◌∷◌, ◌++◌, Option, Some, None, Bool, All}
 use Rattle.std.specs.Prelude.{length, take, drop}
 use Rattle.std.specs.Prelude.{vec_capacity, zip}
 use Rattle.std.specs.List.{list_any, AllByRecursion}
@@ -79,6 +79,11 @@ pub record IsTicked (path : Option Path) (old new : Journal) : Type 0 where
   pub names : new.names ≡ old.names
   pub ticks : new.ticks ≡ old.ticks + 1
   pub room : new.runs.capacity ≡ old.runs.capacity
+
+-- so many ticks were noted with one path, one after the other
+abbrev pub AreTicked : (ticks : ℕ) → Option Path → (old new : Journal) → Type 0
+AreTicked zero path old new = new ≡ old
+AreTicked (suc ticks) path old new = (mid : Journal) × AreTicked ticks path old mid × IsTicked path mid new
 
 pub record MayNote (command : Command) (j : Journal) : Type 0 where
   pub answers : length j.answers.items < vec_capacity j.answers

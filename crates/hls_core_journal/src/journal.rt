@@ -73,6 +73,7 @@ fn is_done(answer: &Answer) -> bool
 impl Journal {
     ghost use Rattle.hls_core_journal.specs.Told.{stretches_of};
     ghost use Rattle.hls_core_journal.specs.Kept.{IsNew, MayNote, MayTick, AreWithin, has_name, IsNoted, IsTicked};
+    ghost use Rattle.hls_core_journal.specs.Kept.{AreTicked};
     ghost use Rattle.hls_core_journal.specs.Ways.{names_by, last_names};
 
     /// A journal of nothing yet, with room for these commands and so many ticks.
@@ -170,6 +171,19 @@ impl Journal {
     {
         put_tick(&self.names, &mut self.runs, self.ticks, path);
         self.ticks += 1;
+    }
+
+    /// Notes that so many ticks pass, one or more, with one path, or idle.
+    pub fn leap(&mut self, path: Option<Path>, ticks: u32)
+        requires may { MayTick self.old }
+        requires short { HasShort path }
+        requires some { 0 < ticks }
+        requires more { self.old.ticks + ticks < 2 ^ 32 }
+        ensures { AreTicked ticks path self.old self.new }
+    {
+        put_tick(&self.names, &mut self.runs, self.ticks, path);
+        self.runs.lengthen(self.ticks + (ticks - 1));
+        self.ticks += ticks;
     }
 
     /// Appends the schedule of the ticks that have passed.

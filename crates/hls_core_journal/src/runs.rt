@@ -144,7 +144,7 @@ impl Runs {
     }
 
     /// Lets the last run last up to a tick.
-    fn lengthen(&mut self, tick: u32)
+    pub(crate) fn lengthen(&mut self, tick: u32)
         ensures last { (front : List Run) (run : Run) → self.old.items ≡ front ++ run ∷ [] →
             self.new.items ≡ front ++ (record run { to = tick }) ∷ [] }
         ensures capacity { self.new.capacity ≡ self.old.capacity }
