@@ -99,12 +99,12 @@ def cited(text, imports, own):
                 yield module, name
 
 
-def closure(starts):
-    """All that these definitions unfold to, themselves included."""
+def closure(starts, apart=()):
+    """All that these definitions unfold to, themselves included, but for what is set apart and what only that needs."""
     found, left = set(), list(starts)
     while left:
         at = left.pop()
-        if at not in found:
+        if at not in found and at not in apart:
             found.add(at)
             module = MODULES[at[0]]
             own = {name: (at[0], name) for name in module.definitions}
@@ -123,12 +123,41 @@ def clauses_of(crate, function):
     raise SystemExit(f"no public function {function} in {crate}")
 
 
-def unfolded(functions):
-    starts = []
+def started(functions):
     for crate, function in functions:
         text, imports = clauses_of(crate, function)
-        starts += cited(text, imports, {})
-    return closure(starts)
+        yield from cited(text, imports, {})
+
+
+def unfolded(functions):
+    return closure(list(started(functions)))
+
+
+# What a reader may leave for later: a definition of the clauses, and what it is needed for.
+APART = [
+    ("The clauses of an audit, for `check` and `trial`",
+     [("hls_audit_clauses.specs.Kept", "IsKept"), ("hls_audit_clauses.specs.Kept", "IsBroken"),
+      ("hls_audit.specs.Audits", "IsAudit")]),
+    ("The scenario of a number, for `gen` and `trial`", [("hls_gen.specs.Generated", "generated")]),
+    ("The cause that is told of a refused text: what reads it, word by word",
+     [("hls_lang.specs.ReadingLines", "scenario_of")]),
+]
+
+
+def sections(functions):
+    """The definitions that clauses unfold to, in parts: first what is not set apart, then what each part adds."""
+    starts = list(started(functions))
+    apart = {it for _, names in APART for it in names}
+    seen = closure(starts, apart)
+    yield None, seen
+    whole = closure(starts)
+    for title, names in APART:
+        more = closure([it for it in names if it in whole], apart - set(names)) - seen
+        seen = seen | more
+        yield title, more
+    rest = whole - seen
+    if rest:
+        yield "And besides", rest
 
 
 def crate_order():
@@ -204,7 +233,34 @@ def laws():
                 yield crate, word
 
 
-HEADER = (TOP / "docs" / "trusted.head").read_text(encoding="utf-8") if (TOP / "docs" / "trusted.head").exists() else ""
+HEADER = """# What a reader has to believe
+
+The theorems speak of the definitions below and of nothing else. `docs/trusted.py` writes this page: it lists what the
+clauses of the two public calls of the program, `hls_run` and `start`, unfold to, file by file and in reading order. What
+only private clauses cite need not be read, and neither do proofs. Types that are named here are those of the code.
+
+What comes first is what is promised of `run`. A reader who asks only that may stop there.
+"""
+
+FOOTER = """
+## Why these are the definitions meant
+
+Laws say of many what the field says: budgets, tags, turns and places go by the rules that are known of them, which
+`hls_book_rules` writes down; blocked threads do not run, a tick is idle only where the root does not ask, refusals are
+exactly what the machine forbids. Wrong readings are shown to be ruled out. Tests hold slow functions that compute the
+definitions against worked schedules, answers and reports.
+
+## And besides
+
+The toolchain (Rattle's compiler, prover and proved standard library, LLVM), the C library, and the contracts of the
+ported crates that are used (`clap`, `indexmap`, `itoa`, `slab`, `thiserror`).
+"""
+
+
+def listed(found):
+    for line in page_of(found):
+        print("\n".join(wrapped(line)))
+
 
 
 def main():
@@ -213,14 +269,16 @@ def main():
         print("\n".join(page_of(found)))
         print(f"\n{len(found)} definitions, {lines_in(found)} lines")
         return
-    first = unfolded([("hls_top", "hls_run"), ("hls_prog_start", "start")])
+    first = set()
+    for title, found in sections([("hls_top", "hls_run"), ("hls_prog_start", "start")]):
+        size = f"{len(found)} definitions, {lines_in(found)} lines."
+        print(HEADER.rstrip() + f"\n\n{size}" if title is None else f"\n## {title}\n\n{size}")
+        listed(found)
+        first |= found
     others = unfolded(dict.fromkeys(laws())) - first
-    print(HEADER.replace("{count}", str(len(first))).replace("{lines}", str(lines_in(first))).rstrip())
-    for line in page_of(first):
-        print("\n".join(wrapped(line)))
-    print(f"\n## What the other lines of THEOREMS.md rest on besides\n\n{len(others)} more definitions of {lines_in(others)} lines.")
-    for line in page_of(others):
-        print("\n".join(wrapped(line)))
+    print(f"\n## What the other lines of THEOREMS.md rest on besides\n\n{len(others)} definitions, {lines_in(others)} lines.")
+    listed(others)
+    print(FOOTER.rstrip())
 
 
 if __name__ == "__main__":
