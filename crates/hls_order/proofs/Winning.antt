@@ -7,10 +7,23 @@ use Rattle.hls_order.specs.Inside.Rising.{up}
 use Rattle.hls_order.proofs.Ways.{parent_left, parent_right, up_more, up_slot}
 use Rattle.hls_order.proofs.Playing.{better_either, Beats, beats_left, beats_right}
 
-beyond : (keys : List (Option ℕ)) (slot : ℕ) → length keys ≤ slot → key_of keys slot ≡ None
+pub beyond : (keys : List (Option ℕ)) (slot : ℕ) → length keys ≤ slot → key_of keys slot ≡ None
 beyond [] slot le = refl
 beyond (key ∷ keys) zero le = absurd (omega (arith, le))
 beyond (key ∷ keys) (suc slot) le = beyond keys slot (omega (arith, le))
+
+none_some : {key : ℕ} → None ≡ Some key → ⊥
+none_some e = cc
+
+-- who has a key is one of the slots
+pub present_within : (keys : List (Option ℕ)) (slot key : ℕ) → key_of keys slot ≡ Some key → slot < length keys
+present_within keys slot key present = elim (side slot (length keys)) [
+  | inl few ↦ few
+  | inr many ↦ absurd (none_some (sym (beyond keys slot many) ∙ present))
+]
+  where
+    side : (slot size : ℕ) → (slot < size) ⊎ (size ≤ slot)
+    side slot size = grind arith
 
 -- a slot that stands at an entry is present, and its own entry leads there
 pub record Stands (keys : List (Option ℕ)) (at slot : ℕ) : Type 0 where
@@ -105,16 +118,7 @@ module _ (keys : List (Option ℕ)) (winners : List ℕ) (t : IsTournament keys 
 
   module _ (size : length keys ≡ 32) where
     within_keys : (slot key : ℕ) → key_of keys slot ≡ Some key → slot < 32
-    within_keys slot key present = elim (side slot) [
-      | inl few ↦ few
-      | inr many ↦ absurd (none_some (sym (beyond keys slot (omega (arith, size, many))) ∙ present))
-    ]
-      where
-        side : (slot : ℕ) → (slot < 32) ⊎ (32 ≤ slot)
-        side slot = grind arith
-
-        none_some : {key : ℕ} → None ≡ Some key → ⊥
-        none_some e = cc
+    within_keys slot key present = let few = present_within keys slot key present in omega (arith, few, size)
 
     pub root_none : 32 ≤ get_or winners 0 none → IsEmpty keys
     root_none many slot = go (key_of keys slot) refl

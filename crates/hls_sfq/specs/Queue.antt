@@ -1,0 +1,16 @@
+-- The start tags of the slots that ask, as a queue.
+use Rattle.std.specs.Prelude.{◌≡◌, ℕ, ◌<◌, List, Option, length}
+use Rattle.hls_chron.specs.Ledger.{Ledger}
+use Rattle.hls_sched.specs.Stands.{tag_of_asking}
+use Rattle.hls_order.specs.Order.{key_of}
+use Rattle.hls_sfq.specs.Choice.{tag_asking}
+use Rattle.hls_sfq.specs.declared.shares.FairSeat.{FairSeat}
+
+-- exactly the asking seats are in the queue, by the start tags of the present tick
+abbrev pub QueuesTags : Ledger → (mask : ℕ) → (keys : List (Option ℕ)) → Type 0
+QueuesTags b mask keys = (slot : ℕ) → slot < 32 → key_of keys slot ≡ tag_of_asking b mask slot
+
+-- the same by what a box holds
+pub record IsQueue (keys : List (Option ℕ)) (time : ℕ) (seats : List (Option FairSeat)) (mask : ℕ) : Type 0 where
+  pub size : length keys ≡ 32
+  pub tags : (slot : ℕ) → slot < 32 → key_of keys slot ≡ tag_asking time seats mask slot
