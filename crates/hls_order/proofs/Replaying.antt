@@ -1,5 +1,6 @@
 -- A tournament in which one entry is new, and what playing each game above it again leaves.
-use Rattle.std.proofs.Common.{◌≡◌, ◌≢◌, ◌⊎◌, ℕ, zero, suc, ◌+◌, ◌-◌, ◌*◌, ◌/◌, ◌<◌, ◌≤◌, List, [], ◌∷◌, None, length, get_or, arith}
+use Rattle.std.proofs.Common.{◌≡◌, ◌≢◌, ◌⊎◌, ℕ, zero, suc, ◌+◌, ◌-◌, ◌*◌, ◌/◌, ◌<◌, ◌≤◌, List, [], ◌∷◌, None}
+use Rattle.std.proofs.Common.{length, get_or, arith}
 use Rattle.std.proofs.Common.{refl, sym, ap, ap₂, ◌∙◌, inl, inr, subst, get_or-set_same, get_or-set_other}
 use Rattle.std.specs.Prelude.{Option, slice_set, replicate}
 use Rattle.hls_order.specs.Order.{key_of, none, better, entry_of, IsTournament}
@@ -15,7 +16,8 @@ sides a b = grind arith
 
 module _ (keys others : List (Option ℕ)) (winners : List ℕ) (t : IsTournament keys winners) (slot entry : ℕ)
     (few : slot < 32) (size : length winners ≡ 63)
-    (same : (s : ℕ) → s ≢ slot → key_of others s ≡ key_of keys s) (is : entry ≡ entry_of slot (key_of others slot)) where
+    (same : (s : ℕ) → s ≢ slot → key_of others s ≡ key_of keys s) (is : entry ≡ entry_of slot
+    (key_of others slot)) where
   unread : (at : ℕ) → at ≢ 31 + slot → get_or (slice_set winners (31 + slot) entry) at none ≡ get_or winners at none
   unread at ne = get_or-set_other winners (31 + slot) at entry none ne
 

@@ -1,5 +1,6 @@
 -- Who stands at the entries of a tournament.
-use Rattle.std.proofs.Common.{◌≡◌, ◌⊎◌, ℕ, zero, suc, ◌+◌, ◌-◌, ◌*◌, ◌/◌, ◌<◌, ◌≤◌, List, [], ◌∷◌, Some, None, length, get_or, arith}
+use Rattle.std.proofs.Common.{◌≡◌, ◌⊎◌, ℕ, zero, suc, ◌+◌, ◌-◌, ◌*◌, ◌/◌, ◌<◌, ◌≤◌, List, [], ◌∷◌, Some, None}
+use Rattle.std.proofs.Common.{length, get_or, arith}
 use Rattle.std.proofs.Common.{refl, sym, ap, ◌∙◌, inl, inr, subst}
 use Rattle.std.specs.Prelude.{Option}
 use Rattle.hls_order.specs.Order.{key_of, none, better, entry_of, IsTournament, IsEmpty, IsLeast}
@@ -36,7 +37,13 @@ own_entry : (keys : List (Option ℕ)) (slot its : ℕ) (key : Option ℕ) → k
     → slot < 32 → Stands keys (31 + its) slot
 own_entry keys slot its None is e few = absurd (omega (arith, e, few))
 own_entry keys slot its (Some key) is e few =
-    record { key = key; present = subst (λ s. key_of keys s ≡ Some key) e is; steps = 0; leads = ap (λ s. 31 + s) (sym e) }
+    record {
+      key = key;
+      present = subst (λ s. key_of keys s ≡ Some key) e is;
+      steps = 0;
+      leads =
+          ap (λ s. 31 + s) (sym e);
+    }
 
 -- from an entry to the one that it plays for
 further : (keys : List (Option ℕ)) (at above slot : ℕ) → (at - 1) / 2 ≡ above → Stands keys at slot
@@ -87,7 +94,8 @@ module _ (keys : List (Option ℕ)) (winners : List ℕ) (t : IsTournament keys 
       (record { its = key; has = present; le = omega arith; tie = λ same. omega arith })
   beaten slot key (suc steps) few present =
       subst (λ k. Beats keys (get_or winners k none) slot key) (sym (up_more steps (31 + slot)))
-      (next (up steps (31 + slot)) (up_within steps (31 + slot) (omega (arith, few))) (beaten slot key steps few present))
+      (next (up steps (31 + slot)) (up_within steps (31 + slot) (omega (arith, few)))
+      (beaten slot key steps few present))
     where
       up_within : (steps at : ℕ) → at < 63 → up steps at < 63
       up_within zero at lt = lt

@@ -86,7 +86,8 @@ pub asks : (words : List Text) (job : Job) → HasShape words → Tells (told_by
 asks words job (inl (options, is, (value, states))) tells =
     run_asks words options value job is states
     (subst (λ t. Tells t job) (ap told_by is ∙ told_stated options value states) tells)
-asks words job (inr (inl is)) tells = check_asks words job is (subst (λ t. Tells t job) (ap told_by is ∙ told_check) tells)
+asks words job (inr (inl is)) tells =
+    check_asks words job is (subst (λ t. Tells t job) (ap told_by is ∙ told_check) tells)
 asks words job (inr (inr (inl (options, is, gives)))) tells =
     let d = is_digits gives.value gives.digit in
     gen_asks words options gives.value job is gives.is

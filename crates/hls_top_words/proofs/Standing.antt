@@ -16,7 +16,8 @@ pub two_items : {A : Type 0} (xs : List A) (first second : A) → first ≡ get_
     → second ≡ get_or xs 1 second → 2 ≤ length xs → length xs < 3 → xs ≡ first ∷ second ∷ []
 two_items [] first second is also some few = absurd (omega (arith, some))
 two_items (x ∷ []) first second is also some few = absurd (omega (arith, some))
-two_items (x ∷ y ∷ []) first second is also some few = ap (λ z. z ∷ y ∷ []) (sym is) ∙ ap (λ z. first ∷ z ∷ []) (sym also)
+two_items (x ∷ y ∷ []) first second is also some few =
+    ap (λ z. z ∷ y ∷ []) (sym is) ∙ ap (λ z. first ∷ z ∷ []) (sym also)
 two_items (x ∷ y ∷ z ∷ xs) first second is also some few = absurd (omega (arith, few))
 
 pub joined : (found : Option (Bor Text)) (words : List Text) (word : Text) → words ≡ word ∷ []

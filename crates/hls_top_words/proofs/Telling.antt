@@ -26,7 +26,12 @@ unfolding clap_on_literals
 told_joined v = refl
 
 pub told_apart : (k : ℕ) (rest : Text) → k ≤ 9
-    → told_by (codes "run" ∷ codes "--depth" ∷ ((48 + k) ∷ rest) ∷ []) ≡ Some (codes "run", Some ((48 + k) ∷ rest), None)
+    → told_by (codes "run" ∷ codes "--depth" ∷ ((48 + k) ∷ rest) ∷ []) ≡ Some (
+      codes "run",
+      Some
+          ((48 + k) ∷ rest),
+      None,
+    )
 unfolding clap_on_literals
 told_apart zero rest le = refl
 told_apart (suc zero) rest le = refl

@@ -1,5 +1,6 @@
 // The table of words: how the words of each job stand.
-ghost use Rattle.std.specs.Prelude.{◌≡◌, ◌≢◌, ◌≤◌, ◌∷◌, ◌++◌, codes, decimal, map, string_bytes, true, IfSome, IsNone, List, ℕ};
+ghost use Rattle.std.specs.Prelude.{◌≡◌, ◌≢◌, ◌≤◌, ◌∷◌, ◌++◌, codes, decimal, map, string_bytes, true, IfSome};
+ghost use Rattle.std.specs.Prelude.{IsNone, List, ℕ};
 ghost use Rattle.hls_top_words.specs.Table.{HasDepth, HasNumber, IsNoJob};
 ghost use Rattle.hls_top_words.specs.Inside.Shapes.{begins_with_digit as has_digit, Gives, HasShape, MayState};
 

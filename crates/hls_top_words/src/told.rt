@@ -1,7 +1,8 @@
 // What clap's matches ask for.
 ghost use Rattle.std.specs.Prelude.{◌≡◌, ◌≤◌, ◌<◌, ◌^◌, decimal, IfSome, IsNone, ℕ};
 ghost use Rattle.clap.specs.Words.{found_of, rows_of, subcommand_rows_of};
-ghost use Rattle.hls_top_words.specs.Inside.Shapes.{told, depth_in, number_in as number_of, Tells, TellsDepth, TellsNumber};
+ghost use Rattle.hls_top_words.specs.Inside.Shapes.{told, depth_in, number_in as number_of, Tells, TellsDepth};
+ghost use Rattle.hls_top_words.specs.Inside.Shapes.{TellsNumber};
 
 use crate::Job;
 use clap::ArgMatches;

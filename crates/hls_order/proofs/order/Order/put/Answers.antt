@@ -1,4 +1,5 @@
-use Rattle.std.proofs.Common.{◌≡◌, rules, arith, length, sym, Some, slice_set, get_or-set_same, get_or-set_other, None, ap}
+use Rattle.std.proofs.Common.{◌≡◌, rules, arith, length, sym, Some, slice_set, get_or-set_same}
+use Rattle.std.proofs.Common.{get_or-set_other, None, ap}
 use Rattle.hls_order.specs.Order.{entry_of}
 use Rattle.hls_order.proofs.Replaying.{begun}
 use Rattle.hls_order.proofs.order.Order.put.Goals as goal
