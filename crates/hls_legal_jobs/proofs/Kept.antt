@@ -1,13 +1,22 @@
 -- A legal report keeps the jobs of its threads.
-use Rattle.std.proofs.Common.{ℕ}
+use Rattle.std.proofs.Common.{◌≡◌, ℕ, ◌+◌, ◌-◌, ◌<◌, ◌≤◌, Some, subst, arith}
+use Rattle.hls_chron.specs.Ticks.{count}
+use Rattle.hls_kinds.specs.declared.reservations.Reservation.{Reservation}
 use Rattle.hls_scenario.specs.declared.scenario.Scenario.{Scenario}
+use Rattle.hls_report_text.specs.declared.report.Answered.{Answered}
 use Rattle.hls_report_text.specs.Content.{Content}
 use Rattle.hls_machine_supply.proofs.Runs as supply
+use Rattle.hls_accounts.specs.declared.stay.Stay.{Stay}
+use Rattle.hls_accounts.specs.Accounts.{end_of}
+use Rattle.hls_accounts.specs.Commands.{last_rousing}
+use Rattle.hls_accounts.specs.Schedule.{is_served}
 use Rattle.hls_accounts.proofs.Keeping.{stays_kept}
 use Rattle.hls_answers.specs.Moment.{Boxes}
 use Rattle.hls_legal_report.specs.Legal.{IsLegalContent}
 use Rattle.hls_legal_report.proofs.Keeping.{report_kept}
 use Rattle.hls_legal_jobs.specs.Kept.{KeepsJobs}
+use Rattle.hls_legal_jobs.specs.Reports.{IsReservedStay, IsWake, due_in, IsWokenInTurn}
+use Rattle.hls_legal_jobs.proofs.Wakes.{one_period}
 use Rattle.hls_legal_jobs.proofs.Lasting.{jobs_of_stay}
 use Rattle.hls_legal_jobs.proofs.Prompt.{accounts_prompt}
 
@@ -19,3 +28,17 @@ jobs_kept s given boxes c legal = record {
       (stays_kept c legal.steps legal.run.legal legal.run.tells
       (supply.stays_kept legal.steps legal.run.legal)));
 }
+
+-- a wake for no more than the budget
+pub frame_kept : (s : Scenario) (given : ℕ) (boxes : Boxes) (c : Content) (stay : Stay) (r : Reservation) (from : ℕ)
+    (wake : Answered) (ticks : ℕ) → IsLegalContent s given boxes c → IsReservedStay c stay r
+    → IsWokenInTurn c stay.name r from (end_of c stay) → from ≤ wake.tick → IsWake c stay.name wake ticks → 0 < ticks
+    → ticks ≤ r.x → wake.tick + (r.y + ticks - r.x) ≤ end_of c stay
+    → ((t : ℕ) → wake.tick ≤ t → t < wake.tick + (r.y + ticks - r.x)
+    → last_rousing stay.name t c.answered ≡ Some wake)
+    → ticks ≤ count (is_served c.stretches stay.name) wake.tick (r.y + ticks - r.x)
+frame_kept s given boxes c stay r from wake ticks legal reserved turn low is some few within words =
+    let due : due_in r ticks ≡ r.y + ticks - r.x = (one_period r ticks some few).1 in
+    let served = ((jobs_kept s given boxes c legal).reserved stay r from reserved turn).done wake ticks ticks low is
+    (omega arith) (omega (arith, due, within)) (λ t lo hi. words t lo (omega (arith, due, hi))) in
+    subst (λ (n : ℕ). ticks ≤ count (is_served c.stretches stay.name) wake.tick n) due served

@@ -1,25 +1,30 @@
 //! What holds of jobs: each function's contract is a law, and its body does nothing.
 
-ghost use Rattle.std.specs.Prelude.{◌≡◌, ℕ, ◌+◌, ◌-◌, ◌≤◌, ◌<◌, Bool, List};
+ghost use Rattle.std.specs.Prelude.{◌≡◌, ℕ, ◌+◌, ◌-◌, ◌≤◌, ◌<◌, Bool, List, Some};
 ghost use Rattle.hls_chron.specs.Ledger.{Ledger, now_of};
 ghost use Rattle.hls_chron.specs.Seats.{asked, served};
+ghost use Rattle.hls_chron.specs.Ticks.{count};
 ghost use Rattle.hls_kinds.specs.Tenants.{tenant_at};
 ghost use Rattle.hls_kinds.specs.Made.{IsMade};
 ghost use Rattle.hls_book_edf.specs.Books.{IsGiven};
 ghost use Rattle.hls_scenario.specs.declared.scenario.Scenario.{Scenario};
+ghost use Rattle.hls_report_text.specs.declared.report.Answered.{Answered};
 ghost use Rattle.hls_report_text.specs.Content.{Content};
 ghost use Rattle.hls_machine.specs.Hierarchy.{start, had_asked, was_served};
 ghost use Rattle.hls_machine.specs.Steps.{Step, state};
 ghost use Rattle.hls_machine.specs.Legal.{IsLegal};
 ghost use Rattle.hls_accounts.specs.declared.stay.Stay.{Stay};
 ghost use Rattle.hls_accounts.specs.Accounts.{end_of};
+ghost use Rattle.hls_accounts.specs.Commands.{last_rousing};
+ghost use Rattle.hls_accounts.specs.Schedule.{is_served};
 ghost use Rattle.hls_accounts.specs.Tells.{Tells};
 ghost use Rattle.hls_answers.specs.Moment.{Boxes};
 ghost use Rattle.hls_legal_report.specs.Legal.{IsLegalContent};
 ghost use Rattle.hls_legal_jobs.specs.Jobs.{AsksForJobs, AreInTime};
 ghost use Rattle.hls_legal_jobs.specs.Runs.{HasReservation};
 ghost use Rattle.hls_legal_jobs.specs.Kept.{KeepsJobs};
-ghost use Rattle.hls_legal_jobs.specs.Reports.{IsReservedStay, periods_for, due_in, IsWokenInTurn, IsServedInTime};
+ghost use Rattle.hls_legal_jobs.specs.Reports.{IsReservedStay, IsWake, periods_for, due_in, IsWokenInTurn};
+ghost use Rattle.hls_legal_jobs.specs.Reports.{IsServedInTime};
 
 use hls_chron::{Config, Terms};
 use hls_kinds::{Reservation, Tenant};
@@ -64,4 +69,17 @@ pub fn jobs_of_one_budget_take_one_period(r: Reservation)
 /// every tick is guaranteed, and those of any thread by its printed guarantee alone, wherever it sits.
 pub fn legal_reports_keep_their_jobs()
     ensures { (s : Scenario) (given : ℕ) (boxes : Boxes) (c : Content) → IsLegalContent s given boxes c → KeepsJobs c }
+{}
+
+/// Will a frame be in time? In a legal report a thread sits as `res x y` below a scheduler for which every tick is
+/// guaranteed, and is woken in turn. Then it has the ticks of each wake within `y` ticks where the wake is for `x`, and
+/// sooner by what it is for less; unless there is a further word on it before, and as long as its stay lasts.
+pub fn frames_are_in_time()
+    ensures { (s : Scenario) (given : ℕ) (boxes : Boxes) (c : Content) (stay : Stay) (r : Reservation) (from : ℕ)
+        (wake : Answered) (ticks : ℕ) → IsLegalContent s given boxes c → IsReservedStay c stay r →
+        IsWokenInTurn c stay.name r from (end_of c stay) → from ≤ wake.tick → IsWake c stay.name wake ticks →
+        0 < ticks → ticks ≤ r.x → wake.tick + (r.y + ticks - r.x) ≤ end_of c stay →
+        ((t : ℕ) → wake.tick ≤ t → t < wake.tick + (r.y + ticks - r.x) →
+        last_rousing stay.name t c.answered ≡ Some wake) →
+        ticks ≤ count (is_served c.stretches stay.name) wake.tick (r.y + ticks - r.x) }
 {}
