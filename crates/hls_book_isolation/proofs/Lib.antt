@@ -1,0 +1,4 @@
+mod Claims
+mod Spans
+mod Spares
+mod Demand
