@@ -28,7 +28,7 @@ use Rattle.hls_book_edf.proofs.Replenishing.{replenished-on, replenished-rate, r
 use Rattle.hls_book_isolation.specs.Demand.{demand_of, demand_in, demand_at, demand}
 
 -- where it asks, all that is owed is claimed
-claimed_asking : (whole budget deadline rate now bound : ℕ) → claimed true whole budget deadline rate now bound
+pub claimed_asking : (whole budget deadline rate now bound : ℕ) → claimed true whole budget deadline rate now bound
     ≡ owed whole budget deadline rate bound
 unfolding claimed
 claimed_asking whole budget deadline rate now bound = refl

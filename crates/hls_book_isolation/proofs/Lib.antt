@@ -2,3 +2,4 @@ mod Claims
 mod Spans
 mod Spares
 mod Demand
+mod Sharp

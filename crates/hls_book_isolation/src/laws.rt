@@ -22,7 +22,7 @@ pub fn budgets_and_deadlines_stay_near()
 {}
 
 /// Whatever the others ask, and whatever the scheduler is given, a hard seat is served at most its share of any span
-/// of ticks and twice its budget.
+/// of ticks and twice its budget. In whole ticks it is less: twice its budget at once, and its share of the rest.
 pub fn hard_seats_are_capped_in_any_span()
     ensures { (b : Ledger) (slot x y since : ℕ) → IsMade Config.Edf b →
         tenant_at b slot ≡ Tenant.Sits (Terms.Res true x y) since → IsCapped b slot x y since }

@@ -1,7 +1,7 @@
 //! Worked runs that reach the bounds of the laws: each function's contract is a fact about one, and its body does
 //! nothing.
 
-ghost use Rattle.std.specs.Prelude.{◌≡◌, ℕ, ◌+◌, ◌*◌, ◌<◌, ◌≤◌, List, [], ◌∷◌, map, false};
+ghost use Rattle.std.specs.Prelude.{◌≡◌, ℕ, ◌+◌, ◌*◌, ◌-◌, ◌<◌, ◌≤◌, List, [], ◌∷◌, map, false};
 ghost use Rattle.hls_chron.specs.Parts.{all_parts, parts};
 ghost use Rattle.hls_chron.specs.Ticks.{count};
 ghost use Rattle.hls_frac.specs.declared.Frac.{Frac};
@@ -25,11 +25,12 @@ pub fn a_reservation_waits_as_long_as_it_may()
     ensures no_fewer { ¬ Satisfies (Resc false 1 4) (was_served (state start crowded).past shorter) 0 7 }
 {}
 
-/// Right after that it has both of two ticks, the last of one period and the first of the next. Its cap, the share of
-/// these ticks and twice its budget, leaves no room for a third.
+/// Right after that it has both of two ticks, the last of one period and the first of the next: twice its budget, and
+/// its share of no further tick, as much as a hard seat has of two ticks. Its guarantee's cap, the share of these ticks
+/// and twice the budget, leaves no room for a third either.
 pub fn a_hard_reservation_reaches_its_cap()
     ensures got { count (was_served (state start crowded).past shorter) 5 2 ≡ 2 }
-    ensures within { 2 * all_parts ≤ parts 1 3 * 2 + 2 * 1 * all_parts }
+    ensures reached { count (was_served (state start crowded).past shorter) 5 2 * 3 ≡ 2 * 1 * 3 + 1 * (2 - 2 * 1) }
     ensures no_more { parts 1 3 * 2 + 2 * 1 * all_parts < 3 * all_parts }
 {}
 

@@ -7,9 +7,9 @@ pub returns-clause-got : goal.returns-clause-got
 unfolding count
 returns-clause-got c = refl
 
-pub returns-clause-within : goal.returns-clause-within
-unfolding parts
-returns-clause-within c = omega arith
+pub returns-clause-reached : goal.returns-clause-reached
+unfolding count
+returns-clause-reached c = refl
 
 pub returns-clause-no_more : goal.returns-clause-no_more
 unfolding parts
