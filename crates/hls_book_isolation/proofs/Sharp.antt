@@ -50,8 +50,8 @@ raises_none whole c true now is =
     let right : bound - c.deadline ≡ now + e.deadline = omega arith in
     omega (arith, less, all, most, had, rate, ap (λ n. c.parts * n) left, ap (λ n. c.parts * n) right)
 
--- Budget and deadline before a replenishment, q and d, and after it, p and e: as they were, or all of it up to a deadline
--- a period later.
+-- Budget and deadline before a replenishment, q and d, and after it, p and e: as they were, or all of it up to a
+-- deadline a period later.
 abbrev IsReplaced : (x y t q d p e : ℕ) → Type 0
 IsReplaced x y t q d p e = ((p ≡ q) × (e ≡ d)) ⊎ ((p ≡ x) × (e ≡ t + y))
 
@@ -147,7 +147,8 @@ parts_low x y wide narrow = elim (cases_lt all_parts (parts x y)) [
 
 -- how a replenishment changes budget and deadline
 changes : (whole x : ℕ) (c : Server) (asks : Bool) (now : ℕ) → c.x ≡ x
-    → IsReplaced x c.y now c.budget c.deadline (replenished whole c asks now).budget (replenished whole c asks now).deadline
+    → IsReplaced x c.y now c.budget c.deadline (replenished whole c asks now).budget
+    (replenished whole c asks now).deadline
 changes whole x c false now is = rw (replenished-off whole c now) (inl (refl, refl))
 changes whole x c true now is = elim (cases_Bool (is_due whole c now)) [
   | inl due ↦ rw (replenished-set whole c now due) (inr (is, refl))
