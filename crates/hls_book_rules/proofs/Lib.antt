@@ -4,3 +4,4 @@ pub mod Turns
 pub mod Places
 pub mod NewBooks
 pub mod TagOrder
+pub mod Solutions

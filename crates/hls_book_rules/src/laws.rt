@@ -1,16 +1,18 @@
 //! What holds of the definitions: each function's contract is a law, and its body does nothing.
 
-ghost use Rattle.std.specs.Prelude.{ℕ, Bool, ◌<◌};
+ghost use Rattle.std.specs.Prelude.{◌≡◌, ℕ, ◌+◌, Bool, true, ◌<◌};
 ghost use Rattle.hls_chron.specs.Ledger.{Ledger};
 ghost use Rattle.hls_kinds.specs.Made.{IsMade};
-ghost use Rattle.hls_book_rules.specs.Budgets.{KeepsBudgetRules, KeepsClaimRules};
+ghost use Rattle.hls_kinds.specs.Tags.{start_tag};
+ghost use Rattle.hls_book_rules.specs.Budgets.{KeepsBudgetRules, KeepsClaimRules, claim_before};
 ghost use Rattle.hls_book_rules.specs.NewBooks.{IsNew, BeginsAnew};
+ghost use Rattle.hls_book_rules.specs.Solutions.{MeetTagRules, GoByBudgetRules};
 ghost use Rattle.hls_book_rules.specs.Tags.{KeepsTagRules, KeepsTagOrderInTicks};
 ghost use Rattle.hls_book_rules.specs.Turns.{KeepsTurnRules};
 ghost use Rattle.hls_book_rules.specs.Places.{KeepsPlaceRules};
 
 use hls_chron::Config;
-use hls_kinds::Reservation;
+use hls_kinds::{Claim, Reservation};
 
 /// What each kind begins with in a new book: virtual time 0, the first slot next with a whole quantum, no owners, and
 /// no budgets.
@@ -24,6 +26,13 @@ pub fn budgets_meet_their_rules(reservation: Reservation)
     ensures { (asks serves : ℕ → Bool) (n : ℕ) → KeepsBudgetRules reservation asks serves n }
 {}
 
+/// What goes by these rules from tick to tick is this alone, in whatever way it is computed.
+pub fn budgets_are_the_only_ones(reservation: Reservation)
+    ensures { (asks serves : ℕ → Bool) (claims : ℕ → Claim) → GoByBudgetRules reservation asks serves claims →
+        ((n : ℕ) → serves (reservation.since + n) ≡ true → asks (reservation.since + n) ≡ true) →
+        (n : ℕ) → claims n ≡ claim_before reservation asks serves n }
+{}
+
 /// So do those by which a tick is given away.
 pub fn claims_meet_their_rules(reservation: Reservation)
     ensures { (b : Ledger) (mask slot : ℕ) → KeepsClaimRules b mask slot reservation }
@@ -33,6 +42,12 @@ pub fn claims_meet_their_rules(reservation: Reservation)
 /// Goyal, Guo and Vin 1996).
 pub fn tags_meet_their_rules(total: u32, most: u32)
     ensures { (b : Ledger) → IsMade (Config.Sfq total most) b → KeepsTagRules b }
+{}
+
+/// The start tags are the only ones that meet their rules in every tick, in whatever way they are computed.
+pub fn start_tags_are_the_only_ones()
+    ensures { (b : Ledger) (tags : ℕ → ℕ → ℕ) → MeetTagRules b tags → (t slot : ℕ) →
+        tags t slot ≡ start_tag b t slot }
 {}
 
 /// The virtual time never falls. A start tag is fixed when its seat begins to ask: it stays while the seat asks and

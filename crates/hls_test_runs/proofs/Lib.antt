@@ -12,3 +12,7 @@ pub mod Tagged
 pub mod Shared
 pub mod Joints
 pub mod Joined
+pub mod Deadlines
+pub mod Crowded
+pub mod Couple
+pub mod Apart

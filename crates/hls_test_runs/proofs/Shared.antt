@@ -37,7 +37,7 @@ use Rattle.hls_test_runs.proofs.Desk.{first_first, second_first, IsDesk, can_loa
 use Rattle.hls_test_runs.proofs.Desk.{desk_flat, desk_asking, desk_ticked, desk_runs}
 
 -- what a seat of weight 1 or 2 is guaranteed
-unit : (den : ℕ) → 1 ≤ den → Frac
+unfoldable pub unit : (den : ℕ) → 1 ≤ den → Frac
 unit den some = record {
   num = 1;
   den = den;
@@ -45,7 +45,7 @@ unit den some = record {
   lowest = (one-dvd 1, one-dvd den, λ d p q. p);
 }
 
-whole : ℕ → Frac
+unfoldable pub whole : ℕ → Frac
 whole num = record {
   num = num;
   den = 1;
@@ -54,13 +54,13 @@ whole num = record {
 }
 
 -- the whole share with an error, what a weight lends of it, and what that comes to in windows
-abbrev given_with : ℕ → Guarantee
+abbrev pub given_with : ℕ → Guarantee
 given_with error = Psbe (whole 1) (whole error)
 
 abbrev lent_to : (parts : ℕ) → 1 ≤ parts → Guarantee
 lent_to parts some = Psbe (unit parts some) (whole 2)
 
-valid_given : (error : ℕ) → error ≤ 3 → IsValid (given_with error)
+pub valid_given : (error : ℕ) → error ≤ 3 → IsValid (given_with error)
 unfolding whole
 valid_given error le = record {
   some = omega arith;

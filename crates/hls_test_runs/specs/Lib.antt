@@ -3,3 +3,5 @@ pub mod Moves
 pub mod Reserved
 pub mod Shared
 pub mod Joined
+pub mod Crowded
+pub mod Apart

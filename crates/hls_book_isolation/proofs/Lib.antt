@@ -1,0 +1,5 @@
+mod Claims
+mod Spans
+mod Spares
+mod Demand
+mod Sharp
