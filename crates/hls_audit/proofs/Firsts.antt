@@ -11,7 +11,8 @@ use Rattle.hls_audit.specs.declared.auditing.Outcome.{Outcome}
 use Rattle.hls_audit.specs.declared.auditing.Outcome.TheVariants.{Kept, Broken}
 use Rattle.hls_audit.specs.Audits.{IsAudit}
 use Rattle.hls_audit_watch.specs.First.{IsFirstAt, FirstAt}
-use Rattle.hls_audit.specs.Inside.Failing.{IsLeast, LeastOf, sooner, bound}
+use Rattle.hls_audit.specs.Least.{IsLeast, LeastOf}
+use Rattle.hls_audit.specs.Inside.Failing.{sooner, bound}
 use Rattle.hls_audit_threads.proofs.Formed.{stay_ends, command_early}
 use Rattle.hls_audit_threads.proofs.OnPaths.{path_early}
 

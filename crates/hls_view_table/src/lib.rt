@@ -1,9 +1,9 @@
 //! Tables as text: each column as wide as its widest cell, two spaces between columns.
 #![tactic(auto)]
 
-mod columns;
+mod lanes;
 mod table;
 mod writing;
 
-pub use table::{Row, Side, Table};
+pub use table::{Column, Row, Side, Table};
 pub use writing::write_table;
