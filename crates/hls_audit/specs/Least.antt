@@ -9,6 +9,7 @@ use Rattle.hls_audit.specs.declared.auditing.Outcome.TheVariants.{Kept, Broken}
 pub record IsLeast (c : Content) (few number t : ℕ) : Type 0 where
   pub clause : Clause
   pub number_is : number ≡ number_of clause
+  pub among : number ≤ few
   pub fails : Fails clause c t
   pub earliest : (other : Clause) (before : ℕ) → number_of other ≤ few → before < t → ¬ Fails other c before
   pub least : (other : Clause) → number_of other < number → ¬ Fails other c t
