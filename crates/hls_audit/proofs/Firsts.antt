@@ -11,7 +11,8 @@ use Rattle.hls_audit.specs.declared.auditing.Outcome.{Outcome}
 use Rattle.hls_audit.specs.declared.auditing.Outcome.TheVariants.{Kept, Broken}
 use Rattle.hls_audit.specs.Audits.{IsAudit}
 use Rattle.hls_audit_watch.specs.First.{IsFirstAt, FirstAt}
-use Rattle.hls_audit.specs.Inside.Failing.{IsLeast, LeastOf, sooner, bound}
+use Rattle.hls_audit.specs.Least.{IsLeast, LeastOf}
+use Rattle.hls_audit.specs.Inside.Failing.{sooner, bound}
 use Rattle.hls_audit_threads.proofs.Formed.{stay_ends, command_early}
 use Rattle.hls_audit_threads.proofs.OnPaths.{path_early}
 
@@ -101,6 +102,7 @@ module _ (c : Content) (few : ℕ) (which : Clause) (is : number_of which ≡ fe
   none_broken number s old none = record {
     clause = old.clause;
     number_is = old.number_is;
+    among = let few = old.among in omega (arith, few);
     fails = old.fails;
     earliest = λ other before le lt. elim (at_most few other which is le) [
       | inl less ↦ old.earliest other before less lt
@@ -114,6 +116,7 @@ module _ (c : Content) (few : ℕ) (which : Clause) (is : number_of which ≡ fe
   new_broken t old first = record {
     clause = which;
     number_is = sym is;
+    among = omega arith;
     fails = first.here;
     earliest = λ other before le lt. elim (at_most few other which is le) [
       | inl less ↦ old other before less (omega (arith, lt))

@@ -2,7 +2,7 @@
 ghost use Rattle.std.specs.Prelude.{◌≡◌, IfOk};
 ghost use Rattle.hls_report_text.specs.Content.{content_of};
 ghost use Rattle.hls_report_text.specs.WellFormed.{IsWellFormed};
-ghost use Rattle.hls_audit.specs.Audits.{IsAudit};
+ghost use Rattle.hls_audit.specs.Audits.{IsAudit, IsTale};
 ghost use Rattle.hls_audit.specs.Inside.Failing as least;
 
 use crate::commands::{first_misplaced, first_underived};
@@ -48,6 +48,19 @@ fn bound(found: Outcome, horizon: u32) -> u32
     }
 }
 
+/// Audits a report by its first two clauses alone: where they fail at no tick, its commands and its paths can be
+/// followed.
+///
+/// # Errors
+/// Returns `AllocError` where there is no memory for what is kept beside the report.
+pub fn audit_tale(alloc: Global, report: &Report) -> Result<Outcome, AllocError>
+    requires { IsWellFormed report.now }
+    ensures { IfOk result (IsTale (content_of report.now)) }
+{
+    let misplaced = sooner(Outcome::Kept, 1, first_misplaced(alloc, report)?);
+    Ok(sooner(misplaced, 2, first_astray(alloc, report)?))
+}
+
 /// Audits a report by what it says alone.
 ///
 /// # Errors
@@ -56,8 +69,7 @@ pub fn audit(alloc: Global, report: &Report) -> Result<Outcome, AllocError>
     requires { IsWellFormed report.now }
     ensures { IfOk result (IsAudit (content_of report.now)) }
 {
-    let misplaced = sooner(Outcome::Kept, 1, first_misplaced(alloc, report)?);
-    let astray = sooner(misplaced, 2, first_astray(alloc, report)?);
+    let astray = audit_tale(alloc, report)?;
     let found = Findings::of(alloc, report)?;
     let unready = sooner(astray, 3, found.unready);
     let starved = sooner(unready, 4, found.starved);

@@ -13,4 +13,4 @@ mod rising;
 mod tree;
 mod ways;
 
-pub use auditing::{Outcome, audit};
+pub use auditing::{Outcome, audit, audit_tale};

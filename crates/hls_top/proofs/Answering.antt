@@ -48,7 +48,7 @@ run_refused depth boxes bytes Memory output is none = absurd is
 run_refused depth boxes bytes TooLong output is none = absurd is
 
 -- a text is of one content
-content_is : (bytes : Text) (one two : Report) → IsReportText bytes one → IsReportText bytes two
+pub content_is : (bytes : Text) (one two : Report) → IsReportText bytes one → IsReportText bytes two
     → content_of one ≡ content_of two
 content_is bytes one two a b = report_same one two a.formed b.formed (sym a.spelled ∙ b.spelled)
 

@@ -24,7 +24,10 @@ fn status_of(audit: Outcome) -> Status
 }
 
 /// The line that tells what an audit comes to.
-fn verdict_line(alloc: Global, audit: Outcome) -> Result<Vec<u8>, AllocError>
+///
+/// # Errors
+/// Returns `AllocError` for want of memory.
+pub fn verdict_line(alloc: Global, audit: Outcome) -> Result<Vec<u8>, AllocError>
     ensures { IfOk result (λ bytes. bytes.items ≡ verdict audit ++ 10 ∷ []) }
 {
     let mut bytes = Vec::new(alloc);

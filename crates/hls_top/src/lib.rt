@@ -14,4 +14,8 @@ mod running;
 mod trying;
 mod verdicts;
 
-pub use run::hls_run;
+pub use checking::verdict_line;
+pub use reading::text_from;
+pub use refusing::refusal_line;
+pub use run::{hls_run, say};
+pub use verdicts::put_verdict;

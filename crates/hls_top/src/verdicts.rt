@@ -7,6 +7,9 @@ use hls_text::{put, put_number};
 use std::alloc::AllocError;
 
 /// Appends what an audit comes to: that all is kept, or the clause that fails first and its tick.
+///
+/// # Errors
+/// Returns `AllocError` for want of memory.
 pub fn put_verdict(out: &mut Vec<u8>, audit: Outcome) -> Result<(), AllocError>
     ensures { OnOk result (out.new.items ≡ out.old.items ++ verdict audit) }
 {

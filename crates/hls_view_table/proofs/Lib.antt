@@ -1,2 +1,4 @@
 pub mod Trims
 pub mod Lines
+pub mod Parts
+pub mod Determined

@@ -1,8 +1,8 @@
 // The text of a table.
 ghost use Rattle.std.specs.Prelude.{◌≡◌, ◌≤◌, ◌∷◌, ◌++◌, [], OnOk, length, map, take, replicate};
-ghost use Rattle.hls_view_table.specs.Tables.{cells_of, set_in, spread, trimmed, line_text, table_text};
+ghost use Rattle.hls_view_table.specs.Tables.{cells_of, set_in, spread, trimmed, line_text, lines_text, table_text};
 
-use crate::columns::{Column, columns_of};
+use crate::lanes::{Lane, heads_of, lanes_of};
 use crate::table::{Row, Side, Table};
 use hls_text::put;
 use std::alloc::{AllocError, Global};
@@ -16,12 +16,12 @@ fn put_blanks(out: &mut Vec<u8>, count: usize) -> Result<(), AllocError>
     Ok(())
 }
 
-/// Appends a cell with the blanks that fill its column.
-fn put_cell(out: &mut Vec<u8>, column: Column, cell: &[u8]) -> Result<(), AllocError>
-    ensures { OnOk result (out.new.items ≡ out.old.items ++ set_in column cell.now) }
+/// Appends a cell with the blanks that fill its lane.
+fn put_cell(out: &mut Vec<u8>, lane: Lane, cell: &[u8]) -> Result<(), AllocError>
+    ensures { OnOk result (out.new.items ≡ out.old.items ++ set_in lane cell.now) }
 {
-    let blanks = column.wide.saturating_sub(cell.len());
-    match column.side {
+    let blanks = lane.wide.saturating_sub(cell.len());
+    match lane.side {
         Side::Left => {
             put(out, cell)?;
             put_blanks(out, blanks)
@@ -34,11 +34,11 @@ fn put_cell(out: &mut Vec<u8>, column: Column, cell: &[u8]) -> Result<(), AllocE
 }
 
 /// Appends the cells of a line, two blanks behind each.
-fn put_cells(out: &mut Vec<u8>, columns: &[Column], cells: &[Vec<u8>]) -> Result<(), AllocError>
-    ensures { OnOk result (out.new.items ≡ out.old.items ++ spread columns.now (map (λ c. c.items) cells.now)) }
+fn put_cells(out: &mut Vec<u8>, lanes: &[Lane], cells: &[Vec<u8>]) -> Result<(), AllocError>
+    ensures { OnOk result (out.new.items ≡ out.old.items ++ spread lanes.now (map (λ c. c.items) cells.now)) }
 {
-    for (column, cell) in columns.iter().zip(cells) {
-        put_cell(out, *column, cell)?;
+    for (lane, cell) in lanes.iter().zip(cells) {
+        put_cell(out, *lane, cell)?;
         put(out, b"  ")?;
     }
     Ok(())
@@ -56,14 +56,23 @@ fn trimmed_len(text: &[u8]) -> usize
     len
 }
 
-fn put_line(out: &mut Vec<u8>, columns: &[Column], row: &Row) -> Result<(), AllocError>
-    ensures { OnOk result (out.new.items ≡ out.old.items ++ (line_text columns.now (cells_of row.now) ++ 10 ∷ [])) }
+fn put_line(out: &mut Vec<u8>, lanes: &[Lane], row: &Row) -> Result<(), AllocError>
+    ensures { OnOk result (out.new.items ≡ out.old.items ++ (line_text lanes.now (cells_of row.now) ++ 10 ∷ [])) }
 {
     let start = out.len();
-    put_cells(out, columns, &row.cells)?;
+    put_cells(out, lanes, &row.cells)?;
     let len = start + trimmed_len(&out[start..]);
     out.truncate(len);
     put(out, b"\n")?;
+    Ok(())
+}
+
+fn put_lines(out: &mut Vec<u8>, lanes: &[Lane], rows: &[Row]) -> Result<(), AllocError>
+    ensures { OnOk result (out.new.items ≡ out.old.items ++ lines_text lanes.now (map cells_of rows.now)) }
+{
+    for row in rows {
+        put_line(out, lanes, row)?;
+    }
     Ok(())
 }
 
@@ -74,10 +83,9 @@ fn put_line(out: &mut Vec<u8>, columns: &[Column], row: &Row) -> Result<(), Allo
 pub fn write_table(alloc: Global, out: &mut Vec<u8>, table: &Table) -> Result<(), AllocError>
     ensures { OnOk result (out.new.items ≡ out.old.items ++ table_text table.now) }
 {
-    let columns = columns_of(alloc, table)?;
-    put_line(out, &columns, &table.heads)?;
-    for row in &table.rows {
-        put_line(out, &columns, row)?;
-    }
+    let heads = heads_of(alloc, table.columns)?;
+    let lanes = lanes_of(alloc, table.columns, &heads, &table.rows)?;
+    put_line(out, &lanes, &heads)?;
+    put_lines(out, &lanes, &table.rows)?;
     Ok(())
 }

@@ -1,19 +1,14 @@
 use Rattle.std.proofs.Common.{refl, arith}
 use Rattle.hls_report_text.specs.Content.{content_of}
-use Rattle.hls_audit_clauses.specs.Clauses.{Placed, Leading, Ready, Supplied, Capped, Derived, Counted}
-use Rattle.hls_audit.specs.declared.auditing.Outcome.TheVariants.{Kept}
-use Rattle.hls_audit.proofs.Firsts.{least_none, step, step_below, placed_to, underived_early, least_all}
+use Rattle.hls_audit_clauses.specs.Clauses.{Ready, Supplied, Capped, Derived, Counted}
+use Rattle.hls_audit.proofs.Firsts.{step, step_below, placed_to, underived_early, least_all}
 use Rattle.hls_audit.proofs.auditing.audit.Goals as goal
 
 pub first_underived-requires-clause-placed : goal.first_underived-requires-clause-placed
 first_underived-requires-clause-placed c =
     let content = content_of c.args.report.now in
-    let one = step content 0 1 Placed Kept c.sooner-misplaced.result c.in_ok-first_misplaced.field-0 refl refl
-    c.sooner-misplaced.ensures (least_none content) c.in_ok-first_misplaced.ensures in
-    let two = step content 1 2 Leading c.sooner-misplaced.result c.sooner-astray.result
-    c.in_ok-first_astray.field-0 refl refl c.sooner-astray.ensures one c.in_ok-first_astray.ensures in
-    let three = step content 2 3 Ready c.sooner-astray.result c.sooner-unready.result c.in_ok-found.found.unready refl
-    refl c.sooner-unready.ensures two c.in_ok-found.ensures.unready in
+    let three = step content 2 3 Ready c.in_ok-astray.astray c.sooner-unready.result c.in_ok-found.found.unready refl
+    refl c.sooner-unready.ensures c.in_ok-astray.ensures c.in_ok-found.ensures.unready in
     let four = step content 3 4 Supplied c.sooner-unready.result c.sooner-starved.result
     c.in_ok-found.found.starved refl refl c.sooner-starved.ensures three c.in_ok-found.ensures.starved in
     let five = step content 4 5 Capped c.sooner-starved.result c.sooner-over_cap.result
@@ -23,12 +18,8 @@ first_underived-requires-clause-placed c =
 pub returns : goal.returns
 returns c =
     let content = content_of c.args.report.now in
-    let one = step content 0 1 Placed Kept c.sooner-misplaced.result c.in_ok-first_misplaced.field-0 refl refl
-    c.sooner-misplaced.ensures (least_none content) c.in_ok-first_misplaced.ensures in
-    let two = step content 1 2 Leading c.sooner-misplaced.result c.sooner-astray.result
-    c.in_ok-first_astray.field-0 refl refl c.sooner-astray.ensures one c.in_ok-first_astray.ensures in
-    let three = step content 2 3 Ready c.sooner-astray.result c.sooner-unready.result c.in_ok-found.found.unready refl
-    refl c.sooner-unready.ensures two c.in_ok-found.ensures.unready in
+    let three = step content 2 3 Ready c.in_ok-astray.astray c.sooner-unready.result c.in_ok-found.found.unready refl
+    refl c.sooner-unready.ensures c.in_ok-astray.ensures c.in_ok-found.ensures.unready in
     let four = step content 3 4 Supplied c.sooner-unready.result c.sooner-starved.result
     c.in_ok-found.found.starved refl refl c.sooner-starved.ensures three c.in_ok-found.ensures.starved in
     let five = step content 4 5 Capped c.sooner-starved.result c.sooner-over_cap.result

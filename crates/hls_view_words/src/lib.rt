@@ -1,0 +1,10 @@
+//! The words of the command line of `hlsview`: the table of those that it knows, read beside `clap`.
+#![tactic(auto)]
+
+pub mod laws;
+mod parsing;
+mod table;
+mod views;
+
+pub use parsing::asked_for;
+pub use views::View;

@@ -1,0 +1,77 @@
+// The words, by clap beside the table.
+ghost use Rattle.std.specs.Prelude.{◌≡◌, IfOk, IfErr, map, string_bytes, false, MatchOption};
+ghost use Rattle.clap.specs.declared.builder.command.Command.TheViews.{out-Command};
+ghost use Rattle.clap.specs.Words.{kind_of, app_of};
+ghost use Rattle.hls_view_words.specs.Table.{IsView, IsNoView};
+ghost use Rattle.hls_view_words.specs.Inside.Commands.{margins, bare, hlsview};
+
+use crate::View;
+use crate::table::listed;
+use clap::error::ErrorKind;
+use clap::{ArgMatches, Command, Error};
+use std::alloc::{AllocError, Global};
+
+fn margins_command<'a>(alloc: Global) -> Command<'a>
+    ensures app { app_of result ≡ margins }
+    ensures local { (out-Command result).has_globals ≡ false }
+{
+    Command::new(alloc, "margins").disable_help_flag(true)
+}
+
+fn bare_command<'a>(alloc: Global) -> Command<'a>
+    ensures app { app_of result ≡ bare }
+    ensures local { (out-Command result).has_globals ≡ false }
+{
+    Command::new(alloc, "hlsview")
+        .no_binary_name(true)
+        .disable_help_flag(true)
+        .disable_help_subcommand(true)
+        .subcommand_required(true)
+}
+
+fn hlsview_command<'a>(alloc: Global) -> Result<Command<'a>, AllocError>
+    ensures { IfOk result (λ c. app_of c ≡ hlsview) }
+{
+    bare_command(alloc).subcommand(margins_command(alloc))
+}
+
+/// What clap makes of the words. It refuses none of the table but for want of memory.
+fn matched<'a>(alloc: Global, words: &'a Vec<String>) -> Result<ArgMatches<'a>, Error>
+    ensures { IfErr result (λ e. (view : View) → IsView (map string_bytes words.entry.now.items) view →
+        kind_of e ≡ ErrorKind.OutOfMemory) }
+{
+    let hlsview = hlsview_command(alloc)?;
+    hlsview.try_get_matches_from(words.as_slice())
+}
+
+/// Lets clap read words of the table.
+fn clap_reads(alloc: Global, words: &Vec<String>, view: &View) -> Result<(), AllocError>
+    requires { IsView (map string_bytes words.now.items) view.now }
+{
+    match matched(alloc, words) {
+        Ok(_matches) => Ok(()),
+        Err(error) => {
+            if error.kind() == ErrorKind::OutOfMemory {
+                Err(AllocError)
+            } else {
+                unreachable!()
+            }
+        }
+    }
+}
+
+/// What the words ask for, or `None` where they are not in the table. Clap reads what is in it.
+///
+/// # Errors
+///
+/// Returns `AllocError` where clap has no memory.
+pub fn asked_for(alloc: Global, words: &Vec<String>) -> Result<Option<View>, AllocError>
+    ensures { IfOk result (λ found. MatchOption found (IsNoView (map string_bytes words.now.items))
+        (IsView (map string_bytes words.now.items))) }
+{
+    let Some(view) = listed(words) else {
+        return Ok(None);
+    };
+    clap_reads(alloc, words, &view)?;
+    Ok(Some(view))
+}

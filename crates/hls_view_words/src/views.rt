@@ -1,0 +1,8 @@
+// What the words of a command line ask for.
+
+/// What is to be shown of a report.
+#[derive(Clone, Copy, Debug, PartialEq, Eq)]
+pub enum View {
+    /// A line for each stay: how near it came to its guarantee and its cap.
+    Margins,
+}
