@@ -1,0 +1,4 @@
+pub mod Scales
+pub mod First
+pub mod Parts
+pub mod Inside

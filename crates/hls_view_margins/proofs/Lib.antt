@@ -1,0 +1,3 @@
+pub mod Sooners
+pub mod Lengths
+pub mod Runs
