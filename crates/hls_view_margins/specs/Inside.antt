@@ -1,0 +1,4 @@
+pub mod Sooner
+pub mod Runs
+pub mod Pieces
+pub mod Tests
