@@ -6,3 +6,5 @@ pub mod Extremes
 pub mod WindowLaws
 pub mod WaitLaws
 pub mod Offers
+pub mod SizeLaws
+pub mod Sizes

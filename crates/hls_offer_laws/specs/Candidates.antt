@@ -1,9 +1,12 @@
 -- A few numbers among which the best one of a form is.
-use Rattle.std.specs.Prelude.{◌≡◌, ◌≢◌, ◌⊎◌, ℕ, ◌+◌, ◌-◌, ◌*◌, ◌≤◌, false}
+use Rattle.std.specs.Prelude.{◌≡◌, ◌≢◌, ◌⊎◌, ℕ, ◌+◌, ◌-◌, ◌*◌, ◌≤◌, Bool, false}
 use Rattle.hls_frac.specs.declared.Frac.{Frac}
+use Rattle.hls_chron.specs.declared.plain.Config.TheVariants.{Edf}
+use Rattle.hls_chron.specs.declared.plain.Terms.TheVariants.{Res}
 use Rattle.hls_guarantee.specs.declared.Guarantee.{Guarantee}
 use Rattle.hls_guarantee.specs.declared.Guarantee.TheVariants.{Null, Resb, Resc, Psbe}
 use Rattle.hls_guarantee.specs.Conversions.{Covers}
+use Rattle.hls_derive.specs.declared.derivation.Place.{Place}
 use Rattle.hls_offer_laws.specs.Offered.{IsShareOf}
 
 pub record IsLeast (P : ℕ → Type 0) (n : ℕ) : Type 0 where
@@ -55,6 +58,10 @@ abbrev pub IsWait : (lent : Guarantee) → (wait : ℕ) → Type 0
 IsWait lent wait = HasWait lent wait ⊎ SharesWait lent wait
 
 -- ---- sizes: how many ticks of a period a reservation is to have
+
+-- a seat by deadline
+abbrev pub reservation : (hard : Bool) (x y : ℕ) → Place
+reservation hard x y = record { config = Edf; terms = Res hard x y }
 
 -- x of each block of y are so many of any so many ticks
 abbrev pub Slides : (ticks period x y : ℕ) → Type 0
