@@ -2,9 +2,11 @@ pub mod Leading
 pub mod Shares
 pub mod Comings
 pub mod Lendings
+pub mod Lent
 pub mod Extremes
 pub mod WindowLaws
 pub mod WaitLaws
 pub mod Offers
 pub mod SizeLaws
 pub mod Sizes
+pub mod Counting

@@ -37,11 +37,11 @@ bound-wait lent wait valid least le under =
     let over : IsCovered (quad lent) 1 best = covered-from 1 best oks even.no_better shortest.meets in
     record {
       best = best;
-      candidate = inr (record {
+      candidate = inr (inr (record {
         share = its.0;
         is = its.1;
         least = subst (λ v. IsLeast (λ ticks. Assures v 1 ticks) best) (sym even.is) shortest;
-      });
+      }));
       no_longer = shortest.least wait own;
       some = covered-fits (quad lent) 1 best ok over;
       closed = bound least le (windows over);
@@ -60,7 +60,7 @@ best-wait wait vl vw (shape (s3 {x = a} {y = b} c d k)) =
     let whole : 2 * b - a + a ≡ 2 * b = omega (arith, vl.fits) in
     record {
       best = 2 * b - a;
-      candidate = inl (inr whole);
+      candidate = inr (inl whole);
       no_longer = omega arith;
       some = omega (arith, vl.some, vl.fits);
       closed = shape (s3 c d (omega arith));

@@ -42,11 +42,15 @@ IsWindow lent x y = HasTicks lent x y ⊎ SharesTicks lent x y
 
 -- ---- waits: within how many ticks one comes
 
--- by blocks one may come first and the next one last
-abbrev pub HasWait : Guarantee → (wait : ℕ) → Type 0
-HasWait (Resb hard ticks period) wait = (wait ≡ period) ⊎ (wait + ticks ≡ 2 * period)
-HasWait (Resc hard ticks period) wait = wait ≡ period
-HasWait _ wait = ⊥
+abbrev pub HasPeriod : Guarantee → (period : ℕ) → Type 0
+HasPeriod (Resb hard ticks y) period = period ≡ y
+HasPeriod (Resc hard ticks y) period = period ≡ y
+HasPeriod _ period = ⊥
+
+-- by blocks the ticks of one may come first and those of the next one last
+abbrev pub SpansBlocks : Guarantee → (wait : ℕ) → Type 0
+SpansBlocks (Resb hard ticks period) wait = wait + ticks ≡ 2 * period
+SpansBlocks _ wait = ⊥
 
 -- the least within which its share gives one
 pub record SharesWait (lent : Guarantee) (wait : ℕ) : Type 0 where
@@ -55,7 +59,7 @@ pub record SharesWait (lent : Guarantee) (wait : ℕ) : Type 0 where
   pub least : IsLeast (λ ticks. Assures share 1 ticks) wait
 
 abbrev pub IsWait : (lent : Guarantee) → (wait : ℕ) → Type 0
-IsWait lent wait = HasWait lent wait ⊎ SharesWait lent wait
+IsWait lent wait = HasPeriod lent wait ⊎ (SpansBlocks lent wait ⊎ SharesWait lent wait)
 
 -- ---- sizes: how many ticks of a period a reservation is to have
 
