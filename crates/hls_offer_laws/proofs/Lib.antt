@@ -8,5 +8,6 @@ pub mod WindowLaws
 pub mod WaitLaws
 pub mod Offers
 pub mod SizeLaws
-pub mod Sizes
+pub mod Reservations
 pub mod Counting
+pub mod Sizing

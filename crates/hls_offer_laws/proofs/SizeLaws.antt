@@ -125,7 +125,7 @@ own-size : {n : ℕ} (ticks period x y : ℕ) → y ≡ period → 1 ≤ ticks �
     → Smaller n (Resb false ticks period) x y
 own-size {n} ticks period x y e some le = record {
   size = ticks;
-  is = inl (e, refl);
+  is = inl (inl (e, refl));
   no_more = le;
   some = some;
   closed = subst (λ v. Closed n (Resb false ticks y) (Resb false ticks v)) e same;
@@ -155,7 +155,7 @@ blocks-slide ticks period x y two some held = elim (same-told y period) [
       let least = sliding ticks period x y held in
       record {
         size = least.0;
-        is = inr (not, inl least.2);
+        is = inl (inr (not, least.2));
         no_more = least.1;
         some = (let a = least.2.meets.0 in omega arith);
         closed = shape (s4 two least.2.meets.0 least.2.meets.1);
@@ -170,7 +170,7 @@ blocks-spread ticks period x y two some pos held = elim (same-told y period) [
       let least = spreading ticks period x y held in
       record {
         size = least.0;
-        is = inr (not, inr least.2);
+        is = inr (not, least.2);
         no_more = least.1;
         some = spreads-some ticks period least.0 y some pos least.2.meets;
         closed = bound least-blocks two (blocks (spreads-covers ticks period least.0 y least.2.meets));
@@ -219,7 +219,7 @@ share-size : {n : ℕ} {hard : Bool} (s d : Frac) (x y : ℕ) → IsReservation 
 share-size s d x y size some (shape v) = elim v [ ]
 share-size s d x y size some (rates le (by4 (r4 rate error))) = record {
   size = x;
-  is = even-least s d x y (omega (arith, size.some, size.fits)) rate error;
+  is = inl (even-least s d x y (omega (arith, size.some, size.fits)) rate error);
   no_more = omega arith;
   some = size.some;
   closed = rates le (by4 (r4 rate error));
@@ -231,7 +231,7 @@ share-size {hard = hard} s d x y size some (bound least-blocks le (share better)
     (better-provides s d hard x y size.some pos better) in
     record {
       size = least.0;
-      is = least.2;
+      is = inl least.2;
       no_more = least.1;
       some = provides-some s d least.0 y some pos least.2.meets;
       closed = bound least-blocks le (share (provides-better s d false least.0 y least.2.meets));
@@ -261,23 +261,28 @@ smaller x y (Resc true ticks period) size valid soft some c = absurd (hard-windo
 smaller x y (Resc false ticks period) size valid soft some c = windows-size ticks period x y size valid.some c
 smaller x y (Psbe s d) size valid soft some c = share-size s d x y size valid.some c
 
+no-size : ⊥ ⊎ ⊥ → ⊥
+no-size (inl none) = none
+no-size (inr none) = none
+
 -- two conversions lead from each size to what is wanted
 pub size-leads : (n x y : ℕ) (wanted : Guarantee) → 2 ≤ n → IsReservation x y → IsSize wanted x y
     → Closed n (Resb false x y) wanted
-size-leads n x y All two size is = absurd is
+size-leads n x y All two size is = absurd (no-size is)
 size-leads n x y Null two size is = null (omega arith)
-size-leads n x y (Resb true ticks period) two size is = absurd is
-size-leads n x y (Resb false ticks period) two size (inl own) =
+size-leads n x y (Resb true ticks period) two size is = absurd (no-size is)
+size-leads n x y (Resb false ticks period) two size (inl (inl own)) =
     subst (λ v. Closed n (Resb false v y) (Resb false ticks period)) (sym own.1)
     (subst (λ v. Closed n (Resb false ticks y) (Resb false ticks v)) own.0 same)
-size-leads n x y (Resb false ticks period) two size (inr (other, inl least)) =
-    shape (s4 two least.meets.0 least.meets.1)
-size-leads n x y (Resb false ticks period) two size (inr (other, inr least)) =
-    bound least-blocks two (blocks (spreads-covers ticks period x y least.meets))
-size-leads n x y (Resc true ticks period) two size is = absurd is
+size-leads n x y (Resb false ticks period) two size (inl (inr least)) =
+    shape (s4 two least.1.meets.0 least.1.meets.1)
+size-leads n x y (Resb false ticks period) two size (inr least) =
+    bound least-blocks two (blocks (spreads-covers ticks period x y least.1.meets))
+size-leads n x y (Resc true ticks period) two size is = absurd (no-size is)
 size-leads n x y (Resc false ticks period) two size (inl least) =
     shape (s3 (omega arith) least.meets.0 least.meets.1)
 size-leads n x y (Resc false ticks period) two size (inr least) =
     bound least-blocks two (windows (spreads-covers ticks period x y least.meets))
-size-leads n x y (Psbe s d) two size is =
+size-leads n x y (Psbe s d) two size (inl is) =
     bound least-blocks two (share (provides-better s d false x y is.meets))
+size-leads n x y (Psbe s d) two size (inr is) = absurd is

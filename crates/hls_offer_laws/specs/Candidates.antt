@@ -79,15 +79,20 @@ Spreads ticks period x y = ticks * y + x * (2 * (y - x)) ≤ x * period
 abbrev pub Provides : (s d : Frac) → (x y : ℕ) → Type 0
 Provides s d x y = (s.num * y ≤ x * s.den) × (2 * (y - x) * s.num * d.den ≤ d.num * s.den)
 
-abbrev pub IsWindowSize : (ticks period x y : ℕ) → Type 0
-IsWindowSize ticks period x y =
-    IsLeast (λ size. Slides ticks period size y) x ⊎ IsLeast (λ size. Spreads ticks period size y) x
+-- the sizes but the next
+abbrev pub IsDirectSize : (wanted : Guarantee) → (x y : ℕ) → Type 0
+IsDirectSize Null x y = x ≡ 1
+IsDirectSize (Resb false ticks period) x y =
+    ((y ≡ period) × (x ≡ ticks)) ⊎ ((y ≢ period) × IsLeast (λ size. Slides ticks period size y) x)
+IsDirectSize (Resc false ticks period) x y = IsLeast (λ size. Slides ticks period size y) x
+IsDirectSize (Psbe s d) x y = IsLeast (λ size. Provides s d size y) x
+IsDirectSize _ x y = ⊥
+
+abbrev pub IsSpreadSize : (wanted : Guarantee) → (x y : ℕ) → Type 0
+IsSpreadSize (Resb false ticks period) x y = (y ≢ period) × IsLeast (λ size. Spreads ticks period size y) x
+IsSpreadSize (Resc false ticks period) x y = IsLeast (λ size. Spreads ticks period size y) x
+IsSpreadSize _ x y = ⊥
 
 -- the sizes for what is wanted, but hard blocks
 abbrev pub IsSize : (wanted : Guarantee) → (x y : ℕ) → Type 0
-IsSize Null x y = x ≡ 1
-IsSize (Resb false ticks period) x y =
-    ((y ≡ period) × (x ≡ ticks)) ⊎ ((y ≢ period) × IsWindowSize ticks period x y)
-IsSize (Resc false ticks period) x y = IsWindowSize ticks period x y
-IsSize (Psbe s d) x y = IsLeast (λ size. Provides s d size y) x
-IsSize _ x y = ⊥
+IsSize wanted x y = IsDirectSize wanted x y ⊎ IsSpreadSize wanted x y

@@ -1,4 +1,4 @@
-use Rattle.hls_offer_laws.proofs.Sizes.{size-candidate, hard-size}
+use Rattle.hls_offer_laws.proofs.Reservations.{size-candidate, hard-size}
 use Rattle.hls_offer_laws.proofs.laws.reservations_have_sizes.Goals as goal
 
 pub returns : goal.returns

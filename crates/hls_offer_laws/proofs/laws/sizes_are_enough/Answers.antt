@@ -1,4 +1,4 @@
-use Rattle.hls_offer_laws.proofs.Sizes.{size-offered, hard-offered}
+use Rattle.hls_offer_laws.proofs.Reservations.{size-offered, hard-offered}
 use Rattle.hls_offer_laws.proofs.laws.sizes_are_enough.Goals as goal
 
 pub returns : goal.returns

@@ -97,7 +97,7 @@ module _ (haves : List Guarantee) (n : ℕ) (one : length haves ≡ 1) (narrow :
       let there : slice_get haves 0 ≡ Some d.from =
       subst (λ k. slice_get haves k ≡ Some d.from) offers.derives.sched.through.port_of offers.derives.starts in
       let valid = narrow-valid d.from (narrow-at haves 0 d.from narrow there) in
-      (1, refl, range.0, nothing-offered false 1 y d.from there valid)
+      (1, inl refl, range.0, nothing-offered false 1 y d.from there valid)
 
   pub size-candidate : (hard : Bool) (x y : ℕ) (wanted : Guarantee) → TermsInRange (Res hard x y) → IsNarrow wanted
       → ((ticks period : ℕ) → wanted ≡ Resb true ticks period → ⊥)
