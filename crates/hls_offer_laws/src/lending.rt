@@ -1,6 +1,7 @@
 // What a place lends, and the share of a guarantee.
-ghost use Rattle.std.specs.Prelude.{◌≡◌, ◌≢◌, IfSome, IsNone};
+ghost use Rattle.std.specs.Prelude.{◌≡◌, ◌≢◌, ◌↔◌, Some, IfSome, IsNone};
 ghost use Rattle.hls_chron.specs.Ranges.{ConfigInRange, TermsInRange};
+ghost use Rattle.hls_guarantee.specs.declared.Guarantee.{Guarantee};
 ghost use Rattle.hls_guarantee.specs.Limits.{IsNarrow, IsValid};
 ghost use Rattle.hls_guarantee.specs.Steps.{LendsByTerms};
 ghost use Rattle.hls_derive.specs.Derives.{IsWholeShare};
@@ -42,10 +43,8 @@ pub fn lent_of(place: &Place, have: &Guarantee) -> Option<Guarantee>
     requires config { ConfigInRange place.now.config }
     requires terms { TermsInRange place.now.terms }
     requires have { IsNarrow have.now }
-    ensures lent { IfSome result (λ lent. IsLentOf place.now.config place.now.terms have.now lent) }
-    ensures some { IfSome result (λ lent. lent ≢ Guarantee.Null) }
-    ensures none { IsNone result → (lent : Guarantee) →
-        IsLentOf place.now.config place.now.terms have.now lent → lent ≡ Guarantee.Null }
+    ensures { (lent : Guarantee) → (result ≡ Some lent) ↔
+        (IsLentOf place.now.config place.now.terms have.now lent × (lent ≢ Guarantee.Null)) }
 {
     match place.config {
         Config::Join { .. } => passed_on(&place.terms, have),
@@ -59,19 +58,16 @@ fn lent_by_terms(place: &Place, g: &Guarantee) -> Option<Guarantee>
     requires config { ConfigInRange place.now.config }
     requires terms { TermsInRange place.now.terms }
     requires from { IsValid g.now }
-    ensures lent { IfSome result (λ lent. LendsByTerms place.now.config place.now.terms g.now lent) }
-    ensures some { IfSome result (λ lent. lent ≢ Guarantee.Null) }
-    ensures none { IsNone result → (lent : Guarantee) →
-        LendsByTerms place.now.config place.now.terms g.now lent → lent ≡ Guarantee.Null }
+    ensures { (lent : Guarantee) → (result ≡ Some lent) ↔
+        (LendsByTerms place.now.config place.now.terms g.now lent × (lent ≢ Guarantee.Null)) }
 {
     unless_nothing(lent(place, g)?)
 }
 
 /// What a port has, for the seat of a join.
 fn passed_on(terms: &Terms, have: &Guarantee) -> Option<Guarantee>
-    ensures some { IfSome result (λ lent. (terms.now ≡ Terms.Sole) × (lent ≡ have.now) ×
-        (lent ≢ Guarantee.Null)) }
-    ensures none { IsNone result → terms.now ≡ Terms.Sole → have.now ≡ Guarantee.Null }
+    ensures { (lent : Guarantee) → (result ≡ Some lent) ↔
+        ((terms.now ≡ Terms.Sole) × (lent ≡ have.now) × (lent ≢ Guarantee.Null)) }
 {
     match terms {
         Terms::Sole => unless_nothing(*have),
@@ -85,8 +81,7 @@ fn passed_on(terms: &Terms, have: &Guarantee) -> Option<Guarantee>
 }
 
 fn unless_nothing(g: Guarantee) -> Option<Guarantee>
-    ensures some { IfSome result (λ kept. (kept ≡ g) × (kept ≢ Guarantee.Null)) }
-    ensures none { IsNone result → g ≡ Guarantee.Null }
+    ensures { (kept : Guarantee) → (result ≡ Some kept) ↔ ((kept ≡ g) × (kept ≢ Guarantee.Null)) }
 {
     match g {
         Guarantee::Null => None,
