@@ -40,6 +40,7 @@ pub record Comes (place : Place) (haves : List Guarantee) (n : ℕ) (wanted : Gu
   pub is : IsLent place haves lent
   pub valid : IsValid lent
   pub room : ℕ
+  pub fits : room ≤ n
   pub closed : Closed room lent wanted
   pub also : (other : Guarantee) → IsValid other → IsSoft other → Closed room lent other
       → IsOffered place haves n other
@@ -99,6 +100,7 @@ module _ (haves : List Guarantee) (wanted : Guarantee) (n port : ℕ) (have : Gu
         is = record { port = port; have = have; there = there; lends = (first, refl); some = not-null c some };
         valid = valid;
         room = room;
+        fits = fits;
         closed = c;
         also = λ other vo soft on.
             before-also place haves n room port have there valid sole fits other vo (first, refl) on;
@@ -114,6 +116,7 @@ module _ (haves : List Guarantee) (wanted : Guarantee) (n port : ℕ) (have : Gu
         is = record { port = port; have = have; there = there; lends = refl; some = not-null c some };
         valid = valid;
         room = room;
+        fits = fits;
         closed = c;
         also = λ other vo soft on.
             before-also place haves n room port have there valid within fits other vo (soft, refl) on;
@@ -128,6 +131,7 @@ module _ (haves : List Guarantee) (wanted : Guarantee) (n port : ℕ) (have : Gu
     is = record { port = port; have = have; there = there; lends = is; some = not-null c some };
     valid = vl;
     room = room;
+    fits = fits;
     closed = c;
     also = λ other vo soft on.
         after-also place haves n room port have there (narrow-valid have narrow) port_of fits lent vl lends other vo on;
@@ -173,6 +177,7 @@ module _ (total most weight : ℕ) (rc : ConfigInRange (configs.Sfq total most))
         };
         valid = vl;
         room = reached.0;
+        fits = (let a = hit.fits in let b = reached.1 in omega arith);
         closed = reached.2;
         also = λ other vo soft on.
             let last = closed-leads reached.0 hit.lent other vl vo on in

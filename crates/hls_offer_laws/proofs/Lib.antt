@@ -2,7 +2,12 @@ pub mod Leading
 pub mod Shares
 pub mod Comings
 pub mod Lendings
+pub mod Lent
 pub mod Extremes
 pub mod WindowLaws
 pub mod WaitLaws
 pub mod Offers
+pub mod SizeLaws
+pub mod Reservations
+pub mod Counting
+pub mod Sizing

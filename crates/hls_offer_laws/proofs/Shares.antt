@@ -1,5 +1,5 @@
 -- The share of a guarantee: there is one, it is as good, and at fair queueing the best one is it.
-use Rattle.std.proofs.Common.{◌≡◌, ℕ, ◌*◌, ◌-◌, List, [], ◌∷◌, refl, sym, subst, arith}
+use Rattle.std.proofs.Common.{Bool, ◌≡◌, ℕ, ◌*◌, ◌-◌, List, [], ◌∷◌, refl, sym, subst, arith}
 use Rattle.hls_frac.specs.declared.Frac.{Frac}
 use Rattle.hls_frac.proofs.Quotients.{quotient_of}
 use Rattle.hls_guarantee.specs.declared.Guarantee.{Guarantee}
@@ -9,6 +9,9 @@ use Rattle.hls_guarantee.specs.Limits.{IsValid, IsNarrow}
 use Rattle.hls_guarantee.specs.Conversions.{Converts}
 use Rattle.hls_derive.specs.Derives.{IsWholeShare}
 use Rattle.hls_derive.specs.declared.derivation.Step.{Step}
+use Rattle.hls_derive.specs.Answers.{IsStrongest}
+use Rattle.hls_rules.proofs.BestOnes.{single-strongest}
+use Rattle.hls_search.proofs.Hitting.{best-one}
 use Rattle.hls_search_laws.proofs.Quads.{IsBetter, quad, quad-ok, better-refl, better-all}
 use Rattle.hls_search_laws.proofs.Quads.{quotient-better, better-quotient}
 use Rattle.hls_search_laws.proofs.Ways.{Way, converts-way, way-converts}
@@ -148,3 +151,33 @@ share-leads (Resb hard x y) share valid is = by-step (record { rule = R4; to = s
 share-leads (Resc hard x y) share valid is = by-step (record { rule = R5; to = share }) refl is
 share-leads (Psbe s d) share valid is =
     ([], record { follows = tt; ends = sym is; fits = omega arith })
+
+pub share-valid : (g share : Guarantee) → IsValid g → IsShareOf g share → IsValid share
+share-valid g share valid is =
+    let even = share-even g share valid is in
+    subst IsValid (sym even.is) even.valid
+
+-- ---- there is one share
+
+share-best : (g share : Guarantee) → IsShareOf g share → (count : ℕ) × IsBestShare g count share
+share-best All share is = (1, of_all is)
+share-best Null share is = absurd is
+share-best (Resb hard x y) share is = (1, of_blocks is)
+share-best (Resc hard x y) share is = (1, of_windows is)
+share-best (Psbe s d) share is = (0, subst (λ v. IsBestShare (Psbe s d) 0 v) (sym is) itself)
+
+pub share-one : (g share other : Guarantee) → IsShareOf g share → IsShareOf g other → share ≡ other
+share-one g share other is also = (best-one (share-best g share is).1 (share-best g other also).1).1
+
+-- the rules that make a share of a reservation have a strongest conclusion
+pub blocks-answered : (g : Guarantee) (hard : Bool) (x y : ℕ) → g ≡ Resb hard x y → IsValid g
+    → ((h : Guarantee) → IsStrongest R4 g h → ⊥) → ⊥
+blocks-answered g hard x y is valid none =
+    let its = share-some (Resb hard x y) (subst IsValid is valid) (λ e. (let no : ⊥ = cc in no)) in
+    none its.0 (subst (λ v. IsStrongest R4 v its.0) (sym is) (single-strongest R4 (Resb hard x y) its.0 tt its.1))
+
+pub windows-answered : (g : Guarantee) (hard : Bool) (x y : ℕ) → g ≡ Resc hard x y → IsValid g
+    → ((h : Guarantee) → IsStrongest R5 g h → ⊥) → ⊥
+windows-answered g hard x y is valid none =
+    let its = share-some (Resc hard x y) (subst IsValid is valid) (λ e. (let no : ⊥ = cc in no)) in
+    none its.0 (subst (λ v. IsStrongest R5 v its.0) (sym is) (single-strongest R5 (Resc hard x y) its.0 tt its.1))

@@ -1,7 +1,7 @@
 -- What is lent gives one tick within no shorter a time than one of the candidates, within which it gives one as soon.
 use Rattle.std.proofs.Common.{◌≡◌, ℕ, ◌+◌, ◌*◌, ◌-◌, ◌≤◌, inl, inr, false, refl, sym, subst, arith}
 use Rattle.hls_guarantee.specs.declared.Guarantee.{Guarantee}
-use Rattle.hls_guarantee.specs.declared.Guarantee.TheVariants.{Resc, Psbe}
+use Rattle.hls_guarantee.specs.declared.Guarantee.TheVariants.{Resb, Resc, Psbe}
 use Rattle.hls_guarantee.specs.Limits.{IsReservation, IsValid}
 use Rattle.hls_search_laws.proofs.Quads.{IsQuad, quad, quad-ok, IsCovered, covered-from}
 use Rattle.hls_search_laws.proofs.Closed.{Least, Closed}
@@ -37,11 +37,11 @@ bound-wait lent wait valid least le under =
     let over : IsCovered (quad lent) 1 best = covered-from 1 best oks even.no_better shortest.meets in
     record {
       best = best;
-      candidate = inr (record {
+      candidate = inr (inr (record {
         share = its.0;
         is = its.1;
         least = subst (λ v. IsLeast (λ ticks. Assures v 1 ticks) best) (sym even.is) shortest;
-      });
+      }));
       no_longer = shortest.least wait own;
       some = covered-fits (quad lent) 1 best ok over;
       closed = bound least le (windows over);
@@ -60,7 +60,7 @@ best-wait wait vl vw (shape (s3 {x = a} {y = b} c d k)) =
     let whole : 2 * b - a + a ≡ 2 * b = omega (arith, vl.fits) in
     record {
       best = 2 * b - a;
-      candidate = inl (inr whole);
+      candidate = inr (inl whole);
       no_longer = omega arith;
       some = omega (arith, vl.some, vl.fits);
       closed = shape (s3 c d (omega arith));
@@ -89,3 +89,15 @@ best-wait wait vl vw (shape (c4s {y = b} c d k)) = record {
 best-wait wait vl vw (rates le (by4 way)) = elim way [ ]
 best-wait wait vl vw (rates le (by5 way)) = elim way [ ]
 best-wait {lent = lent} wait vl vw (bound least le (windows u)) = bound-wait lent wait vl least le u
+
+-- a candidate is some ticks
+pub wait-some : (lent : Guarantee) (wait : ℕ) → IsValid lent → IsWait lent wait → 1 ≤ wait
+wait-some (Resb hard ticks period) wait valid (inl own) = omega (arith, own, valid.some, valid.fits)
+wait-some (Resc hard ticks period) wait valid (inl own) = omega (arith, own, valid.some, valid.fits)
+wait-some (Resb hard ticks period) wait valid (inr (inl spans)) = omega (arith, spans, valid.some, valid.fits)
+wait-some _ wait valid (inl own) = absurd own
+wait-some _ wait valid (inr (inl spans)) = absurd spans
+wait-some lent wait valid (inr (inr shares)) =
+    let even = share-even lent shares.share valid shares.is in
+    covered-fits (quad (Psbe even.s even.d)) 1 wait (quad-ok (Psbe even.s even.d) even.valid)
+    (subst (λ v. Assures v 1 wait) even.is shares.least.meets)

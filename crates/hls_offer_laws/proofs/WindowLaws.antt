@@ -225,3 +225,20 @@ best-windows x y vl vw (shape (c4s {x = a} c d k)) =
 best-windows x y vl vw (rates le (by4 way)) = elim way [ ]
 best-windows x y vl vw (rates le (by5 way)) = elim way [ ]
 best-windows {lent = lent} x y vl vw (bound least le (windows u)) = bound-windows lent x y vl vw least le u
+
+-- a candidate is a number of ticks that a reservation may have
+pub window-size : (lent : Guarantee) (x y : ℕ) → IsValid lent → y ≤ 20000 → IsWindow lent x y → IsReservation x y
+window-size (Resb hard ticks period) x y valid small (inl own) =
+    record { some = omega (arith, own.0, valid.some); fits = own.1; size = small }
+window-size (Resc hard ticks period) x y valid small (inl own) =
+    record { some = omega (arith, own.0, valid.some); fits = own.1; size = small }
+window-size _ x y valid small (inl own) = absurd own
+window-size lent x y valid small (inr shares) =
+    let even = share-even lent shares.share valid shares.is in
+    let under : IsCovered (quad (Psbe even.s even.d)) x y =
+    subst (λ v. Assures v x y) even.is shares.most.meets in
+    record {
+      some = shares.some;
+      fits = covered-fits (quad (Psbe even.s even.d)) x y (quad-ok (Psbe even.s even.d) even.valid) under;
+      size = small;
+    }

@@ -1,9 +1,12 @@
 -- A few numbers among which the best one of a form is.
-use Rattle.std.specs.Prelude.{◌≡◌, ◌≢◌, ◌⊎◌, ℕ, ◌+◌, ◌-◌, ◌*◌, ◌≤◌, false}
+use Rattle.std.specs.Prelude.{◌≡◌, ◌≢◌, ◌⊎◌, ℕ, ◌+◌, ◌-◌, ◌*◌, ◌≤◌, Bool, false}
 use Rattle.hls_frac.specs.declared.Frac.{Frac}
+use Rattle.hls_chron.specs.declared.plain.Config.TheVariants.{Edf}
+use Rattle.hls_chron.specs.declared.plain.Terms.TheVariants.{Res}
 use Rattle.hls_guarantee.specs.declared.Guarantee.{Guarantee}
 use Rattle.hls_guarantee.specs.declared.Guarantee.TheVariants.{Null, Resb, Resc, Psbe}
 use Rattle.hls_guarantee.specs.Conversions.{Covers}
+use Rattle.hls_derive.specs.declared.derivation.Place.{Place}
 use Rattle.hls_offer_laws.specs.Offered.{IsShareOf}
 
 pub record IsLeast (P : ℕ → Type 0) (n : ℕ) : Type 0 where
@@ -39,11 +42,15 @@ IsWindow lent x y = HasTicks lent x y ⊎ SharesTicks lent x y
 
 -- ---- waits: within how many ticks one comes
 
--- by blocks one may come first and the next one last
-abbrev pub HasWait : Guarantee → (wait : ℕ) → Type 0
-HasWait (Resb hard ticks period) wait = (wait ≡ period) ⊎ (wait + ticks ≡ 2 * period)
-HasWait (Resc hard ticks period) wait = wait ≡ period
-HasWait _ wait = ⊥
+abbrev pub HasPeriod : Guarantee → (period : ℕ) → Type 0
+HasPeriod (Resb hard ticks y) period = period ≡ y
+HasPeriod (Resc hard ticks y) period = period ≡ y
+HasPeriod _ period = ⊥
+
+-- by blocks the ticks of one may come first and those of the next one last
+abbrev pub SpansBlocks : Guarantee → (wait : ℕ) → Type 0
+SpansBlocks (Resb hard ticks period) wait = wait + ticks ≡ 2 * period
+SpansBlocks _ wait = ⊥
 
 -- the least within which its share gives one
 pub record SharesWait (lent : Guarantee) (wait : ℕ) : Type 0 where
@@ -52,9 +59,13 @@ pub record SharesWait (lent : Guarantee) (wait : ℕ) : Type 0 where
   pub least : IsLeast (λ ticks. Assures share 1 ticks) wait
 
 abbrev pub IsWait : (lent : Guarantee) → (wait : ℕ) → Type 0
-IsWait lent wait = HasWait lent wait ⊎ SharesWait lent wait
+IsWait lent wait = HasPeriod lent wait ⊎ (SpansBlocks lent wait ⊎ SharesWait lent wait)
 
 -- ---- sizes: how many ticks of a period a reservation is to have
+
+-- a seat by deadline
+abbrev pub reservation : (hard : Bool) (x y : ℕ) → Place
+reservation hard x y = record { config = Edf; terms = Res hard x y }
 
 -- x of each block of y are so many of any so many ticks
 abbrev pub Slides : (ticks period x y : ℕ) → Type 0
@@ -68,15 +79,20 @@ Spreads ticks period x y = ticks * y + x * (2 * (y - x)) ≤ x * period
 abbrev pub Provides : (s d : Frac) → (x y : ℕ) → Type 0
 Provides s d x y = (s.num * y ≤ x * s.den) × (2 * (y - x) * s.num * d.den ≤ d.num * s.den)
 
-abbrev pub IsWindowSize : (ticks period x y : ℕ) → Type 0
-IsWindowSize ticks period x y =
-    IsLeast (λ size. Slides ticks period size y) x ⊎ IsLeast (λ size. Spreads ticks period size y) x
+-- the sizes but the next
+abbrev pub IsDirectSize : (wanted : Guarantee) → (x y : ℕ) → Type 0
+IsDirectSize Null x y = x ≡ 1
+IsDirectSize (Resb false ticks period) x y =
+    ((y ≡ period) × (x ≡ ticks)) ⊎ ((y ≢ period) × IsLeast (λ size. Slides ticks period size y) x)
+IsDirectSize (Resc false ticks period) x y = IsLeast (λ size. Slides ticks period size y) x
+IsDirectSize (Psbe s d) x y = IsLeast (λ size. Provides s d size y) x
+IsDirectSize _ x y = ⊥
+
+abbrev pub IsSpreadSize : (wanted : Guarantee) → (x y : ℕ) → Type 0
+IsSpreadSize (Resb false ticks period) x y = (y ≢ period) × IsLeast (λ size. Spreads ticks period size y) x
+IsSpreadSize (Resc false ticks period) x y = IsLeast (λ size. Spreads ticks period size y) x
+IsSpreadSize _ x y = ⊥
 
 -- the sizes for what is wanted, but hard blocks
 abbrev pub IsSize : (wanted : Guarantee) → (x y : ℕ) → Type 0
-IsSize Null x y = x ≡ 1
-IsSize (Resb false ticks period) x y =
-    ((y ≡ period) × (x ≡ ticks)) ⊎ ((y ≢ period) × IsWindowSize ticks period x y)
-IsSize (Resc false ticks period) x y = IsWindowSize ticks period x y
-IsSize (Psbe s d) x y = IsLeast (λ size. Provides s d size y) x
-IsSize _ x y = ⊥
+IsSize wanted x y = IsDirectSize wanted x y ⊎ IsSpreadSize wanted x y

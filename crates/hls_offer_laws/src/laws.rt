@@ -1,13 +1,15 @@
 //! What holds of offers: each function's contract is a law, and its body does nothing.
 
-ghost use Rattle.std.specs.Prelude.{◌≡◌, ◌≢◌, ◌≤◌, ◌⊎◌, ℕ, true, false};
+ghost use Rattle.std.specs.Prelude.{◌≡◌, ◌≢◌, ◌≤◌, ◌⊎◌, ℕ, Bool, All, Some, true, false, length, slice_get};
 ghost use Rattle.hls_frac.specs.declared.Frac.{Frac};
+ghost use Rattle.hls_chron.specs.Ranges.{TermsInRange};
 ghost use Rattle.hls_guarantee.specs.declared.Guarantee.{Guarantee};
 ghost use Rattle.hls_guarantee.specs.Conversions.{Converts};
 ghost use Rattle.hls_guarantee.specs.Limits.{IsNarrow};
 ghost use Rattle.hls_offer_laws.specs.Offered.{CanOffer, IsLent, IsOffered, IsShareOf};
-ghost use Rattle.hls_offer_laws.specs.Candidates.{IsWait, IsWindow};
+ghost use Rattle.hls_offer_laws.specs.Candidates.{IsSize, IsWait, IsWindow, reservation};
 
+use hls_chron::Terms;
 use hls_derive::Place;
 use hls_guarantee::{Guarantee, RuleName};
 
@@ -66,4 +68,31 @@ pub fn lesser_shares_are_offered(place: &Place, haves: &[Guarantee], depth: u8)
         IsOffered place.now haves.now depth share }
     ensures lesser { (lent share lesser : Guarantee) → IsLent place.now haves.now lent → IsShareOf lent share →
         Converts RuleName.R1 share lesser → IsOffered place.now haves.now depth lesser }
+{}
+
+/// What is offered for a reservation, but hard blocks, is offered for a soft one of no more ticks in the same period,
+/// which is one of the sizes; hard blocks are offered for themselves alone.
+pub fn reservations_have_sizes(haves: &[Guarantee], depth: u8)
+    requires one { length haves.now ≡ 1 }
+    requires each_have { All IsNarrow haves.now }
+    ensures soft { (hard : Bool) (x y : ℕ) (wanted : Guarantee) → TermsInRange (Terms.Res hard x y) →
+        IsNarrow wanted → ((ticks period : ℕ) → wanted ≢ Guarantee.Resb true ticks period) →
+        IsOffered (reservation hard x y) haves.now depth wanted →
+        (size : ℕ) × IsSize wanted size y × (size ≤ x) ×
+        IsOffered (reservation false size y) haves.now depth wanted }
+    ensures hard { (hard : Bool) (x y ticks period : ℕ) → TermsInRange (Terms.Res hard x y) →
+        IsOffered (reservation hard x y) haves.now depth (Guarantee.Resb true ticks period) →
+        (hard ≡ true) × (x ≡ ticks) × (y ≡ period) }
+{}
+
+/// Of every tick, a reservation of one of the sizes is enough where there may be two conversions, and a hard one for
+/// itself.
+pub fn sizes_are_enough(haves: &[Guarantee], depth: u8)
+    requires one { length haves.now ≡ 1 }
+    requires each_have { All IsNarrow haves.now }
+    requires whole { slice_get haves.now 0 ≡ Some Guarantee.All }
+    ensures soft { 2 ≤ depth → (x y : ℕ) (wanted : Guarantee) → TermsInRange (Terms.Res false x y) →
+        IsNarrow wanted → IsSize wanted x y → IsOffered (reservation false x y) haves.now depth wanted }
+    ensures hard { (x y : ℕ) → TermsInRange (Terms.Res true x y) →
+        IsOffered (reservation true x y) haves.now depth (Guarantee.Resb true x y) }
 {}

@@ -1,0 +1,8 @@
+//! The best that can be promised to a seat: searches for a few candidates, and nothing better is.
+#![tactic(auto)]
+
+mod seat;
+mod windows;
+
+pub use seat::Seat;
+pub use windows::{Form, Window, most_ticks};

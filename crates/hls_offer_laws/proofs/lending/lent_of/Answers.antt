@@ -1,0 +1,46 @@
+use Rattle.std.proofs.Common.{subst}
+use Rattle.hls_guarantee.specs.Steps.{LendsByTerms}
+use Rattle.hls_search_laws.proofs.Makes.{narrow-valid}
+use Rattle.hls_offer_laws.proofs.Shares.{share-valid, share-one}
+use Rattle.hls_offer_laws.proofs.Lent.{IsPlain, plain, of-plain, plain-of, of-share, share-by, by-join, join-by, on-each}
+use Rattle.hls_offer_laws.proofs.lending.lent_of.Goals as goal
+
+pub lent_by_terms-requires-clause-from : goal.lent_by_terms-requires-clause-from
+lent_by_terms-requires-clause-from c =
+    let share = c.in_ok-share_of-in-Sfq.field-0 in
+    share-valid c.args.have.now share (narrow-valid c.args.have.now c.requires.have)
+    c.in_ok-share_of-in-Sfq.ensures.share
+
+pub returns-in-Join : goal.returns-in-Join
+returns-in-Join c = λ lent.
+    let place = c.args.place.now in
+    let have = c.args.have.now in
+    let exact = c.passed_on.ensures lent in (
+      λ is. (let all = exact.0 is in
+          (join-by place.config c.in-Join.ports place.terms have lent c.in-Join.is all.0 all.1, all.2)),
+      λ both. (let all = by-join place.config c.in-Join.ports place.terms have lent c.in-Join.is both.0 in
+          exact.1 (all.0, all.1, both.1)),
+    )
+
+pub returns-in_ok-share_of-in-Sfq : goal.returns-in_ok-share_of-in-Sfq
+returns-in_ok-share_of-in-Sfq c =
+    let place = c.args.place.now in
+    let have = c.args.have.now in
+    let sfq = c.in-Sfq in
+    let share = c.in_ok-share_of-in-Sfq.field-0 in
+    let is = c.in_ok-share_of-in-Sfq.ensures.share in
+    on-each {found = c.lent_by_terms.result}
+    (λ lent lends. share-by place.config place.terms sfq.total sfq.most have share lent sfq.is is lends)
+    (λ lent lends.
+    let its = of-share place.config place.terms sfq.total sfq.most have lent sfq.is lends in
+    subst (λ v. LendsByTerms place.config place.terms v lent) (share-one have its.0 share its.1 is) its.2)
+    c.lent_by_terms.ensures
+
+pub returns-in-Cpu : goal.returns-in-Cpu
+returns-in-Cpu c =
+    let place = c.args.place.now in
+    let have = c.args.have.now in
+    let kind : IsPlain place.config = plain c.in-Cpu.is in
+    on-each {found = c.lent_by_terms-in-Cpu.result}
+    (λ lent lends. plain-of place.config place.terms have lent kind lends)
+    (λ lent lends. of-plain place.config place.terms have lent kind lends) c.lent_by_terms-in-Cpu.ensures
