@@ -1,5 +1,5 @@
 -- A core whose journal let go of answers goes on as one that has kept them.
-use Rattle.std.proofs.Common.{◌≡◌, ℕ, ◌+◌, ◌≤◌, true, false, Bool, [], ◌∷◌, ◌++◌, length, refl, sym, ap}
+use Rattle.std.proofs.Common.{◌≡◌, ℕ, ◌≤◌, true, false, Bool, [], ◌∷◌, ◌++◌, length, refl, sym, ap}
 use Rattle.std.proofs.Common.{subst, arith}
 use Rattle.std.specs.Prelude.{Option, Some, None, Result, Ok, Err, IfOk, OnErr, vec_capacity}
 use Rattle.std.specs.Global.{Vec}
@@ -19,6 +19,7 @@ use Rattle.hls_core_journal.specs.Kept.{IsWayOrIdle, IsNoted, IsTicked, MayNote,
 use Rattle.hls_core_stays.specs.declared.stays.Stays.{Stays}
 use Rattle.hls_core.specs.Inside.Elapses.{MayElapse, Elapses}
 use Rattle.hls_core.specs.Cores.{IsCoreOf, Runs}
+use Rattle.hls_core.specs.Readings.{HasOneMore}
 use Rattle.hls_core.specs.Inside.Sparing.{keeping, MayGoOn, GoesOn, StaysOn}
 use Rattle.hls_core.specs.declared.bursts.Bursts.{Bursts}
 use Rattle.hls_core.specs.declared.cores.Core.{Core}
@@ -163,11 +164,13 @@ module _ {V W : Type 0} {P : V → Type 0} {Q : W → Type 0}
   whole_carried (Err e) old new on same stays still s given boxes is =
       whole_stays old new s given boxes stays (ap (λ (j : Journal). j.answers) still) is
 
-  pub next_place : {E : Type 0} (result : Result Bool E) (old new : Core V W P Q X)
+  pub one_more : {E : Type 0} (result : Result Bool E) (old new : Core V W P Q X)
       → IfOk result (λ carried. carried ≡ true → GoesOn seen old new)
-      → IfOk result (λ carried. carried ≡ true → new.agenda ≡ old.agenda + 1)
-  next_place (Ok b) old new on = λ is. (on is).agenda
-  next_place (Err e) old new on = tt
+      → IfOk result (λ carried. carried ≡ true → HasOneMore old new)
+  one_more (Ok b) old new on = λ is.
+      let goes = on is in
+      record { answer = goes.answer; answers = goes.noted; next = goes.agenda }
+  one_more (Err e) old new on = tt
 
 -- what holds anyway holds where there is a fault
 pub on_fault : {T E X : Type 0} (result : Result T E) → X → OnErr result X

@@ -47,6 +47,7 @@ fn depth_in_force(given: u8, own: Option<u8>) -> u8
 impl Core {
     ghost use Rattle.hls_manager.specs.Outcomes.{boxes_in};
     ghost use Rattle.hls_core.specs.Cores.{IsCoreOf, Runs, NoneDue};
+    ghost use Rattle.hls_core.specs.Readings.{scenario_of, now_of, next_of, answers_of, HasOneMore};
 
     /// Begins with a scenario, of which nothing was carried out. The scenario's own depth wins over the one
     /// that is given. Boxes come out of the kit, and derivations go by the rules.
@@ -64,7 +65,8 @@ impl Core {
         requires depth { depth ≤ 6 }
         requires kit { IsGood (boxed seen) kit }
         ensures is { IfOk result (λ core. IsCoreOf seen core scenario depth (boxes_in kit)) }
-        ensures unanswered { IfOk result (λ core. core.journal.answers.items ≡ []) }
+        ensures now { IfOk result (λ core. now_of core ≡ 0) }
+        ensures unanswered { IfOk result (λ core. answers_of core ≡ []) }
     {
         let journal = Journal::open(alloc, scenario.items.items(), scenario.horizon)?;
         let depth = depth_in_force(depth, scenario.depth);
@@ -85,15 +87,14 @@ impl Core {
 
     /// How many ticks have passed: the present tick.
     pub fn now(&self) -> u32
-        ensures { result ≡ self.now.journal.ticks }
+        ensures { result ≡ now_of self.now }
     {
         self.journal.ticks()
     }
 
     /// The answer of the command that was carried out last.
     pub fn last(&self) -> Option<&Answer>
-        ensures { option_copied result
-            ≡ slice_get self.now.journal.answers.items (length self.now.journal.answers.items - 1) }
+        ensures { option_copied result ≡ slice_get (answers_of self.now) (length (answers_of self.now) - 1) }
     {
         self.journal.last()
     }
@@ -107,14 +108,14 @@ impl Core {
         requires { Runs seen self.old }
         ensures is { (s : Scenario) (given : ℕ) (boxes : Boxes) → IsCoreOf seen self.old s given boxes →
             IsCoreOf seen self.new s given boxes }
-        ensures carried { IfOk result (λ carried. carried ≡ true → self.new.agenda ≡ self.old.agenda + 1) }
+        ensures carried { IfOk result (λ carried. carried ≡ true → HasOneMore self.old self.new) }
         ensures none { IfOk result (λ carried. carried ≡ false →
-            NoneDue self.new.scenario.items self.new.agenda self.new.journal.ticks) }
+            NoneDue (scenario_of self.new).items (next_of self.new) (now_of self.new)) }
         ensures same { IfOk result (λ carried. carried ≡ false → self.new ≡ self.old) }
-        ensures still_due { OnErr result (self.new.agenda ≡ self.old.agenda) }
-        ensures unanswered { OnErr result (self.new.journal ≡ self.old.journal) }
-        ensures scenario { self.new.scenario ≡ self.old.scenario }
-        ensures ticks { self.new.journal.ticks ≡ self.old.journal.ticks }
+        ensures still_due { OnErr result (next_of self.new ≡ next_of self.old) }
+        ensures unanswered { OnErr result (answers_of self.new ≡ answers_of self.old) }
+        ensures scenario { scenario_of self.new ≡ scenario_of self.old }
+        ensures ticks { now_of self.new ≡ now_of self.old }
     {
         self.carry_next()
     }
@@ -139,7 +140,7 @@ impl Core {
     /// Returns `AllocError` for want of memory.
     pub fn finish(self) -> Result<Report, AllocError>
         requires runs { Runs seen self }
-        requires ended { self.journal.ticks ≡ self.scenario.horizon }
+        requires ended { now_of self ≡ (scenario_of self).horizon }
         ensures { IfOk result (λ report. (s : Scenario) (given : ℕ) (boxes : Boxes) →
             IsCoreOf seen self s given boxes → IsLegalReport s given boxes report) }
     {

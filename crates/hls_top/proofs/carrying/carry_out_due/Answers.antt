@@ -10,7 +10,7 @@ loop-smaller g c =
     fewer _ c.loop.core c.command.new.self
     (still_runs _ c.loop.core c.command.new.self c.command.ensures.is
     (still_runs _ c.args.core.now c.loop.core c.loop.invariant.on c.requires.runs))
-    c.command.ensures.scenario (c.in_ok-command.ensures.carried c.if-branch.true)
+    c.command.ensures.scenario (c.in_ok-command.ensures.carried c.if-branch.true).next
 
 pub loop-preserved : goal.loop-preserved
 loop-preserved g c = record {

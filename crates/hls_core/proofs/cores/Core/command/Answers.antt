@@ -1,4 +1,4 @@
-use Rattle.hls_core.proofs.Sparing.{whole_goes_on, whole_carried, next_place}
+use Rattle.hls_core.proofs.Sparing.{whole_goes_on, whole_carried, one_more}
 use Rattle.hls_core.proofs.cores.Core.command.Goals as goal
 
 pub carry_next-requires : goal.carry_next-requires
@@ -10,4 +10,4 @@ returns-clause-is g c = λ s given boxes is.
     c.carry_next.ensures.is c.carry_next.ensures.unanswered s given boxes is
 
 pub returns-clause-carried : goal.returns-clause-carried
-returns-clause-carried g c = next_place _ c.carry_next.result c.args.self.now _ c.carry_next.ensures.carried
+returns-clause-carried g c = one_more _ c.carry_next.result c.args.self.now _ c.carry_next.ensures.carried

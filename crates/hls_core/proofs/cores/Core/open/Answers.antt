@@ -10,5 +10,6 @@ returns g c = record {
       (subst (λ items. IsNew items c.args.scenario.horizon c.in_ok-journal.journal) c.items.ensures
       c.in_ok-journal.ensures) c.requires.kit c.new-tree.ensures.tree c.new-tree.ensures.ready c.new-2.ensures
       c.new-tree.ensures.horizon c.new-3.ensures;
+  now = c.in_ok-journal.ensures.ticks;
   unanswered = c.in_ok-journal.ensures.answers;
 }
