@@ -1,7 +1,7 @@
 mod Plain
 mod Places
 mod Admissions
-mod Ranged
+pub mod Ranged
 mod Finds
 mod Admits
 mod Loads
@@ -16,7 +16,7 @@ mod LoadTold
 mod LoadEnds
 mod KitLaws
 mod LoadFormed
-mod Searches
+pub mod Searches
 mod Shifts
 mod Aims
 mod Mistakes

@@ -1,6 +1,6 @@
 -- Where a legal run leads, seats have numbers in their ranges, and a scheduler has one for each of its ports.
 use Rattle.std.proofs.Common.{◌≡◌, ◌≢◌, ℕ, zero, suc, List, [], ◌∷◌, ◌++◌, Option, Some, None, Bool}
-use Rattle.std.proofs.Common.{true, false, refl, subst, slice_get, length}
+use Rattle.std.proofs.Common.{true, false, refl, sym, subst, slice_get, length}
 use Rattle.std.specs.Prelude.{if◌then◌else◌, ◌==◌}
 use Rattle.hls_chron.specs.declared.book.Event.{Event}
 use Rattle.hls_chron.specs.declared.plain.Config.{Config}
@@ -13,7 +13,7 @@ use Rattle.hls_machine.specs.Hierarchy.{Place, start, seats_of}
 use Rattle.hls_machine.specs.Steps.{Step, Refuse, Load, Admit, End, Unload, Move, Rouse, Block, Elapse, Hop}
 use Rattle.hls_machine.specs.Steps.{after, state, effect, nobody, marked, renewed, reseated, roused, ticked}
 use Rattle.hls_machine.specs.Steps.{wake_by, hop_at, hops_of, leavings, seatings}
-use Rattle.hls_machine.specs.Legal.{SeatInRange, MayMoveTo, Can, IsLegal}
+use Rattle.hls_machine.specs.Legal.{SeatInRange, MayMoveTo, Can, IsLegal, IsReached}
 
 abbrev pub AreInRange : List Seat → Type 0
 AreInRange seats = (port : ℕ) (seat : Seat) → slice_get seats port ≡ Some seat → SeatInRange seat
@@ -107,3 +107,6 @@ run_ranged (step ∷ steps) h legal has =
 
 pub legal_ranged : (steps : List Step) → IsLegal start steps → AllRanged (state start steps)
 legal_ranged steps legal = run_ranged steps start legal (λ k. tt)
+
+pub reached_ranged : (h : Hierarchy) → IsReached h → AllRanged h
+reached_ranged h is = subst (λ (g : Hierarchy). AllRanged g) (sym is.leads) (legal_ranged is.past is.legal)

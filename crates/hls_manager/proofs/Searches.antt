@@ -26,12 +26,12 @@ use Rattle.hls_tree.specs.Reads.{IsLoaded, IsParent}
 use Rattle.hls_tree.specs.declared.seat.Seat.{Seat}
 use Rattle.hls_manager.specs.Seats.{config_at, haves_at, due_for}
 use Rattle.hls_machine.specs.Legal.{IsReached}
-use Rattle.hls_manager.proofs.Ranged.{AreInRange, AllRanged, IsRangedNode, legal_ranged}
+use Rattle.hls_manager.proofs.Ranged.{AreInRange, IsRangedNode, reached_ranged}
 
 -- ---- what is asked
 
 -- a configuration in its ranges, and a guarantee for each of its ports, within the limits of a scenario
-record AreFit (config : Config) (haves : List Guarantee) : Type 0 where
+pub record AreFit (config : Config) (haves : List Guarantee) : Type 0 where
   pub config_fits : ConfigInRange config
   pub ports : length haves ≡ port_count config
   pub narrow : All IsNarrow haves
@@ -54,10 +54,7 @@ fit_node (Some (Loaded s)) is ranged = record {
   narrow = All-map IsNarrow (λ (seat : TakenSeat). seat.kept) s.ports (narrow_seats s.ports ranged.0);
 }
 
-reached_ranged : (h : Hierarchy) → IsReached h → AllRanged h
-reached_ranged h is = subst (λ (g : Hierarchy). AllRanged g) (sym is.leads) (legal_ranged is.past is.legal)
-
-fit_at : (h : Hierarchy) → IsReached h → (parent : Option ℕ) → IsParent h parent
+pub fit_at : (h : Hierarchy) → IsReached h → (parent : Option ℕ) → IsParent h parent
     → AreFit (config_at h parent) (haves_at h parent)
 fit_at h is None there = record {
   config_fits = tt;

@@ -42,7 +42,10 @@ fn port_count(config: &Config) -> u8
 }
 
 /// What the ports of a scheduler are guaranteed, in their order.
-fn haves_of(alloc: Global, tree: &Tree, id: NodeId) -> Result<Vec<Guarantee>, AllocError>
+///
+/// # Errors
+/// Returns `AllocError` for want of memory.
+pub fn haves_of(alloc: Global, tree: &Tree, id: NodeId) -> Result<Vec<Guarantee>, AllocError>
     requires { Stands seen tree.now (λ h. IsLoaded (h.nodes id)) }
     ensures { IfOk result (λ haves. (h : Hierarchy) → IsTreeOf seen tree.now h →
         haves.items ≡ haves_of (h.nodes id)) }

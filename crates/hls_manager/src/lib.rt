@@ -19,6 +19,7 @@ mod withdrawals;
 
 pub use admitting::admit;
 pub use asking::ask;
+pub use derivations::haves_of;
 pub use lookups::find_thread;
 pub use rederiving::{Rederived, rederive};
 pub use shifting::shift;

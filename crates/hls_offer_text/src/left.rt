@@ -26,9 +26,9 @@ pub enum Left {
     /// Parts of the processor, and the greatest reservations that they are enough for.
     Parts { free: u128, fits: List<Fit> },
     /// Weight.
-    Weight(u32),
+    Weight(u128),
     /// Places of the frame.
-    Slots(u32),
+    Slots(u128),
     /// A turn in the round.
     Turn,
     /// The one seat of a join.

@@ -121,8 +121,8 @@ fn put_left(out: &mut Vec<u8>, left: &Left) -> Result<(), AllocError>
             put_counted(out, b"parts ", *free)?;
             put_fits(out, fits.items())
         }
-        Left::Weight(weight) => put_counted(out, b"weight ", u128::from(*weight)),
-        Left::Slots(places) => put_counted(out, b"slots ", u128::from(*places)),
+        Left::Weight(weight) => put_counted(out, b"weight ", *weight),
+        Left::Slots(places) => put_counted(out, b"slots ", *places),
         Left::Turn => put(out, b"turn"),
         Left::Sole => put(out, b"sole"),
     }
