@@ -191,7 +191,7 @@ module _ {V : Type 0} {P : V → Type 0} (seen : (x : V) × P x → Seen) (choic
       (path : Option steps.Path) → Can h (Elapse asking masks path) → thread ≡ thread_of path
       → IsTreeOf seen new (after h (Elapse asking masks path))
       → IsReadyOf seen new (after h (Elapse asking masks path))
-      → Ticks seen stays new thread h asking masks path
+      → Ticks seen stays new thread 1 h asking masks path
   may_count old passed turned new bursts later stays j thread h may flags turns ready asking masks path can is tree
       says = record {
         stays = may.stays;
@@ -282,7 +282,7 @@ module _ {V : Type 0} {P : V → Type 0} (seen : (x : V) × P x → Seen) (choic
       (left_in bursts k))
       → (passed.route ≡ None → other ≡ None)
       → ((front : List ℕ) (last : ℕ) → passed.route ≡ Some (front ++ last ∷ []) → other ≡ Some last)
-      → MayTick seen stays new other
+      → MayTick seen stays new other 1
   count_stands old passed turned new bursts later stays j thread other x tree passes flags elapsed turns none some
       served ready left other_none other_some =
       let p = passes x.h x.tree x.is.at_state.ready in
@@ -294,8 +294,8 @@ module _ {V : Type 0} {P : V → Type 0} (seen : (x : V) × P x → Seen) (choic
         asking = p.0;
         masks = p.1;
         path = p.2;
-        ticks =
-            subst (λ o. Ticks seen stays new o x.h p.0 p.1 p.2)
+        elapsed =
+            subst (λ o. Ticks seen stays new o 1 x.h p.0 p.1 p.2)
             (is_thread ∙ sym (granted p.2 passed.route other p.3.route_is other_none other_some))
             (may_count old passed turned new bursts later stays j thread x.h x.is flags turns ready p.0 p.1 p.2
             p.3.can is_thread by.tree by.ready);
@@ -319,7 +319,7 @@ module _ {V : Type 0} {P : V → Type 0} (seen : (x : V) × P x → Seen) (choic
       → ((k : ℕ) → left_in later k ≡ cond (is_just thread k) (option_map (λ left. left - 1) (left_in bursts k))
       (left_in bursts k))
       → ((h : Hierarchy) (asking : ℕ → Bool) (slots : ℕ → ℕ) (path : Option steps.Path)
-      → Ticks seen stays new other h asking slots path → AreStays counted (after h (Elapse asking slots path)))
+      → Ticks seen stays new other 1 h asking slots path → AreStays counted (after h (Elapse asking slots path)))
       → (passed.route ≡ None → other ≡ None)
       → ((front : List ℕ) (last : ℕ) → passed.route ≡ Some (front ++ last ∷ []) → other ≡ Some last)
       → Elapses seen new later counted j h told
@@ -343,7 +343,7 @@ module _ {V : Type 0} {P : V → Type 0} (seen : (x : V) × P x → Seen) (choic
         ready = by.ready;
         left = by.left;
         stays = counts h p.0 p.1 p.2
-            (subst (λ o. Ticks seen stays new o h p.0 p.1 p.2)
+            (subst (λ o. Ticks seen stays new o 1 h p.0 p.1 p.2)
             (is_thread ∙ sym (granted p.2 passed.route other p.3.route_is other_none other_some))
             (may_count old passed turned new bursts later stays j thread h may flags turns ready p.0 p.1 p.2 p.3.can
             is_thread by.tree by.ready));

@@ -48,6 +48,6 @@ pub fn elapse(
     let served = tree.current();
     tree.turn();
     serve(tree, bursts, thread);
-    stays.tick(tree, served);
+    stays.tick(tree, served, 1);
     path
 }

@@ -1,21 +1,20 @@
 -- What a turnover and a tick need, and come to.
 use Rattle.std.proofs.Common.{◌≡◌, ℕ, ◌+◌, ◌-◌, ◌<◌, ◌≤◌, ◌^◌, ◌∷◌, [], ◌++◌, List, Bool, true, false}
-use Rattle.std.proofs.Common.{length, refl, sym, ap, ◌∙◌, subst, arith, suc, is_none, is_some}
+use Rattle.std.proofs.Common.{length, refl, sym, ap, ◌∙◌, subst, arith, is_none, is_some}
 use Rattle.std.specs.Prelude.{Option, Some, None, slice_get, slice_set}
 use Rattle.std.specs.Global.{Vec}
 use Rattle.hls_scenario.specs.declared.scenario.Command.{Command}
-use Rattle.hls_chron.specs.Ticks.{count, one_if}
-use Rattle.hls_chron.proofs.CountLaws.{count-push, count-agree, count-le}
+use Rattle.hls_chron.specs.Ticks.{count}
+use Rattle.hls_chron.proofs.CountLaws.{count-le}
 use Rattle.hls_sched.specs.Seen.{Seen}
-use Rattle.hls_machine.specs.Hierarchy.{Hierarchy, Stay, Tick, Wake, had_asked, was_served, is_just}
-use Rattle.hls_machine.specs.Steps.{Step, Path, Elapse, after, thread_of, is_thread, with_wake}
+use Rattle.hls_machine.specs.Hierarchy.{Hierarchy, Stay, Wake, had_asked, was_served, is_just}
+use Rattle.hls_machine.specs.Steps.{Step, Path, after, thread_of, is_thread, with_wake}
 use Rattle.hls_machine.specs.Legal.{IsThread, asks_now}
 use Rattle.hls_machine.specs.Supplied.{end_of}
-use Rattle.hls_machine.proofs.Kept.{at_same, at_other}
 use Rattle.hls_accounts.specs.Agrees.{idle_in}
 use Rattle.hls_tree.specs.Trees.{IsTreeOf, IsReadyOf, Stands, ready_of}
 use Rattle.hls_tree.specs.declared.tree.Tree.{Tree}
-use Rattle.hls_core_stays.specs.Tallies.{AreStays, IsTally, IsNoted, waited}
+use Rattle.hls_core_stays.specs.Tallies.{AreStays, IsTally, IsNoted, waited, lasting}
 use Rattle.hls_core_stays.specs.Changes.{Turns, MayTurn, Ticks, MayTick}
 use Rattle.hls_core_stays.specs.Inside.Steps.{HasOpen, MayClose, noted_tally, served_tally}
 use Rattle.hls_core_stays.specs.Inside.Renewals.{AreRenewable, IsRousing, MayNote}
@@ -27,28 +26,15 @@ use Rattle.hls_core_stays.proofs.Lists.{inner, length-set}
 use Rattle.hls_core_stays.proofs.Lasting.{open_in, has_kept}
 use Rattle.hls_core_stays.proofs.Ends.{Finds, HasTally, tally_found}
 use Rattle.hls_core_stays.proofs.Noted.{note_one}
-use Rattle.hls_core_stays.proofs.Ticked.{Goes, grown, unserved, served_tallies}
+use Rattle.hls_core_stays.proofs.Ticked.{Goes, IsOn, grown, times, on_ticks, unserved, served_tallies}
+use Rattle.hls_tree_nodes.specs.Leapt.{later}
 use Rattle.hls_core_stays.proofs.Follows.{follow_nothing, follow_begins, follow_ends, follow_rouses}
 use Rattle.hls_core_stays.proofs.Follows.{HasBegun, HasEnded, HasRoused, thread_is, has_open}
 use Rattle.hls_core_stays.proofs.Moves.{follow_reseats, follow_renews, HasReseated, HaveRenewed, RenewsThese}
 
-idle_more : (h : Hierarchy) (asking : ℕ → Bool) (masks : ℕ → ℕ) (path : Option Path)
-    → idle_in (after h (Elapse asking masks path)) ≡ idle_in h + one_if (is_none (thread_of path))
-idle_more h asking masks path =
-    let last : Tick = record { asking = asking; to = thread_of path } in
-    let f : ℕ → Bool = λ x. is_none ((after h (Elapse asking masks path)).past x).to in
-    let more : h.now + 1 ≡ suc h.now = omega arith in
-    let at : 0 + h.now ≡ h.now = omega arith in
-    ap (count f 0) more ∙ count-push f 0 h.now
-    ∙ ap (λ n. n + one_if (f (0 + h.now)))
-    (count-agree f (λ x. is_none (h.past x).to) 0 h.now
-    (λ x lo hi. ap (λ (w : Tick). is_none w.to) (at_other x h.now last (h.past x) (λ e. omega (arith, e, hi)))))
-    ∙ ap (λ b. idle_in h + one_if b)
-    (ap (λ (w : Tick). is_none w.to) (at_same (0 + h.now) h.now last (h.past (0 + h.now)) at))
-
-one_most : (b : Bool) → one_if b ≤ 1
-one_most true = omega arith
-one_most false = omega arith
+times_most : (b : Bool) (n : ℕ) → times b n ≤ n
+times_most true n = omega arith
+times_most false n = omega arith
 
 -- V and P are what the checker knows a box by
 module _ {V : Type 0} {P : V → Type 0} (seen : (x : V) × P x → Seen) (s : Stays) (t : Tree V P) where
@@ -226,10 +212,13 @@ module _ {V : Type 0} {P : V → Type 0} (seen : (x : V) × P x → Seen) (s : S
       let x = thread_is (h.nodes k) is in
       asks ∙ ap (asks_now h k mask) x.there ∙ sym (noted.is x.thread x.there)
 
-  module _ (thread : Option ℕ) (h : Hierarchy) (asking : ℕ → Bool) (masks : ℕ → ℕ) (path : Option Path)
-      (x : Ticks seen s t thread h asking masks path) where
+  module _ (thread : Option ℕ) (n : ℕ) (h : Hierarchy) (asking : ℕ → Bool) (masks : ℕ → ℕ) (path : Option Path)
+      (x : Ticks seen s t thread n h asking masks path) where
+    abbrev on : IsOn h (later h asking masks path n) asking (thread_of path) n
+    on = on_ticks h asking masks path n
+
     goes : (i : ℕ) (stay : Stay) → slice_get x.stays.kept i ≡ Some stay → stay.until ≡ None
-        → Goes h asking masks path (ready_of seen t) stay
+        → Goes h (later h asking masks path n) asking (thread_of path) n on (ready_of seen t) stay
     goes i stay e none = record {
       asks = λ since noted.
           (let at = open_in x.stays.kept h.stays i stay x.stays.all e none in
@@ -242,87 +231,88 @@ module _ {V : Type 0} {P : V → Type 0} (seen : (x : V) × P x → Seen) (s : S
     served_has : (k : ℕ) → thread ≡ Some k → HasOpen x.stays.kept k
     served_has k is = has_now h k x.stays (has_open h k x.listed (x.comes k is))
 
-    pub tick_idle : (new : Stays) → thread ≡ None → new.tallies.items ≡ s.tallies.items → new.idle ≡ s.idle + 1
-        → AreStays new (after h (Elapse asking masks path))
+    pub tick_idle : (new : Stays) → thread ≡ None → new.tallies.items ≡ s.tallies.items → new.idle ≡ s.idle + n
+        → AreStays new (later h asking masks path n)
     tick_idle new none same idle = record {
       kept = x.stays.kept;
       are = record {
         many = ap length same ∙ x.stays.are.many;
         each = λ i stay tally e f.
-            unserved h asking masks path (ready_of seen t) stay tally
+            unserved h (later h asking masks path n) asking (thread_of path) n on (ready_of seen t) stay tally
             (x.stays.are.each i stay tally e (ap (λ l. slice_get l i) (sym same) ∙ f))
             (λ open_yet. ap (λ o. is_just o stay.thread) (x.to ∙ none)) (goes i stay e);
         single = x.stays.are.single;
-        idle = idle ∙ ap (λ n. n + 1) x.stays.are.idle
-            ∙ ap (λ (o : Option ℕ). idle_in h + one_if (is_none o)) (sym (x.to ∙ none))
-            ∙ sym (idle_more h asking masks path);
+        idle = idle ∙ ap (λ m. m + n) x.stays.are.idle
+            ∙ ap (λ (o : Option ℕ). idle_in h + times (is_none o) n) (sym (x.to ∙ none))
+            ∙ sym on.idle;
       };
-      all = x.stays.all;
+      all = x.stays.all ∙ ap lasting (sym on.stays);
     }
 
     pub tick_served : (new : Stays) (k place now : ℕ) (ready : Bool) → thread ≡ Some k → Finds s k place
         → ((h : Hierarchy) → IsTreeOf seen t h → now ≡ h.now) → ready ≡ ready_of seen t k
         → ((tally : Tally) → slice_get s.tallies.items place ≡ Some tally
-        → new.tallies.items ≡ slice_set s.tallies.items place (noted_tally ready now (served_tally tally)))
-        → new.idle ≡ s.idle → AreStays new (after h (Elapse asking masks path))
+        → new.tallies.items ≡ slice_set s.tallies.items place (noted_tally ready now (served_tally n tally)))
+        → new.idle ≡ s.idle → AreStays new (later h asking masks path n)
     tick_served new k place now ready is finds at_now flag set idle =
         let has = served_has k is in
         let y = tally_found s h x.stays.kept k place x.stays.are has finds in
         let set_by : (tally : Tally) → slice_get s.tallies.items place ≡ Some tally
         → new.tallies.items
-        ≡ slice_set s.tallies.items place (noted_tally (ready_of seen t k) now (served_tally tally)) =
+        ≡ slice_set s.tallies.items place (noted_tally (ready_of seen t k) now (served_tally n tally)) =
         λ tally e. set tally e
-        ∙ ap (λ b. slice_set s.tallies.items place (noted_tally b now (served_tally tally))) flag in
+        ∙ ap (λ b. slice_set s.tallies.items place (noted_tally b now (served_tally n tally))) flag in
         record {
           kept = x.stays.kept;
           are = record {
             many = ap length (set y.tally y.there)
-                ∙ length-set s.tallies.items place (noted_tally ready now (served_tally y.tally)) ∙ x.stays.are.many;
-            each = served_tallies h asking masks path s new x.stays.kept (ready_of seen t) k place now x.stays.are has
-                finds (at_now (after h (Elapse asking masks path)) x.tree) (x.to ∙ is) goes set_by;
+                ∙ length-set s.tallies.items place (noted_tally ready now (served_tally n y.tally)) ∙ x.stays.are.many;
+            each = served_tallies h (later h asking masks path n) asking (thread_of path) n on s new x.stays.kept (ready_of seen t) k place now x.stays.are has
+                finds (at_now (later h asking masks path n) x.tree) (x.to ∙ is) goes set_by;
             single = x.stays.are.single;
             idle = idle ∙ x.stays.are.idle ∙ (let no : idle_in h ≡ idle_in h + 0 = omega arith in no)
-                ∙ ap (λ (o : Option ℕ). idle_in h + one_if (is_none o)) (sym (x.to ∙ is))
-                ∙ sym (idle_more h asking masks path);
+                ∙ ap (λ (o : Option ℕ). idle_in h + times (is_none o) n) (sym (x.to ∙ is))
+                ∙ sym on.idle;
           };
-          all = x.stays.all;
+          all = x.stays.all ∙ ap lasting (sym on.stays);
         }
 
     tick_within : (k place : ℕ) → thread ≡ Some k → Finds s k place → place < length s.tallies.items
     tick_within k place is finds =
         (tally_found s h x.stays.kept k place x.stays.are (served_has k is) finds).within
 
-    -- a tally before the tick, of the thread that was served in it
-    tick_few : (k place now : ℕ) (tally : Tally) → thread ≡ Some k → Finds s k place → now ≡ h.now + 1
+    -- a tally before the ticks, of the thread that was served in them
+    tick_few : (k place now : ℕ) (tally : Tally) → thread ≡ Some k → Finds s k place → now ≡ h.now + n
         → slice_get s.tallies.items place ≡ Some tally
-        → (tally.ready + waited now tally.ready_since ≤ now) × (tally.served + 1 ≤ now)
+        → (tally.ready + waited now tally.ready_since ≤ now) × (tally.served + n ≤ now)
     tick_few k place now tally is finds at_now e =
         let has = served_has k is in
         let y = tally_found s h x.stays.kept k place x.stays.are has finds in
         let same : y.tally ≡ tally = inner y.tally tally (sym y.there ∙ e) in
         let z = subst (IsTally h has.stay) same y.is in
         let ready = few_ready h has.stay tally h.now z has.is_open refl in
-        let more = grown tally.ready h.now tally.ready_since (z.noted has.is_open).early in
-        let one = one_most (is_some tally.ready_since) in
+        let more = grown tally.ready h.now n tally.ready_since (z.noted has.is_open).early in
+        let some = times_most (is_some tally.ready_since) n in
         let most = count-le (was_served h.past has.stay.thread) has.stay.since
         (end_of h.now has.stay.until - has.stay.since) in
         let served = z.served in
         let past = z.past in
         let total : tally.ready + waited now tally.ready_since ≤ now =
-        subst (λ n. tally.ready + waited n tally.ready_since ≤ n) (sym at_now) (omega (arith, ready, more, one)) in
+        subst (λ m. tally.ready + waited m tally.ready_since ≤ m) (sym at_now) (omega (arith, ready, more, some)) in
         (total, omega (arith, at_now, most, served, past))
 
-  module _ (id : ℕ) (may : MayTick seen s t (Some id)) where
+  module _ (id ticks : ℕ) (may : MayTick seen s t (Some id) ticks) where
     pub serve_within : (place : ℕ) → Finds s id place → place < length s.tallies.items
     serve_within place finds =
-        tick_within (Some id) may.h may.asking may.masks may.path may.ticks id place refl finds
+        tick_within (Some id) ticks may.h may.asking may.masks may.path may.elapsed id place refl finds
 
     serve_few : (place now : ℕ) (tally : Tally) → Finds s id place
         → ((h : Hierarchy) → IsTreeOf seen t h → now ≡ h.now) → slice_get s.tallies.items place ≡ Some tally
-        → (tally.ready + waited now tally.ready_since ≤ now) × (tally.served + 1 ≤ now)
+        → (tally.ready + waited now tally.ready_since ≤ now) × (tally.served + ticks ≤ now)
     serve_few place now tally finds at_now e =
-        tick_few (Some id) may.h may.asking may.masks may.path may.ticks id place now tally refl finds
-        (at_now (after may.h (Elapse may.asking may.masks may.path)) may.ticks.tree) e
+        tick_few (Some id) ticks may.h may.asking may.masks may.path may.elapsed id place now tally refl finds
+        (at_now (later may.h may.asking may.masks may.path ticks) may.elapsed.tree
+        ∙ (on_ticks may.h may.asking may.masks may.path ticks).now) e
 
     pub serve_fits : (place now : ℕ) (tally : Tally) → Finds s id place
         → ((h : Hierarchy) → IsTreeOf seen t h → now ≡ h.now) → slice_get s.tallies.items place ≡ Some tally
@@ -331,20 +321,20 @@ module _ {V : Type 0} {P : V → Type 0} (seen : (x : V) × P x → Seen) (s : S
 
     pub serve_counts : (place now : ℕ) (tally : Tally) → Finds s id place
         → ((h : Hierarchy) → IsTreeOf seen t h → now ≡ h.now) → slice_get s.tallies.items place ≡ Some tally
-        → tally.served + 1 ≤ now
+        → tally.served + ticks ≤ now
     serve_counts place now tally finds at_now e = (serve_few place now tally finds at_now e).1
 
-  pub few_idle : (thread : Option ℕ) → MayTick seen s t thread → s.idle + 1 < 2 ^ 32
-  few_idle thread may =
+  pub few_idle : (thread : Option ℕ) (ticks : ℕ) → MayTick seen s t thread ticks → s.idle + ticks < 2 ^ 32
+  few_idle thread ticks may =
       let most = count-le (λ x. is_none (may.h.past x).to) 0 may.h.now in
-      let are = may.ticks.stays.are.idle in
-      let early = may.ticks.early in omega (arith, most, are, early)
+      let are = may.elapsed.stays.are.idle in
+      let early = may.elapsed.early in omega (arith, most, are, early)
 
   -- stays that are as they were before allow the same tick
-  pub ticks_still : (new : Stays) (thread : Option ℕ) (h : Hierarchy) (asking : ℕ → Bool) (masks : ℕ → ℕ)
+  pub ticks_still : (new : Stays) (thread : Option ℕ) (ticks : ℕ) (h : Hierarchy) (asking : ℕ → Bool) (masks : ℕ → ℕ)
       (path : Option Path) → ((h : Hierarchy) → AreStays s h → AreStays new h)
-      → Ticks seen s t thread h asking masks path → Ticks seen new t thread h asking masks path
-  ticks_still new thread h asking masks path same x = record {
+      → Ticks seen s t thread ticks h asking masks path → Ticks seen new t thread ticks h asking masks path
+  ticks_still new thread ticks h asking masks path same x = record {
     stays = same h x.stays;
     standing = x.standing;
     listed = x.listed;
@@ -357,19 +347,19 @@ module _ {V : Type 0} {P : V → Type 0} (seen : (x : V) × P x → Seen) (s : S
     early = x.early;
   }
 
-  pub may_still : (new : Stays) (thread : Option ℕ) → ((h : Hierarchy) → AreStays s h → AreStays new h)
-      → MayTick seen s t thread → MayTick seen new t thread
-  may_still new thread same may = record {
+  pub may_still : (new : Stays) (thread : Option ℕ) (ticks : ℕ) → ((h : Hierarchy) → AreStays s h → AreStays new h)
+      → MayTick seen s t thread ticks → MayTick seen new t thread ticks
+  may_still new thread ticks same may = record {
     h = may.h;
     asking = may.asking;
     masks = may.masks;
     path = may.path;
-    ticks = ticks_still new thread may.h may.asking may.masks may.path same may.ticks;
+    elapsed = ticks_still new thread ticks may.h may.asking may.masks may.path same may.elapsed;
   }
 
-  pub tick_at : (thread : Option ℕ) (id : ℕ) → thread ≡ Some id → MayTick seen s t thread
-      → MayTick seen s t (Some id)
-  tick_at thread id is may = subst (MayTick seen s t) is may
+  pub tick_at : (thread : Option ℕ) (id ticks : ℕ) → thread ≡ Some id → MayTick seen s t thread ticks
+      → MayTick seen s t (Some id) ticks
+  tick_at thread id ticks is may = subst (λ o. MayTick seen s t o ticks) is may
 
 pub these_are : (turnover : Turnover) (threads : Vec ℕ) (ids : List ℕ) → turnover ≡ Renews threads
     → ids ≡ threads.items → RenewsThese turnover ids

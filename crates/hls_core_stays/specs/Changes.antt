@@ -8,6 +8,7 @@ use Rattle.hls_machine.specs.Legal.{Can, IsThread}
 use Rattle.hls_machine.specs.Lists.{IsListed}
 use Rattle.hls_machine.specs.Seated.{IsSeated}
 use Rattle.hls_accounts.specs.Tells.{Does}
+use Rattle.hls_tree_nodes.specs.Leapt.{later}
 use Rattle.hls_tree.specs.Trees.{IsTreeOf, IsReadyOf, ready_of}
 use Rattle.hls_tree.specs.declared.tree.Tree.{Tree}
 use Rattle.hls_core_stays.specs.Tallies.{AreStays, IsStanding}
@@ -40,25 +41,26 @@ module _ {V : Type 0} {P : V → Type 0} where
     pub seated : IsSeated (after h step)
     pub listed : IsListed (after h step)
 
-  -- A tick has elapsed by a path that leads to this thread, or idly, after which the tree is. Before it the stays
-  -- were those of the hierarchy. Who was not served is ready as before.
-  pub record Ticks (seen : (x : V) × P x → Seen) (s : Stays) (t : Tree V P) (thread : Option ℕ) (h : Hierarchy)
-      (asking : ℕ → Bool) (masks : ℕ → ℕ) (path : Option Path) : Type 0 where
+  -- So many ticks have elapsed by a path that leads to this thread, or idly, after which the tree is. Before them the
+  -- stays were those of the hierarchy. Who was not served is ready as before.
+  pub record Ticks (seen : (x : V) × P x → Seen) (s : Stays) (t : Tree V P) (thread : Option ℕ) (ticks : ℕ)
+      (h : Hierarchy) (asking : ℕ → Bool) (masks : ℕ → ℕ) (path : Option Path) : Type 0 where
     pub stays : AreStays s h
     pub standing : IsStanding h
     pub listed : IsListed h
     pub can : Can h (Elapse asking masks path)
     pub to : thread_of path ≡ thread
     pub comes : (k : ℕ) → thread ≡ Some k → IsThread (h.nodes k)
-    pub tree : IsTreeOf seen t (after h (Elapse asking masks path))
-    pub ready : IsReadyOf seen t (after h (Elapse asking masks path))
+    pub tree : IsTreeOf seen t (later h asking masks path ticks)
+    pub ready : IsReadyOf seen t (later h asking masks path ticks)
     pub others : (k : ℕ) (x : Thread) → is_just thread k ≡ false → h.nodes k ≡ Some (Admitted x)
         → is_ready (was_served h.past k) h.now x.wake ≡ ready_of seen t k
-    pub early : h.now + 1 < 2 ^ 32
+    pub early : h.now + ticks < 2 ^ 32
 
-  pub record MayTick (seen : (x : V) × P x → Seen) (s : Stays) (t : Tree V P) (thread : Option ℕ) : Type 0 where
+  pub record MayTick (seen : (x : V) × P x → Seen) (s : Stays) (t : Tree V P) (thread : Option ℕ) (ticks : ℕ)
+      : Type 0 where
     pub h : Hierarchy
     pub asking : ℕ → Bool
     pub masks : ℕ → ℕ
     pub path : Option Path
-    pub ticks : Ticks seen s t thread h asking masks path
+    pub elapsed : Ticks seen s t thread ticks h asking masks path

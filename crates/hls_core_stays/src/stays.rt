@@ -3,8 +3,9 @@ ghost use Rattle.std.specs.Prelude.{◌≡◌, ◌+◌, ◌<◌, ◌≤◌, ◌+
 ghost use Rattle.std.specs.Prelude.{List, length};
 ghost use Rattle.hls_machine.specs.Hierarchy.{Hierarchy, Stay, Wake, start};
 ghost use Rattle.hls_machine.specs.Legal.{IsThread};
-ghost use Rattle.hls_machine.specs.Steps.{Step, Elapse, Path, after, stay_of, with_wake};
+ghost use Rattle.hls_machine.specs.Steps.{Step, Path, after, stay_of, with_wake};
 ghost use Rattle.hls_scenario.specs.declared.scenario.Command.{Command};
+ghost use Rattle.hls_tree_nodes.specs.Leapt.{later};
 ghost use Rattle.hls_tree.specs.Trees.{IsTreeOf, IsReadyOf, Stands};
 ghost use Rattle.hls_core_stays.specs.Tallies.{AreStays, AreTallies, HasRoom, IsNoted, waited, opened_at};
 ghost use Rattle.hls_core_stays.specs.Turnovers.{stays_begun};
@@ -284,28 +285,29 @@ impl Stays {
         }
     }
 
-    /// Counts a tick in which this thread was served, and notes whether it is ready from now on.
-    fn serve(&mut self, tree: &Tree, id: NodeId)
-        requires { MayTick seen self.old tree.now (Some id) }
+    /// Counts so many ticks in which this thread was served, and notes whether it is ready from now on.
+    fn serve(&mut self, tree: &Tree, id: NodeId, ticks: u32)
+        requires { MayTick seen self.old tree.now (Some id) ticks }
         ensures { (h : Hierarchy) (asking : ℕ → Bool) (masks : ℕ → ℕ) (path : Option Path) →
-            Ticks seen self.old tree.now (Some id) h asking masks path →
-            AreStays self.new (after h (Elapse asking masks path)) }
+            Ticks seen self.old tree.now (Some id) ticks h asking masks path →
+            AreStays self.new (later h asking masks path ticks) }
     {
         let place = self.place(id);
-        self.tallies.serve_at(place, tree.is_ready(id), tree.now());
+        self.tallies
+            .serve_at(place, ticks, tree.is_ready(id), tree.now());
     }
 
-    /// Counts a tick that has elapsed, in which this thread was served, or none.
-    pub fn tick(&mut self, tree: &Tree, thread: Option<NodeId>)
-        requires { MayTick seen self.old tree.now thread }
+    /// Counts so many ticks that have elapsed, in which this thread was served, or none.
+    pub fn tick(&mut self, tree: &Tree, thread: Option<NodeId>, ticks: u32)
+        requires { MayTick seen self.old tree.now thread ticks }
         ensures { (h : Hierarchy) (asking : ℕ → Bool) (masks : ℕ → ℕ) (path : Option Path) →
-            Ticks seen self.old tree.now thread h asking masks path →
-            AreStays self.new (after h (Elapse asking masks path)) }
+            Ticks seen self.old tree.now thread ticks h asking masks path →
+            AreStays self.new (later h asking masks path ticks) }
     {
         self.settle();
         match thread {
-            Some(id) => self.serve(tree, id),
-            None => self.idle += 1,
+            Some(id) => self.serve(tree, id, ticks),
+            None => self.idle += ticks,
         }
     }
 }

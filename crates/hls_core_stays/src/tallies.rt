@@ -190,18 +190,18 @@ impl Tallies {
         self.rows[place] = row;
     }
 
-    /// Counts a tick in which the thread of the stay at a place was served, and notes whether it is ready from
-    /// now on.
-    pub(crate) fn serve_at(&mut self, place: usize, ready: bool, now: u32)
+    /// Counts so many ticks in which the thread of the stay at a place was served, and notes whether it is ready
+    /// from now on.
+    pub(crate) fn serve_at(&mut self, place: usize, ticks: u32, ready: bool, now: u32)
         requires place { place < length self.old.items }
         requires fits { (tally : Tally) → slice_get self.old.items place ≡ Some tally →
             tally.ready + waited now tally.ready_since ≤ now }
-        requires served { (tally : Tally) → slice_get self.old.items place ≡ Some tally → tally.served + 1 ≤ now }
+        requires served { (tally : Tally) → slice_get self.old.items place ≡ Some tally → tally.served + ticks ≤ now }
         ensures { (tally : Tally) → slice_get self.old.items place ≡ Some tally →
-            self.new.items ≡ slice_set self.old.items place (noted_tally ready now (served_tally tally)) }
+            self.new.items ≡ slice_set self.old.items place (noted_tally ready now (served_tally ticks tally)) }
     {
         let mut row = self.rows[place];
-        row.served += 1;
+        row.served += ticks;
         row.note(ready, now);
         self.rows[place] = row;
     }

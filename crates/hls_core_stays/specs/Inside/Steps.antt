@@ -25,8 +25,8 @@ begun_tally thread since ready_since seating = record {
   served = 0;
 }
 
-abbrev pub served_tally : Tally → Tally
-served_tally tally = record tally { served = tally.served + 1 }
+abbrev pub served_tally : (ticks : ℕ) → Tally → Tally
+served_tally ticks tally = record tally { served = tally.served + ticks }
 
 -- a thread that was ready since a tick, or not ready, is ready from now on or not
 abbrev pub noted_by : (since : Option ℕ) → (ready : Bool) → (now : ℕ) → Tally → Tally
