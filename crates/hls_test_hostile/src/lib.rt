@@ -1,5 +1,5 @@
-//! Hostile use of the program: reads and writes that fail, lines that are no commands, texts at the limits, and
-//! reports that were changed.
+//! Hostile use of the program: reads and writes that fail, lines that are no commands, reports that were
+//! changed, and the largest scenarios and reports.
 #![tactic(auto)]
 
 #[cfg(test)]
@@ -7,7 +7,11 @@ mod changes;
 #[cfg(test)]
 mod faults;
 #[cfg(test)]
+mod largest;
+#[cfg(test)]
 mod lines;
+#[cfg(test)]
+mod longest;
 #[cfg(test)]
 mod many;
 #[cfg(test)]
