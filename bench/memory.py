@@ -1,28 +1,36 @@
 #!/usr/bin/env python3
 """Refuses each allocation of a run in turn, and says how the runs end.
 
-Usage: bench/memory.py [--program PROGRAM] [--word WORD] TEXT ..
+Usage: bench/memory.py [--program PROGRAM] [--words WORDS] [TEXT ..]
 
-PROGRAM is crates/hls_prog/out/hls_prog, which ./hls builds, if no other is given. WORD is run,
-for scenarios, or check, for reports. A run in which an allocation was refused has to end with status 6 and nothing
-written, or with the output that is written where none is. The last line of each text counts them; the status is 1
-where one run ended otherwise. It needs a C compiler and glibc.
+PROGRAM is crates/hls_prog/out/hls_prog, which ./hls builds, if no other is given. WORDS is run, for scenarios, or
+check, for reports, or others in quotes. With no TEXT it runs the scenarios of two worked reports, makes a trial, and
+checks a worked report. A run in which an allocation was refused has to end with status 6 and nothing written, or with
+the output that is written where none is. The last line of each case counts them; the status is 1 where one run ended
+otherwise. It needs a C compiler and glibc.
 
 The calls of the manager have a program of their own, which reads no text: it carries a command out once more where
-memory was wanting for it, and writes something else if the tree or the kit had changed. `rt run` in its folder builds it.
+memory was wanting for it, and writes something else if the tree or the kit had changed. `rt run` in its folder builds
+it.
 
     bench/memory.py --program crates/hls_test_manager/out/hls_test_manager /dev/null
 """
 import argparse
 import collections
 import os
+import re
 import subprocess
 import sys
 import tempfile
 
 TOP = os.path.dirname(os.path.dirname(os.path.abspath(__file__)))
 
+REPORTS = os.path.join(TOP, "crates", "hls_test_rows", "data")
+
 MEMORY = 6
+
+# Lines of a report that its scenario has not: answers, derivations, and what comes after the commands.
+ANSWERS = re.compile(rb"^(= |by ).*\n|^schedule\n[^\0]*", re.M)
 
 # Counts the calls that take memory, and answers one of them as if there were none.
 REFUSING = r"""
@@ -61,14 +69,14 @@ def build(folder):
 class Runs:
     """Runs of a program on a scenario."""
 
-    def __init__(self, program, word, text, library, folder):
-        self.program, self.word, self.text, self.library = program, word, text, library
+    def __init__(self, command, text, library, folder):
+        self.command, self.text, self.library = command, text, library
         self.told = os.path.join(folder, "calls")
 
     def run(self, refused):
         """Status and output where the call of this number, from 1, is refused; 0 for none."""
         here = dict(os.environ, LD_PRELOAD=self.library, REFUSED=str(refused), CALLS=self.told)
-        done = subprocess.run([self.program, self.word], input=self.text, capture_output=True, env=here)
+        done = subprocess.run(self.command, input=self.text, capture_output=True, env=here)
         return done.returncode, done.stdout
 
     def calls(self):
@@ -94,23 +102,44 @@ def try_each(runs):
     return whole[0], calls, ends, others
 
 
+def read(path):
+    with open(path, "rb") as file:
+        return file.read()
+
+
+def worked(name):
+    """A worked report."""
+    return read(os.path.join(REPORTS, f"{name}.report"))
+
+
+def scenario_of(report):
+    """The scenario whose commands a report tells."""
+    return ANSWERS.sub(b"", report.replace(b"hls-report", b"hls", 1))
+
+
+def cases():
+    """What is tried where no text is given: a title, words, and what is read."""
+    for name in ["settling", "desktop"]:
+        yield name, ["run"], scenario_of(worked(name))
+    yield "trial 0", ["trial", "0"], b""
+    yield "check of two-reservations", ["check"], worked("two-reservations")
+
+
 def main():
-    words = argparse.ArgumentParser()
-    words.add_argument("--program", default=os.path.join(TOP, "crates", "hls_prog", "out", "hls_prog"))
-    words.add_argument("--word", choices=["run", "check"], default="run")
-    words.add_argument("texts", nargs="+")
-    args = words.parse_args()
+    given = argparse.ArgumentParser()
+    given.add_argument("--program", default=os.path.join(TOP, "crates", "hls_prog", "out", "hls_prog"))
+    given.add_argument("--words", type=str.split, default=["run"])
+    given.add_argument("texts", nargs="*")
+    args = given.parse_args()
     bad = False
     with tempfile.TemporaryDirectory() as folder:
         library = build(folder)
-        for path in args.texts:
-            with open(path, "rb") as file:
-                runs = Runs(args.program, args.word, file.read(), library, folder)
-            status, calls, ends, others = try_each(runs)
+        for title, words, text in [(path, args.words, read(path)) for path in args.texts] or cases():
+            status, calls, ends, others = try_each(Runs([args.program] + words, text, library, folder))
             for refused, end, written in others:
-                print(f"{path}: call {refused} refused: status {end}, {written} bytes written")
+                print(f"{title}: call {refused} refused: status {end}, {written} bytes written")
             counts = ", ".join(f"{count} {how}" for how, count in sorted(ends.items()))
-            print(f"{path}: status {status}, {calls} calls, each refused in turn: {counts}")
+            print(f"{title}: status {status}, {calls} calls, each refused in turn: {counts}", flush=True)
             bad = bad or bool(others) or calls == 0
     return 1 if bad else 0
 
