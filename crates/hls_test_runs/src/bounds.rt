@@ -29,13 +29,6 @@ pub fn a_reservation_waits_as_long_as_it_may()
     ensures no_fewer { ¬ Satisfies (Resc false 1 4) (was_served (state start crowded).past shorter) 0 7 }
 {}
 
-/// Before the first tick, what the two demand up to tick 6, the end of the longer period, is all ticks up to it: four of
-/// the longer reservation, and one in each of two periods of the shorter one.
-pub fn reservations_demand_all_ticks()
-    ensures full { demand (book_of ((state start before_crowd).nodes root)) 3 6 ≡ 6 }
-    ensures now { now_of (book_of ((state start before_crowd).nodes root)) ≡ 0 }
-{}
-
 /// Right after that it has both of two ticks, the last of one period and the first of the next: twice its budget, and
 /// its share of no further tick, as much as a hard seat has of two ticks. Its guarantee's cap, the share of these ticks
 /// and twice the budget, leaves no room for a third either.
@@ -43,6 +36,13 @@ pub fn a_hard_reservation_reaches_its_cap()
     ensures got { count (was_served (state start crowded).past shorter) 5 2 ≡ 2 }
     ensures reached { count (was_served (state start crowded).past shorter) 5 2 * 3 ≡ 2 * 1 * 3 + 1 * (2 - 2 * 1) }
     ensures no_more { parts 1 3 * 2 + 2 * 1 * all_parts < 3 * all_parts }
+{}
+
+/// Before the first tick of this run, what the two demand up to tick 6, the end of the longer period, is all ticks up
+/// to it: four of the longer reservation, and one in each of two periods of the shorter one.
+pub fn reservations_demand_all_ticks()
+    ensures full { demand (book_of ((state start before_crowd).nodes root)) 3 6 ≡ 6 }
+    ensures now { now_of (book_of ((state start before_crowd).nodes root)) ≡ 0 }
 {}
 
 /// Of two threads of weight 1 that share the root, the one that sleeps through the first tick has the next two. So they
