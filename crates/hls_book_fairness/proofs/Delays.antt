@@ -1,6 +1,6 @@
 -- When a seat has had its turns.
-use Rattle.std.proofs.Common.{◌≡◌, ℕ, ◌+◌, ◌*◌, ◌-◌, ◌<◌, ◌≤◌, zero, suc, Bool, refl, sym, arith, ap, ◌∙◌, true, inl, inr}
-use Rattle.std.proofs.Common.{add-one}
+use Rattle.std.proofs.Common.{◌≡◌, ℕ, ◌+◌, ◌*◌, ◌-◌, ◌<◌, ◌≤◌, zero, suc, Bool, refl, sym, arith, ap, ◌∙◌, true}
+use Rattle.std.proofs.Common.{add-one, inl, inr}
 use Rattle.std.specs.Prelude.{◌/◌, is_some}
 use Rattle.std.proofs.Math.Nat.{mul-le-mul_left, mul-add}
 use Rattle.std.proofs.lemmas.Bool.{cases_lt}
@@ -121,13 +121,11 @@ module _ (T M : ℕ) (b : Ledger) (made : IsMade (Sfq T M) b) where
         level_in_time weight T (M - 1) (served_ticks b slot i (n + 1)) (given_ticks b i (n + 1)) turns
         (T * (turns - 1) / weight) some share' (rounded (T * (turns - 1)) weight some) (omega (arith, others, had))
 
-    given : IsGivenThroughout T M b i n → given_ticks b i (n + 1) ≡ n + 1
-    given has =
-        count-all (λ t. is_some (row_at b t).to) i (n + 1)
-        (λ t ge less. has t ge (omega (arith, less)) (fair_asks T M b book slot t (on.asks t ge (omega (arith, less)))))
-
-    whole : IsGivenThroughout T M b i n → T * turns / weight + (M - 1) ≤ n + 1 → turns ≤ served_ticks b slot i (n + 1)
-    whole has long = any (let all = given has in omega (arith, all, long))
+  whole : (i n slot weight : ℕ) → i + n < now_of b → AsksThroughout b slot weight i n → IsGivenThroughout T M b i n
+      → given_ticks b i (n + 1) ≡ n + 1
+  whole i n slot weight lt on has =
+      count-all (λ t. is_some (row_at b t).to) i (n + 1)
+      (λ t ge less. has t ge (omega (arith, less)) (fair_asks T M b book slot t (on.asks t ge (omega (arith, less)))))
 
   pub keeps_delays : KeepsDelays T M b
   keeps_delays = record { any = any; level = level; whole = whole }

@@ -31,6 +31,6 @@ pub record KeepsDelays (total most : ℕ) (b : Ledger) : Type 0 where
       → delay total most weight turns ≤ given_ticks b i (n + 1) → turns ≤ served_ticks b slot i (n + 1)
   pub level : (i n slot weight turns : ℕ) → i + n < now_of b → AsksThroughout b slot weight i n → IsLevel b slot i
       → level_delay total most weight turns ≤ given_ticks b i (n + 1) → turns ≤ served_ticks b slot i (n + 1)
-  pub whole : (i n slot weight turns : ℕ) → i + n < now_of b → AsksThroughout b slot weight i n
-      → IsGivenThroughout total most b i n → delay total most weight turns ≤ n + 1
-      → turns ≤ served_ticks b slot i (n + 1)
+  -- and it was given all of them where it was given each in which it asked, so that both bounds are in ticks
+  pub whole : (i n slot weight : ℕ) → i + n < now_of b → AsksThroughout b slot weight i n
+      → IsGivenThroughout total most b i n → given_ticks b i (n + 1) ≡ n + 1
