@@ -1,14 +1,15 @@
 -- When a seat has had its turns.
-use Rattle.std.proofs.Common.{◌≡◌, ℕ, ◌+◌, ◌*◌, ◌-◌, ◌<◌, ◌≤◌, suc, refl, sym, arith, ap, ◌∙◌, true, inl, inr}
-use Rattle.std.proofs.Common.{add-one}
-use Rattle.std.specs.Prelude.{◌/◌}
+use Rattle.std.proofs.Common.{◌≡◌, ℕ, ◌+◌, ◌*◌, ◌-◌, ◌<◌, ◌≤◌, zero, suc, Bool, refl, sym, arith, ap, ◌∙◌, true}
+use Rattle.std.proofs.Common.{add-one, inl, inr}
+use Rattle.std.specs.Prelude.{◌/◌, is_some}
 use Rattle.std.proofs.Math.Nat.{mul-le-mul_left, mul-add}
 use Rattle.std.proofs.lemmas.Bool.{cases_lt}
 use Rattle.hls_chron.specs.declared.plain.Config.TheVariants.{Sfq}
 use Rattle.hls_chron.specs.declared.plain.Terms.TheVariants.{Weight}
-use Rattle.hls_chron.specs.Ledger.{Ledger, now_of}
+use Rattle.hls_chron.specs.Ledger.{Ledger, now_of, row_at}
 use Rattle.hls_chron.specs.Seats.{asked, served}
 use Rattle.hls_chron.specs.Ticks.{count}
+use Rattle.hls_chron.proofs.CountLaws.{count-none, count-push}
 use Rattle.hls_kinds.specs.Made.{IsMade}
 use Rattle.hls_kinds.specs.Shares.{AsksThroughout}
 use Rattle.hls_kinds.specs.Tags.{share_in}
@@ -17,13 +18,22 @@ use Rattle.hls_kinds.proofs.Sums.{sum-at}
 use Rattle.hls_book_made.proofs.Books.{shares_made}
 use Rattle.hls_book_sfq.specs.ShareBook.{KeepsShareBook}
 use Rattle.hls_book_sfq.proofs.Follows.{to_of}
+use Rattle.hls_book_sfq.proofs.Promises.{fair_asks}
 use Rattle.hls_book_sfq.proofs.Rooms.{weights-at, slot-at, fits-at}
 use Rattle.hls_book_sfq.proofs.Nexts.{share_at}
 use Rattle.hls_book_sfq.proofs.Runs.{has-share}
 use Rattle.hls_book_sfq.proofs.Windows.{given_in, served_in}
 use Rattle.hls_book_fairness.specs.Runs.{given_ticks, served_ticks}
-use Rattle.hls_book_fairness.specs.Delays.{IsLevel, KeepsDelays}
+use Rattle.hls_book_fairness.specs.Delays.{IsLevel, IsGivenThroughout, KeepsDelays}
 use Rattle.hls_book_fairness.proofs.Level.{level_share}
+
+-- where each tick counts
+count-all : (test : ℕ → Bool) (i n : ℕ) → ((t : ℕ) → i ≤ t → t < i + n → test t ≡ true) → count test i n ≡ n
+count-all test i zero all = count-none test i
+count-all test i (suc n) all =
+    count-push test i n
+    ∙ rw (count-all test i n (λ t ge less. all t ge (omega (arith, less))), all (i + n) (omega arith) (omega arith))
+    (add-one n)
 
 -- n / w, rounded down, times w
 rounded : (n w : ℕ) → 0 < w → n < w * (n / w) + w
@@ -111,5 +121,11 @@ module _ (T M : ℕ) (b : Ledger) (made : IsMade (Sfq T M) b) where
         level_in_time weight T (M - 1) (served_ticks b slot i (n + 1)) (given_ticks b i (n + 1)) turns
         (T * (turns - 1) / weight) some share' (rounded (T * (turns - 1)) weight some) (omega (arith, others, had))
 
+  whole : (i n slot weight : ℕ) → i + n < now_of b → AsksThroughout b slot weight i n → IsGivenThroughout T M b i n
+      → given_ticks b i (n + 1) ≡ n + 1
+  whole i n slot weight lt on has =
+      count-all (λ t. is_some (row_at b t).to) i (n + 1)
+      (λ t ge less. has t ge (omega (arith, less)) (fair_asks T M b book slot t (on.asks t ge (omega (arith, less)))))
+
   pub keeps_delays : KeepsDelays T M b
-  keeps_delays = record { any = any; level = level }
+  keeps_delays = record { any = any; level = level; whole = whole }

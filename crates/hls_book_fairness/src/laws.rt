@@ -21,7 +21,8 @@ pub fn no_given_tick_is_lost(total: u32, most: u32)
 
 /// A seat that asks has its n-th tick by the time that the scheduler was given `total * n / weight + most - 1` ticks,
 /// rounded down, counted from any tick on. Where its start tag was the virtual time in that tick, it has it by
-/// `total * (n - 1) / weight + most` ticks, the delay bound of start-time fair queueing (after the same).
+/// `total * (n - 1) / weight + most` ticks, the delay bound of start-time fair queueing (after the same). Where the
+/// scheduler is given each tick in which it asks, it is given all of them.
 pub fn seats_have_their_ticks_in_time(total: u32, most: u32)
     ensures { (b : Ledger) → IsMade (Config.Sfq total most) b → KeepsDelays total most b }
 {}

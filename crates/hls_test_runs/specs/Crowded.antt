@@ -2,7 +2,7 @@
 -- Both threads are ready throughout. At first the shorter period has the earlier deadline. At tick 3 its next deadline
 -- is that of the longer one, which is in the lesser slot and has half its budget left. So the shorter one waits through
 -- the ticks 1 to 4, and is served in the last tick of one period and in the first of the next.
-use Rattle.std.specs.Prelude.{ℕ, ◌==◌, ◌||◌, List, [], ◌∷◌, Option, Some, None, Bool, true, if◌then◌else◌, codes}
+use Rattle.std.specs.Prelude.{ℕ, ◌==◌, ◌||◌, List, [], ◌∷◌, Option, Some, None, Bool, true, if◌then◌else◌, codes, take}
 use Rattle.hls_chron.specs.declared.plain.Config.TheVariants.{Edf}
 use Rattle.hls_chron.specs.declared.plain.Terms.TheVariants.{Res}
 use Rattle.hls_guarantee.specs.declared.Guarantee.TheVariants.{Resb}
@@ -50,6 +50,10 @@ shorter_tick = Elapse all_three_ask crowd_slots (Some (crowd_path 1 shorter))
 abbrev pub crowded : List Step
 crowded = load_crowd ∷ admit_longer ∷ admit_shorter ∷ Rouse longer None ∷ Rouse shorter None ∷ shorter_tick
     ∷ longer_tick ∷ longer_tick ∷ longer_tick ∷ longer_tick ∷ shorter_tick ∷ shorter_tick ∷ []
+
+-- the steps before the first tick
+abbrev pub before_crowd : List Step
+before_crowd = take 5 crowded
 
 -- whom each tick served
 abbrev pub crowded_ticks : List (Option ℕ)

@@ -2,17 +2,21 @@
 //! nothing.
 
 ghost use Rattle.std.specs.Prelude.{◌≡◌, ℕ, ◌+◌, ◌*◌, ◌-◌, ◌<◌, ◌≤◌, List, [], ◌∷◌, map, false};
+ghost use Rattle.hls_book_fairness.specs.Delays.{delay};
+ghost use Rattle.hls_book_isolation.specs.Demand.{demand};
+ghost use Rattle.hls_chron.specs.Ledger.{now_of};
 ghost use Rattle.hls_chron.specs.Parts.{all_parts, parts};
 ghost use Rattle.hls_chron.specs.Ticks.{count};
 ghost use Rattle.hls_frac.specs.declared.Frac.{Frac};
 ghost use Rattle.hls_guarantee.specs.declared.Guarantee.TheVariants.{Psbe, Resc};
 ghost use Rattle.hls_guarantee.specs.Satisfaction.{Satisfies};
-ghost use Rattle.hls_machine.specs.Hierarchy.{start, was_served};
+ghost use Rattle.hls_machine.specs.Hierarchy.{start, was_served, book_of};
 ghost use Rattle.hls_machine.specs.Steps.{state};
 ghost use Rattle.hls_machine.specs.Legal.{IsLegal};
 ghost use Rattle.hls_machine.specs.Supplied.{KeepsStays};
 ghost use Rattle.hls_test_runs.specs.Apart.{apart, apart_ticks, sleeper, starter};
-ghost use Rattle.hls_test_runs.specs.Crowded.{crowded, crowded_ticks, shorter};
+ghost use Rattle.hls_test_runs.specs.Crowded.{crowded, before_crowd, crowded_ticks, shorter};
+ghost use Rattle.hls_test_runs.specs.Moves.{root};
 
 /// A reservation of 1 tick in every 3, beside one of 4 in every 6, has no tick of four in a row, although it asks in
 /// each: `2 * y - x - 1` ticks. So `x` ticks in each block of `y` are `x` of any `2 * y - x` in a row, and of no fewer.
@@ -34,6 +38,13 @@ pub fn a_hard_reservation_reaches_its_cap()
     ensures no_more { parts 1 3 * 2 + 2 * 1 * all_parts < 3 * all_parts }
 {}
 
+/// Before the first tick of this run, what the two demand up to tick 6, the end of the longer period, is all ticks up
+/// to it: four of the longer reservation, and one in each of two periods of the shorter one.
+pub fn reservations_demand_all_ticks()
+    ensures full { demand (book_of ((state start before_crowd).nodes root)) 3 6 ≡ 6 }
+    ensures now { now_of (book_of ((state start before_crowd).nodes root)) ≡ 0 }
+{}
+
 /// Of two threads of weight 1 that share the root, the one that sleeps through the first tick has the next two. So they
 /// come apart by one tick of each, as far as fair queueing lets them, and the other has its tick as the third, as late
 /// as it may. No share of half the ticks with an error below one, that of the step, would be kept.
@@ -44,6 +55,7 @@ pub fn a_fair_seat_waits_as_long_as_it_may()
     ensures ahead { count (was_served (state start apart).past sleeper) 1 2 ≡ 2 }
     ensures waits { count (was_served (state start apart).past starter) 1 2 ≡ 0 }
     ensures third { count (was_served (state start apart).past starter) 1 3 ≡ 1 }
+    ensures bound { delay 2 2 1 1 ≡ 3 }
     ensures no_less { (s d : Frac) → s.num ≡ 1 → s.den ≡ 2 →
         Satisfies (Psbe s d) (was_served (state start apart).past starter) 1 3 → d.den ≤ d.num }
 {}
