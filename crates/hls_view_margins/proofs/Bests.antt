@@ -1,16 +1,14 @@
 -- The best cut so far, with one cut more.
-use Rattle.std.proofs.Common.{◌≡◌, ℕ, zero, suc, ◌+◌, ◌-◌, ◌*◌, ◌<◌, ◌≤◌, Bool, true, false, arith, subst, sym}
-use Rattle.std.proofs.Common.{inl, inr, refl, IsTrue, ◌↔◌, ◌∙◌}
-use Rattle.std.proofs.lemmas.Bool.{cases_lt, cases_eq, false≢true}
+use Rattle.std.proofs.Common.{◌≡◌, ℕ, zero, suc, ◌+◌, ◌-◌, ◌<◌, Bool, true, false, arith, subst, sym}
+use Rattle.std.proofs.Common.{inl, inr, refl, IsTrue, ◌↔◌}
+use Rattle.std.proofs.lemmas.Bool.{cases_lt, false≢true}
 use Rattle.std.specs.Prelude.{Option, Some, None, ◌⊎◌, min}
-use Rattle.hls_chron.specs.Ticks.{count}
-use Rattle.hls_guarantee.specs.Pieces.{piece_start, IsPiece}
 use Rattle.hls_view_margins.specs.declared.margin.Part.{Part}
 use Rattle.hls_view_margins.specs.declared.scale.Scale.{Scale}
 use Rattle.hls_view_margins.specs.declared.best.Pieces.{Pieces}
-use Rattle.hls_view_margins.specs.First.{end_of, has, wants, IsLess, IsNoMore, Precedes, IsFirst, IsFirstOf}
-use Rattle.hls_view_margins.specs.Parts.{part, IsPart}
-use Rattle.hls_view_margins.specs.Cuts.{IsPieceAt, IsCutPiece, HasOver, IsAllowed, IsBest, IsBestOf}
+use Rattle.hls_view_margins.specs.First.{IsLess, IsNoMore, IsFirst, IsFirstOf}
+use Rattle.hls_view_margins.specs.Parts.{part}
+use Rattle.hls_view_margins.specs.Cuts.{IsCutPiece, HasOver, IsAllowed, IsBest, IsBestOf}
 use Rattle.hls_view_margins.specs.Inside.Pieces.{AreFound, allowed_least, IsBetterOf}
 
 -- the first piece that has a tick

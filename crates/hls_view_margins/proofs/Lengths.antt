@@ -1,13 +1,13 @@
 -- Parts of one length, one after another.
-use Rattle.std.proofs.Common.{◌≡◌, ℕ, suc, ◌+◌, ◌-◌, ◌*◌, ◌<◌, ◌≤◌, Bool, arith, subst, sym, ap, ◌∙◌, inl, inr, refl}
+use Rattle.std.proofs.Common.{◌≡◌, ℕ, ◌+◌, ◌-◌, ◌≤◌, Bool, arith, sym, ap, ◌∙◌, inl, inr, refl}
 use Rattle.std.proofs.lemmas.Bool.{cases_lt}
-use Rattle.std.specs.Prelude.{Option, Some, None, ◌⊎◌}
+use Rattle.std.specs.Prelude.{Option, Some, None}
 use Rattle.hls_chron.specs.Ticks.{count}
 use Rattle.hls_view_margins.specs.declared.margin.Part.{Part}
 use Rattle.hls_view_margins.specs.declared.scale.Line.{Line}
 use Rattle.hls_view_margins.specs.declared.scale.Scale.{Scale}
 use Rattle.hls_view_margins.specs.Scales.{at}
-use Rattle.hls_view_margins.specs.First.{end_of, has, wants, IsLess, IsNoMore, Precedes, IsFirst, IsFirstOf}
+use Rattle.hls_view_margins.specs.First.{IsNoMore, Precedes, IsFirst, IsFirstOf}
 use Rattle.hls_view_margins.specs.Parts.{part, IsPart, IsLong}
 use Rattle.hls_view_margins.specs.Inside.Sooner.{IsSoonerOf}
 use Rattle.hls_view_margins.proofs.Sooners.{Joins, sooner_first}

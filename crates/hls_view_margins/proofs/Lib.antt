@@ -5,3 +5,7 @@ pub mod Walks
 pub mod Bests
 pub mod Longest
 pub mod Ons
+pub mod Products
+pub mod Windows
+pub mod Roomy
+pub mod MarginLaws

@@ -1,8 +1,8 @@
 -- The longest row so far, with one tick more.
-use Rattle.std.proofs.Common.{◌≡◌, ℕ, zero, suc, ◌+◌, ◌-◌, ◌<◌, ◌≤◌, Bool, true, false, arith, subst, sym, inl, inr}
-use Rattle.std.proofs.Common.{refl, ◌∙◌, ap}
-use Rattle.std.proofs.lemmas.Bool.{cases_lt, cases_eq, false≢true}
-use Rattle.std.specs.Prelude.{Option, Some, None, ◌⊎◌}
+use Rattle.std.proofs.Common.{◌≡◌, ℕ, ◌+◌, ◌-◌, ◌<◌, ◌≤◌, Bool, true, false, arith, subst, sym, inl, inr}
+use Rattle.std.proofs.Common.{◌∙◌}
+use Rattle.std.proofs.lemmas.Bool.{cases_lt, false≢true}
+use Rattle.std.specs.Prelude.{Option, Some, None}
 use Rattle.hls_view_margins.specs.declared.margin.Row.{Row}
 use Rattle.hls_view_margins.specs.Rows.{IsRow, IsLongest, IsLongestOf}
 use Rattle.hls_view_margins.specs.Inside.Tests.{Since, IsLongerOf}

@@ -1,5 +1,7 @@
 -- One tick, by its count.
 use Rattle.std.proofs.Common.{◌≡◌, ℕ, ◌+◌, Bool, true, false, refl, ap, sym, ◌∙◌, ◌&&◌, not, arith, eqb}
+use Rattle.std.proofs.lemmas.Bool.{false≢true}
+use mathlib.Core.Bool.{beq}
 use Rattle.hls_chron.specs.Ticks.{one_if, count}
 use Rattle.hls_chron.proofs.CountLaws.{count-none, count-push}
 use Rattle.hls_view_margins.specs.Inside.Tests.{counts}
@@ -26,3 +28,15 @@ and_true false = refl
 pub counts_by : (waiting : Bool) (f g : ℕ → Bool) (t : ℕ) → f t && not (waiting && g t) ≡ counts waiting f g t
 counts_by true f g t = refl
 counts_by false f g t = and_true (f t)
+
+pub beq_same : (a b : Bool) → beq a b ≡ true → a ≡ b
+beq_same true true e = refl
+beq_same true false e = absurd (false≢true e)
+beq_same false true e = absurd (false≢true e)
+beq_same false false e = refl
+
+pub beq_not : (a b : Bool) → beq a b ≡ false → a ≡ not b
+beq_not true true e = absurd (false≢true (sym e))
+beq_not true false e = refl
+beq_not false true e = refl
+beq_not false false e = absurd (false≢true (sym e))

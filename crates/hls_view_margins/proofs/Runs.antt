@@ -1,20 +1,20 @@
 -- The part that has the least surplus of those that end with a tick.
-use Rattle.std.proofs.Common.{◌≡◌, ℕ, zero, suc, ◌+◌, ◌-◌, ◌*◌, ◌<◌, ◌≤◌, Bool, arith, subst, sym, ap, ◌∙◌, inl, inr}
+use Rattle.std.proofs.Common.{◌≡◌, ℕ, zero, suc, ◌+◌, ◌-◌, ◌*◌, ◌≤◌, Bool, arith, subst, sym, ap, ◌∙◌, inl, inr}
 use Rattle.std.proofs.Common.{refl}
 use Rattle.std.proofs.lemmas.Bool.{cases_lt}
-use Rattle.std.specs.Prelude.{Option, Some, None, ◌⊎◌}
+use Rattle.std.specs.Prelude.{Option, Some, None}
 use Rattle.hls_chron.specs.Ticks.{one_if, count}
 use Rattle.hls_chron.proofs.CountLaws.{count-push}
 use Rattle.hls_view_margins.specs.declared.margin.Part.{Part}
 use Rattle.hls_view_margins.specs.declared.scale.Line.{Line}
 use Rattle.hls_view_margins.specs.declared.scale.Scale.{Scale}
 use Rattle.hls_view_margins.specs.Scales.{at}
-use Rattle.hls_view_margins.specs.First.{end_of, has, wants, IsLess, IsNoMore, Precedes, IsFirst, IsFirstOf}
+use Rattle.hls_view_margins.specs.First.{end_of, IsLess, IsNoMore, IsFirst, IsFirstOf}
 use Rattle.hls_view_margins.specs.Parts.{part, IsPart}
 use Rattle.hls_view_margins.specs.Inside.Sooner.{IsSoonerOf}
 use Rattle.hls_view_margins.specs.Inside.Runs.{Leads}
 use Rattle.hls_view_margins.proofs.Sooners.{Joins, sooner_first}
-use Rattle.hls_view_margins.proofs.Lengths.{same_more, got_same, widened}
+use Rattle.hls_view_margins.proofs.Lengths.{widened}
 
 at_more : (line : Line) (n g b : ℕ) → at line (suc n) (g + b) ≡ at line n g + (line.tick + line.got * b)
 at_more line n g b = omega arith

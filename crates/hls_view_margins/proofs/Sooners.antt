@@ -1,5 +1,5 @@
 -- The first part of two groups, of which the second ends later.
-use Rattle.std.proofs.Common.{◌≡◌, ℕ, ◌+◌, ◌*◌, ◌<◌, ◌≤◌, arith, subst, sym, inl, inr, refl}
+use Rattle.std.proofs.Common.{ℕ, ◌<◌, ◌≤◌, arith, subst, sym, inl, inr}
 use Rattle.std.specs.Prelude.{Option, Some, None, ◌⊎◌}
 use Rattle.hls_view_margins.specs.declared.margin.Part.{Part}
 use Rattle.hls_view_margins.specs.declared.scale.Scale.{Scale}

@@ -1,18 +1,17 @@
 -- The pieces of a cut, one after another.
-use Rattle.std.proofs.Common.{◌≡◌, ℕ, zero, suc, ◌+◌, ◌-◌, ◌*◌, ◌<◌, ◌≤◌, Bool, true, false, arith, subst, sym, ap}
+use Rattle.std.proofs.Common.{◌≡◌, ℕ, zero, suc, ◌+◌, ◌-◌, ◌<◌, ◌≤◌, Bool, true, false, arith, subst, sym}
 use Rattle.std.proofs.Common.{◌∙◌, inl, inr, refl, List, IsTrue, ◌↔◌, ◌||◌}
 use Rattle.std.proofs.Math.Nat.{mul-le-mul_right}
 use Rattle.std.proofs.lemmas.Bool.{cases_lt}
 use Rattle.std.specs.Prelude.{Option, Some, None, ◌⊎◌, min}
-use Rattle.hls_chron.specs.Ticks.{count}
 use Rattle.hls_audit_spans.specs.declared.span.Span.{Span}
 use Rattle.hls_audit_spans.specs.Spans.{Tell}
-use Rattle.hls_guarantee.specs.Pieces.{piece_start, IsPiece}
+use Rattle.hls_guarantee.specs.Pieces.{piece_start}
 use Rattle.hls_view_margins.specs.declared.margin.Part.{Part}
 use Rattle.hls_view_margins.specs.declared.scale.Scale.{Scale}
 use Rattle.hls_view_margins.specs.declared.cuts.Cut.{Cut}
-use Rattle.hls_view_margins.specs.First.{end_of, has, wants, IsLess, IsNoMore, Precedes, IsFirst, IsFirstOf}
-use Rattle.hls_view_margins.specs.Parts.{part, IsPart}
+use Rattle.hls_view_margins.specs.First.{end_of, has, IsFirst, IsFirstOf}
+use Rattle.hls_view_margins.specs.Parts.{part}
 use Rattle.hls_view_margins.specs.Cuts.{IsPieceAt, IsCutPiece, HasOver}
 use Rattle.hls_view_margins.specs.Inside.Sooner.{IsSoonerOf}
 use Rattle.hls_view_margins.specs.Inside.Pieces.{IsBetween, IsSomeOver, IsEarly}

@@ -1,5 +1,5 @@
 -- The pieces of the ticks from lo on and before hi, which are cut before lo + e, lo + e + y, lo + e + 2 * y and so on.
-use Rattle.std.specs.Prelude.{◌≡◌, ℕ, ◌-◌, ◌≤◌, ◌<◌, min, Bool, true, Option, Some, None}
+use Rattle.std.specs.Prelude.{◌≡◌, ℕ, ◌-◌, ◌<◌, Bool, true, Option, Some, None}
 use Rattle.hls_guarantee.specs.Pieces.{IsPiece}
 use Rattle.hls_view_margins.specs.declared.margin.Part.{Part}
 use Rattle.hls_view_margins.specs.declared.scale.Scale.{Scale}

@@ -1,5 +1,5 @@
 -- Ticks in a row that pass a test, of those from lo on and before hi.
-use Rattle.std.specs.Prelude.{◌≡◌, ℕ, ◌+◌, ◌-◌, ◌≤◌, ◌<◌, Bool, true, Option, Some, None}
+use Rattle.std.specs.Prelude.{◌≡◌, ℕ, ◌+◌, ◌≤◌, ◌<◌, Bool, true, Option, Some, None}
 use Rattle.hls_view_margins.specs.declared.margin.Row.{Row}
 
 -- from one on and before another

@@ -3,6 +3,7 @@ ghost use Rattle.std.specs.Prelude.{◌≡◌, ◌+◌, ◌-◌, ◌≤◌, ◌<
 ghost use Rattle.hls_audit_spans.specs.Spans.{Tell};
 ghost use Rattle.hls_view_margins.specs.Rows.{IsLongestOf};
 ghost use Rattle.hls_view_margins.specs.Inside.Tests.{counts, Since, IsLongerOf};
+ghost use Rattle.hls_view_margins.specs.Inside.Worst.{IsTurn};
 
 use crate::margin::Row;
 use hls_audit_spans::Spans;
@@ -77,4 +78,22 @@ pub(crate) fn longest_row(
         longest = longer(longest, since, tick + 1 - since);
     }
     longest
+}
+
+/// The first tick that is one of them, or is none where `on` is false, of those from one on and before another, or else
+/// this other.
+pub(crate) fn turn(ticks: &Spans, on: bool, from: u32, until: u32) -> u32
+    requires order { from ≤ until }
+    requires few { until ≤ 100000 }
+    ensures begins { from ≤ result }
+    ensures ends { result ≤ until }
+    ensures turn { (f : ℕ → Bool) (end : ℕ) → Tell f ticks.now.spans.items end → until ≤ end →
+        IsTurn f on from until result }
+{
+    for tick in from..until {
+        if is_in(ticks, tick) == on {
+            return tick;
+        }
+    }
+    until
 }

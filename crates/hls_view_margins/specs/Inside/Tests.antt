@@ -1,9 +1,7 @@
 -- Ticks in which a thread is ready, or is ready and not served.
-use Rattle.std.specs.Prelude.{◌≡◌, ℕ, ◌+◌, ◌≤◌, ◌<◌, ◌&&◌, Bool, true, false, not, Option, Some, None}
+use Rattle.std.specs.Prelude.{◌≡◌, ℕ, ◌≤◌, ◌<◌, Bool, true, false, Option, Some, None}
 use Rattle.hls_view_margins.specs.declared.margin.Row.{Row}
-
-abbrev pub waits : (ready served : ℕ → Bool) → ℕ → Bool
-waits ready served t = ready t && not (served t)
+use Rattle.hls_view_margins.specs.Margins.{waits}
 
 abbrev pub counts : (waiting : Bool) → (ready served : ℕ → Bool) → ℕ → Bool
 counts true ready served t = waits ready served t

@@ -1,4 +1,4 @@
-use Rattle.std.proofs.Common.{◌≡◌, ◌≤◌, ℕ, Bool}
+use Rattle.std.proofs.Common.{◌≤◌, ℕ, Bool}
 use Rattle.hls_audit_spans.specs.Spans.{Tell}
 use Rattle.hls_view_margins.specs.Cuts.{IsBestOf}
 use Rattle.hls_view_margins.proofs.best.best_piece.Given as goal

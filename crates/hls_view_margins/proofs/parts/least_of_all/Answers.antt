@@ -1,5 +1,5 @@
-use Rattle.std.proofs.Common.{ℕ, ◌+◌, ◌-◌, ◌≡◌, arith, subst}
-use Rattle.std.specs.Prelude.{Option, Some}
+use Rattle.std.proofs.Common.{ℕ, ◌≡◌, arith, subst}
+use Rattle.std.specs.Prelude.{Some}
 use Rattle.hls_view_margins.specs.First.{IsFirstOf}
 use Rattle.hls_view_margins.specs.Parts.{IsPart}
 use Rattle.hls_view_margins.specs.declared.margin.Part.{Part}

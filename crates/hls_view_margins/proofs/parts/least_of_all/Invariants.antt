@@ -1,4 +1,4 @@
-use Rattle.std.proofs.Common.{ℕ, Bool, ◌+◌, ◌-◌, ◌≤◌}
+use Rattle.std.proofs.Common.{ℕ, Bool, ◌≤◌}
 use Rattle.hls_audit_spans.specs.Spans.{Tell}
 use Rattle.hls_view_margins.specs.First.{IsFirstOf}
 use Rattle.hls_view_margins.specs.Parts.{IsPart}

@@ -1,4 +1,4 @@
-use Rattle.std.proofs.Common.{ℕ, ◌+◌, ◌-◌, ◌≡◌, true, false, arith, subst, sym, inl, inr, ◌∙◌, ap}
+use Rattle.std.proofs.Common.{◌+◌, arith, subst, sym, inl, inr, ◌∙◌}
 use Rattle.std.proofs.lemmas.Bool.{cases_lt, false≢true}
 use Rattle.hls_view_margins.specs.First.{IsLess, IsNoMore, has, wants}
 use Rattle.hls_view_margins.specs.Parts.{part}

@@ -1,4 +1,4 @@
-use Rattle.std.proofs.Common.{◌≡◌, ap, ◌∙◌, Bool, ◌&&◌, not}
+use Rattle.std.proofs.Common.{ap, ◌∙◌, Bool, ◌&&◌, not}
 use Rattle.hls_view_margins.proofs.Ons.{counts_by}
 use Rattle.hls_view_margins.proofs.rows.is_counted.Goals as goal
 
