@@ -14,4 +14,7 @@ mod running;
 mod trying;
 mod verdicts;
 
-pub use run::hls_run;
+pub use carrying::carry_out_due;
+pub use reading::text_from;
+pub use refusing::{cause_word, refusal_line};
+pub use run::{hls_run, say};

@@ -18,7 +18,7 @@ use hls_top_words::{Job, asked_for};
 use std::alloc::{AllocError, Global};
 
 /// Writes the whole output and returns the status, or the status of a failed write.
-fn say<K: Sink>(sink: &mut K, output: &[u8], status: Status) -> Status
+pub fn say<K: Sink>(sink: &mut K, output: &[u8], status: Status) -> Status
     ensures says { Says (shown K.written K.faults sink.old sink.new) output.now status result }
     ensures steady { IsSteady (shown K.written K.faults sink.old sink.new) }
 {
