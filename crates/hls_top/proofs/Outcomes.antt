@@ -169,7 +169,7 @@ takes_none : (most : ℕ) (left left' : Option Text) → left' ≡ left → Take
 takes_none most None left' same = (0, omega arith, tt)
 takes_none most (Some bytes) left' same = (0, omega arith, same)
 
-takes_nothing : (most : Option ℕ) (d : Drawn) → d.left_after ≡ d.left → Takes most d
+pub takes_nothing : (most : Option ℕ) (d : Drawn) → d.left_after ≡ d.left → Takes most d
 takes_nothing None d same = same
 takes_nothing (Some most) d same = takes_none _ d.left d.left_after same
 

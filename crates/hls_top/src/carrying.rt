@@ -17,7 +17,10 @@ use hls_sched::{Kit, Scheduler};
 use std::alloc::{AllocError, Global};
 
 /// Carries out the commands of the present tick, in their written order.
-fn carry_out_due(core: &mut Core) -> Result<(), AllocError>
+///
+/// # Errors
+/// Returns `AllocError` for want of memory.
+pub fn carry_out_due(core: &mut Core) -> Result<(), AllocError>
     requires runs { Runs seen core.old }
     ensures is { OnOk result ((s : Scenario) (given : ℕ) (boxes : Boxes) → IsCoreOf seen core.old s given boxes →
         IsCoreOf seen core.new s given boxes) }

@@ -14,8 +14,9 @@ mod running;
 mod trying;
 mod verdicts;
 
+pub use carrying::carry_out_due;
 pub use checking::verdict_line;
 pub use reading::text_from;
-pub use refusing::refusal_line;
+pub use refusing::{cause_word, refusal_line};
 pub use run::{hls_run, say};
 pub use verdicts::put_verdict;

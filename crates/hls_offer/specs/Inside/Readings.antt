@@ -1,0 +1,16 @@
+-- What is written about a text that was read.
+use Rattle.std.specs.Prelude.{◌≤◌, length}
+use Rattle.hls_io.specs.Bytes.{IsWhole}
+use Rattle.hls_io.specs.declared.status.Status.{Status}
+use Rattle.hls_text.specs.Lines.{Text}
+use Rattle.hls_answers.specs.Moment.{Boxes}
+use Rattle.hls_top.specs.Exchange.{Drawn, scenario_limit}
+use Rattle.hls_offer_words.specs.declared.asked.Asked.{Asked}
+use Rattle.hls_offer.specs.Replies.{IsReply}
+
+-- these are all the bytes that came, they are within the limit, and this is the reply
+pub record IsOfSource (a : Asked) (boxes : Boxes) (d : Drawn) (status : Status) (output : Text) : Type 0 where
+  pub bytes : Text
+  pub whole : IsWhole d.left d.left_after bytes
+  pub within : length bytes ≤ scenario_limit
+  pub reply : IsReply a boxes bytes status output

@@ -1,0 +1,6 @@
+pub mod Moments
+pub mod Left
+pub mod Spare
+pub mod Replies
+pub mod Ends
+pub mod Inside
