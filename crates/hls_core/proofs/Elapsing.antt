@@ -1,5 +1,5 @@
--- A tick elapses on a tree.
-use Rattle.std.proofs.Common.{◌≡◌, ℕ, ◌-◌, ◌<◌, Bool, true, false, cond, List, [], ◌∷◌}
+-- Ticks elapse on a tree.
+use Rattle.std.proofs.Common.{◌≡◌, ℕ, zero, suc, ◌+◌, ◌-◌, ◌<◌, ◌≤◌, Bool, true, false, cond, List, [], ◌∷◌}
 use Rattle.std.proofs.Common.{◌++◌, length, map}
 use Rattle.std.proofs.Common.{refl, sym, ap, ◌∙◌, subst, arith}
 use Rattle.std.specs.Prelude.{Option, Some, None, All, option_map}
@@ -13,7 +13,7 @@ use Rattle.hls_machine.specs.Hierarchy.{start, name_of}
 use Rattle.hls_machine.specs.Hierarchy.{is_ready, was_served, is_just}
 use Rattle.hls_machine.specs.Steps.{Hop, Step, Elapse, after, state, thread_of, hops_of, hop_at, ticked}
 use Rattle.hls_machine.specs.Steps as steps
-use Rattle.hls_machine.specs.Legal.{Can, Walk, MayRun}
+use Rattle.hls_machine.specs.Legal.{Can, Walk, MayRun, IsReached}
 use Rattle.hls_machine.proofs.Goes.{state_goes, legal_goes}
 use Rattle.hls_machine.proofs.Lists.{run_listed}
 use Rattle.hls_machine.proofs.Seated.{run_seated}
@@ -21,7 +21,7 @@ use Rattle.hls_machine.specs.Lists.{IsListed}
 use Rattle.hls_machine.specs.Seated.{IsSeated}
 use Rattle.hls_tree_nodes.specs.TreeOf as walks
 use Rattle.hls_accounts.specs.Tells.{Names}
-use Rattle.hls_tree.specs.Trees.{IsTreeOf, IsReadyOf, Stands, PassesBy, Passes, ready_of}
+use Rattle.hls_tree.specs.Trees.{IsTreeOf, IsReadyOf, Any, Stands, PassesBy, Passes, ready_of}
 use Rattle.hls_tree.specs.declared.tree.Tree.{Tree}
 use Rattle.hls_manager.proofs.Outcomes.{reached_listed}
 use Rattle.hls_core_stays.specs.Tallies.{AreStays}
@@ -30,13 +30,17 @@ use Rattle.hls_core_stays.specs.declared.stays.Stays.{Stays}
 use Rattle.hls_core_journal.specs.declared.journal.Journal.{Journal}
 use Rattle.hls_core_journal.specs.Kept.{IsWayOrIdle}
 use Rattle.hls_core_journal.specs.Ways.{names_by}
-use Rattle.hls_core.specs.Bursts.{left_in, is_last}
+use Rattle.hls_core.specs.Bursts.{left_in, ends_within}
 use Rattle.hls_core.specs.Left.{IsLeft}
 use Rattle.hls_core.specs.Inside.Ways.{IsKnown, IsRouteOrIdle, TellsRoute}
 use Rattle.hls_core.specs.Cores.{AreNoted}
-use Rattle.hls_core.specs.Inside.Elapses.{IsThreadOrNone, MayElapse, Elapses}
+use Rattle.hls_core.specs.Inside.Elapses.{IsThreadOrNone, IsWithin, IsAfter, MayElapse, Elapses}
 use Rattle.hls_core.specs.declared.bursts.Bursts.{Bursts}
-use Rattle.hls_core.proofs.Readiness.{left_ticked, ready_ticked}
+use Rattle.hls_core.proofs.Readiness.{left_ticked, ready_ticked, still_ready}
+use Rattle.hls_core_stays.proofs.Ticked.{on_ticks}
+use Rattle.hls_tree.proofs.Chosen.{chosen_one}
+use Rattle.hls_tree_nodes.specs.Leapt.{StandsIn, MayLeap, later}
+use Rattle.hls_tree_nodes.specs.Views.{boxed, shown_at, choice_at}
 
 -- the thread that a walk comes to
 pub record Comes (h : Hierarchy) (k : ℕ) : Type 0 where
@@ -114,27 +118,74 @@ granted : (path : Option steps.Path) (route : Option (List ℕ)) (thread : Optio
 granted None route thread e none some = none e
 granted (Some path) route thread e none some = some (map (λ (hop : Hop). hop.node) path.hops) path.thread e
 
-thread_stays : (h : Hierarchy) (asking : ℕ → Bool) (masks : ℕ → ℕ) (path : Option steps.Path) (thread : Option ℕ)
-    → thread ≡ thread_of path → MayRun h asking masks path
-    → IsThreadOrNone (after h (Elapse asking masks path)) thread
-thread_stays h asking masks path None e may = tt
-thread_stays h asking masks path (Some k) e may =
-    let on : is_just (thread_of path) k ≡ true =
+-- who is the thread of a path
+just_is : (o : Option ℕ) (k : ℕ) → is_just o k ≡ true → o ≡ Some k
+just_is None k on = absurd (cc)
+just_is (Some x) k on = ap (λ n. Some n) (eqb-true x k on)
+
+thread_later : (h : Hierarchy) (asking : ℕ → Bool) (masks : ℕ → ℕ) (path : Option steps.Path) (n k : ℕ) (t : Thread)
+    → h.nodes k ≡ Some (Admitted t) → (later h asking masks path n).nodes k ≡ Some (Admitted t)
+thread_later h asking masks path zero k t there = there
+thread_later h asking masks path (suc n) k t there =
+    ap (ticked (masks k) (hop_at (hops_of path) k)) (thread_later h asking masks path n k t there)
+
+thread_stays : (h : Hierarchy) (asking : ℕ → Bool) (masks : ℕ → ℕ) (path : Option steps.Path) (n : ℕ)
+    (thread : Option ℕ) → thread ≡ thread_of path → MayRun h asking masks path
+    → IsThreadOrNone (later h asking masks path n) thread
+thread_stays h asking masks path n None e may = tt
+thread_stays h asking masks path n (Some k) e may =
+    let here : is_just (thread_of path) k ≡ true =
     ap (λ o. is_just o k) (sym e) ∙ Rattle.std.proofs.lemmas.Bool.eq-eqb k k refl in
-    let comes = runs_thread h asking masks path k may on in
+    let comes = runs_thread h asking masks path k may here in
+    record { thread = comes.thread; there = thread_later h asking masks path n k comes.thread comes.there }
+
+-- where ticks of a legal run lead, a legal run leads
+pub later_reached : (h : Hierarchy) (asking : ℕ → Bool) (masks : ℕ → ℕ) (path : Option steps.Path) (n : ℕ)
+    → IsReached h → ((m : ℕ) → m < n → Can (later h asking masks path m) (Elapse asking masks path))
+    → IsReached (later h asking masks path n)
+later_reached h asking masks path zero r can = r
+later_reached h asking masks path (suc n) r can =
+    let before = later_reached h asking masks path n r (λ m lt. can m (omega (arith, lt))) in
+    let step : Step = Elapse asking masks path in
     record {
-      thread = comes.thread;
-      there = ap (ticked (masks k) (hop_at (hops_of path) k)) comes.there;
+      past = before.past ++ step ∷ [];
+      legal =
+          legal_goes before.past start step before.legal
+          (subst (λ g. Can g step) before.leads (can n (omega arith)));
+      leads = ap (λ g. after g step) before.leads ∙ sym (state_goes before.past start step);
     }
 
 -- V and P are what the checker knows a box by
 module _ {V : Type 0} {P : V → Type 0} (seen : (x : V) × P x → Seen) (choice : (x : V) × P x → Option ℕ) where
-  pub passed_stands : (old new : Tree V P) (bursts : Bursts) (stays : Stays) (j : Journal)
-      → Stands seen old (MayElapse seen old bursts stays j)
+  -- what a pass and the ticks after it leave
+  pub record Leaps (old passed turned : Tree V P) (bursts : Bursts) (thread : Option ℕ) (n : ℕ) : Type 0 where
+    pub tree : (h : Hierarchy) → IsTreeOf seen old h → IsTreeOf seen passed h
+    pub passes : (h : Hierarchy) → IsTreeOf seen old h → IsReadyOf seen old h → Passes seen choice passed h
+    pub flags : (k : ℕ) → ready_of seen passed k ≡ ready_of seen old k
+    pub none : passed.route ≡ None → thread ≡ None
+    pub some : (front : List ℕ) (last : ℕ) → passed.route ≡ Some (front ++ last ∷ []) → thread ≡ Some last
+    pub law : (k : ℕ) → StandsIn n (choice_at (boxed choice) passed.nodes k) (shown_at (boxed seen) passed.nodes k)
+    pub burst : IsWithin (left_in bursts) thread n
+    pub elapsed : (h : Hierarchy) (asking : ℕ → Bool) (slots : ℕ → ℕ) (path : Option steps.Path)
+        → IsTreeOf seen passed h → PassesBy seen choice passed h asking slots path
+        → MayLeap (shown_at (boxed seen) passed.nodes) (choice_at (boxed choice) passed.nodes) h asking slots path n
+        → IsAfter seen turned h asking slots path n
+    pub turns : (k : ℕ) → ready_of seen turned k ≡ ready_of seen passed k
+
+  -- and what it leaves that their thread was served
+  pub record Serves (turned new : Tree V P) (bursts spent : Bursts) (thread : Option ℕ) (n : ℕ) : Type 0 where
+    pub tree : (h : Hierarchy) → IsTreeOf seen turned h → IsTreeOf seen new h
+    pub ready : (k : ℕ) → ready_of seen new k ≡ cond (is_just thread k)
+        (cond (ends_within n (left_in bursts k)) false (ready_of seen turned k)) (ready_of seen turned k)
+    pub left : (k : ℕ) → left_in spent k
+        ≡ cond (is_just thread k) (option_map (λ left. left - n) (left_in bursts k)) (left_in bursts k)
+
+  pub passed_stands : (old new : Tree V P) (bursts : Bursts) (stays : Stays) (j : Journal) (most : ℕ)
+      → Stands seen old (MayElapse seen old bursts stays j most)
       → ((h : Hierarchy) → IsTreeOf seen old h → IsTreeOf seen new h)
       → ((h : Hierarchy) → IsTreeOf seen old h → IsReadyOf seen old h → Passes seen choice new h)
       → Stands seen new (λ h. IsRouteOrIdle h j new.route)
-  passed_stands old new bursts stays j x tree passes =
+  passed_stands old new bursts stays j most x tree passes =
       let p = passes x.h x.tree x.is.at_state.ready in record {
         h = x.h;
         tree = tree x.h x.tree;
@@ -144,207 +195,189 @@ module _ {V : Type 0} {P : V → Type 0} (seen : (x : V) × P x → Seen) (choic
             (route_known x.h j p.0 p.1 p.2 x.is.noted p.3.can.1);
       }
 
-  pub turn_stands : (old new : Tree V P) (bursts : Bursts) (stays : Stays) (j : Journal)
-      → Stands seen old (MayElapse seen old bursts stays j)
-      → ((h : Hierarchy) → IsTreeOf seen old h → IsTreeOf seen new h) → new.horizon ≡ old.horizon
-      → Stands seen new (λ h. h.now < new.horizon)
-  turn_stands old new bursts stays j x tree same = record {
+  pub passed_any : (old new : Tree V P) (bursts : Bursts) (stays : Stays) (j : Journal) (most : ℕ)
+      → Stands seen old (MayElapse seen old bursts stays j most)
+      → ((h : Hierarchy) → IsTreeOf seen old h → IsTreeOf seen new h) → Stands seen new Any
+  passed_any old new bursts stays j most x tree = record {
     h = x.h;
     tree = tree x.h x.tree;
     seated = x.seated;
     listed = x.listed;
-    is = subst (λ n. x.h.now < n) (sym same) x.is.early;
+    is = tt;
   }
 
-  pub turned_stands : (old passed turned : Tree V P) (bursts : Bursts) (stays : Stays) (j : Journal) (thread : Option ℕ)
-      → Stands seen old (MayElapse seen old bursts stays j)
-      → ((h : Hierarchy) → IsTreeOf seen old h → IsTreeOf seen passed h)
-      → ((h : Hierarchy) → IsTreeOf seen old h → IsReadyOf seen old h → Passes seen choice passed h)
-      → ((h : Hierarchy) (asking : ℕ → Bool) (slots : ℕ → ℕ) (path : Option steps.Path) → IsTreeOf seen passed h
-      → PassesBy seen choice passed h asking slots path → IsTreeOf seen turned (after h (Elapse asking slots path)))
-      → (passed.route ≡ None → thread ≡ None)
-      → ((front : List ℕ) (last : ℕ) → passed.route ≡ Some (front ++ last ∷ []) → thread ≡ Some last)
-      → Stands seen turned (λ h. IsThreadOrNone h thread)
-  turned_stands old passed turned bursts stays j thread x tree passes elapsed none some =
-      let p = passes x.h x.tree x.is.at_state.ready in
-      let r = x.is.at_state.reached in
-      let step : Step = Elapse p.0 p.1 p.2 in
-      let legal = legal_goes r.past start step r.legal (subst (λ g. Can g step) r.leads p.3.can) in
-      let same : state start (r.past ++ step ∷ []) ≡ after x.h step =
-      state_goes r.past start step ∙ ap (λ g. after g step) (sym r.leads) in
-      record {
-        h = after x.h step;
-        tree = elapsed x.h p.0 p.1 p.2 (tree x.h x.tree) p.3;
-        seated = subst IsSeated same (run_seated (r.past ++ step ∷ []) legal);
-        listed = subst IsListed same (run_listed (r.past ++ step ∷ []) legal);
-        is = thread_stays x.h p.0 p.1 p.2 thread (granted p.2 passed.route thread p.3.route_is none some) p.3.can.1;
-      }
+  -- one tick
+  one_can : (h : Hierarchy) (asking : ℕ → Bool) (slots : ℕ → ℕ) (path : Option steps.Path) (m : ℕ) → m < 1
+      → Can h (Elapse asking slots path) → Can (later h asking slots path m) (Elapse asking slots path)
+  one_can h asking slots path zero lt can = can
+  one_can h asking slots path (suc m) lt can = absurd (omega (arith, lt))
 
-  -- what a tick of stays asks
-  may_count : (old passed turned new : Tree V P) (bursts later : Bursts) (stays : Stays) (j : Journal)
-      (thread : Option ℕ) (h : Hierarchy) → MayElapse seen old bursts stays j h
-      → ((k : ℕ) → ready_of seen passed k ≡ ready_of seen old k)
-      → ((k : ℕ) → ready_of seen turned k ≡ ready_of seen passed k)
-      → ((k : ℕ) → ready_of seen new k ≡ cond (is_just thread k)
-      (cond (is_last (left_in bursts k)) false (ready_of seen turned k)) (ready_of seen turned k))
-      → (asking : ℕ → Bool) (masks : ℕ → ℕ)
-      (path : Option steps.Path) → Can h (Elapse asking masks path) → thread ≡ thread_of path
-      → IsTreeOf seen new (after h (Elapse asking masks path))
-      → IsReadyOf seen new (after h (Elapse asking masks path))
-      → Ticks seen stays new thread 1 h asking masks path
-  may_count old passed turned new bursts later stays j thread h may flags turns ready asking masks path can is tree
-      says = record {
-        stays = may.stays;
-        standing = may.standing;
-        listed = reached_listed h may.at_state.reached;
-        can = can;
-        to = sym is;
-        comes = λ k e.
-            (let on : is_just (thread_of path) k ≡ true =
-            ap (λ o. is_just o k) (sym is ∙ e) ∙ Rattle.std.proofs.lemmas.Bool.eq-eqb k k refl in
-            let comes = runs_thread h asking masks path k can.1 on in
-            record { thread = comes.thread; there = comes.there });
-        tree = tree;
-        ready = says;
-        others = λ k t off there.
-            may.at_state.ready k t there
-            ∙ sym (ready k
-            ∙ ap (λ b. cond b (cond (is_last (left_in bursts k)) false (ready_of seen turned k))
-            (ready_of seen turned k)) off ∙ turns k ∙ flags k);
-        early = may.small;
-      }
+  pub after_one : (new : Tree V P) (h : Hierarchy) (asking : ℕ → Bool) (slots : ℕ → ℕ) (path : Option steps.Path)
+      (n : ℕ) → n ≡ 1 → Can h (Elapse asking slots path)
+      → IsTreeOf seen new (after h (Elapse asking slots path)) → IsAfter seen new h asking slots path n
+  after_one new h asking slots path n one can tree =
+      subst (IsAfter seen new h asking slots path) (sym one)
+      (record { can = λ m lt. one_can h asking slots path m lt can; tree = tree })
 
-  -- what serving leaves
-  record Served (new : Tree V P) (later : Bursts) (h : Hierarchy) (asking : ℕ → Bool) (masks : ℕ → ℕ)
-      (path : Option steps.Path) : Type 0 where
-    tree : IsTreeOf seen new (after h (Elapse asking masks path))
-    ready : IsReadyOf seen new (after h (Elapse asking masks path))
-    left : IsLeft (left_in later) (after h (Elapse asking masks path))
+  pub leap_stands : (old new : Tree V P) (bursts : Bursts) (stays : Stays) (j : Journal) (most n : ℕ)
+      → Stands seen old (MayElapse seen old bursts stays j most)
+      → ((h : Hierarchy) → IsTreeOf seen old h → IsTreeOf seen new h) → new.horizon ≡ old.horizon → n ≤ most
+      → Stands seen new (λ h. h.now + n ≤ new.horizon)
+  leap_stands old new bursts stays j most n x tree same le = record {
+    h = x.h;
+    tree = tree x.h x.tree;
+    seated = x.seated;
+    listed = x.listed;
+    is = (let early = x.is.early in omega (arith, early, same, le));
+  }
 
-  served_by : (old passed turned new : Tree V P) (bursts later : Bursts) (stays : Stays) (j : Journal)
-      (thread : Option ℕ) (h : Hierarchy) → MayElapse seen old bursts stays j h → IsTreeOf seen passed h
-      → ((k : ℕ) → ready_of seen passed k ≡ ready_of seen old k)
-      → ((h : Hierarchy) (asking : ℕ → Bool) (slots : ℕ → ℕ) (path : Option steps.Path) → IsTreeOf seen passed h
-      → PassesBy seen choice passed h asking slots path → IsTreeOf seen turned (after h (Elapse asking slots path)))
-      → ((k : ℕ) → ready_of seen turned k ≡ ready_of seen passed k)
-      → ((h : Hierarchy) → IsTreeOf seen turned h → IsTreeOf seen new h)
-      → ((k : ℕ) → ready_of seen new k ≡ cond (is_just thread k)
-      (cond (is_last (left_in bursts k)) false (ready_of seen turned k)) (ready_of seen turned k))
-      → ((k : ℕ) → left_in later k ≡ cond (is_just thread k) (option_map (λ left. left - 1) (left_in bursts k))
-      (left_in bursts k))
-      → (asking : ℕ → Bool) (slots : ℕ → ℕ) (path : Option steps.Path)
-      → PassesBy seen choice passed h asking slots path → thread ≡ thread_of path
-      → Served new later h asking slots path
-  served_by old passed turned new bursts later stays j thread h may there flags elapsed turns served ready left asking
-      slots path by is_thread =
-      let runs = ran h asking slots path by.can.1 in
-      record {
-        tree = served (after h (Elapse asking slots path)) (elapsed h asking slots path there by);
-        ready =
-            ready_ticked h asking slots path (left_in bursts) (ready_of seen old) (ready_of seen new) may.at_state.left
-            may.at_state.ready
-            (λ k on. ready k
-            ∙ ap (λ b. cond b (cond (is_last (left_in bursts k)) false (ready_of seen turned k))
-            (ready_of seen turned k))
-            (ap (λ o. is_just o k) is_thread ∙ on)
-            ∙ ap (λ b. cond (is_last (left_in bursts k)) false b) (turns k ∙ flags k))
-            (λ k off. ready k
-            ∙ ap (λ b. cond b (cond (is_last (left_in bursts k)) false (ready_of seen turned k))
-            (ready_of seen turned k))
-            (ap (λ o. is_just o k) is_thread ∙ off)
-            ∙ turns k ∙ flags k)
-            runs;
-        left =
-            left_ticked h asking slots path (left_in bursts) (left_in later) may.at_state.left
-            (λ k on. left k
-            ∙ ap (λ b. cond b (option_map (λ n. n - 1) (left_in bursts k)) (left_in bursts k))
-            (ap (λ o. is_just o k) is_thread ∙ on))
-            (λ k off. left k
-            ∙ ap (λ b. cond b (option_map (λ n. n - 1) (left_in bursts k)) (left_in bursts k))
-            (ap (λ o. is_just o k) is_thread ∙ off))
-            runs;
-      }
+  module _ (old passed turned : Tree V P) (bursts : Bursts) (stays : Stays) (j : Journal) (most n : ℕ)
+      (thread : Option ℕ) (leaps : Leaps old passed turned bursts thread n) where
+    thread_is : (h : Hierarchy) (asking : ℕ → Bool) (slots : ℕ → ℕ) (path : Option steps.Path)
+        → PassesBy seen choice passed h asking slots path → thread ≡ thread_of path
+    thread_is h asking slots path by = granted path passed.route thread by.route_is leaps.none leaps.some
 
-  pub count_stands : (old passed turned new : Tree V P) (bursts later : Bursts) (stays : Stays) (j : Journal)
-      (thread other : Option ℕ) → Stands seen old (MayElapse seen old bursts stays j)
-      → ((h : Hierarchy) → IsTreeOf seen old h → IsTreeOf seen passed h)
-      → ((h : Hierarchy) → IsTreeOf seen old h → IsReadyOf seen old h → Passes seen choice passed h)
-      → ((k : ℕ) → ready_of seen passed k ≡ ready_of seen old k)
-      → ((h : Hierarchy) (asking : ℕ → Bool) (slots : ℕ → ℕ) (path : Option steps.Path) → IsTreeOf seen passed h
-      → PassesBy seen choice passed h asking slots path → IsTreeOf seen turned (after h (Elapse asking slots path)))
-      → ((k : ℕ) → ready_of seen turned k ≡ ready_of seen passed k)
-      → (passed.route ≡ None → thread ≡ None)
-      → ((front : List ℕ) (last : ℕ) → passed.route ≡ Some (front ++ last ∷ []) → thread ≡ Some last)
-      → ((h : Hierarchy) → IsTreeOf seen turned h → IsTreeOf seen new h)
-      → ((k : ℕ) → ready_of seen new k ≡ cond (is_just thread k)
-      (cond (is_last (left_in bursts k)) false (ready_of seen turned k)) (ready_of seen turned k))
-      → ((k : ℕ) → left_in later k ≡ cond (is_just thread k) (option_map (λ left. left - 1) (left_in bursts k))
-      (left_in bursts k))
-      → (passed.route ≡ None → other ≡ None)
-      → ((front : List ℕ) (last : ℕ) → passed.route ≡ Some (front ++ last ∷ []) → other ≡ Some last)
-      → MayTick seen stays new other 1
-  count_stands old passed turned new bursts later stays j thread other x tree passes flags elapsed turns none some
-      served ready left other_none other_some =
-      let p = passes x.h x.tree x.is.at_state.ready in
-      let is_thread : thread ≡ thread_of p.2 = granted p.2 passed.route thread p.3.route_is none some in
-      let by = served_by old passed turned new bursts later stays j thread x.h x.is (tree x.h x.tree) flags elapsed
-      turns served ready left p.0 p.1 p.2 p.3 is_thread in
-      record {
-        h = x.h;
-        asking = p.0;
-        masks = p.1;
-        path = p.2;
-        elapsed =
-            subst (λ o. Ticks seen stays new o 1 x.h p.0 p.1 p.2)
-            (is_thread ∙ sym (granted p.2 passed.route other p.3.route_is other_none other_some))
-            (may_count old passed turned new bursts later stays j thread x.h x.is flags turns ready p.0 p.1 p.2
-            p.3.can is_thread by.tree by.ready);
-      }
+    may_leap : (h : Hierarchy) (asking : ℕ → Bool) (slots : ℕ → ℕ) (path : Option steps.Path)
+        → MayElapse seen old bursts stays j most h → PassesBy seen choice passed h asking slots path
+        → MayLeap (shown_at (boxed seen) passed.nodes) (choice_at (boxed choice) passed.nodes) h asking slots path n
+    may_leap h asking slots path may by =
+        let is_thread = thread_is h asking slots path by in
+        let still : (m k : ℕ) (t : Thread) → m < n → 1 < n → h.nodes k ≡ Some (Admitted t)
+        → is_ready (was_served (later h asking slots path m).past k) (later h asking slots path m).now t.wake
+        ≡ is_ready (was_served h.past k) h.now t.wake =
+        λ m k t lt some there. still_ready h asking slots path m (left_in bursts) may.at_state.left k t there
+        (ran h asking slots path by.can.1 k t there)
+        (λ rest on is. (let all = leaps.burst k rest (is_thread ∙ just_is (thread_of path) k on) is some in
+        omega (arith, all, lt))) in
+        record {
+          one = λ m k slot lt on serves.
+              chosen_one _ _ _ _ _ _ h asking slots path n may.at_state.reached
+              (leaps.tree h may.at_state.tree).of by leaps.law m k slot (omega (arith, lt)) on serves;
+          ready = λ m k t lt there.
+              (let was = (on_ticks h asking slots path m).was k t there in
+              still (suc m) k t lt (omega (arith, lt)) was
+              ∙ sym (still m k t (omega (arith, lt)) (omega (arith, lt)) was));
+        }
 
-  pub elapses : (old passed turned new : Tree V P) (bursts later : Bursts) (stays counted : Stays)
-      (j : Journal) (thread other : Option ℕ)
-      (told : Option Path) (h : Hierarchy) → MayElapse seen old bursts stays j h
-      → ((h : Hierarchy) → IsTreeOf seen old h → IsTreeOf seen passed h)
-      → ((h : Hierarchy) → IsTreeOf seen old h → IsReadyOf seen old h → Passes seen choice passed h)
-      → ((k : ℕ) → ready_of seen passed k ≡ ready_of seen old k)
-      → ((h : Hierarchy) → IsTreeOf seen passed h → TellsRoute h j passed.route told)
-      → ((h : Hierarchy) (asking : ℕ → Bool) (slots : ℕ → ℕ) (path : Option steps.Path) → IsTreeOf seen passed h
-      → PassesBy seen choice passed h asking slots path → IsTreeOf seen turned (after h (Elapse asking slots path)))
-      → ((k : ℕ) → ready_of seen turned k ≡ ready_of seen passed k)
-      → (passed.route ≡ None → thread ≡ None)
-      → ((front : List ℕ) (last : ℕ) → passed.route ≡ Some (front ++ last ∷ []) → thread ≡ Some last)
-      → ((h : Hierarchy) → IsTreeOf seen turned h → IsTreeOf seen new h)
-      → ((k : ℕ) → ready_of seen new k ≡ cond (is_just thread k)
-      (cond (is_last (left_in bursts k)) false (ready_of seen turned k)) (ready_of seen turned k))
-      → ((k : ℕ) → left_in later k ≡ cond (is_just thread k) (option_map (λ left. left - 1) (left_in bursts k))
-      (left_in bursts k))
-      → ((h : Hierarchy) (asking : ℕ → Bool) (slots : ℕ → ℕ) (path : Option steps.Path)
-      → Ticks seen stays new other 1 h asking slots path → AreStays counted (after h (Elapse asking slots path)))
-      → (passed.route ≡ None → other ≡ None)
-      → ((front : List ℕ) (last : ℕ) → passed.route ≡ Some (front ++ last ∷ []) → other ≡ Some last)
-      → Elapses seen new later counted j h told
-  elapses old passed turned new bursts later stays counted j thread other told h may tree passes flags
-      tells elapsed turns none some served ready left counts other_none other_some =
-      let p = passes h may.at_state.tree may.at_state.ready in
-      let there = tree h may.at_state.tree in
-      let route : TellsRoute h j (walks.route_of p.2) told =
-      subst (λ r. TellsRoute h j r told) p.3.route_is (tells h there) in
-      let is_thread : thread ≡ thread_of p.2 = granted p.2 passed.route thread p.3.route_is none some in
-      let by = served_by old passed turned new bursts later stays j thread h may there flags elapsed
-      turns served ready left p.0 p.1 p.2 p.3 is_thread in
-      record {
-        asking = p.0;
-        masks = p.1;
-        path = p.2;
-        can = p.3.can;
-        names = names_of h j p.2 told route;
-        way = way_of h j p.2 told route;
-        tree = by.tree;
-        ready = by.ready;
-        left = by.left;
-        stays = counts h p.0 p.1 p.2
-            (subst (λ o. Ticks seen stays new o 1 h p.0 p.1 p.2)
-            (is_thread ∙ sym (granted p.2 passed.route other p.3.route_is other_none other_some))
-            (may_count old passed turned new bursts later stays j thread h may flags turns ready p.0 p.1 p.2 p.3.can
-            is_thread by.tree by.ready));
-      }
+    is_after : (h : Hierarchy) (asking : ℕ → Bool) (slots : ℕ → ℕ) (path : Option steps.Path)
+        → MayElapse seen old bursts stays j most h → PassesBy seen choice passed h asking slots path
+        → IsAfter seen turned h asking slots path n
+    is_after h asking slots path may by =
+        leaps.elapsed h asking slots path (leaps.tree h may.at_state.tree) by (may_leap h asking slots path may by)
+
+    pub turned_stands : Stands seen old (MayElapse seen old bursts stays j most)
+        → Stands seen turned (λ h. IsThreadOrNone h thread)
+    turned_stands x =
+        let p = leaps.passes x.h x.tree x.is.at_state.ready in
+        let at = is_after x.h p.0 p.1 p.2 x.is p.3 in
+        let r = later_reached x.h p.0 p.1 p.2 n x.is.at_state.reached at.can in
+        record {
+          h = later x.h p.0 p.1 p.2 n;
+          tree = at.tree;
+          seated = subst IsSeated (sym r.leads) (run_seated r.past r.legal);
+          listed = subst IsListed (sym r.leads) (run_listed r.past r.legal);
+          is = thread_stays x.h p.0 p.1 p.2 n thread (thread_is x.h p.0 p.1 p.2 p.3) p.3.can.1;
+        }
+
+    module _ (new : Tree V P) (spent : Bursts) (serves : Serves turned new bursts spent thread n) where
+      -- what serving leaves
+      record Served (h : Hierarchy) (asking : ℕ → Bool) (masks : ℕ → ℕ) (path : Option steps.Path) : Type 0 where
+        is : IsAfter seen new h asking masks path n
+        ready : IsReadyOf seen new (later h asking masks path n)
+        left : IsLeft (left_in spent) (later h asking masks path n)
+
+      served_by : (h : Hierarchy) (asking : ℕ → Bool) (slots : ℕ → ℕ) (path : Option steps.Path)
+          → MayElapse seen old bursts stays j most h → PassesBy seen choice passed h asking slots path
+          → Served h asking slots path
+      served_by h asking slots path may by =
+          let at = is_after h asking slots path may by in
+          let is_thread = thread_is h asking slots path by in
+          let runs = ran h asking slots path by.can.1 in
+          record {
+            is = record { can = at.can; tree = serves.tree (later h asking slots path n) at.tree };
+            ready =
+                ready_ticked h asking slots path n (left_in bursts) (ready_of seen old) (ready_of seen new)
+                may.at_state.left may.at_state.ready
+                (λ k on. serves.ready k
+                ∙ ap (λ b. cond b (cond (ends_within n (left_in bursts k)) false (ready_of seen turned k))
+                (ready_of seen turned k))
+                (ap (λ o. is_just o k) is_thread ∙ on)
+                ∙ ap (λ b. cond (ends_within n (left_in bursts k)) false b) (leaps.turns k ∙ leaps.flags k))
+                (λ k off. serves.ready k
+                ∙ ap (λ b. cond b (cond (ends_within n (left_in bursts k)) false (ready_of seen turned k))
+                (ready_of seen turned k))
+                (ap (λ o. is_just o k) is_thread ∙ off)
+                ∙ leaps.turns k ∙ leaps.flags k)
+                runs;
+            left =
+                left_ticked h asking slots path n (left_in bursts) (left_in spent) may.at_state.left
+                (λ k on. serves.left k
+                ∙ ap (λ b. cond b (option_map (λ left. left - n) (left_in bursts k)) (left_in bursts k))
+                (ap (λ o. is_just o k) is_thread ∙ on))
+                (λ k off. serves.left k
+                ∙ ap (λ b. cond b (option_map (λ left. left - n) (left_in bursts k)) (left_in bursts k))
+                (ap (λ o. is_just o k) is_thread ∙ off))
+                runs;
+          }
+
+      -- what the ticks of stays ask
+      may_count : (h : Hierarchy) (asking : ℕ → Bool) (masks : ℕ → ℕ) (path : Option steps.Path) → n ≤ most
+          → MayElapse seen old bursts stays j most h → PassesBy seen choice passed h asking masks path
+          → Ticks seen stays new thread n h asking masks path
+      may_count h asking masks path le may by =
+          let is_thread = thread_is h asking masks path by in
+          let at = served_by h asking masks path may by in
+          record {
+            stays = may.stays;
+            standing = may.standing;
+            listed = reached_listed h may.at_state.reached;
+            can = by.can;
+            to = sym is_thread;
+            comes = λ k e.
+                (let on : is_just (thread_of path) k ≡ true =
+                ap (λ o. is_just o k) (sym is_thread ∙ e) ∙ Rattle.std.proofs.lemmas.Bool.eq-eqb k k refl in
+                let comes = runs_thread h asking masks path k by.can.1 on in
+                record { thread = comes.thread; there = comes.there });
+            tree = at.is.tree;
+            ready = at.ready;
+            others = λ k t off there.
+                may.at_state.ready k t there
+                ∙ sym (serves.ready k
+                ∙ ap (λ b. cond b (cond (ends_within n (left_in bursts k)) false (ready_of seen turned k))
+                (ready_of seen turned k)) off ∙ leaps.turns k ∙ leaps.flags k);
+            early = (let small = may.small in omega (arith, small, le));
+          }
+
+      pub count_stands : n ≤ most → Stands seen old (MayElapse seen old bursts stays j most)
+          → MayTick seen stays new thread n
+      count_stands le x =
+          let p = leaps.passes x.h x.tree x.is.at_state.ready in
+          record {
+            h = x.h;
+            asking = p.0;
+            masks = p.1;
+            path = p.2;
+            elapsed = may_count x.h p.0 p.1 p.2 le x.is p.3;
+          }
+
+      pub elapses : (counted : Stays) (told : Option Path) → n ≤ most
+          → ((h : Hierarchy) → IsTreeOf seen passed h → TellsRoute h j passed.route told)
+          → ((h : Hierarchy) (asking : ℕ → Bool) (slots : ℕ → ℕ) (path : Option steps.Path)
+          → Ticks seen stays new thread n h asking slots path → AreStays counted (later h asking slots path n))
+          → (h : Hierarchy) → MayElapse seen old bursts stays j most h → Elapses seen new spent counted j h told n
+      elapses counted told le tells counts h may =
+          let p = leaps.passes h may.at_state.tree may.at_state.ready in
+          let route : TellsRoute h j (walks.route_of p.2) told =
+          subst (λ r. TellsRoute h j r told) p.3.route_is (tells h (leaps.tree h may.at_state.tree)) in
+          let at = served_by h p.0 p.1 p.2 may p.3 in
+          record {
+            asking = p.0;
+            masks = p.1;
+            path = p.2;
+            is = at.is;
+            names = names_of h j p.2 told route;
+            way = way_of h j p.2 told route;
+            ready = at.ready;
+            left = at.left;
+            stays = counts h p.0 p.1 p.2 (may_count h p.0 p.1 p.2 le may p.3);
+          }

@@ -1,7 +1,7 @@
 -- A core lets ticks pass, and ends.
-use Rattle.std.proofs.Common.{◌≡◌, ℕ, ◌-◌, ◌<◌, ◌≤◌, List, [], ◌∷◌, ◌++◌, length, refl, sym, ap}
+use Rattle.std.proofs.Common.{◌≡◌, ℕ, ◌+◌, ◌-◌, ◌^◌, ◌<◌, ◌≤◌, List, [], ◌∷◌, length, refl, sym, ap}
 use Rattle.std.proofs.Common.{◌∙◌, subst, arith}
-use Rattle.std.specs.Prelude.{Option, Result, Ok, Err, IfOk}
+use Rattle.std.specs.Prelude.{Option, Result, Ok, Err, IfOk, slice_get}
 use Rattle.std.specs.Fn.{Mut}
 use Rattle.hls_guarantee.specs.declared.Guarantee.{Guarantee}
 use Rattle.hls_scenario.specs.declared.scenario.Scenario.{Scenario}
@@ -12,19 +12,17 @@ use Rattle.hls_report_text.specs.Content.{Content, content_of}
 use Rattle.hls_report_text.specs.WellFormed.{HasShort}
 use Rattle.hls_sched.specs.Seen.{Seen}
 use Rattle.hls_machine.specs.Hierarchy.{Hierarchy, start}
-use Rattle.hls_machine.specs.Steps.{Step, Elapse, after, state, hop_at, hops_of}
-use Rattle.hls_machine.proofs.Goes.{state_goes}
+use Rattle.hls_machine.specs.Steps.{Step, Elapse, after, state}
 use Rattle.hls_machine.proofs.Lists.{run_listed}
 use Rattle.hls_machine.proofs.Seated.{run_seated}
 use Rattle.hls_accounts.specs.Tells.{TellsFrom, Tells}
 use Rattle.hls_accounts.specs.Ready.{is_ready}
 use Rattle.hls_answers.specs.Moment.{Boxes}
 use Rattle.hls_legal_report.specs.Legal.{IsRun, IsLegalReport}
-use Rattle.hls_legal_report.proofs.Growth.{run_tick}
-use Rattle.hls_tree.specs.Trees.{Stands}
+use Rattle.hls_tree.specs.Trees.{IsTreeOf, IsReadyOf, Stands}
 use Rattle.hls_core_journal.specs.Told.{answered_by, told, with_totals, IsReportOf}
-use Rattle.hls_core_journal.specs.Kept.{IsTicked, MayTick}
-use Rattle.hls_core_journal.proofs.Keeps.{kept_tick, told_tick, may_tick, way_short}
+use Rattle.hls_core_journal.specs.Kept.{AreTicked, MayTick}
+use Rattle.hls_core_journal.proofs.Keeps.{may_tick, way_short}
 use Rattle.hls_core_stays.specs.Tallies.{AreStays}
 use Rattle.hls_core_stays.specs.declared.stays.Stays.{Stays}
 use Rattle.hls_core.specs.Marks.{HasMarksFor}
@@ -33,13 +31,13 @@ use Rattle.hls_report_text.specs.declared.report.Account.{Account}
 use Rattle.hls_accounts.specs.Accounts.{accounts_of, idle_of}
 use Rattle.hls_accounts.specs.Agrees.{accounts_in, idle_in}
 use Rattle.hls_accounts.proofs.Agreements.{accounts_told, idle_told}
-use Rattle.hls_core.specs.Cores.{AreNoted, NoneDue, IsCoreOf, Runs}
+use Rattle.hls_core.specs.Cores.{AreNoted, NoneWithin, IsCoreOf, Runs}
 use Rattle.hls_core.specs.declared.cores.Core.{Core}
 use Rattle.hls_core.proofs.Items.{ahead_next, none_left, all_told}
-use Rattle.hls_core.proofs.Going.{at_next}
-use Rattle.hls_core.proofs.Rooms.{tick_marks}
+use Rattle.hls_core.proofs.Running.{runs_on}
+use Rattle.hls_core.specs.Left.{IsLeft}
+use Rattle.hls_core.specs.Bursts.{left_in}
 use Rattle.hls_core.proofs.Standings.{run_standing}
-use Rattle.hls_core.proofs.Seats.{ticked_name}
 
 -- where a run leads it is the present tick
 pub state_now : (c : Content) (steps : List Step) (h : Hierarchy) (left : List Answered) → TellsFrom c h steps left
@@ -74,9 +72,10 @@ totals_same c = refl
 module _ {V W : Type 0} {P : V → Type 0} {Q : W → Type 0}
     {X : Mut ((x : W) × Q x) (Guarantee × (Guarantee × Unit {0})) (Option Guarantee)}
     (seen : (x : V) × P x → Seen) where
-  pub core_may_elapse : (c : Core V W P Q X) (s : Scenario) (given : ℕ) (boxes : Boxes) → IsCoreOf seen c s given boxes
-      → c.journal.ticks < c.scenario.horizon → Stands seen c.tree (MayElapse seen c.tree c.bursts c.stays c.journal)
-  core_may_elapse c s given boxes is lt =
+  pub core_may_elapse : (c : Core V W P Q X) (s : Scenario) (given : ℕ) (boxes : Boxes) (most : ℕ)
+      → IsCoreOf seen c s given boxes → c.journal.ticks + most ≤ c.scenario.horizon
+      → Stands seen c.tree (MayElapse seen c.tree c.bursts c.stays c.journal most)
+  core_may_elapse c s given boxes most is le =
       let now = state_now (told s.items c.depth c.journal) is.steps start
       (answered_by s.items c.journal.answers.items) is.run.tells in
       let own = ap (λ (x : Scenario). x.horizon) is.scenario in
@@ -91,8 +90,8 @@ module _ {V W : Type 0} {P : V → Type 0} {Q : W → Type 0}
           stays = is.stays;
           standing = run_standing (told s.items c.depth c.journal) is.steps is.run.legal is.run.tells;
           noted = is.noted;
-          early = omega (arith, now, own, horizon, lt);
-          small = let most = is.within.horizon.1 in omega (arith, now, own, lt, most);
+          early = omega (arith, now, own, horizon, le);
+          small = let few = is.within.horizon.1 in omega (arith, now, own, le, few);
         };
       }
 
@@ -103,74 +102,88 @@ module _ {V W : Type 0} {P : V → Type 0} {Q : W → Type 0}
       let two = is.kept.few in
       let three = is.within.few in omega (arith, one, two, three)
 
-  pub core_may_tick : (c : Core V W P Q X) (s : Scenario) (given : ℕ) (boxes : Boxes) → IsCoreOf seen c s given boxes
-      → c.journal.ticks < c.scenario.horizon → MayTick c.journal
-  core_may_tick c s given boxes is lt =
+  pub core_may_tick : (c : Core V W P Q X) (s : Scenario) (given : ℕ) (boxes : Boxes) (most : ℕ)
+      → IsCoreOf seen c s given boxes → 0 < most → c.journal.ticks + most ≤ c.scenario.horizon → MayTick c.journal
+  core_may_tick c s given boxes most is some le =
       let own = ap (λ (x : Scenario). x.horizon) is.scenario in
-      may_tick s c.journal is.kept is.within.horizon.1 (omega (arith, own, lt))
+      may_tick s c.journal is.kept is.within.horizon.1 (omega (arith, own, le, some))
+
+  pub core_small : (c : Core V W P Q X) (s : Scenario) (given : ℕ) (boxes : Boxes) (most n : ℕ)
+      → IsCoreOf seen c s given boxes → n ≤ most → c.journal.ticks + most ≤ c.scenario.horizon
+      → c.journal.ticks + n < 2 ^ 32
+  core_small c s given boxes most n is few le =
+      let own = ap (λ (x : Scenario). x.horizon) is.scenario in
+      let within = is.within.horizon.1 in omega (arith, own, le, few, within)
 
   pub path_short : (c : Core V W P Q X) (s : Scenario) (given : ℕ) (boxes : Boxes)
       (new : Rattle.hls_tree.specs.declared.tree.Tree.Tree V P)
-      (later : Rattle.hls_core.specs.declared.bursts.Bursts.Bursts) (counted : Stays) (path : Option Path)
-      (is : IsCoreOf seen c s given boxes) → c.journal.ticks < c.scenario.horizon
-      → ((h : Hierarchy) → MayElapse seen c.tree c.bursts c.stays c.journal h
-      → Elapses seen new later counted c.journal h path)
+      (spent : Rattle.hls_core.specs.declared.bursts.Bursts.Bursts) (counted : Stays) (path : Option Path) (most n : ℕ)
+      (is : IsCoreOf seen c s given boxes) → c.journal.ticks + most ≤ c.scenario.horizon
+      → ((h : Hierarchy) → MayElapse seen c.tree c.bursts c.stays c.journal most h
+      → Elapses seen new spent counted c.journal h path n)
       → HasShort path
   unfolding core_may_elapse
-  path_short c s given boxes new later counted path is lt elapses =
-      way_short c.journal path (elapses (state start is.steps) (core_may_elapse c s given boxes is lt).is).way
+  path_short c s given boxes new spent counted path most n is le elapses =
+      way_short c.journal path (elapses (state start is.steps) (core_may_elapse c s given boxes most is le).is).way
 
   pub ticks_on : (old new : Core V W P Q X) (s : Scenario) (given : ℕ) (boxes : Boxes) (path : Option Path)
-      (is : IsCoreOf seen old s given boxes)
-      → NoneDue old.scenario.items old.agenda old.journal.ticks → old.journal.ticks < old.scenario.horizon
-      → ((h : Hierarchy) → MayElapse seen old.tree old.bursts old.stays old.journal h
-      → Elapses seen new.tree new.bursts new.stays old.journal h path)
-      → IsTicked path old.journal new.journal → new.agenda ≡ old.agenda → new.scenario ≡ old.scenario
+      (most n : ℕ) (is : IsCoreOf seen old s given boxes)
+      → NoneWithin old.scenario.items old.agenda old.journal.ticks most
+      → old.journal.ticks + most ≤ old.scenario.horizon
+      → ((h : Hierarchy) → MayElapse seen old.tree old.bursts old.stays old.journal most h
+      → Elapses seen new.tree new.bursts new.stays old.journal h path n)
+      → 0 < n → n ≤ most → AreTicked n path old.journal new.journal → new.agenda ≡ old.agenda
+      → new.scenario ≡ old.scenario
       → new.depth ≡ old.depth → new.kit ≡ old.kit → new.tree.horizon ≡ old.tree.horizon
       → IsCoreOf seen new s given boxes
   unfolding core_may_elapse
-  ticks_on old new s given boxes path is none lt elapses noted agenda scenario depth kit horizon =
+  ticks_on old new s given boxes path most n is none le elapses some few noted agenda scenario depth kit horizon =
       let own = ap (λ (x : Scenario). x.horizon) is.scenario in
-      let early : old.journal.ticks < s.horizon = omega (arith, own, lt) in
-      let e = elapses (state start is.steps) (core_may_elapse old s given boxes is lt).is in
-      let step : Step = Elapse e.asking e.masks e.path in
-      let more = told_tick s old.depth old.journal new.journal path is.kept e.way noted in
-      let run : IsRun old.depth boxes (told s.items old.depth new.journal) (is.steps ++ step ∷ []) =
-      run_tick old.depth boxes (told s.items old.depth old.journal) (told s.items old.depth new.journal) is.steps
-      e.asking e.masks e.path _ is.run e.can e.names more in
-      let ahead = ahead_next s.horizon s.items old.agenda old.journal.ticks is.within.items
-      (subst (λ (x : Scenario). NoneDue x.items old.agenda old.journal.ticks) is.scenario none) in
+      let h : Hierarchy = state start is.steps in
+      let e = elapses h (core_may_elapse old s given boxes most is le).is in
+      let ran = runs_on s old.depth old.agenda boxes old.journal h e.asking e.masks e.path path n n new.journal (record {
+        kept = is.kept;
+        answers = refl;
+        names = refl;
+        ticks = omega arith;
+        past = is.steps;
+        run = is.run;
+        leads = refl;
+        noted = is.noted;
+        marks = is.marks;
+      }) (omega arith) (omega (arith, own, le, few)) e.is.can e.names e.way noted in
+      let ahead = ahead_next s.horizon s.items old.agenda (old.journal.ticks + (n - 1)) is.within.items
+      (λ item there. (let clear = none item (ap (λ (x : Scenario). slice_get x.items old.agenda) is.scenario ∙ there) in
+      omega (arith, clear, some, few))) in
       record {
         scenario = scenario ∙ is.scenario;
         within = is.within;
         depth = depth ∙ is.depth;
         deep = subst (λ n. n ≤ 6) (sym depth) is.deep;
-        place = agenda ∙ is.place ∙ sym (ap (λ xs. length xs.items) noted.answers);
-        kept = kept_tick s old.journal new.journal path is.kept early e.way noted;
+        place = agenda ∙ is.place ∙ sym (ap (λ xs. length xs.items) ran.answers);
+        kept = ran.kept;
         ahead = λ at item le there.
-            (let later = ahead at item (omega (arith, le, agenda)) there in
-            let ticks = noted.ticks in omega (arith, later, ticks));
+            (let clear = ahead at item (omega (arith, le, agenda)) there in
+            let ticks = ran.ticks in omega (arith, clear, ticks, some));
         good = subst (Rattle.hls_sched.specs.GoodKit.IsGood (Rattle.hls_tree_nodes.specs.Views.boxed seen)) (sym kit)
             is.good;
         left =
             ap Rattle.hls_manager.specs.Outcomes.boxes_in kit ∙ is.left
             ∙ ap (λ xs. Rattle.hls_answers.specs.Kit.boxes_left boxes (answered_by s.items xs.items))
-            (sym noted.answers);
-        steps = is.steps ++ step ∷ [];
-        run = subst (λ n. IsRun n boxes (told s.items n new.journal) (is.steps ++ step ∷ [])) (sym depth) run;
-        at_state = at_next seen new.tree new.bursts is.steps step is.run.legal e.can e.tree e.ready e.left;
-        stays = subst (AreStays new.stays) (sym (state_goes is.steps start step)) e.stays;
-        noted =
-            subst (λ g. AreNoted g new.journal) (sym (state_goes is.steps start step))
-            (λ k name has. subst (λ ns. Rattle.std.specs.List.list_any (Rattle.std.specs.Str.bytes_eq name)
-            ns.keys ≡ Rattle.std.proofs.Common.true)
-            (sym noted.names)
-            (is.noted k name (sym (ticked_name (e.masks k) (hop_at (hops_of e.path) k)
-            ((state start is.steps).nodes k)) ∙ has)));
+            (sym ran.answers);
+        steps = ran.past;
+        run = subst (λ n. IsRun n boxes (told s.items n new.journal) ran.past) (sym depth) ran.run;
+        at_state = record {
+          tree = subst (IsTreeOf seen new.tree) (sym ran.leads) e.is.tree;
+          ready = subst (IsReadyOf seen new.tree) (sym ran.leads) e.ready;
+          left = subst (IsLeft (left_in new.bursts)) (sym ran.leads) e.left;
+          reached = record { past = ran.past; legal = ran.run.legal; leads = refl };
+        };
+        stays = subst (AreStays new.stays) (sym ran.leads) e.stays;
+        noted = subst (λ g. AreNoted g new.journal) (sym ran.leads) ran.noted;
         marks =
-            subst (λ n. HasMarksFor (length s.items - n) (state start (is.steps ++ step ∷ []))) (sym agenda)
-            (subst (λ g. HasMarksFor (length s.items - old.agenda) g) (sym (state_goes is.steps start step))
-            (tick_marks (state start is.steps) e.asking e.masks e.path (length s.items - old.agenda) is.marks));
+            subst (λ n. HasMarksFor (length s.items - n) (state start ran.past)) (sym agenda)
+            (subst (λ g. HasMarksFor (length s.items - old.agenda) g) (sym ran.leads) ran.marks);
         horizon = horizon ∙ is.horizon;
       }
 

@@ -1,18 +1,18 @@
 -- The items of a scenario at their places.
 use Rattle.std.proofs.Common.{◌≡◌, ◌≢◌, ℕ, zero, suc, inl, inr, ◌⊎◌, ◌+◌, ◌<◌, ◌≤◌, Bool, true, false}
-use Rattle.std.proofs.Common.{cond, ◌==◌, List, []}
+use Rattle.std.proofs.Common.{cond, nat_lt, drop, ◌==◌, List, []}
 use Rattle.std.proofs.Common.{◌∷◌, length, map, refl, sym, ap, ◌∙◌, subst, arith, slice_get}
 use Rattle.std.specs.Prelude.{Option, Some, None}
-use Rattle.std.proofs.lemmas.Bool.{cases_lt, eqb-true, eqb-false}
+use Rattle.std.proofs.lemmas.Bool.{cases_lt, eqb-true, eqb-false, ltb-true, lt-ltb}
 use Rattle.std.proofs.lemmas.Option.{slice_get_within, slice_get-get_or}
 use Rattle.hls_scenario.specs.declared.scenario.Item.{Item}
 use Rattle.hls_scenario.specs.declared.scenario.Command.{Command}
 use Rattle.hls_scenario.specs.Grammar.{AreItems, IsCommand}
 use Rattle.hls_report_text.specs.declared.report.Answer.{Answer}
 use Rattle.hls_report_text.specs.ReportText.{item_of}
-use Rattle.hls_clock.specs.Agenda.{due_of, due_command}
+use Rattle.hls_clock.specs.Agenda.{due_of, due_command, first_tick_after}
 use Rattle.hls_core_journal.specs.Told.{answered_by}
-use Rattle.hls_core.specs.Cores.{AreAhead, NoneDue}
+use Rattle.hls_core.specs.Cores.{AreAhead, NoneDue, NoneWithin}
 
 -- the command that is due
 pub record IsDue (items : List Item) (place now : ℕ) (command : Command) : Type 0 where
@@ -110,3 +110,44 @@ none_due items place now ahead e item there = by (item.tick == now) refl
     by false other =
         let le = ahead place item (omega arith) there in
         let apart : item.tick ≢ now = eqb-false item.tick now other in omega (arith, le, apart)
+
+-- ---- the next tick of a command
+
+first_by : (now tick t : ℕ) (rest : Option ℕ) (b : Bool) → nat_lt now tick ≡ b → cond b (Some tick) rest ≡ Some t
+    → (rest ≡ Some t → now < t) → now < t
+first_by now tick t rest true lt e later = let same : tick ≡ t = cc in
+    let before = ltb-true now tick lt in omega (arith, before, same)
+first_by now tick t rest false lt e later = later e
+
+first_later : (now : ℕ) (items : List Item) (t : ℕ) → first_tick_after now items ≡ Some t → now < t
+first_later now [] t e = absurd (cc)
+first_later now (item ∷ items) t e =
+    first_by now item.tick t (first_tick_after now items) (nat_lt now item.tick) refl e (first_later now items t)
+
+first_is : (now : ℕ) (items : List Item) (place : ℕ) (item : Item) → slice_get items place ≡ Some item
+    → now < item.tick → first_tick_after now (drop place items) ≡ Some item.tick
+first_is now [] place item there lt = absurd (cc)
+first_is now (x ∷ items) zero item there lt =
+    let same : x ≡ item = cc in
+    ap (λ b. cond b (Some x.tick) (first_tick_after now items))
+    (lt-ltb now x.tick (subst (λ (y : Item). now < y.tick) (sym same) lt)) ∙ ap (λ (y : Item). Some y.tick) same
+first_is now (x ∷ items) (suc place) item there lt = first_is now items place item there lt
+
+-- the next command is not due before its tick
+pub none_within : (items : List Item) (place own now ticks : ℕ) (next : Option ℕ) → NoneDue items place own
+    → now ≡ own → next ≡ first_tick_after now (drop place items) → ((t : ℕ) → next ≡ Some t → now + ticks ≤ t)
+    → NoneWithin items place own ticks
+none_within items place own now ticks next none at is within item there =
+    let lt = none item there in
+    let before = within item.tick (is ∙ first_is now items place item there (omega (arith, lt, at))) in
+    omega (arith, before, at)
+
+pub next_later : (items : List Item) (now t : ℕ) (next : Option ℕ) → next ≡ first_tick_after now items
+    → next ≡ Some t → now < t
+next_later items now t next is e = first_later now items t (sym is ∙ e)
+
+pub inner : (x y : ℕ) → Some x ≡ Some y → x ≡ y
+inner x y e = cc
+
+pub within_none : {X : Type 0} (t : ℕ) (next : Option ℕ) → next ≡ None → next ≡ Some t → X
+within_none t next none some = absurd (let no : None ≡ Some t = sym none ∙ some in cc)

@@ -1,16 +1,18 @@
 -- Readiness and what is left of bursts, as wakes, blocks and ticks come.
-use Rattle.std.proofs.Common.{◌≡◌, ◌≢◌, ℕ, suc, inl, inr, ◌+◌, ◌-◌, ◌<◌, ◌≤◌, ◌⊎◌, Bool, true, false, cond, ◌==◌}
+use Rattle.std.proofs.Common.{◌≡◌, ◌≢◌, ℕ, inl, inr, ◌+◌, ◌-◌, ◌<◌, ◌≤◌, ◌⊎◌, Bool, true, false, cond, ◌==◌}
 use Rattle.std.proofs.Common.{refl, sym, ap, ◌∙◌, arith}
 use Rattle.std.specs.Prelude.{Option, Some, None, nat_lt, nat_le, option_map}
 use Rattle.std.proofs.lemmas.Bool.{cases_eq, cases_lt, eq-eqb, ne_eqb, ltb-true, lt-ltb, le-ltb}
 use Rattle.std.proofs.lemmas.Bool.{lt-leb, le-leb}
-use Rattle.hls_chron.specs.Ticks.{count, one_if}
-use Rattle.hls_chron.proofs.CountLaws.{count-none, count-push, count-agree}
+use Rattle.hls_chron.specs.Ticks.{count}
+use Rattle.hls_chron.proofs.CountLaws.{count-none}
 use Rattle.hls_scenario.specs.Grammar.{IsBurst}
 use Rattle.hls_machine.specs.Hierarchy.{Hierarchy, Thread, Node, Loaded, Admitted, Wake, Asleep, Awake, Awake_for}
 use Rattle.hls_machine.specs.Hierarchy.{is_ready, was_served, is_just}
-use Rattle.hls_machine.specs.Steps.{Path, thread_of, hops_of, hop_at, ticked, roused, wake_by, with_wake, elapsed}
-use Rattle.hls_core.specs.Bursts.{is_last}
+use Rattle.hls_machine.specs.Steps.{Path, thread_of, roused, wake_by, with_wake}
+use Rattle.hls_tree_nodes.specs.Leapt.{later}
+use Rattle.hls_core_stays.proofs.Ticked.{IsOn, on_ticks, times}
+use Rattle.hls_core.specs.Bursts.{ends_within}
 use Rattle.hls_core.specs.Left.{left_of, IsLeft}
 
 -- flags say who is ready
@@ -127,128 +129,126 @@ ready_blocked flag new h k says here others c t e = by (here_or_not h k c Asleep
         ap (is_ready (was_served h.past c) h.now) p.1 ∙ sym here ∙ ap new (sym p.0)
     by (inr p) = says c t p.1 ∙ sym (others c p.0)
 
--- ---- a tick
+-- ---- ticks
 
--- a thread after a tick was the same before
-ticked_was : (mask : ℕ) (hop : Option Rattle.hls_machine.specs.Steps.Hop) (node : Option Node) (t : Thread)
-    → ticked mask hop node ≡ Some (Admitted t) → node ≡ Some (Admitted t)
-ticked_was mask hop None t e = absurd (cc)
-ticked_was mask hop (Some (Loaded s)) t e = absurd (cc)
-ticked_was mask hop (Some (Admitted was)) t e = e
+module _ (h : Hierarchy) (asking : ℕ → Bool) (masks : ℕ → ℕ) (path : Option Path) (n : ℕ) where
+  abbrev after_ticks : Hierarchy
+  after_ticks = later h asking masks path n
 
-module _ (h : Hierarchy) (asking : ℕ → Bool) (masks : ℕ → ℕ) (path : Option Path) where
-  abbrev after_tick : Hierarchy
-  after_tick = elapsed h asking masks path
-
-  served_now : (k : ℕ) → was_served after_tick.past k h.now ≡ is_just (thread_of path) k
-  served_now k =
-      ap (λ b. is_just (cond b (record { asking = asking; to = thread_of path }) (h.past h.now)).to k)
-      (eq-eqb h.now h.now refl)
-
-  served_before : (k t : ℕ) → t < h.now → was_served after_tick.past k t ≡ was_served h.past k t
-  served_before k t lt =
-      ap (λ b. is_just (cond b (record { asking = asking; to = thread_of path }) (h.past t)).to k)
-      (ne_eqb t h.now (λ e. omega (arith, lt, e)))
-
-  -- the ticks that were served, with one more
-  count_tick : (k since : ℕ) → since ≤ h.now
-      → count (was_served after_tick.past k) since (h.now + 1 - since)
-      ≡ count (was_served h.past k) since (h.now - since) + one_if (is_just (thread_of path) k)
-  count_tick k since le =
-      let more : h.now + 1 - since ≡ suc (h.now - since) = omega arith in
-      let at : since + (h.now - since) ≡ h.now = omega arith in
-      ap (count (was_served after_tick.past k) since) more
-      ∙ count-push (was_served after_tick.past k) since (h.now - since)
-      ∙ ap (λ n. n + one_if (was_served after_tick.past k (since + (h.now - since))))
-      (count-agree (was_served after_tick.past k) (was_served h.past k) since (h.now - since)
-      (λ t lo hi. served_before k t (omega (arith, hi, at))))
-      ∙ ap (λ t. count (was_served h.past k) since (h.now - since) + one_if (was_served after_tick.past k t)) at
-      ∙ ap (λ b. count (was_served h.past k) since (h.now - since) + one_if b) (served_now k)
+  abbrev on : IsOn h after_ticks asking (thread_of path) n
+  on = on_ticks h asking masks path n
 
   -- one who was not served is as ready as before, and has as much left
   unserved_ready : (k : ℕ) (wake : Wake) → ((ticks since : ℕ) → wake ≡ Awake_for ticks since → since ≤ h.now)
       → is_just (thread_of path) k ≡ false
-      → is_ready (was_served after_tick.past k) (h.now + 1) wake ≡ is_ready (was_served h.past k) h.now wake
+      → is_ready (was_served after_ticks.past k) after_ticks.now wake ≡ is_ready (was_served h.past k) h.now wake
   unserved_ready k Asleep early off = refl
   unserved_ready k Awake early off = refl
   unserved_ready k (Awake_for ticks since) early off =
-      let zero : one_if (is_just (thread_of path) k) ≡ 0 = ap one_if off in
-      let counted = count_tick k since (early ticks since refl) in
-      let same : count (was_served after_tick.past k) since (h.now + 1 - since)
+      let zero : times (is_just (thread_of path) k) n ≡ 0 = ap (λ b. times b n) off in
+      let counted = on.served_more k since (early ticks since refl) in
+      let same : count (was_served after_ticks.past k) since (after_ticks.now - since)
       ≡ count (was_served h.past k) since (h.now - since) = omega (arith, zero, counted) in
-      ap (λ n. nat_lt n ticks) same
+      ap (λ m. nat_lt m ticks) same
 
   unserved_left : (k : ℕ) (wake : Wake) → ((ticks since : ℕ) → wake ≡ Awake_for ticks since → since ≤ h.now)
       → is_just (thread_of path) k ≡ false
-      → left_of (was_served after_tick.past k) (h.now + 1) wake ≡ left_of (was_served h.past k) h.now wake
+      → left_of (was_served after_ticks.past k) after_ticks.now wake ≡ left_of (was_served h.past k) h.now wake
   unserved_left k Asleep early off = refl
   unserved_left k Awake early off = refl
   unserved_left k (Awake_for ticks since) early off =
-      let zero : one_if (is_just (thread_of path) k) ≡ 0 = ap one_if off in
-      let counted = count_tick k since (early ticks since refl) in
-      let same : count (was_served after_tick.past k) since (h.now + 1 - since)
+      let zero : times (is_just (thread_of path) k) n ≡ 0 = ap (λ b. times b n) off in
+      let counted = on.served_more k since (early ticks since refl) in
+      let same : count (was_served after_ticks.past k) since (after_ticks.now - since)
       ≡ count (was_served h.past k) since (h.now - since) = omega (arith, zero, counted) in
-      ap (λ n. Some (ticks - n)) same
+      ap (λ m. Some (ticks - m)) same
 
-  -- one who was served has one tick less left, and is ready unless it was the last
+  -- one who was served has so many ticks less left, and is ready unless they were the last
   served_left : (k : ℕ) (wake : Wake) → ((ticks since : ℕ) → wake ≡ Awake_for ticks since → since ≤ h.now)
       → is_just (thread_of path) k ≡ true
-      → left_of (was_served after_tick.past k) (h.now + 1) wake
-      ≡ option_map (λ left. left - 1) (left_of (was_served h.past k) h.now wake)
-  served_left k Asleep early on = refl
-  served_left k Awake early on = refl
-  served_left k (Awake_for ticks since) early on =
-      let one : one_if (is_just (thread_of path) k) ≡ 1 = ap one_if on in
-      let counted = count_tick k since (early ticks since refl) in
-      let less : ticks - count (was_served after_tick.past k) since (h.now + 1 - since)
-      ≡ (ticks - count (was_served h.past k) since (h.now - since)) - 1 = omega (arith, one, counted) in
-      ap (λ n. Some n) less
+      → left_of (was_served after_ticks.past k) after_ticks.now wake
+      ≡ option_map (λ left. left - n) (left_of (was_served h.past k) h.now wake)
+  served_left k Asleep early on_path = refl
+  served_left k Awake early on_path = refl
+  served_left k (Awake_for ticks since) early on_path =
+      let all : times (is_just (thread_of path) k) n ≡ n = ap (λ b. times b n) on_path in
+      let counted = on.served_more k since (early ticks since refl) in
+      let less : ticks - count (was_served after_ticks.past k) since (after_ticks.now - since)
+      ≡ (ticks - count (was_served h.past k) since (h.now - since)) - n = omega (arith, all, counted) in
+      ap (λ m. Some m) less
 
   served_ready : (k : ℕ) (wake : Wake) → ((ticks since : ℕ) → wake ≡ Awake_for ticks since → since ≤ h.now)
       → is_just (thread_of path) k ≡ true → is_ready (was_served h.past k) h.now wake ≡ true
-      → is_ready (was_served after_tick.past k) (h.now + 1) wake
-      ≡ cond (is_last (left_of (was_served h.past k) h.now wake)) false true
-  served_ready k Asleep early on ready = absurd (cc)
-  served_ready k Awake early on ready = refl
-  served_ready k (Awake_for ticks since) early on ready =
-      let one : one_if (is_just (thread_of path) k) ≡ 1 = ap one_if on in
-      let counted = count_tick k since (early ticks since refl) in
+      → is_ready (was_served after_ticks.past k) after_ticks.now wake
+      ≡ cond (ends_within n (left_of (was_served h.past k) h.now wake)) false true
+  served_ready k Asleep early on_path ready = absurd (cc)
+  served_ready k Awake early on_path ready = refl
+  served_ready k (Awake_for ticks since) early on_path ready =
+      let all : times (is_just (thread_of path) k) n ≡ n = ap (λ b. times b n) on_path in
+      let counted = on.served_more k since (early ticks since refl) in
       let before = ltb-true (count (was_served h.past k) since (h.now - since)) ticks ready in
       by_last (count (was_served h.past k) since (h.now - since))
-      (count (was_served after_tick.past k) since (h.now + 1 - since)) ticks before (omega (arith, one, counted))
+      (count (was_served after_ticks.past k) since (after_ticks.now - since)) ticks before (omega (arith, all, counted))
     where
-      by_last : (before now ticks : ℕ) → before < ticks → now ≡ before + 1
-          → nat_lt now ticks ≡ cond (nat_le (ticks - before) 1) false true
+      by_last : (before now ticks : ℕ) → before < ticks → now ≡ before + n
+          → nat_lt now ticks ≡ cond (nat_le (ticks - before) n) false true
       by_last before now ticks lt next = elim (cases_lt now ticks) [
-        | inl less ↦ lt-ltb now ticks less ∙ sym (ap (λ b. cond b false true) (lt-leb (ticks - before) 1
+        | inl less ↦ lt-ltb now ticks less ∙ sym (ap (λ b. cond b false true) (lt-leb (ticks - before) n
             (omega (arith, less, next))))
-        | inr more ↦ le-ltb now ticks more ∙ sym (ap (λ b. cond b false true) (le-leb (ticks - before) 1
+        | inr more ↦ le-ltb now ticks more ∙ sym (ap (λ b. cond b false true) (le-leb (ticks - before) n
             (omega (arith, more, next))))
       ]
 
-  thread_before : (k : ℕ) (t : Thread) → after_tick.nodes k ≡ Some (Admitted t) → h.nodes k ≡ Some (Admitted t)
-  thread_before k t e = ticked_was (masks k) (hop_at (hops_of path) k) (h.nodes k) t e
+  -- one with more left than that is as ready as before
+  lasting_still : (left : Option ℕ) → ((rest : ℕ) → left ≡ Some rest → n < rest) → ends_within n left ≡ false
+  lasting_still None more = refl
+  lasting_still (Some rest) more = lt-leb rest n (more rest refl)
 
-  -- what is left where the thread that was served used one tick up
+  pub still_ready : (left : ℕ → Option ℕ) → IsLeft left h → (k : ℕ) (t : Thread) → h.nodes k ≡ Some (Admitted t)
+      → (is_just (thread_of path) k ≡ true → is_ready (was_served h.past k) h.now t.wake ≡ true)
+      → ((rest : ℕ) → is_just (thread_of path) k ≡ true → left k ≡ Some rest → n < rest)
+      → is_ready (was_served after_ticks.past k) after_ticks.now t.wake ≡ is_ready (was_served h.past k) h.now t.wake
+  still_ready left is k t there ran more = by (is_just (thread_of path) k) refl
+    where
+      by : (b : Bool) → is_just (thread_of path) k ≡ b
+          → is_ready (was_served after_ticks.past k) after_ticks.now t.wake
+          ≡ is_ready (was_served h.past k) h.now t.wake
+      by true on_path =
+          let early = λ (ticks since : ℕ) (w : t.wake ≡ Awake_for ticks since). is.since k t ticks since there w in
+          let ready = ran on_path in
+          let rest = is.kept k t there ready in
+          served_ready k t.wake early on_path ready
+          ∙ ap (λ b. cond b false true)
+          (lasting_still (left_of (was_served h.past k) h.now t.wake) (λ m some. more m on_path (rest ∙ some)))
+          ∙ sym ready
+      by false off =
+          unserved_ready k t.wake
+          (λ (ticks since : ℕ) (w : t.wake ≡ Awake_for ticks since). is.since k t ticks since there w) off
+
+  thread_before : (k : ℕ) (t : Thread) → after_ticks.nodes k ≡ Some (Admitted t) → h.nodes k ≡ Some (Admitted t)
+  thread_before k t e = on.was k t e
+
+  -- what is left where the thread that was served used so many ticks up
   pub left_ticked : (left new : ℕ → Option ℕ) → IsLeft left h
-      → ((k : ℕ) → is_just (thread_of path) k ≡ true → new k ≡ option_map (λ n. n - 1) (left k))
+      → ((k : ℕ) → is_just (thread_of path) k ≡ true → new k ≡ option_map (λ left. left - n) (left k))
       → ((k : ℕ) → is_just (thread_of path) k ≡ false → new k ≡ left k)
       → ((k : ℕ) (t : Thread) → h.nodes k ≡ Some (Admitted t) → is_just (thread_of path) k ≡ true
       → is_ready (was_served h.past k) h.now t.wake ≡ true)
-      → IsLeft new (elapsed h asking masks path)
+      → IsLeft new after_ticks
   left_ticked left new is served others ran = record {
     kept = λ k t e ready. kept k t (thread_before k t e) ready (is_just (thread_of path) k) refl;
     since = λ k t ticks since e wake.
-        (let le = is.since k t ticks since (thread_before k t e) wake in omega (arith, le));
+        (let le = is.since k t ticks since (thread_before k t e) wake in
+        let at = on.now in omega (arith, le, at));
   }
     where
       kept : (k : ℕ) (t : Thread) → h.nodes k ≡ Some (Admitted t)
-          → is_ready (was_served after_tick.past k) (h.now + 1) t.wake ≡ true
+          → is_ready (was_served after_ticks.past k) after_ticks.now t.wake ≡ true
           → (b : Bool) → is_just (thread_of path) k ≡ b
-          → new k ≡ left_of (was_served after_tick.past k) (h.now + 1) t.wake
-      kept k t there ready true on =
-          served k on ∙ ap (option_map (λ n. n - 1)) (is.kept k t there (ran k t there on))
-          ∙ sym (served_left k t.wake (λ ticks since w. is.since k t ticks since there w) on)
+          → new k ≡ left_of (was_served after_ticks.past k) after_ticks.now t.wake
+      kept k t there ready true on_path =
+          served k on_path ∙ ap (option_map (λ left. left - n)) (is.kept k t there (ran k t there on_path))
+          ∙ sym (served_left k t.wake (λ ticks since w. is.since k t ticks since there w) on_path)
       kept k t there ready false off =
           let early = λ (ticks since : ℕ) (w : t.wake ≡ Awake_for ticks since). is.since k t ticks since there w in
           others k off
@@ -256,22 +256,22 @@ module _ (h : Hierarchy) (asking : ℕ → Bool) (masks : ℕ → ℕ) (path : O
           ∙ sym (unserved_left k t.wake early off)
 
   pub ready_ticked : (left : ℕ → Option ℕ) (flag new : ℕ → Bool) → IsLeft left h → SaysReady flag h
-      → ((k : ℕ) → is_just (thread_of path) k ≡ true → new k ≡ cond (is_last (left k)) false (flag k))
+      → ((k : ℕ) → is_just (thread_of path) k ≡ true → new k ≡ cond (ends_within n (left k)) false (flag k))
       → ((k : ℕ) → is_just (thread_of path) k ≡ false → new k ≡ flag k)
       → ((k : ℕ) (t : Thread) → h.nodes k ≡ Some (Admitted t) → is_just (thread_of path) k ≡ true
       → is_ready (was_served h.past k) h.now t.wake ≡ true)
-      → SaysReady new (elapsed h asking masks path)
+      → SaysReady new after_ticks
   ready_ticked left flag new is says served others ran k t e =
       by (thread_before k t e) (is_just (thread_of path) k) refl
     where
       by : h.nodes k ≡ Some (Admitted t) → (b : Bool) → is_just (thread_of path) k ≡ b
-          → is_ready (was_served after_tick.past k) (h.now + 1) t.wake ≡ new k
-      by there true on =
-          let ready = ran k t there on in
+          → is_ready (was_served after_ticks.past k) after_ticks.now t.wake ≡ new k
+      by there true on_path =
+          let ready = ran k t there on_path in
           let early = λ (ticks since : ℕ) (w : t.wake ≡ Awake_for ticks since). is.since k t ticks since there w in
-          served_ready k t.wake early on ready
-          ∙ ap (λ o. cond (is_last o) false true) (sym (is.kept k t there ready))
-          ∙ ap (λ b. cond (is_last (left k)) false b) (sym ready ∙ says k t there) ∙ sym (served k on)
+          served_ready k t.wake early on_path ready
+          ∙ ap (λ o. cond (ends_within n o) false true) (sym (is.kept k t there ready))
+          ∙ ap (λ b. cond (ends_within n (left k)) false b) (sym ready ∙ says k t there) ∙ sym (served k on_path)
       by there false off =
           let early = λ (ticks since : ℕ) (w : t.wake ≡ Awake_for ticks since). is.since k t ticks since there w in
           unserved_ready k t.wake early off ∙ says k t there ∙ sym (others k off)

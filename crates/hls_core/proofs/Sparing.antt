@@ -1,5 +1,5 @@
 -- A core whose journal let go of answers goes on as one that has kept them.
-use Rattle.std.proofs.Common.{◌≡◌, ℕ, ◌≤◌, true, false, Bool, [], ◌∷◌, ◌++◌, length, refl, sym, ap}
+use Rattle.std.proofs.Common.{◌≡◌, ℕ, zero, suc, ◌+◌, ◌∙◌, ◌≤◌, true, false, Bool, [], ◌∷◌, ◌++◌, length, refl, sym, ap}
 use Rattle.std.proofs.Common.{subst, arith}
 use Rattle.std.specs.Prelude.{Option, Some, None, Result, Ok, Err, IfOk, OnErr, vec_capacity}
 use Rattle.std.specs.Global.{Vec}
@@ -15,7 +15,7 @@ use Rattle.hls_answers.specs.Moment.{Boxes}
 use Rattle.hls_tree.specs.Trees.{Stands}
 use Rattle.hls_tree.specs.declared.tree.Tree.{Tree}
 use Rattle.hls_core_journal.specs.declared.journal.Journal.{Journal}
-use Rattle.hls_core_journal.specs.Kept.{IsWayOrIdle, IsNoted, IsTicked, MayNote, MayTick}
+use Rattle.hls_core_journal.specs.Kept.{IsWayOrIdle, IsNoted, IsTicked, AreTicked, MayNote, MayTick}
 use Rattle.hls_core_stays.specs.declared.stays.Stays.{Stays}
 use Rattle.hls_core.specs.Inside.Elapses.{MayElapse, Elapses}
 use Rattle.hls_core.specs.Cores.{IsCoreOf, Runs}
@@ -43,15 +43,34 @@ way_spared j v (Some path) way = record { short = way.short; some = way.some; wi
 pub tick_spared : (j : Journal) (v : Vec Answer) → MayTick (with_answers v j) → MayTick j
 tick_spared j v may = record { short = may.short; room = may.room; more = may.more }
 
-pub ticked_kept : (old new : Journal) (v : Vec Answer) (path : Option Path) → IsTicked path old new
+one_kept : (old new : Journal) (v : Vec Answer) (path : Option Path) → IsTicked path old new
     → IsTicked path (with_answers v old) (with_answers v new)
-ticked_kept old new v path is = record {
+one_kept old new v path is = record {
   runs = is.runs;
   answers = refl;
   names = is.names;
   ticks = is.ticks;
   room = is.room;
 }
+
+pub ticked_kept : (n : ℕ) (old new : Journal) (v : Vec Answer) (path : Option Path) → AreTicked n path old new
+    → AreTicked n path (with_answers v old) (with_answers v new)
+ticked_kept zero old new v path same = ap (with_answers v) same
+ticked_kept (suc n) old new v path (mid, before, one) =
+    (with_answers v mid, ticked_kept n old mid v path before, one_kept mid new v path one)
+
+pub ticked_answers : (n : ℕ) (old new : Journal) (path : Option Path) → AreTicked n path old new
+    → new.answers ≡ old.answers
+ticked_answers zero old new path same = ap (λ (j : Journal). j.answers) same
+ticked_answers (suc n) old new path (mid, before, one) = one.answers ∙ ticked_answers n old mid path before
+
+pub ticked_ticks : (n : ℕ) (old new : Journal) (path : Option Path) → AreTicked n path old new
+    → new.ticks ≡ old.ticks + n
+ticked_ticks zero old new path same =
+    let now = ap (λ (j : Journal). j.ticks) same in omega (arith, now)
+ticked_ticks (suc n) old new path (mid, before, one) =
+    let was = ticked_ticks n old mid path before in
+    let now = one.ticks in omega (arith, was, now)
 
 pub note_spared : (j : Journal) (v : Vec Answer) (command : Command) → length j.answers.items ≤ length v.items
     → vec_capacity v ≤ vec_capacity j.answers → MayNote command (with_answers v j)
@@ -75,9 +94,10 @@ noted_kept old new v w command answer more room is = record {
 
 -- V and P are what the checker knows a box by
 module _ {V : Type 0} {P : V → Type 0} (seen : (x : V) × P x → Seen) where
-  elapse_kept : (t : Tree V P) (bursts : Bursts) (tallies : Stays) (j : Journal) (v : Vec Answer) (h : Hierarchy)
-      → MayElapse seen t bursts tallies j h → MayElapse seen t bursts tallies (with_answers v j) h
-  elapse_kept t bursts tallies j v h may = record {
+  elapse_kept : (t : Tree V P) (bursts : Bursts) (tallies : Stays) (j : Journal) (v : Vec Answer) (most : ℕ)
+      (h : Hierarchy) → MayElapse seen t bursts tallies j most h
+      → MayElapse seen t bursts tallies (with_answers v j) most h
+  elapse_kept t bursts tallies j v most h may = record {
     at_state = may.at_state;
     stays = may.stays;
     standing = may.standing;
@@ -86,9 +106,10 @@ module _ {V : Type 0} {P : V → Type 0} (seen : (x : V) × P x → Seen) where
     small = may.small;
   }
 
-  elapse_spared : (t : Tree V P) (bursts : Bursts) (tallies : Stays) (j : Journal) (v : Vec Answer) (h : Hierarchy)
-      → MayElapse seen t bursts tallies (with_answers v j) h → MayElapse seen t bursts tallies j h
-  elapse_spared t bursts tallies j v h may = record {
+  elapse_spared : (t : Tree V P) (bursts : Bursts) (tallies : Stays) (j : Journal) (v : Vec Answer) (most : ℕ)
+      (h : Hierarchy) → MayElapse seen t bursts tallies (with_answers v j) most h
+      → MayElapse seen t bursts tallies j most h
+  elapse_spared t bursts tallies j v most h may = record {
     at_state = may.at_state;
     stays = may.stays;
     standing = may.standing;
@@ -98,31 +119,30 @@ module _ {V : Type 0} {P : V → Type 0} (seen : (x : V) × P x → Seen) where
   }
 
   pub stands_spared : (t : Tree V P) (bursts : Bursts) (tallies : Stays) (j : Journal) (v : Vec Answer)
-      → Stands seen t (MayElapse seen t bursts tallies (with_answers v j))
-      → Stands seen t (MayElapse seen t bursts tallies j)
-  stands_spared t bursts tallies j v stands = record {
+      (most : ℕ) → Stands seen t (MayElapse seen t bursts tallies (with_answers v j) most)
+      → Stands seen t (MayElapse seen t bursts tallies j most)
+  stands_spared t bursts tallies j v most stands = record {
     h = stands.h;
     tree = stands.tree;
     seated = stands.seated;
     listed = stands.listed;
-    is = elapse_spared t bursts tallies j v stands.h stands.is;
+    is = elapse_spared t bursts tallies j v most stands.h stands.is;
   }
 
   pub elapses_kept : (old new : Tree V P) (before after : Bursts) (was tallies : Stays) (j : Journal)
-      (v : Vec Answer) (path : Option Path)
-      → ((h : Hierarchy) → MayElapse seen old before was j h → Elapses seen new after tallies j h path)
-      → (h : Hierarchy) → MayElapse seen old before was (with_answers v j) h
-      → Elapses seen new after tallies (with_answers v j) h path
-  elapses_kept old new before after was tallies j v path elapses h may =
-      let e = elapses h (elapse_spared old before was j v h may) in
+      (v : Vec Answer) (path : Option Path) (most n : ℕ)
+      → ((h : Hierarchy) → MayElapse seen old before was j most h → Elapses seen new after tallies j h path n)
+      → (h : Hierarchy) → MayElapse seen old before was (with_answers v j) most h
+      → Elapses seen new after tallies (with_answers v j) h path n
+  elapses_kept old new before after was tallies j v path most n elapses h may =
+      let e = elapses h (elapse_spared old before was j v most h may) in
       record {
         asking = e.asking;
         masks = e.masks;
         path = e.path;
-        can = e.can;
+        is = e.is;
         names = e.names;
         way = way_kept j v path e.way;
-        tree = e.tree;
         ready = e.ready;
         left = e.left;
         stays = e.stays;

@@ -5,7 +5,7 @@ use Rattle.hls_core.specs.declared.bursts.Bursts.{Bursts}
 abbrev pub left_in : Bursts → ℕ → Option ℕ
 left_in bursts k = get_or bursts.left.items k None
 
--- one tick at most is left
-abbrev pub is_last : Option ℕ → Bool
-is_last None = false
-is_last (Some left) = nat_le left 1
+-- so many ticks at most are left
+abbrev pub ends_within : (ticks : ℕ) → Option ℕ → Bool
+ends_within ticks None = false
+ends_within ticks (Some left) = nat_le left ticks

@@ -1,5 +1,5 @@
 -- What a core is of.
-use Rattle.std.specs.Prelude.{◌≡◌, ℕ, ◌-◌, ◌≤◌, ◌<◌, List, Option, Some, length, slice_get, true}
+use Rattle.std.specs.Prelude.{◌≡◌, ℕ, ◌+◌, ◌-◌, ◌≤◌, ◌<◌, List, Option, Some, length, slice_get, true}
 use Rattle.std.specs.Fn.{Mut}
 use Rattle.hls_text.specs.Lines.{Text}
 use Rattle.hls_guarantee.specs.declared.Guarantee.{Guarantee}
@@ -34,6 +34,10 @@ AreAhead items place now = (at : ℕ) (item : Item) → place ≤ at → slice_g
 -- no command of the present tick is left
 abbrev pub NoneDue : List Item → (place now : ℕ) → Type 0
 NoneDue items place now = (item : Item) → slice_get items place ≡ Some item → now < item.tick
+
+-- nor is one before so many ticks have passed
+abbrev pub NoneWithin : List Item → (place now ticks : ℕ) → Type 0
+NoneWithin items place now ticks = (item : Item) → slice_get items place ≡ Some item → now + ticks ≤ item.tick
 
 -- V and P are what the checker knows a box by, and W, Q and X a rule
 module _ {V W : Type 0} {P : V → Type 0} {Q : W → Type 0}

@@ -1,7 +1,7 @@
 // What is left of bursts.
 ghost use Rattle.std.specs.Prelude.{◌≡◌, ◌≢◌, ◌<◌, ◌^◌, ℕ, ◌-◌, Option, Some, None, Bool, OnOk, OnErr, option_map};
 ghost use Rattle.std.specs.Prelude.{get_or, vec_len};
-ghost use Rattle.hls_core.specs.Bursts.{left_in, is_last};
+ghost use Rattle.hls_core.specs.Bursts.{left_in, ends_within};
 
 use hls_tree::NodeId;
 use std::alloc::{AllocError, Global};
@@ -53,11 +53,21 @@ impl Bursts {
         Ok(())
     }
 
-    /// Uses up one tick of a burst, and tells whether it was the last.
-    pub fn use_up(&mut self, id: NodeId) -> bool
-        ensures here { left_in self.new id ≡ option_map (λ left. left - 1) (left_in self.old id) }
+    /// How many ticks of its burst a thread has left, if it has one.
+    pub fn left(&self, id: NodeId) -> Option<u32>
+        ensures { result ≡ left_in self.now id }
+    {
+        if self.left.len() <= id.key() {
+            return None;
+        }
+        self.left[id.key()]
+    }
+
+    /// Uses up so many ticks of a burst, and tells whether they were the last.
+    pub fn use_up(&mut self, id: NodeId, ticks: u32) -> bool
+        ensures here { left_in self.new id ≡ option_map (λ left. left - ticks) (left_in self.old id) }
         ensures others { (k : ℕ) → k ≢ id → left_in self.new k ≡ left_in self.old k }
-        ensures last { result ≡ is_last (left_in self.old id) }
+        ensures last { result ≡ ends_within ticks (left_in self.old id) }
     {
         let key = id.key();
         if self.left.len() <= key {
@@ -66,7 +76,7 @@ impl Bursts {
         let Some(left) = self.left[key] else {
             return false;
         };
-        self.left[key] = Some(left.saturating_sub(1));
-        left <= 1
+        self.left[key] = Some(left.saturating_sub(ticks));
+        left <= ticks
     }
 }

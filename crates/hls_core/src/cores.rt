@@ -131,7 +131,25 @@ impl Core {
         ensures scenario { self.new.scenario ≡ self.old.scenario }
         ensures agenda { self.new.agenda ≡ self.old.agenda }
     {
-        self.pass_tick()
+        self.pass_ticks(1);
+    }
+
+    /// Lets ticks pass, once the commands of the present tick have their answers: as many as pass with one path before
+    /// the next command and before the burst of who is served is used up, as far as the schedulers can tell. Tells how
+    /// many they are: one or more.
+    pub fn leap(&mut self) -> u32
+        requires runs { Runs seen self.old }
+        requires none_due { NoneDue self.old.scenario.items self.old.agenda self.old.journal.ticks }
+        requires early { self.old.journal.ticks < self.old.scenario.horizon }
+        ensures is { (s : Scenario) (given : ℕ) (boxes : Boxes) → IsCoreOf seen self.old s given boxes →
+            IsCoreOf seen self.new s given boxes }
+        ensures some { 0 < result }
+        ensures ticks { self.new.journal.ticks ≡ self.old.journal.ticks + result }
+        ensures scenario { self.new.scenario ≡ self.old.scenario }
+        ensures agenda { self.new.agenda ≡ self.old.agenda }
+    {
+        let most = self.ticks_ahead();
+        self.pass_ticks(most)
     }
 
     /// The report of the scenario, once all its ticks have passed.

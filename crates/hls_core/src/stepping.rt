@@ -1,14 +1,14 @@
 // A core goes on. Its journal may have let go of answers that were told.
-ghost use Rattle.std.specs.Prelude.{◌≡◌, ◌<◌, ◌+◌, true, false, IfOk, OnErr};
+ghost use Rattle.std.specs.Prelude.{◌≡◌, ◌<◌, ◌≤◌, ◌+◌, true, false, IfOk, OnErr};
 
 use crate::Core;
 use crate::commands::carry_along;
-use crate::ticks::elapse;
+use crate::ticks::{Leap, elapse};
 use hls_sched::Scheduler;
 use std::alloc::AllocError;
 
 impl Core {
-    ghost use Rattle.hls_core.specs.Cores.{NoneDue};
+    ghost use Rattle.hls_core.specs.Cores.{NoneDue, NoneWithin};
     ghost use Rattle.hls_core.specs.Inside.Sparing.{MayGoOn, GoesOn, StaysOn};
 
     /// Carries the next command out that is due, and tells whether one was. Where memory is wanting the
@@ -46,23 +46,66 @@ impl Core {
         Ok(true)
     }
 
-    /// Lets one tick pass, once the commands of the present tick have their answers.
-    pub(crate) fn pass_tick(&mut self)
+    /// How many ticks there are up to the next command, or else up to the horizon.
+    pub(crate) fn ticks_ahead(&self) -> u32
+        requires none_due { NoneDue self.now.scenario.items self.now.agenda self.now.journal.ticks }
+        requires early { self.now.journal.ticks < self.now.scenario.horizon }
+        ensures some { 0 < result }
+        ensures none_due { NoneWithin self.now.scenario.items self.now.agenda self.now.journal.ticks result }
+        ensures early { self.now.journal.ticks + result ≤ self.now.scenario.horizon }
+    {
+        let now = self.journal.ticks();
+        let horizon = self.scenario.horizon;
+        match self.agenda.next_after(&self.scenario, now) {
+            Some(tick) => tick.min(horizon) - now,
+            None => horizon - now,
+        }
+    }
+
+    /// Lets ticks pass, one or more and at most so many, in which no command is due and the grant stays. Tells how
+    /// many they are.
+    pub(crate) fn pass_ticks(&mut self, most: u32) -> u32
+        requires may { MayGoOn seen self.old }
+        requires some { 0 < most }
+        requires none_due { NoneWithin self.old.scenario.items self.old.agenda self.old.journal.ticks most }
+        requires early { self.old.journal.ticks + most ≤ self.old.scenario.horizon }
+        ensures is { StaysOn seen self.old self.new }
+        ensures answers { self.new.journal.answers ≡ self.old.journal.answers }
+        ensures some { 0 < result }
+        ensures most { result ≤ most }
+        ensures ticks { self.new.journal.ticks ≡ self.old.journal.ticks + result }
+        ensures scenario { self.new.scenario ≡ self.old.scenario }
+        ensures agenda { self.new.agenda ≡ self.old.agenda }
+    {
+        let Leap { path, ticks } = elapse(
+            &mut self.tree,
+            &mut self.bursts,
+            &mut self.stays,
+            &self.journal,
+            most,
+        );
+        self.journal.leap(path, ticks);
+        ticks
+    }
+
+    /// Lets ticks pass, once the commands of the present tick have their answers: many at once where the last two had
+    /// one path, since schedulers are asked only then for how long they stand. Tells how many they are.
+    pub(crate) fn pass_steadily(&mut self) -> u32
         requires may { MayGoOn seen self.old }
         requires none_due { NoneDue self.old.scenario.items self.old.agenda self.old.journal.ticks }
         requires early { self.old.journal.ticks < self.old.scenario.horizon }
         ensures is { StaysOn seen self.old self.new }
         ensures answers { self.new.journal.answers ≡ self.old.journal.answers }
-        ensures ticks { self.new.journal.ticks ≡ self.old.journal.ticks + 1 }
+        ensures some { 0 < result }
+        ensures ticks { self.new.journal.ticks ≡ self.old.journal.ticks + result }
         ensures scenario { self.new.scenario ≡ self.old.scenario }
         ensures agenda { self.new.agenda ≡ self.old.agenda }
     {
-        let path = elapse(
-            &mut self.tree,
-            &mut self.bursts,
-            &mut self.stays,
-            &self.journal,
-        );
-        self.journal.tick(path);
+        if self.journal.is_steady() {
+            let most = self.ticks_ahead();
+            self.pass_ticks(most)
+        } else {
+            self.pass_ticks(1)
+        }
     }
 }

@@ -1,53 +1,121 @@
 // Ticks.
-ghost use Rattle.std.specs.Prelude.{◌≡◌, ◌≤◌, ℕ, ◌-◌, true, false, length, option_map, if◌then◌else◌};
+ghost use Rattle.std.specs.Prelude.{◌≡◌, ◌≤◌, ◌<◌, ◌+◌, ℕ, ◌-◌, Bool, Option, true, false, Some, length, option_map, if◌then◌else◌};
 ghost use Rattle.hls_machine.specs.Hierarchy.{Hierarchy, is_just};
-ghost use Rattle.hls_tree.specs.Trees.{IsTreeOf, Stands, ready_of};
-ghost use Rattle.hls_core.specs.Bursts.{left_in, is_last};
-ghost use Rattle.hls_core.specs.Inside.Elapses.{IsThreadOrNone, MayElapse, Elapses};
+ghost use Rattle.hls_machine.specs.Steps.{Path as Way};
+ghost use Rattle.hls_tree_nodes.specs.Leapt.{StandsIn, stands_in, later, MayLeap};
+ghost use Rattle.hls_tree_nodes.specs.Views.{boxed, shown_at, choice_at};
+ghost use Rattle.hls_tree.specs.Trees.{IsTreeOf, Any, HasPassed, PassesBy, Stands, ready_of};
+ghost use Rattle.hls_core.specs.Bursts.{left_in, ends_within};
+ghost use Rattle.hls_core.specs.Inside.Elapses.{IsThreadOrNone, IsWithin, IsAfter, MayElapse, Elapses};
 
 use crate::bursts::Bursts;
 use crate::ways::way_of;
 use hls_core_journal::Journal;
 use hls_core_stays::Stays;
 use hls_report_text::Path;
+use hls_sched::Scheduler;
 use hls_tree::{NodeId, Tree};
 
-/// Uses up one tick of the burst of the thread that was served, which is not ready any more after the last.
-fn serve(tree: &mut Tree, bursts: &mut Bursts, thread: Option<NodeId>)
-    requires { Stands seen tree.old (λ h. IsThreadOrNone h thread) }
+/// How many ticks of its burst are left of the thread that is granted, and else so many.
+fn rest_of(bursts: &Bursts, thread: &Option<NodeId>, most: u32) -> u32
+    ensures within { (k left : ℕ) → thread.now ≡ Some k → left_in bursts.now k ≡ Some left → result ≤ left }
+    ensures least { result ≤ most }
+{
+    let Some(id) = thread else {
+        return most;
+    };
+    match bursts.left(*id) {
+        Some(left) => left.min(most),
+        None => most,
+    }
+}
+
+/// For how many ticks the present grant stands, at most so many: who is granted has as many left of its burst, or it
+/// is one tick alone.
+fn standing(tree: &Tree, bursts: &Bursts, thread: &Option<NodeId>, most: u32) -> u32
+    requires tree { Stands seen tree.now Any }
+    requires some { 0 < most }
+    ensures some { 0 < result }
+    ensures most { result ≤ most }
+    ensures least { (k : ℕ) → result ≤ stands_in (choice_at (boxed choice) tree.now.nodes k)
+        (shown_at (boxed seen) tree.now.nodes k) }
+    ensures law { (k : ℕ) → StandsIn result (choice_at (boxed choice) tree.now.nodes k)
+        (shown_at (boxed seen) tree.now.nodes k) }
+    ensures burst { IsWithin (left_in bursts.now) thread.now result }
+{
+    rest_of(bursts, thread, tree.stands().min(most)).max(1)
+}
+
+/// Lets so many ticks pass, in which each scheduler stands.
+fn advance(tree: &mut Tree, ticks: u32)
+    requires stands { Stands seen tree.old (λ h. h.now + ticks ≤ tree.old.horizon) }
+    requires passed { HasPassed tree.old }
+    requires some { 0 < ticks }
+    requires least { (k : ℕ) → ticks ≤ stands_in (choice_at (boxed choice) tree.old.nodes k)
+        (shown_at (boxed seen) tree.old.nodes k) }
+    requires law { (k : ℕ) → StandsIn ticks (choice_at (boxed choice) tree.old.nodes k)
+        (shown_at (boxed seen) tree.old.nodes k) }
+    ensures elapsed { (h : Hierarchy) (asking : ℕ → Bool) (slots : ℕ → ℕ) (path : Option Way) →
+        IsTreeOf seen tree.old h → PassesBy seen choice tree.old h asking slots path →
+        MayLeap (shown_at (boxed seen) tree.old.nodes) (choice_at (boxed choice) tree.old.nodes) h asking slots path
+        ticks → IsAfter seen tree.new h asking slots path ticks }
+    ensures ready { (k : ℕ) → ready_of seen tree.new k ≡ ready_of seen tree.old k }
+    ensures horizon { tree.new.horizon ≡ tree.old.horizon }
+{
+    if ticks == 1 {
+        tree.turn();
+    } else {
+        tree.leap(ticks);
+    }
+}
+
+/// Uses up so many ticks of the burst of the thread that was served, which is not ready any more after the last.
+fn serve(tree: &mut Tree, bursts: &mut Bursts, thread: &Option<NodeId>, ticks: u32)
+    requires { Stands seen tree.old (λ h. IsThreadOrNone h thread.now) }
     ensures tree { (h : Hierarchy) → IsTreeOf seen tree.old h → IsTreeOf seen tree.new h }
-    ensures flags { (k : ℕ) → ready_of seen tree.new k ≡ (if is_just thread k then
-        (if is_last (left_in bursts.old k) then false else ready_of seen tree.old k) else ready_of seen tree.old k) }
-    ensures left { (k : ℕ) → left_in bursts.new k ≡ (if is_just thread k then
-        option_map (λ left. left - 1) (left_in bursts.old k) else left_in bursts.old k) }
+    ensures flags { (k : ℕ) → ready_of seen tree.new k ≡ (if is_just thread.now k then
+        (if ends_within ticks (left_in bursts.old k) then false else ready_of seen tree.old k)
+        else ready_of seen tree.old k) }
+    ensures left { (k : ℕ) → left_in bursts.new k ≡ (if is_just thread.now k then
+        option_map (λ left. left - ticks) (left_in bursts.old k) else left_in bursts.old k) }
     ensures horizon { tree.new.horizon ≡ tree.old.horizon }
 {
     if let Some(id) = thread {
-        if bursts.use_up(id) {
-            tree.set_ready(id, false);
+        if bursts.use_up(*id, ticks) {
+            tree.set_ready(*id, false);
         }
     }
 }
 
-/// Lets one tick pass, and tells the path of its grant.
+/// Ticks that passed with one path, or idly.
+pub struct Leap {
+    pub path: Option<Path>,
+    pub ticks: u32,
+}
+
+/// Lets ticks pass, one or more and at most so many, in which the grant stays, and tells its path.
 pub fn elapse(
     tree: &mut Tree,
     bursts: &mut Bursts,
     stays: &mut Stays,
     journal: &Journal,
-) -> Option<Path>
-    requires stands { Stands seen tree.old (MayElapse seen tree.old bursts.old stays.old journal.now) }
+    most: u32,
+) -> Leap
+    requires stands { Stands seen tree.old (MayElapse seen tree.old bursts.old stays.old journal.now most) }
     requires few { length journal.now.names.keys ≤ 65536 }
-    ensures elapses { (h : Hierarchy) → MayElapse seen tree.old bursts.old stays.old journal.now h →
-        Elapses seen tree.new bursts.new stays.new journal.now h result }
+    requires some { 0 < most }
+    ensures elapses { (h : Hierarchy) → MayElapse seen tree.old bursts.old stays.old journal.now most h →
+        Elapses seen tree.new bursts.new stays.new journal.now h result.path result.ticks }
+    ensures some { 0 < result.ticks }
+    ensures most { result.ticks ≤ most }
     ensures horizon { tree.new.horizon ≡ tree.old.horizon }
 {
     tree.pass();
     let path = way_of(tree, journal);
     let thread = tree.current();
-    let served = tree.current();
-    tree.turn();
-    serve(tree, bursts, thread);
-    stays.tick(tree, served, 1);
-    path
+    let ticks = standing(tree, bursts, &thread, most);
+    advance(tree, ticks);
+    serve(tree, bursts, &thread, ticks);
+    stays.tick(tree, thread, ticks);
+    Leap { path, ticks }
 }

@@ -72,8 +72,7 @@ fn is_done(answer: &Answer) -> bool
 
 impl Journal {
     ghost use Rattle.hls_core_journal.specs.Told.{stretches_of};
-    ghost use Rattle.hls_core_journal.specs.Kept.{IsNew, MayNote, MayTick, AreWithin, has_name, IsNoted, IsTicked};
-    ghost use Rattle.hls_core_journal.specs.Kept.{AreTicked};
+    ghost use Rattle.hls_core_journal.specs.Kept.{IsNew, MayNote, MayTick, AreWithin, has_name, IsNoted, AreTicked};
     ghost use Rattle.hls_core_journal.specs.Ways.{names_by, last_names};
 
     /// A journal of nothing yet, with room for these commands and so many ticks.
@@ -163,14 +162,9 @@ impl Journal {
         }
     }
 
-    /// Notes that a tick passes with a path, or idle.
-    pub fn tick(&mut self, path: Option<Path>)
-        requires may { MayTick self.old }
-        requires short { HasShort path }
-        ensures { IsTicked path self.old self.new }
-    {
-        put_tick(&self.names, &mut self.runs, self.ticks, path);
-        self.ticks += 1;
+    /// Whether the last two ticks had one path. Only how many ticks are tried at once rests on it.
+    pub fn is_steady(&self) -> bool {
+        self.runs.is_last_long()
     }
 
     /// Notes that so many ticks pass, one or more, with one path, or idle.

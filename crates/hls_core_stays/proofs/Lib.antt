@@ -9,7 +9,7 @@ mod Fresh
 mod Noted
 mod Follows
 mod Moves
-mod Ticked
+pub mod Ticked
 mod Turned
 mod Begins
 mod Told

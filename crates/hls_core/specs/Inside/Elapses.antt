@@ -1,12 +1,13 @@
--- What a tick comes to.
-use Rattle.std.specs.Prelude.{ℕ, ◌<◌, ◌+◌, ◌^◌, Option, Some, None, Bool}
+-- What ticks come to.
+use Rattle.std.specs.Prelude.{◌≡◌, ℕ, ◌<◌, ◌≤◌, ◌+◌, ◌^◌, Option, Some, None, Bool}
 use Rattle.hls_report_text.specs.declared.report.Path.{Path}
 use Rattle.hls_sched.specs.Seen.{Seen}
 use Rattle.hls_machine.specs.Hierarchy.{Hierarchy}
-use Rattle.hls_machine.specs.Steps.{Elapse, after}
+use Rattle.hls_machine.specs.Steps.{Elapse}
 use Rattle.hls_machine.specs.Steps as steps
 use Rattle.hls_machine.specs.Legal.{Can, IsThread}
 use Rattle.hls_accounts.specs.Tells.{Names}
+use Rattle.hls_tree_nodes.specs.Leapt.{later}
 use Rattle.hls_tree.specs.Trees.{IsTreeOf, IsReadyOf}
 use Rattle.hls_tree.specs.declared.tree.Tree.{Tree}
 use Rattle.hls_core_stays.specs.Tallies.{AreStays, IsStanding}
@@ -24,28 +25,37 @@ abbrev pub IsThreadOrNone : Hierarchy → Option ℕ → Type 0
 IsThreadOrNone h None = Unit {0}
 IsThreadOrNone h (Some k) = IsThread (h.nodes k)
 
+-- where there is more than one tick, who is served has as many left of its burst, if it has one
+abbrev pub IsWithin : (left : ℕ → Option ℕ) → (thread : Option ℕ) → (ticks : ℕ) → Type 0
+IsWithin left thread ticks = (k rest : ℕ) → thread ≡ Some k → left k ≡ Some rest → 1 < ticks → ticks ≤ rest
+
 -- V and P are what the checker knows a box by
 module _ {V : Type 0} {P : V → Type 0} where
-  -- it is of the hierarchy, whose names were noted, and there is a tick left
+  -- it is of the hierarchy, whose names were noted, and so many ticks are left
   pub record MayElapse (seen : (x : V) × P x → Seen) (t : Tree V P) (bursts : Bursts) (tallies : Stays) (j : Journal)
-      (h : Hierarchy) : Type 0 where
+      (most : ℕ) (h : Hierarchy) : Type 0 where
     pub at_state : IsAt seen t bursts h
     pub stays : AreStays tallies h
     pub standing : IsStanding h
     pub noted : AreNoted h j
-    pub early : h.now < t.horizon
-    pub small : h.now + 1 < 2 ^ 32
+    pub early : h.now + most ≤ t.horizon
+    pub small : h.now + most < 2 ^ 32
 
-  -- a tick elapses by a path that this one tells
+  -- each of so many ticks could elapse by the path, and the tree is of the hierarchy after them
+  pub record IsAfter (seen : (x : V) × P x → Seen) (new : Tree V P) (h : Hierarchy) (asking : ℕ → Bool)
+      (masks : ℕ → ℕ) (path : Option steps.Path) (ticks : ℕ) : Type 0 where
+    pub can : (m : ℕ) → m < ticks → Can (later h asking masks path m) (Elapse asking masks path)
+    pub tree : IsTreeOf seen new (later h asking masks path ticks)
+
+  -- so many ticks elapse by a path that this one tells
   pub record Elapses (seen : (x : V) × P x → Seen) (new : Tree V P) (bursts : Bursts) (tallies : Stays) (j : Journal)
-      (h : Hierarchy) (told : Option Path) : Type 0 where
+      (h : Hierarchy) (told : Option Path) (ticks : ℕ) : Type 0 where
     pub asking : ℕ → Bool
     pub masks : ℕ → ℕ
     pub path : Option steps.Path
-    pub can : Can h (Elapse asking masks path)
+    pub is : IsAfter seen new h asking masks path ticks
     pub names : Names h path (names_by j.names.keys told)
     pub way : IsWayOrIdle j told
-    pub tree : IsTreeOf seen new (after h (Elapse asking masks path))
-    pub ready : IsReadyOf seen new (after h (Elapse asking masks path))
-    pub left : IsLeft (left_in bursts) (after h (Elapse asking masks path))
-    pub stays : AreStays tallies (after h (Elapse asking masks path))
+    pub ready : IsReadyOf seen new (later h asking masks path ticks)
+    pub left : IsLeft (left_in bursts) (later h asking masks path ticks)
+    pub stays : AreStays tallies (later h asking masks path ticks)
