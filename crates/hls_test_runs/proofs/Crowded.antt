@@ -61,7 +61,7 @@ few_awake : Few 3 awake
 few_awake = few_after 3 four (Rouse 2 None) (λ k le made. made) few_four
 
 -- each is lent its reservation
-reserves : (x y : ℕ) → 1 ≤ x → x ≤ y → y ≤ 20000 → Follows Edf (Res true x y) (All ∷ []) (Resb true x y)
+pub reserves : (x y : ℕ) → 1 ≤ x → x ≤ y → y ≤ 20000 → Follows Edf (Res true x y) (All ∷ []) (Resb true x y)
 reserves x y some narrow size = record {
   port = 0;
   have = All;
@@ -143,7 +143,7 @@ shorter_sits = record {
   derived = reserves 1 3 (omega arith) (omega arith) (omega arith);
 }
 
-letter : (n m : ℕ) → Some (n ∷ []) ≡ Some (m ∷ []) → n ≡ m
+pub letter : (n m : ℕ) → Some (n ∷ []) ≡ Some (m ∷ []) → n ≡ m
 letter n m e = cc
 
 can_admit_shorter : Can two admit_shorter
@@ -209,11 +209,11 @@ alone_lower : (b : Ledger) → GoesAlone b 0 1 → Serves Edf b 3 0
 alone_lower b alone =
     lower_goes b alone.goes (λ on. absurd (let off = alone.stays in let clash : true ≡ false = sym on ∙ off in cc))
 
-alone_upper : (b : Ledger) → GoesAlone b 1 0 → Serves Edf b 3 1
+pub alone_upper : (b : Ledger) → GoesAlone b 1 0 → Serves Edf b 3 1
 alone_upper b alone =
     upper_goes b alone.goes (λ on. absurd (let off = alone.stays in let clash : true ≡ false = sym on ∙ off in cc))
 
-earlier_lower : (b : Ledger) (longer shorter : ℕ) → BothMayGo b longer shorter → longer ≤ shorter → Serves Edf b 3 0
+pub earlier_lower : (b : Ledger) (longer shorter : ℕ) → BothMayGo b longer shorter → longer ≤ shorter → Serves Edf b 3 0
 earlier_lower b longer shorter may le =
     lower_goes b may.first (λ on. omega (arith, may.longer_at, may.shorter_at, le))
 

@@ -16,3 +16,5 @@ pub mod Deadlines
 pub mod Crowded
 pub mod Couple
 pub mod Apart
+pub mod Paces
+pub mod Paced

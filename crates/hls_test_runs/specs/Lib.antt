@@ -5,3 +5,4 @@ pub mod Shared
 pub mod Joined
 pub mod Crowded
 pub mod Apart
+pub mod Paced
