@@ -1,12 +1,14 @@
 -- The run of two reservations of one period is legal.
-use Rattle.std.proofs.Common.{◌≡◌, ◌≢◌, ℕ, zero, suc, ◌<◌, [], ◌∷◌, Some, None, true, false}
+use Rattle.std.proofs.Common.{◌≡◌, ◌≢◌, ℕ, zero, suc, ◌-◌, ◌<◌, ◌≤◌, [], ◌∷◌, Some, None, Bool, true, false, inl, inr}
 use Rattle.std.proofs.Common.{refl, sym, arith}
 use Rattle.std.specs.Prelude.{codes}
+use Rattle.std.proofs.lemmas.Bool.{cases_lt, eq-eqb, eqb-true}
 use Rattle.hls_chron.specs.declared.plain.Config.TheVariants.{Edf}
 use Rattle.hls_chron.specs.declared.plain.Terms.TheVariants.{Res}
 use Rattle.hls_chron.specs.Ledger.{Ledger}
 use Rattle.hls_chron.specs.Parts.{parts}
 use Rattle.hls_chron.specs.Seats.{terms_at}
+use Rattle.hls_chron.specs.Ticks.{count}
 use Rattle.hls_kinds.specs.Asks.{asks, slot_asks}
 use Rattle.hls_kinds.specs.Discipline.{Serves}
 use Rattle.hls_kinds.specs.Fits.{Fits}
@@ -15,10 +17,15 @@ use Rattle.hls_kinds.specs.Room.{occupant_at}
 use Rattle.hls_kinds.specs.Slots.{sum_below}
 use Rattle.hls_kinds.specs.Tenants.{tenant_at}
 use Rattle.hls_machine.specs.Ledgers.{empty_book}
-use Rattle.hls_machine.specs.Hierarchy.{Hierarchy, Thread, Awake, start, name_of}
-use Rattle.hls_machine.specs.Steps.{Rouse, after}
+use Rattle.hls_machine.specs.Hierarchy.{Hierarchy, Thread, Awake, start, name_of, had_asked, was_served}
+use Rattle.hls_machine.specs.Steps.{Rouse, after, state}
 use Rattle.hls_machine.specs.Legal.{MaySit, IsAsking, Can, IsLegal}
 use Rattle.hls_test_runs.specs.Paced.{former_seat, latter_seat, load_pace, admit_former, admit_latter}
+use Rattle.hls_legal_jobs.specs.Jobs.{AsksForJobs}
+use Rattle.hls_legal_jobs.specs.Reports.{due_in}
+use Rattle.hls_legal_jobs.specs.Runs.{HasReservation}
+use Rattle.hls_test_runs.specs.Moves.{root_seat}
+use Rattle.hls_test_runs.specs.Paced.{latter, latter_reserved, is_first, two_periods}
 use Rattle.hls_test_runs.specs.Paced.{everyone_asks, both_slots, pace_path, former_tick, latter_tick, paced}
 use Rattle.hls_test_runs.proofs.Small.{Few, few_after, each_of_three, beyond, take_one, the}
 use Rattle.hls_test_runs.proofs.Awake.{off_two}
@@ -249,3 +256,86 @@ paced_legal = (
     ),
   ),
 )
+
+-- ---- its job
+
+abbrev end : Hierarchy
+end = state start paced
+
+abbrev asks_then : ℕ → Bool
+asks_then = had_asked end.past 2
+
+abbrev serves_then : ℕ → Bool
+serves_then = was_served end.past 2
+
+pub has_reservation : HasReservation end latter latter_reserved
+has_reservation = record {
+  thread = latter_thread;
+  there = refl;
+  scheduler = 0;
+  slot = 1;
+  sits = refl;
+  hard = true;
+  terms = refl;
+  since = refl;
+  all = record { port = 0; seat = root_seat; sits = refl; kept = refl };
+}
+
+-- it asks in each of the six ticks
+always_asks : (t : ℕ) → t < 6 → asks_then t ≡ true
+always_asks zero lt = refl
+always_asks (suc zero) lt = refl
+always_asks (suc (suc zero)) lt = refl
+always_asks (suc (suc (suc zero))) lt = refl
+always_asks (suc (suc (suc (suc zero)))) lt = refl
+always_asks (suc (suc (suc (suc (suc zero))))) lt = refl
+always_asks (suc (suc (suc (suc (suc (suc t)))))) lt = absurd (omega (arith, lt))
+
+-- and has no more than three of those before the last
+few_before : (t : ℕ) → t < 6 → count serves_then 0 t < 4
+unfolding count
+few_before zero lt = omega arith
+few_before (suc zero) lt = omega arith
+few_before (suc (suc zero)) lt = omega arith
+few_before (suc (suc (suc zero))) lt = omega arith
+few_before (suc (suc (suc (suc zero)))) lt = omega arith
+few_before (suc (suc (suc (suc (suc zero))))) lt = omega arith
+few_before (suc (suc (suc (suc (suc (suc t)))))) lt = absurd (omega (arith, lt))
+
+pub asks_for_one_job : AsksForJobs latter_reserved two_periods 0 is_first asks_then serves_then end.now
+asks_for_one_job = record {
+  since = omega arith;
+  rested = λ t from before to near. absurd (omega (arith, before));
+  begins = λ w from to is. always_asks w (omega (arith, to));
+  apart = λ w v from between to one two.
+      let first : v ≡ 0 = eqb-true v 0 two in absurd (omega (arith, between, first));
+  goes_on = λ t from to on off.
+      let past : 0 < t = elim (cases_lt 0 t) [
+        | inl past ↦ past
+        | inr none ↦ absurd (let is : is_first t ≡ true = eq-eqb t 0 (omega arith) in cc)
+      ] in
+      (past, always_asks (t - 1) (omega (arith, to)));
+  small = λ w t to job on.
+      let first : w ≡ 0 = eqb-true w 0 job.starts in
+      let few = few_before t (omega (arith, to)) in
+      let whole : t - 0 ≡ t = omega arith in
+      rw (first, whole) few;
+}
+
+pub served_when_due : (n : ℕ) → 1 ≤ n → n ≤ 4 → count serves_then 0 (due_in latter_reserved n) ≡ n
+unfolding count
+served_when_due zero some few = absurd (omega (arith, some))
+served_when_due (suc zero) some few = refl
+served_when_due (suc (suc zero)) some few = refl
+served_when_due (suc (suc (suc zero))) some few = refl
+served_when_due (suc (suc (suc (suc zero)))) some few = refl
+served_when_due (suc (suc (suc (suc (suc n))))) some few = absurd (omega (arith, few))
+
+pub not_sooner : (n : ℕ) → 1 ≤ n → n ≤ 4 → count serves_then 0 (due_in latter_reserved n - 1) < n
+unfolding count
+not_sooner zero some few = absurd (omega (arith, some))
+not_sooner (suc zero) some few = omega arith
+not_sooner (suc (suc zero)) some few = omega arith
+not_sooner (suc (suc (suc zero))) some few = omega arith
+not_sooner (suc (suc (suc (suc zero)))) some few = omega arith
+not_sooner (suc (suc (suc (suc (suc n))))) some few = absurd (omega (arith, few))

@@ -5,6 +5,7 @@ use Rattle.std.specs.Prelude.{ℕ, ◌==◌, ◌||◌, List, [], ◌∷◌, Opti
 use Rattle.hls_chron.specs.declared.plain.Config.TheVariants.{Edf}
 use Rattle.hls_chron.specs.declared.plain.Terms.TheVariants.{Res}
 use Rattle.hls_guarantee.specs.declared.Guarantee.TheVariants.{Resb}
+use Rattle.hls_kinds.specs.declared.reservations.Reservation.{Reservation}
 use Rattle.hls_machine.specs.Hierarchy.{At, Seat}
 use Rattle.hls_machine.specs.Steps.{Step, Load, Admit, Rouse, Elapse, Path}
 use Rattle.hls_test_runs.specs.Moves.{root, root_seat}
@@ -53,3 +54,13 @@ paced = load_pace ∷ admit_former ∷ admit_latter ∷ Rouse former None ∷ Ro
 -- whom each tick served
 abbrev pub paced_ticks : List (Option ℕ)
 paced_ticks = Some former ∷ Some latter ∷ Some latter ∷ Some former ∷ Some latter ∷ Some latter ∷ []
+
+-- the reservation of the latter, of which one job is released in the first tick, for no more than two budgets
+abbrev pub latter_reserved : Reservation
+latter_reserved = record { x = 2; y = 3; since = 0 }
+
+abbrev pub is_first : ℕ → Bool
+is_first t = t == 0
+
+abbrev pub two_periods : ℕ → ℕ
+two_periods t = 2

@@ -10,14 +10,17 @@ ghost use Rattle.hls_chron.specs.Ticks.{count};
 ghost use Rattle.hls_frac.specs.declared.Frac.{Frac};
 ghost use Rattle.hls_guarantee.specs.declared.Guarantee.TheVariants.{Psbe, Resc};
 ghost use Rattle.hls_guarantee.specs.Satisfaction.{Satisfies};
-ghost use Rattle.hls_machine.specs.Hierarchy.{start, was_served, book_of};
+ghost use Rattle.hls_machine.specs.Hierarchy.{start, had_asked, was_served, book_of};
 ghost use Rattle.hls_machine.specs.Steps.{state};
 ghost use Rattle.hls_machine.specs.Legal.{IsLegal};
 ghost use Rattle.hls_machine.specs.Supplied.{KeepsStays};
+ghost use Rattle.hls_legal_jobs.specs.Jobs.{AsksForJobs};
+ghost use Rattle.hls_legal_jobs.specs.Reports.{due_in};
+ghost use Rattle.hls_legal_jobs.specs.Runs.{HasReservation};
 ghost use Rattle.hls_test_runs.specs.Apart.{apart, apart_ticks, sleeper, starter};
 ghost use Rattle.hls_test_runs.specs.Crowded.{crowded, before_crowd, crowded_ticks, shorter};
 ghost use Rattle.hls_test_runs.specs.Moves.{root};
-ghost use Rattle.hls_test_runs.specs.Paced.{paced, paced_ticks, latter};
+ghost use Rattle.hls_test_runs.specs.Paced.{paced, paced_ticks, latter, latter_reserved, is_first, two_periods};
 
 /// A reservation of 1 tick in every 3, beside one of 4 in every 6, has no tick of four in a row, although it asks in
 /// each: `2 * y - x - 1` ticks. So `x` ticks in each block of `y` are `x` of any `2 * y - x` in a row, and of no fewer.
@@ -61,16 +64,18 @@ pub fn a_fair_seat_waits_as_long_as_it_may()
         Satisfies (Psbe s d) (was_served (state start apart).past starter) 1 3 → d.den ≤ d.num }
 {}
 
-/// A reservation of 2 ticks in every 3 is woken beside one of 1 in every 3, which has the lesser slot. It has its first
-/// tick as the second, `y - x + 1` ticks after its wake, its second at the end of the period, and so on in the next. So
-/// a job of four ticks has each of them as late as the law on jobs allows, within 2, 3, 5 and 6 ticks of its wake, and
-/// none of them a tick sooner.
+/// A reservation of 2 ticks in every 3 is woken beside one of 1 in every 3, which has the lesser slot, for a job as the
+/// law on jobs asks for it. It has its first tick as the second, `y - x + 1` ticks after its wake, its second at the end
+/// of the period, and so on in the next: each of the four as late as the law allows, and none of them a tick sooner.
 pub fn a_job_is_served_as_late_as_it_may_be()
     ensures legal { IsLegal start paced }
     ensures ticks { map (λ (t : ℕ). ((state start paced).past t).to) (0 ∷ 1 ∷ 2 ∷ 3 ∷ 4 ∷ 5 ∷ []) ≡ paced_ticks }
     ensures kept { KeepsStays (state start paced) }
-    ensures due { map (λ (n : ℕ). count (was_served (state start paced).past latter) 0 n) (2 ∷ 3 ∷ 5 ∷ 6 ∷ []) ≡
-        1 ∷ 2 ∷ 3 ∷ 4 ∷ [] }
-    ensures no_sooner { map (λ (n : ℕ). count (was_served (state start paced).past latter) 0 n)
-        (1 ∷ 2 ∷ 4 ∷ 5 ∷ []) ≡ 0 ∷ 1 ∷ 2 ∷ 3 ∷ [] }
+    ensures reserved { HasReservation (state start paced) latter latter_reserved }
+    ensures job { AsksForJobs latter_reserved two_periods 0 is_first (had_asked (state start paced).past latter)
+        (was_served (state start paced).past latter) (state start paced).now }
+    ensures due { (n : ℕ) → 1 ≤ n → n ≤ 4 →
+        count (was_served (state start paced).past latter) 0 (due_in latter_reserved n) ≡ n }
+    ensures no_sooner { (n : ℕ) → 1 ≤ n → n ≤ 4 →
+        count (was_served (state start paced).past latter) 0 (due_in latter_reserved n - 1) < n }
 {}
