@@ -38,3 +38,7 @@ pub record CanAskWindow (window : Window) : Type 0 where
 -- so many ticks of the window can be promised
 abbrev pub Gives : Window → (x : ℕ) → Type 0
 Gives window x = Offers window.seat (formed window.form x window.y)
+
+-- of so many ticks in a row one can be promised
+abbrev pub Waits : Seat → (wait : ℕ) → Type 0
+Waits seat wait = Offers seat (Resc false 1 wait)

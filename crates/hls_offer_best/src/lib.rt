@@ -3,8 +3,10 @@
 
 mod reservations;
 mod seat;
+mod waits;
 mod windows;
 
 pub use reservations::{Budget, Need, cheapest};
 pub use seat::Seat;
+pub use waits::least_wait;
 pub use windows::{Form, Window, most_ticks};

@@ -10,6 +10,11 @@ abbrev pub IsUpTo : Option ℕ → ℕ → Type 0
 IsUpTo None n = ⊥
 IsUpTo (Some most) n = n ≤ most
 
+-- no less than the least so far
+abbrev pub IsFrom : Option ℕ → ℕ → Type 0
+IsFrom None n = ⊥
+IsFrom (Some least) n = least ≤ n
+
 -- the cheapest so far comes first
 abbrev pub ComesFirstOf : Option Budget → Budget → Type 0
 ComesFirstOf None b = ⊥
