@@ -141,7 +141,8 @@ module _ {V W : Type 0} {P : V → Type 0} {Q : W → Type 0}
       let own = ap (λ (x : Scenario). x.horizon) is.scenario in
       let h : Hierarchy = state start is.steps in
       let e = elapses h (core_may_elapse old s given boxes most is le).is in
-      let ran = runs_on s old.depth old.agenda boxes old.journal h e.asking e.masks e.path path n n new.journal (record {
+      let ran = runs_on s old.depth old.agenda boxes old.journal h e.asking e.masks e.path path n n new.journal
+      (record {
         kept = is.kept;
         answers = refl;
         names = refl;

@@ -1,5 +1,6 @@
 -- A run goes on by ticks that are alike.
-use Rattle.std.proofs.Common.{◌≡◌, ℕ, zero, suc, ◌+◌, ◌-◌, ◌<◌, ◌≤◌, Bool, true, List, [], ◌∷◌, ◌++◌, length, refl, sym, ap}
+use Rattle.std.proofs.Common.{◌≡◌, ℕ, zero, suc, ◌+◌, ◌-◌, ◌<◌, ◌≤◌, Bool, true, List, [], ◌∷◌, ◌++◌, length}
+use Rattle.std.proofs.Common.{refl, sym, ap}
 use Rattle.std.proofs.Common.{◌∙◌, subst, arith, map}
 use Rattle.std.specs.Prelude.{Option, Some, None}
 use Rattle.std.specs.List.{list_any}
@@ -46,7 +47,8 @@ names_alike h new (Some p) None same names = absurd names
 names_alike h new (Some p) (Some ns) same names =
     ap (λ (f : ℕ → Option Text). map f (Rattle.hls_accounts.specs.Tells.nodes_on p)) same ∙ names
 
-way_later : (j new : Journal) (path : Option Path) → new.names.keys ≡ j.names.keys → IsWayOrIdle j path → IsWayOrIdle new path
+way_later : (j new : Journal) (path : Option Path) → new.names.keys ≡ j.names.keys → IsWayOrIdle j path
+    → IsWayOrIdle new path
 way_later j new None same way = tt
 way_later j new (Some path) same way = record {
   short = way.short;

@@ -1,5 +1,6 @@
 // Ticks.
-ghost use Rattle.std.specs.Prelude.{◌≡◌, ◌≤◌, ◌<◌, ◌+◌, ℕ, ◌-◌, Bool, Option, true, false, Some, length, option_map, if◌then◌else◌};
+ghost use Rattle.std.specs.Prelude.{◌≡◌, ◌≤◌, ◌<◌, ◌+◌, ℕ, ◌-◌, Bool, Option, true, false, Some, length};
+ghost use Rattle.std.specs.Prelude.{option_map, if◌then◌else◌};
 ghost use Rattle.hls_machine.specs.Hierarchy.{Hierarchy, is_just};
 ghost use Rattle.hls_machine.specs.Steps.{Path as Way};
 ghost use Rattle.hls_tree_nodes.specs.Leapt.{StandsIn, stands_in, later, MayLeap};

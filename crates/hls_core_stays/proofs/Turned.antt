@@ -267,7 +267,8 @@ module _ {V : Type 0} {P : V → Type 0} (seen : (x : V) × P x → Seen) (s : S
           are = record {
             many = ap length (set y.tally y.there)
                 ∙ length-set s.tallies.items place (noted_tally ready now (served_tally n y.tally)) ∙ x.stays.are.many;
-            each = served_tallies h (later h asking masks path n) asking (thread_of path) n on s new x.stays.kept (ready_of seen t) k place now x.stays.are has
+            each = served_tallies h (later h asking masks path n) asking (thread_of path) n on s new x.stays.kept
+                (ready_of seen t) k place now x.stays.are has
                 finds (at_now (later h asking masks path n) x.tree) (x.to ∙ is) goes set_by;
             single = x.stays.are.single;
             idle = idle ∙ x.stays.are.idle ∙ (let no : idle_in h ≡ idle_in h + 0 = omega arith in no)

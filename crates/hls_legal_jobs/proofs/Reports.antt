@@ -204,7 +204,8 @@ jobs_before_cut c steps before left from until place stay r legal tells is goes_
     theirs d h telling (stays_stand goes.steps goes.legal) place stay goes_on r since reserved in
     let clock : h.now ≡ until = telling.now in
     let asks : Agree (is_ready c name) (had_asked h.past it.thread) r.since h.now =
-    λ t low to. sym {a = had_asked h.past it.thread t} (it.asked t low to ∙ ready_same c t until name before left is (omega (arith, clock))) in
+    λ t low to. sym {a = had_asked h.past it.thread t}
+    (it.asked t low to ∙ ready_same c t until name before left is (omega (arith, clock))) in
     let serves : Agree (is_served c.stretches name) (was_served h.past it.thread) r.since h.now =
     λ t low to. sym {a = was_served h.past it.thread t} (it.served t low to) in
     let wide = wide_in_run goes.steps it.thread r goes.legal it.has in

@@ -1,4 +1,5 @@
-//! What holds of what the program promises, and of its runs one after the other: each function's contract is a law, and its body does
+//! What holds of what the program promises, and of its runs one after the other: each function's contract is a law,
+//! and its body does
 //! nothing.
 
 ghost use Rattle.std.specs.Prelude.{◌≡◌, ◌≤◌, ℕ, List, length};

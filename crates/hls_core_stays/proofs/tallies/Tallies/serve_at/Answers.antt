@@ -32,4 +32,5 @@ returns c =
     let rows = c.self.inside.rows.items in
     let there = row_at seatings rows _ c.args.place c.index.result.now is c.requires.place c.index.ensures in
     set_row seatings rows _ c.args.place c.index.result.now c.note.new.self
-    (λ (t : Tally). noted_tally c.args.ready c.args.now (served_tally c.args.ticks t)) is there (c.note.ensures.noted seatings)
+    (λ (t : Tally). noted_tally c.args.ready c.args.now (served_tally c.args.ticks t)) is there
+    (c.note.ensures.noted seatings)
