@@ -1,8 +1,10 @@
-//! Carries commands out on a small tree, and tells the answers and what is left of tree and kit. Where memory is
-//! wanting for a command, it says so if tree or kit are not as before, and carries the command out once more.
+//! Carries commands out on a small tree, and tells the answers and what is left of tree and kit; then a scenario on a
+//! core, and writes its report. Where memory is wanting for a command, it carries the command out once more; of the
+//! tree it says besides if tree or kit are not as before.
 #![tactic(auto)]
 
 mod carrying;
+mod going_on;
 mod showing;
 mod starting;
 

@@ -4,6 +4,7 @@ ghost use Rattle.hls_sched.specs.GoodKit.{IsGood};
 ghost use Rattle.hls_tree_nodes.specs.Views.{boxed};
 
 use crate::carrying::carry_all;
+use crate::going_on::settled;
 use crate::showing::shown;
 use hls_chron::Kind;
 use hls_edf::Edf;
@@ -62,9 +63,10 @@ fn trial_by_rules(alloc: Global, kit: Kit, rules: &RuleBook) -> Result<Vec<u8>, 
     }
 }
 
-/// What the commands come to, with these boxes.
-fn trial_by_boxes(alloc: Global, kit: Kit) -> Result<Vec<u8>, AllocError>
-    requires { IsGood (boxed seen) kit }
+/// What the commands come to, with these boxes, and a scenario on a core, with the others.
+fn trial_by_boxes(alloc: Global, kit: Kit, others: Kit) -> Result<Vec<u8>, AllocError>
+    requires kit { IsGood (boxed seen) kit }
+    requires others { IsGood (boxed seen) others }
 {
     let mut rules = Vec::new(alloc);
     for name in RULES {
@@ -77,16 +79,18 @@ fn trial_by_boxes(alloc: Global, kit: Kit) -> Result<Vec<u8>, AllocError>
         )?;
         rules.push(Rule::new(name, step))?;
     }
-    trial_by_rules(alloc, kit, &RuleBook::new(rules))
+    let book = RuleBook::new(rules);
+    let mut text = trial_by_rules(alloc, kit, &book)?;
+    let report = settled(alloc, others, book)?;
+    put(&mut text, &report)?;
+    Ok(text)
 }
 
-/// What the commands come to.
-///
-/// # Errors
-///
-/// Want of memory.
-pub fn trial(alloc: Global) -> Result<Vec<u8>, AllocError> {
-    let mut kit = Kit {
+/// A kit that has no boxes.
+fn empty_kit(alloc: Global) -> Kit
+    ensures { IsGood (boxed seen) result }
+{
+    Kit {
         fp: Vec::new(alloc),
         edf: Vec::new(alloc),
         sfq: Vec::new(alloc),
@@ -94,12 +98,24 @@ pub fn trial(alloc: Global) -> Result<Vec<u8>, AllocError> {
         wheel: Vec::new(alloc),
         join: Vec::new(alloc),
         used: [0; 6],
-    };
+    }
+}
+
+/// What the commands come to, and the report of a scenario on a core.
+///
+/// # Errors
+///
+/// Want of memory, but for the first time at a command.
+pub fn trial(alloc: Global) -> Result<Vec<u8>, AllocError> {
+    let mut kit = empty_kit(alloc);
     kit.put(Kind::Fp, Box::new(alloc, Fp::blank(alloc))?)?;
     kit.put(Kind::Edf, Box::new(alloc, Edf::blank(alloc))?)?;
     kit.put(Kind::Edf, Box::new(alloc, Edf::blank(alloc))?)?;
     kit.put(Kind::Rr, Box::new(alloc, Rr::blank(alloc))?)?;
     kit.put(Kind::Rr, Box::new(alloc, Rr::blank(alloc))?)?;
     kit.put(Kind::Join, Box::new(alloc, Join::blank(alloc))?)?;
-    trial_by_boxes(alloc, kit)
+    let mut others = empty_kit(alloc);
+    others.put(Kind::Fp, Box::new(alloc, Fp::blank(alloc))?)?;
+    others.put(Kind::Edf, Box::new(alloc, Edf::blank(alloc))?)?;
+    trial_by_boxes(alloc, kit, others)
 }
