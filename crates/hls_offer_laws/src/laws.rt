@@ -3,15 +3,19 @@
 ghost use Rattle.std.specs.Prelude.{◌≡◌, ◌≢◌, ◌≤◌, ◌⊎◌, ℕ, Bool, All, Some, true, false, length, slice_get};
 ghost use Rattle.hls_frac.specs.declared.Frac.{Frac};
 ghost use Rattle.hls_chron.specs.Ranges.{TermsInRange};
+ghost use Rattle.hls_chron.specs.Ledger.{Ledger};
+ghost use Rattle.hls_kinds.specs.Faults.{Applies};
+ghost use Rattle.hls_kinds.specs.Room.{room_asked};
 ghost use Rattle.hls_guarantee.specs.declared.Guarantee.{Guarantee};
 ghost use Rattle.hls_guarantee.specs.Conversions.{Converts};
 ghost use Rattle.hls_guarantee.specs.Limits.{IsNarrow};
 ghost use Rattle.hls_offer_laws.specs.Offered.{CanOffer, IsLent, IsOffered, IsShareOf};
 ghost use Rattle.hls_offer_laws.specs.Candidates.{IsSize, IsWait, IsWindow, reservation};
 
-use hls_chron::Terms;
+use hls_chron::{Config, Terms};
 use hls_derive::Place;
 use hls_guarantee::{Guarantee, RuleName};
+use hls_kinds::SeatFault;
 
 /// More than nothing is offered only where something is lent.
 pub fn offers_need_lending(place: &Place, haves: &[Guarantee], depth: u8)
@@ -95,4 +99,14 @@ pub fn sizes_are_enough(haves: &[Guarantee], depth: u8)
         IsNarrow wanted → IsSize wanted x y → IsOffered (reservation false x y) haves.now depth wanted }
     ensures hard { (x y : ℕ) → TermsInRange (Terms.Res true x y) →
         IsOffered (reservation true x y) haves.now depth (Guarantee.Resb true x y) }
+{}
+
+/// A full scheduler is full for all terms, and one that lacks room for some terms lacks it for all that ask for no
+/// less.
+pub fn dearer_terms_find_no_room(config: Config, terms: Terms, dearer: Terms)
+    requires { room_asked config terms ≤ room_asked config dearer }
+    ensures full { (b : Ledger) (seats : ℕ) → Applies config b terms (SeatFault.Full seats) →
+        Applies config b dearer (SeatFault.Full seats) }
+    ensures room { (b : Ledger) (free asked : ℕ) → Applies config b terms (SeatFault.NoRoom free asked) →
+        Applies config b dearer (SeatFault.NoRoom free (room_asked config dearer)) }
 {}
