@@ -1,5 +1,5 @@
 -- A line more for each scheduler.
-use Rattle.std.proofs.Common.{◌≡◌, ℕ, ◌+◌, ◌<◌, ◌≤◌, List, [], ◌∷◌, ◌++◌, Some, refl, sym, ap, ◌∙◌, subst, arith}
+use Rattle.std.proofs.Common.{◌≡◌, ℕ, ◌+◌, ◌≤◌, List, [], ◌∷◌, ◌++◌, Some, refl, sym, ap, ◌∙◌, subst}
 use Rattle.std.proofs.Common.{length, take, slice_get, append_assoc}
 use Rattle.std.proofs.Common.{true, Option, None}
 use Rattle.std.specs.Prelude.{map, All, OnOk}

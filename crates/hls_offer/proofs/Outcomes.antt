@@ -1,6 +1,6 @@
 -- How the parts of a run make its end.
-use Rattle.std.proofs.Common.{◌≡◌, ℕ, refl, sym, ap, subst, arith, inl, inr}
-use Rattle.std.specs.Prelude.{Option, Some, is_some, ◌⊎◌}
+use Rattle.std.proofs.Common.{◌≡◌, sym, ap, subst, arith, inl, inr}
+use Rattle.std.specs.Prelude.{Option, Some, is_some}
 use Rattle.hls_io.specs.declared.status.Status.{Status}
 use Rattle.hls_io.specs.declared.status.Status.TheVariants.{Done, Broken, Usage, RefusedText, ReadFault}
 use Rattle.hls_io.specs.declared.status.Status.TheVariants.{WriteFault, Memory, TooLong}

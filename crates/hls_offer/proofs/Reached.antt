@@ -1,7 +1,7 @@
 -- A core that stands at a tick, behind its commands, stands at the moment of the tick.
-use Rattle.std.proofs.Common.{◌≡◌, ℕ, ◌<◌, ◌≤◌, List, refl, sym, ap, ◌∙◌, subst, arith, length, slice_get}
+use Rattle.std.proofs.Common.{◌≡◌, ℕ, List, refl, sym, ap, ◌∙◌, subst, arith}
 use Rattle.std.proofs.Common.{[], ◌∷◌, ◌++◌, append_assoc, codes}
-use Rattle.std.specs.Prelude.{Option, Some, map}
+use Rattle.std.specs.Prelude.{Option, map}
 use Rattle.std.proofs.lemmas.List.{append-nil}
 use Rattle.std.proofs.lemmas.Grind.{flat_map-append}
 use Rattle.hls_text.specs.Lines.{Text}
@@ -15,7 +15,6 @@ use Rattle.hls_offer.specs.Replies.{usual_periods, TellsLeft}
 use Rattle.hls_offer.specs.Inside.Lines.{AddsAll}
 use Rattle.std.specs.Fn.{Mut}
 use Rattle.hls_guarantee.specs.declared.Guarantee.{Guarantee}
-use Rattle.hls_scenario.specs.declared.scenario.Item.{Item}
 use Rattle.hls_scenario.specs.declared.scenario.Scenario.{Scenario}
 use Rattle.hls_sched.specs.Seen.{Seen}
 use Rattle.hls_machine.specs.Hierarchy.{start}

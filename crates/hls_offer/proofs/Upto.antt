@@ -1,8 +1,8 @@
 -- The commands that were carried out up to a tick are those of the items up to it.
 use Rattle.std.proofs.lemmas.Bool.{le-leb, leb-true}
-use Rattle.std.proofs.Common.{◌≡◌, ℕ, zero, suc, ◌+◌, ◌<◌, ◌≤◌, List, [], ◌∷◌, Option, Some, None}
-use Rattle.std.proofs.Common.{Bool, true, false, refl, sym, ap, ◌∙◌, subst, arith, length, slice_get}
-use Rattle.std.specs.Prelude.{map, filter, nat_le}
+use Rattle.std.proofs.Common.{◌≡◌, ℕ, zero, suc, ◌<◌, ◌≤◌, List, [], ◌∷◌, Some}
+use Rattle.std.proofs.Common.{Bool, true, false, refl, sym, ap, arith, length, slice_get}
+use Rattle.std.specs.Prelude.{map, nat_le}
 use Rattle.hls_scenario.specs.declared.scenario.Item.{Item}
 use Rattle.hls_report_text.specs.declared.report.Answer.{Answer}
 use Rattle.hls_report_text.specs.declared.report.Answered.{Answered}

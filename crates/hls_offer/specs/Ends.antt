@@ -1,5 +1,5 @@
 -- How a run ends: each status with its cause, and what was written.
-use Rattle.std.specs.Prelude.{◌≡◌, ℕ, ◌≤◌, Some, length, [], ◌∷◌, ◌++◌, codes}
+use Rattle.std.specs.Prelude.{◌≡◌, ◌≤◌, Some, length, [], ◌∷◌, ◌++◌, codes}
 use Rattle.std.specs.Io.KnownBytes.{Appends}
 use Rattle.hls_io.specs.Bytes.{TellsAlike, AppendsPart, IsWhole}
 use Rattle.hls_io.specs.Faults.{Rose}
@@ -9,7 +9,7 @@ use Rattle.hls_io.specs.declared.status.Status.{Status}
 use Rattle.hls_io.specs.declared.status.Status.TheVariants.{Done, Broken, Usage, RefusedText}
 use Rattle.hls_io.specs.declared.status.Status.TheVariants.{ReadFault, WriteFault, Memory, TooLong}
 use Rattle.hls_text.specs.Lines.{Text}
-use Rattle.hls_top.specs.Exchange.{Drawn, Exchange, scenario_limit, Takes}
+use Rattle.hls_top.specs.Exchange.{Exchange, scenario_limit, Takes}
 use Rattle.hls_top.specs.Ends.{IsSilent, LacksMemory, Lacks}
 use Rattle.hls_offer_words.specs.Table.{IsAsked, IsNotAsked}
 use Rattle.hls_offer_words.specs.declared.asked.Asked.{Asked}

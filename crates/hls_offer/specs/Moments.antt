@@ -1,5 +1,5 @@
 -- The tick that is asked about, and the moment at it.
-use Rattle.std.specs.Prelude.{◌≡◌, ℕ, ◌-◌, ◌≤◌, ◌<◌, List, [], ◌∷◌, Option, Some, None, map, filter, length}
+use Rattle.std.specs.Prelude.{◌≡◌, ℕ, ◌-◌, ◌≤◌, ◌<◌, List, Option, Some, None, map, filter, length}
 use Rattle.std.specs.Prelude.{nat_le, slice_get}
 use Rattle.hls_scenario.specs.declared.scenario.Item.{Item}
 use Rattle.hls_scenario.specs.declared.scenario.Scenario.{Scenario}

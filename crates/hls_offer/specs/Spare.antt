@@ -1,12 +1,7 @@
 -- The lines that tell what is left on each loaded scheduler.
-use Rattle.std.specs.Prelude.{◌≡◌, ℕ, ◌++◌, List, [], ◌∷◌, Option, Some, map}
-use Rattle.hls_text.specs.Lines.{Text}
-use Rattle.hls_report_text.specs.ReportText.{ended}
-use Rattle.hls_sched.specs.Seen.{Seen}
+use Rattle.std.specs.Prelude.{◌≡◌, ℕ, List, [], ◌∷◌, Option, Some}
 use Rattle.hls_machine.specs.Hierarchy.{Hierarchy, Node, name_of, config_of, haves_of, book_of}
-use Rattle.hls_tree.specs.Trees.{IsTreeOf}
-use Rattle.hls_tree.specs.declared.tree.Tree.{Tree}
-use Rattle.hls_offer_text.specs.OfferText.{Free, free_text}
+use Rattle.hls_offer_text.specs.OfferText.{Free}
 use Rattle.hls_offer.specs.Left.{IsLeft}
 
 -- a scheduler's name, its configuration, what its ports are guaranteed, and what is left on it

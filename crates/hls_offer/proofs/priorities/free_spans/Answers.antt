@@ -1,4 +1,4 @@
-use Rattle.std.proofs.Common.{ℕ, ◌-◌, ◌<◌, ◌≤◌, ◌≡◌, List, subst, sym, arith, refl, ◌+◌}
+use Rattle.std.proofs.Common.{ℕ, ◌-◌, ◌<◌, ◌≡◌, List, subst, sym, arith, refl, ◌+◌}
 use Rattle.hls_machine.specs.Hierarchy.{book_of}
 use Rattle.hls_offer_text.specs.declared.left.Span.{Span}
 use Rattle.hls_offer.specs.Left.{AreFreeSpans}

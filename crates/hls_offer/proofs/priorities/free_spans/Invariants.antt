@@ -1,4 +1,4 @@
-use Rattle.std.proofs.Common.{ℕ, ◌-◌, ◌<◌, ◌≤◌}
+use Rattle.std.proofs.Common.{◌-◌, ◌<◌, ◌≤◌}
 use Rattle.hls_chron.specs.Seats.{HasPriority}
 use Rattle.hls_machine.specs.Hierarchy.{Hierarchy, book_of}
 use Rattle.hls_tree.specs.Trees.{IsTreeOf}

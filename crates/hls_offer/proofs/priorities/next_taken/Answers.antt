@@ -1,4 +1,4 @@
-use Rattle.std.proofs.Common.{ℕ, refl, arith}
+use Rattle.std.proofs.Common.{ℕ, arith}
 use Rattle.hls_chron.specs.Seats.{HasPriority}
 use Rattle.hls_machine.specs.Hierarchy.{book_of}
 use Rattle.hls_offer.proofs.Taken.{below_more}

@@ -1,5 +1,3 @@
-use Rattle.std.proofs.Common.{sym, ◌∙◌}
-use Rattle.hls_guarantee.specs.Limits.{IsValid}
 use Rattle.hls_offer.proofs.Lines.{free_line, valid_haves}
 use Rattle.hls_offer.proofs.spare.put_one.Goals as goal
 

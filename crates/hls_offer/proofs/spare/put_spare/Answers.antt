@@ -1,4 +1,4 @@
-use Rattle.std.proofs.Common.{ℕ, ◌≤◌, subst, sym, arith}
+use Rattle.std.proofs.Common.{arith}
 use Rattle.hls_manager.proofs.Outcomes.{stands_so}
 use Rattle.hls_offer.proofs.Lines.{none_yet, one_more, all_told, listed_loaded}
 use Rattle.hls_offer.proofs.spare.put_spare.Goals as goal
