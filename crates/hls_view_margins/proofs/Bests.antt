@@ -35,7 +35,7 @@ IsGiven scale f lo hi hard x y e None = IsAllowed f lo hi hard x y e → ⊥
 IsGiven scale f lo hi hard x y e (Some p) =
     IsAllowed f lo hi hard x y e × IsFirst scale (IsCutPiece f lo hi e y) p
 
-some_piece : (scale : Scale) (f : ℕ → Bool) (lo hi e y : ℕ) → lo < hi → e < y
+pub some_piece : (scale : Scale) (f : ℕ → Bool) (lo hi e y : ℕ) → lo < hi → e < y
     → IsFirstOf scale (IsCutPiece f lo hi e y) None → ⊥
 some_piece scale f lo hi e y some within none = elim (first_piece f lo hi e y some within) [
   | inl piece ↦ none _ piece

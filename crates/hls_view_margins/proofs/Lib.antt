@@ -9,3 +9,10 @@ pub mod Products
 pub mod Windows
 pub mod Roomy
 pub mod MarginLaws
+pub mod Caps
+pub mod Enclosing
+pub mod Keeps
+pub mod Existing
+pub mod Blocky
+pub mod Fine
+pub mod Whether

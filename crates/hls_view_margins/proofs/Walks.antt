@@ -26,15 +26,15 @@ start_order e y (suc k) (suc j) le =
     omega (arith, mul-le-mul_right y less)
 
 -- where a piece begins and ends
-piece_from : (f : ℕ → Bool) (lo hi e y k : ℕ) (p : Part) → IsPieceAt f lo hi e y k p
+pub piece_from : (f : ℕ → Bool) (lo hi e y k : ℕ) (p : Part) → IsPieceAt f lo hi e y k p
     → p.from ≡ lo + piece_start e y k
 piece_from f lo hi e y k p at = let b = at.is.begins in let s = at.piece.first in omega (arith, b, s)
 
-piece_end : (f : ℕ → Bool) (lo hi e y k : ℕ) (p : Part) → lo ≤ hi → IsPieceAt f lo hi e y k p
+pub piece_end : (f : ℕ → Bool) (lo hi e y k : ℕ) (p : Part) → lo ≤ hi → IsPieceAt f lo hi e y k p
     → end_of p ≡ min (lo + piece_start e y (suc k)) hi
 piece_end f lo hi e y k p order at = let b = at.is.begins in let l = at.piece.last in omega (arith, b, l, order)
 
-piece_joins : (f : ℕ → Bool) (lo hi e y k : ℕ) → lo ≤ hi
+pub piece_joins : (f : ℕ → Bool) (lo hi e y k : ℕ) → lo ≤ hi
     → Joins (IsEarly f lo hi e y k) (IsPieceAt f lo hi e y k) (IsEarly f lo hi e y (suc k)) (lo + piece_start e y k)
 piece_joins f lo hi e y k order = record {
   by = λ p early.
@@ -65,7 +65,7 @@ piece_joins f lo hi e y k order = record {
 }
 
 -- the piece that was found
-piece_one : (scale : Scale) (f : ℕ → Bool) (lo hi e y k : ℕ) (piece : Option Part) → lo ≤ hi
+pub piece_one : (scale : Scale) (f : ℕ → Bool) (lo hi e y k : ℕ) (piece : Option Part) → lo ≤ hi
     → IsBetween f (lo + piece_start e y k) (min (lo + piece_start e y (suc k)) hi) piece
     → IsFirstOf scale (IsPieceAt f lo hi e y k) piece
 piece_one scale f lo hi e y k None order between = λ p at.
@@ -98,7 +98,7 @@ piece_one scale f lo hi e y k (Some q) order between =
 
 -- ---- whether one has too many
 
-over_none : (f : ℕ → Bool) (lo hi e y x : ℕ) → HasOver (IsEarly f lo hi e y 0) x → ⊥
+pub over_none : (f : ℕ → Bool) (lo hi e y x : ℕ) → HasOver (IsEarly f lo hi e y 0) x → ⊥
 over_none f lo hi e y x has = let b = has.is.before in omega (arith, b)
 
 or_left : (a b : Bool) → IsTrue a → IsTrue (a || b)
@@ -142,7 +142,7 @@ over_at scale f lo hi e y k x None p order first at over = absurd (first p at)
 over_at scale f lo hi e y k x (Some q) p order first at over =
     omega (arith, over, got_at f lo hi e y k p q order at first.is)
 
-over_more : (scale : Scale) (f : ℕ → Bool) (lo hi e y k x : ℕ) (was now : Bool) (piece : Option Part) → lo ≤ hi
+pub over_more : (scale : Scale) (f : ℕ → Bool) (lo hi e y k x : ℕ) (was now : Bool) (piece : Option Part) → lo ≤ hi
     → IsFirstOf scale (IsPieceAt f lo hi e y k) piece → (IsTrue now ↔ IsSomeOver piece x)
     → (IsTrue was ↔ HasOver (IsEarly f lo hi e y k) x)
     → IsTrue (was || now) ↔ HasOver (IsEarly f lo hi e y (suc k)) x
@@ -216,7 +216,7 @@ walk_on scale served cut x from next least taken was now piece order between soo
     }
 
 -- all pieces, at the end
-early_all : (f : ℕ → Bool) (lo hi e y k : ℕ) (p : Part) → hi ≤ lo + piece_start e y k → IsCutPiece f lo hi e y p
+pub early_all : (f : ℕ → Bool) (lo hi e y k : ℕ) (p : Part) → hi ≤ lo + piece_start e y k → IsCutPiece f lo hi e y p
     → IsEarly f lo hi e y k p
 early_all f lo hi e y k p end piece =
     let from = piece_from f lo hi e y piece.number p piece.at in
@@ -227,10 +227,10 @@ early_all f lo hi e y k p end piece =
       | inr more ↦ absurd (omega (arith, end, from, ends, some, start_order e y k piece.number more))
     ]
 
-all_early : (f : ℕ → Bool) (lo hi e y k : ℕ) (p : Part) → IsEarly f lo hi e y k p → IsCutPiece f lo hi e y p
+pub all_early : (f : ℕ → Bool) (lo hi e y k : ℕ) (p : Part) → IsEarly f lo hi e y k p → IsCutPiece f lo hi e y p
 all_early f lo hi e y k p early = record { number = early.number; at = early.at }
 
-first_same : (scale : Scale) (one two : Part → Type 0) (first : Option Part) → ((p : Part) → one p → two p)
+pub first_same : (scale : Scale) (one two : Part → Type 0) (first : Option Part) → ((p : Part) → one p → two p)
     → ((p : Part) → two p → one p) → IsFirstOf scale one first → IsFirstOf scale two first
 first_same scale one two None to back none = λ p is. none p (back p is)
 first_same scale one two (Some q) to back first = record {

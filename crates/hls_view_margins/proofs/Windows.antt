@@ -109,7 +109,7 @@ pub record IsNextWindow (f : ℕ → Bool) (lo hi from until : ℕ) : Type 0 whe
   pub before : (t : ℕ) → t + 1 ≡ from → lo ≤ t → f t ≡ false
   pub after : until < hi → f until ≡ false
 
-next_whole : (f : ℕ → Bool) (lo hi from until : ℕ) → IsNextWindow f lo hi from until → IsWhole f lo hi from until
+pub next_whole : (f : ℕ → Bool) (lo hi from until : ℕ) → IsNextWindow f lo hi from until → IsWhole f lo hi from until
 next_whole f lo hi from until next = record {
   row = record { begins = next.low; ends = next.high; on = next.on };
   some = next.some;

@@ -7,4 +7,5 @@ pub mod Distances
 pub mod Judged
 pub mod Rooms
 pub mod Margins
+pub mod Kept
 pub mod Inside

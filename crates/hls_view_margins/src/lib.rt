@@ -4,6 +4,7 @@
 mod best;
 mod cuts;
 mod first;
+pub mod laws;
 mod margin;
 mod measures;
 mod parts;
