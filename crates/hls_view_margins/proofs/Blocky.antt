@@ -87,7 +87,7 @@ in_piece scale hard x y g lo hi e q r a (suc n) order fits is small are low high
     ]
 
 -- the best cut of a window
-best_reserved : (scale : Scale) (hard : Bool) (x y : ℕ) (f g : ℕ → Bool) (lo hi from until : ℕ) (b : Part)
+pub best_reserved : (scale : Scale) (hard : Bool) (x y : ℕ) (f g : ℕ → Bool) (lo hi from until : ℕ) (b : Part)
     → IsScale scale (λ l. IsLine l y 0 1) (λ l. IsLine l x 1 0) 1
     → ((p : Part) → IsJudgedIn (Resb hard x y) scale f g lo hi p → wants scale p ≤ has scale p)
     → IsWhole f lo hi from until → (best : IsBest scale g from until hard x y (min y (until - from)) b)
@@ -109,7 +109,7 @@ best_reserved scale hard x y f g lo hi from until b is enough whole best = recor
   ];
 }
 
-blocks_in : (scale : Scale) (hard : Bool) (x y : ℕ) (g : ℕ → Bool) (from until i j e : ℕ) → IsReservation x y
+pub blocks_in : (scale : Scale) (hard : Bool) (x y : ℕ) (g : ℕ → Bool) (from until i j e : ℕ) → IsReservation x y
     → from ≤ i → j ≤ until → from ≤ until → e < y → AreReserved hard x y g from until e → Satisfies (Resb hard x y) g i j
 blocks_in scale hard x y g from until i j e fits low high order small are =
     let one = fits.some in
@@ -134,7 +134,7 @@ best_kept scale hard x y f g lo hi i j from until (Some b) fits is enough never 
     blocks_in scale hard x y g from until i j best.offset fits low high (omega (arith, some)) (omega (arith, within))
     (best_reserved scale hard x y f g lo hi from until b is enough whole best)
 
-empty_kept : (hard : Bool) (x y : ℕ) (g : ℕ → Bool) (i j : ℕ) → IsReservation x y → j ≤ i
+pub empty_kept : (hard : Bool) (x y : ℕ) (g : ℕ → Bool) (i j : ℕ) → IsReservation x y → j ≤ i
     → Satisfies (Resb hard x y) g i j
 empty_kept hard x y g i j fits none =
     let one = fits.some in

@@ -16,3 +16,4 @@ pub mod Existing
 pub mod Blocky
 pub mod Fine
 pub mod Whether
+pub mod Taken

@@ -1,5 +1,6 @@
 -- A stay keeps its guarantee and its cap.
-use Rattle.std.specs.Prelude.{ℕ, Bool, Option, Some, None}
+use Rattle.std.specs.Prelude.{ℕ, ◌+◌, ◌*◌, ◌≤◌, Bool, Option, Some, None}
+use Rattle.hls_chron.specs.Ticks.{count}
 use Rattle.hls_guarantee.specs.declared.Guarantee.{Guarantee}
 use Rattle.hls_guarantee.specs.Satisfaction.{Satisfies}
 use Rattle.hls_view_margins.specs.declared.margin.Distance.{Distance}
@@ -29,3 +30,15 @@ IsRoomy (Some room) = IsAbove room.left
 abbrev pub KeepsWindows : Guarantee → (ready served : ℕ → Bool) (lo hi : ℕ) → Type 0
 KeepsWindows kept ready served lo hi =
     (from until : ℕ) → IsRow ready lo hi from until → Satisfies kept served from until
+
+-- the second schedule serves no tick that the first does not, and lacks no more than so many of the ticks of any part
+pub record LacksAtMost (taken : ℕ) (more less : ℕ → Bool) (lo hi : ℕ) : Type 0 where
+  pub fewer : (i n : ℕ) → lo ≤ i → i + n ≤ hi → count less i n ≤ count more i n
+  pub lacks : (i n : ℕ) → lo ≤ i → i + n ≤ hi → count more i n ≤ count less i n + taken
+
+-- so many ticks are to spare, where something is judged
+abbrev pub IsSpared : Spare → (taken : ℕ) → Type 0
+IsSpared Unjudged taken = Unit {0}
+IsSpared Over taken = ⊥
+IsSpared (Least part (Above f)) taken = taken * f.den ≤ f.num
+IsSpared (Least part (Below f)) taken = ⊥

@@ -61,7 +61,7 @@ fn pieces_of(scale: &Scale, served: &Spans, cut: &Cut, most: u32) -> Pieces
 }
 
 impl Pieces {
-    /// The first piece that has the least surplus, if the cut is allowed: in a hard reservation none has too many ticks.
+    /// The first piece that has the least surplus, if the cut is allowed: where it is hard, none has too many ticks.
     fn allowed(&self, hard: bool) -> Option<Part>
         ensures { result ≡ allowed_least self.now hard }
     {

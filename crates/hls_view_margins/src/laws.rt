@@ -8,7 +8,7 @@ ghost use Rattle.hls_view_margins.specs.declared.margin.Room.{Room};
 ghost use Rattle.hls_view_margins.specs.declared.margin.Spare.{Spare};
 ghost use Rattle.hls_view_margins.specs.Judged.{IsSpare};
 ghost use Rattle.hls_view_margins.specs.Rooms.{IsRoomOf};
-ghost use Rattle.hls_view_margins.specs.Kept.{IsFine, IsRoomy, KeepsWindows};
+ghost use Rattle.hls_view_margins.specs.Kept.{IsFine, IsRoomy, IsSpared, KeepsWindows, LacksAtMost};
 
 /// A stay keeps its cap exactly where its room is not negative.
 pub fn room_tells_whether_the_cap_is_kept()
@@ -21,4 +21,12 @@ pub fn spare_tells_whether_the_guarantee_is_kept()
     ensures { (kept : Guarantee) (ready served : ℕ → Bool) (lo hi : ℕ) (spare : Spare) → IsValid kept →
         IsSpare kept ready served lo hi spare → KeepsCap kept served lo hi →
         (IsFine spare ↔ KeepsWindows kept ready served lo hi) }
+{}
+
+/// Where a stay keeps its cap, and no part of it lacks more than what is to spare, it keeps its guarantee in every
+/// window.
+pub fn what_is_to_spare_may_be_taken_away()
+    ensures { (kept : Guarantee) (ready served left : ℕ → Bool) (lo hi taken : ℕ) (spare : Spare) → IsValid kept →
+        IsSpare kept ready served lo hi spare → KeepsCap kept served lo hi → IsSpared spare taken →
+        LacksAtMost taken served left lo hi → KeepsWindows kept ready left lo hi }
 {}
