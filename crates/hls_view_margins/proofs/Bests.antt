@@ -12,7 +12,8 @@ use Rattle.hls_view_margins.specs.Cuts.{IsCutPiece, HasOver, IsAllowed, IsBest, 
 use Rattle.hls_view_margins.specs.Inside.Pieces.{AreFound, allowed_least, IsBetterOf}
 
 -- the first piece that has a tick
-first_piece : (f : ℕ → Bool) (lo hi e y : ℕ) → lo < hi → e < y → IsCutPiece f lo hi e y (part f lo (min (hi - lo) (min e y)))
+first_piece : (f : ℕ → Bool) (lo hi e y : ℕ) → lo < hi → e < y
+    → IsCutPiece f lo hi e y (part f lo (min (hi - lo) (min e y)))
     ⊎ IsCutPiece f lo hi e y (part f lo (min y (hi - lo)))
 first_piece f lo hi zero y some within = inr (record {
   number = 1;

@@ -110,7 +110,8 @@ best_reserved scale hard x y f g lo hi from until b is enough whole best = recor
 }
 
 pub blocks_in : (scale : Scale) (hard : Bool) (x y : ℕ) (g : ℕ → Bool) (from until i j e : ℕ) → IsReservation x y
-    → from ≤ i → j ≤ until → from ≤ until → e < y → AreReserved hard x y g from until e → Satisfies (Resb hard x y) g i j
+    → from ≤ i → j ≤ until → from ≤ until → e < y → AreReserved hard x y g from until e
+    → Satisfies (Resb hard x y) g i j
 blocks_in scale hard x y g from until i j e fits low high order small are =
     let one = fits.some in
     let most = fits.fits in (

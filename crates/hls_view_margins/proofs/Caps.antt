@@ -24,7 +24,8 @@ use Rattle.hls_view_margins.specs.Distances.{IsRoundedDown}
 use Rattle.hls_view_margins.specs.Kept.{IsAbove, IsRoomy}
 
 -- a line's number, by the line's numbers
-pub line_at : (line : Line) (base tick got n g : ℕ) → IsLine line base tick got → at line n g ≡ base + tick * n + got * g
+pub line_at : (line : Line) (base tick got n g : ℕ) → IsLine line base tick got
+    → at line n g ≡ base + tick * n + got * g
 line_at line base tick got n g is =
     ap (λ (k : ℕ). k + line.tick * n + line.got * g) is.to_begin
     ∙ ap (λ (k : ℕ). base + k * n + line.got * g) is.each_tick

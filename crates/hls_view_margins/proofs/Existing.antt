@@ -14,7 +14,8 @@ use Rattle.hls_view_margins.specs.Cuts.{IsCutPiece, HasOver, IsBestOf}
 use Rattle.hls_view_margins.specs.Inside.Sooner.{IsSoonerOf}
 use Rattle.hls_view_margins.specs.Inside.Pieces.{IsBetween, IsSomeOver, IsEarly, AreFound, allowed_least, IsBetterOf}
 use Rattle.hls_view_margins.proofs.Sooners.{sooner_first}
-use Rattle.hls_view_margins.proofs.Walks.{piece_one, over_more, piece_joins, over_none, early_all, all_early, first_same}
+use Rattle.hls_view_margins.proofs.Walks.{piece_one, over_more, piece_joins, over_none, early_all, all_early}
+use Rattle.hls_view_margins.proofs.Walks.{first_same}
 use Rattle.hls_view_margins.proofs.Bests.{given, best_none, best_more}
 
 some_between : (g : ℕ → Bool) (from until : ℕ) → (piece : Option Part) × IsBetween g from until piece

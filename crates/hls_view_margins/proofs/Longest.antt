@@ -72,7 +72,8 @@ row_last f lo tick since from until is last row = elim (cases_lt until from) [
 last_from : (f : ℕ → Bool) (lo tick since from until : ℕ) → Since f lo (tick + 1) since → until ≡ tick + 1
     → from ≤ until → IsRow f lo (tick + 1) from until → since ≤ from
 last_from f lo tick since from until is last some row =
-    is.whole from row.begins (omega (arith, last, some)) (λ t after before. row.on t after (omega (arith, last, before)))
+    is.whole from row.begins (omega (arith, last, some)) (λ t after before. row.on t after (omega
+    (arith, last, before)))
 
 row_since : (f : ℕ → Bool) (lo tick since : ℕ) → Since f lo (tick + 1) since → IsRow f lo (tick + 1) since (tick + 1)
 row_since f lo tick since is = record { begins = is.begins; ends = omega arith; on = is.on }
@@ -101,7 +102,8 @@ longest_new f lo tick since most row is longest more at long =
       first = λ from other. elim (cases_lt tick (from + row.ticks)) [
         | inl late ↦
             let e = other.ends in
-            let low = last_from f lo tick since from (from + row.ticks) is (omega (arith, e, late)) (omega arith) other in
+            let low = last_from f lo tick since from (from + row.ticks) is (omega (arith, e, late))
+            (omega arith) other in
             omega (arith, low, at)
         | inr early ↦
             let less = longest from (from + row.ticks) (row_within f lo tick from (from + row.ticks) early other) in

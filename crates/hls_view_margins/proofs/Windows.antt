@@ -69,7 +69,8 @@ some_long f lo hi n some fits = record {
 -- where there is none, no cut is allowed
 pub worst_over : (kept : Guarantee) (scale : Scale) (f : ℕ → Bool) (lo hi : ℕ) → IsValid kept → (IsNull kept → ⊥)
     → lo < hi → IsWorstOf kept scale f lo hi None → IsOver kept f lo hi
-worst_over All scale f lo hi valid some less worst = worst (part f lo 1) (some_long f lo hi 1 (omega arith) (omega (arith, less)))
+worst_over All scale f lo hi valid some less worst =
+    worst (part f lo 1) (some_long f lo hi 1 (omega arith) (omega (arith, less)))
 worst_over Null scale f lo hi valid some less worst = absurd (some refl)
 worst_over (Resc hard x y) scale f lo hi valid some less worst =
     let one = valid.some in

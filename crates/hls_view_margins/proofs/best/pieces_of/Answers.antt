@@ -16,7 +16,8 @@ loop-from-preserved c = record {
       c.part_between-piece.result (omega arith)
       (λ f end tell within.
       subst (λ (n : ℕ). IsBetween f c.loop-from.from n c.part_between-piece.result) c.min.ensures
-      (c.part_between-piece.ensures f end tell (let m = c.min.ensures in omega arith))) c.sooner-least.ensures c.is_over-over.ensures c.loop-from.invariant.walked;
+      (c.part_between-piece.ensures f end tell (let m =
+      c.min.ensures in omega arith))) c.sooner-least.ensures c.is_over-over.ensures c.loop-from.invariant.walked;
   small = omega arith;
 }
 

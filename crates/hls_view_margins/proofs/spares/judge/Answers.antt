@@ -23,7 +23,8 @@ pub returns-then-is_none : goal.returns-then-is_none
 returns-then-is_none c = λ f g end tell served within.
     let ends = c.turn-until.ensures.ends in
     over_by c.args.kept.now c.args.scale.now f g c.args.stay.now.lo c.args.stay.now.hi c.loop-from.from
-    c.turn-until.result c.worst_part-worst.result c.requires.valid c.requires.some (c.is_none.ensures ∙ ap not c.if-is_none.true)
+    c.turn-until.result c.worst_part-worst.result c.requires.valid c.requires.some
+    (c.is_none.ensures ∙ ap not c.if-is_none.true)
     (next_window c.args.kept.now c.args.scale.now f g c.args.stay.now.lo c.args.stay.now.hi c.loop-from.from
     c.turn-until.result c.loop-from.least c.loop-from-test.true c.turn-until.ensures.ends c.turn-until.ensures.begins
     (c.turn-until.ensures.turn f end tell within) (c.loop-from.invariant.judged f g end tell served within))
