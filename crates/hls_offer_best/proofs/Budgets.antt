@@ -1,5 +1,6 @@
 -- The cheapest of the budgets that were tried, period by period, is the cheapest.
-use Rattle.std.proofs.Common.{◌≡◌, ℕ, ◌+◌, ◌*◌, ◌-◌, ◌/◌, ◌≤◌, ◌<◌, ◌⊎◌, inl, inr, Bool, true, false, List, length, refl, sym, subst, arith, below_more}
+use Rattle.std.proofs.Common.{◌≡◌, ℕ, ◌+◌, ◌*◌, ◌-◌, ◌/◌, ◌≤◌, ◌<◌, ◌⊎◌, inl}
+use Rattle.std.proofs.Common.{inr, Bool, true, false, List, length, refl, sym, subst, arith, below_more}
 use Rattle.std.specs.Prelude.{Option, Some, None, Result, Ok, Err, IfOk, IfSome, slice_get}
 use Rattle.std.proofs.Math.Nat.{mul-le-mul_right, div-mul-le_self}
 use Rattle.std.proofs.lemmas.Nat.{le-div}
@@ -99,8 +100,15 @@ smaller-first need periods best n all tried sizes hard b of meets =
     let size = sizes hard b of.range meets in
     let at = of.period in
     let there : slice_get periods at.0 ≡ Some b.y =
-    slice_get_read periods (length periods) at.0 b.y refl at.1 (sym at.2) in
-    (size.0, size.2, tried at.0 (omega (arith, at.1)) b.y there size.0 size.1 (omega (arith, size.2, of.range.1)) size.3)
+    slice_get_read periods (length periods) at.0 b.y refl at.1 (sym at.2) in (
+      size.0,
+      size.2,
+      tried at.0 (omega (arith, at.1)) b.y there size.0 size.1 (omega (
+        arith,
+        size.2,
+        of.range.1,
+      )) size.3,
+    )
 
 pub cheapest-of-all : (need : Need) (periods : List ℕ) (best : Option Budget) (n : ℕ) → length periods ≤ n
     → TriedBelow need periods best n → IfSome best (λ b. IsHad need periods b) → HasSizes need
@@ -112,5 +120,9 @@ cheapest-of-all need periods (Some best) n all tried had sizes = record {
   meets = had.1;
   first = λ hard b of meets.
       let its = smaller-first need periods (Some best) n all tried sizes hard b of meets in
-      first-trans best (budget its.0 b.y) b its.2 (first-more its.0 b.x b.y (omega (arith, of.range.0, of.range.1)) its.1);
+      first-trans best (budget its.0 b.y) b its.2 (first-more its.0 b.x b.y (omega (
+        arith,
+        of.range.0,
+        of.range.1,
+      )) its.1);
 }

@@ -49,7 +49,8 @@ lent-of-valid (configs.Join ports) _ have lent rc rt narrow lends = absurd lends
 
 -- each candidate through this port is up to the most
 abbrev pub Tried : Window → Option ℕ → (have : Guarantee) → Type 0
-Tried window most have = (lent : Guarantee) (x : ℕ) → IsLentOf window.seat.place.config window.seat.place.terms have lent
+Tried window most have = (lent : Guarantee) (x : ℕ) → IsLentOf window.seat.place.config window.seat.place.terms
+    have lent
     → (lent ≡ Null → ⊥) → IsWindow lent x window.y → Gives window x → IsUpTo most x
 
 -- and through each of the first ports
@@ -86,7 +87,11 @@ most-of-all window None n all tried gives each =
     λ x held. (let its = up-to window None n all tried x (each x held) in its.2)
 most-of-all window (Some most) n all tried gives each = record {
   meets = gives;
-  most = λ more held. (let its = up-to window (Some most) n all tried more (each more held) in omega (arith, its.1, its.2));
+  most = λ more held. (let its = up-to window (Some most) n all tried more (each more held) in omega (
+    arith,
+    its.1,
+    its.2,
+  ));
 }
 
 -- by the form of the window

@@ -1,5 +1,6 @@
 -- The most ticks that a share gives, and the least within which it gives one.
-use Rattle.std.proofs.Common.{◌≡◌, ℕ, zero, suc, ◌+◌, ◌*◌, ◌-◌, ◌/◌, ◌%◌, ◌≤◌, ◌<◌, ◌⊎◌, inl, inr, subst, arith, mul-pos}
+use Rattle.std.proofs.Common.{◌≡◌, ℕ, zero, suc, ◌+◌, ◌*◌, ◌-◌, ◌/◌}
+use Rattle.std.proofs.Common.{◌%◌, ◌≤◌, ◌<◌, ◌⊎◌, inl, inr, subst, arith, mul-pos}
 use Rattle.std.specs.Prelude.{min}
 use Rattle.std.proofs.Math.Nat.{le-div_iff_mul-le, lt_of_mul-lt-mul_right}
 use Rattle.std.proofs.lemmas.Bool.{cases_lt}

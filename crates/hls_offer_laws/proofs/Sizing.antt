@@ -1,5 +1,6 @@
 -- The sizes of reservations as numbers that are computed.
-use Rattle.std.proofs.Common.{◌≡◌, ℕ, ◌+◌, ◌*◌, ◌-◌, ◌/◌, ◌≤◌, ◌<◌, ◌↔◌, ◌∙◌, inl, inr, Bool, false, sym, subst, ap, arith, mul-pos}
+use Rattle.std.proofs.Common.{◌≡◌, ℕ, ◌+◌, ◌*◌, ◌-◌, ◌/◌, ◌≤◌, ◌<◌, ◌↔◌}
+use Rattle.std.proofs.Common.{◌∙◌, inl, inr, Bool, false, sym, subst, ap, arith, mul-pos}
 use Rattle.std.specs.Prelude.{Option, Some, max}
 use Rattle.std.proofs.Math.Nat.{le-div_iff_mul-le, mul-le-mul_right, mul-le-mul_left}
 use Rattle.std.proofs.Math.Nat.{le_of_mul-le-mul_right}

@@ -36,7 +36,8 @@ returns-clause-tried g c =
     if-ok-both c.greater-2.result
     (λ more kept tried other x lends some candidate gives.
     let found = (c.lent_of.ensures other).1 (lends, some) in
-    let same : other ≡ c.in-Some.lent = (let both : Some other ≡ Some c.in-Some.lent = sym found ∙ c.in-Some.is in cc) in
+    let same : other ≡ c.in-Some.lent = (let both : Some other ≡ Some c.in-Some.lent = sym found ∙ c.in-Some.is
+    in cc) in
     elim (subst (λ v. IsWindow v x c.args.window.now.y) same candidate) [
       | inl own ↦ kept x (c.in_ok-most.ensures.tried x ((c.own_ticks.ensures x).1 own) gives)
       | inr shares ↦ tried x ((c.shared_ticks.ensures x).1 shares) gives

@@ -9,5 +9,6 @@ most_ticks-requires-clause-share c =
 pub returns-in-Some-Psbe : goal.returns-in-Some-Psbe
 returns-in-Some-Psbe c = λ x.
     let found = c.in-Some-Psbe in
-    let most = shares-ticks c.args.lent.now found.field-0 found.s found.d x c.args.y found.ensures.share found.field-0-is in
+    let most = shares-ticks c.args.lent.now found.field-0 found.s found.d x c.args.y found.ensures.share
+    found.field-0-is in
     (λ is. most.0 ((c.most_ticks.ensures x).0 is), λ its. (c.most_ticks.ensures x).1 (most.1 its))

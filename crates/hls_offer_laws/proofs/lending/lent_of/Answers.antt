@@ -2,7 +2,8 @@ use Rattle.std.proofs.Common.{subst}
 use Rattle.hls_guarantee.specs.Steps.{LendsByTerms}
 use Rattle.hls_search_laws.proofs.Makes.{narrow-valid}
 use Rattle.hls_offer_laws.proofs.Shares.{share-valid, share-one}
-use Rattle.hls_offer_laws.proofs.Lent.{IsPlain, plain, of-plain, plain-of, of-share, share-by, by-join, join-by, on-each}
+use Rattle.hls_offer_laws.proofs.Lent.{IsPlain, plain, of-plain, plain-of}
+use Rattle.hls_offer_laws.proofs.Lent.{of-share, share-by, by-join, join-by, on-each}
 use Rattle.hls_offer_laws.proofs.lending.lent_of.Goals as goal
 
 pub lent_by_terms-requires-clause-from : goal.lent_by_terms-requires-clause-from

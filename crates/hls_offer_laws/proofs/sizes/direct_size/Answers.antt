@@ -12,7 +12,8 @@ returns-in-Psbe c = λ x.
 pub returns-else-y-period : goal.returns-else-y-period
 returns-else-y-period c = λ x.
     let its = c.in-Resb-false-default-default in
-    of-blocks c.args.wanted.now its.hard its.ticks its.period c.args.y c.sliding_size.result x its.is (let soft : its.hard ≡ false = cc in soft)
+    of-blocks c.args.wanted.now its.hard its.ticks its.period c.args.y c.sliding_size.result x its.is (let soft
+    : its.hard ≡ false = cc in soft)
     c.if-y-period.false (c.sliding_size.ensures x)
 
 pub returns-in-Resc-false-default-default : goal.returns-in-Resc-false-default-default
