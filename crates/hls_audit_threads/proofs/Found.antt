@@ -73,7 +73,7 @@ no_tick c stay None off = absurd (let wrong : true ≡ false = off in cc)
 no_tick c stay (Some end) off = off
 
 -- those that do not last have no tick
-ticks_lasting : (c : Content) (all : List Stay) → filter (has_tick c) (filter lasts all) ≡ filter (has_tick c) all
+pub ticks_lasting : (c : Content) (all : List Stay) → filter (has_tick c) (filter lasts all) ≡ filter (has_tick c) all
 ticks_lasting c [] = refl
 ticks_lasting c (stay ∷ all) = elim (cases_Bool (lasts stay)) [
   | inl on ↦

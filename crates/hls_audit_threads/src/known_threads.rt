@@ -15,21 +15,21 @@ use std::alloc::{AllocError, Global};
 
 /// In which ticks a thread is ready, and in which it is served.
 #[derive(Drop)]
-pub(crate) struct ThreadTicks {
-    pub(crate) ready: Spans,
-    pub(crate) served: Spans,
+pub struct ThreadTicks {
+    pub ready: Spans,
+    pub served: Spans,
 }
 
 /// The ticks of those threads that were asked for.
 #[derive(Drop)]
-pub(crate) struct KnownThreads {
+pub struct KnownThreads {
     pub(crate) places: Places,
-    pub(crate) ticks: Vec<ThreadTicks>,
+    pub ticks: Vec<ThreadTicks>,
 }
 
 impl KnownThreads {
     /// No thread was asked for.
-    pub(crate) fn new(alloc: Global) -> KnownThreads
+    pub fn new(alloc: Global) -> KnownThreads
         ensures { (report : Report) → AreKnown (content_of report) result }
     {
         KnownThreads {
@@ -42,7 +42,7 @@ impl KnownThreads {
     ///
     /// # Errors
     /// Returns `AllocError` for want of memory.
-    pub(crate) fn place_of(
+    pub fn place_of(
         &mut self,
         alloc: Global,
         report: &Report,

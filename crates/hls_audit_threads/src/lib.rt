@@ -15,3 +15,5 @@ mod stays;
 mod threads;
 
 pub use findings::Findings;
+pub use known_threads::{KnownThreads, ThreadTicks};
+pub use lookup::Lookup;

@@ -12,7 +12,7 @@ use std::alloc::{AllocError, Global};
 /// Of a report: the thread that each run serves, and the thread that each command which was carried out admits, wakes,
 /// blocks or ends; and where the name of each comes first and next.
 #[derive(Drop)]
-pub(crate) struct Lookup {
+pub struct Lookup {
     pub(crate) served: Vec<Option<Name>>,
     pub(crate) runs: Chains,
     pub(crate) roused: Vec<Option<Name>>,
@@ -95,7 +95,7 @@ impl Lookup {
     ///
     /// # Errors
     /// Returns `AllocError` for want of memory.
-    pub(crate) fn of(alloc: Global, report: &Report) -> Result<Lookup, AllocError>
+    pub fn of(alloc: Global, report: &Report) -> Result<Lookup, AllocError>
         ensures { IfOk result (IsLookup report.now) }
     {
         let served = threads_of(alloc, report.names.items(), report.runs.items())?;

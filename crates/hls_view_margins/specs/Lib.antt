@@ -1,0 +1,10 @@
+pub mod Scales
+pub mod First
+pub mod Parts
+pub mod Cuts
+pub mod Rows
+pub mod Distances
+pub mod Judged
+pub mod Rooms
+pub mod Margins
+pub mod Inside

@@ -1,0 +1,11 @@
+pub mod Sooners
+pub mod Lengths
+pub mod Runs
+pub mod Walks
+pub mod Bests
+pub mod Longest
+pub mod Ons
+pub mod Products
+pub mod Windows
+pub mod Roomy
+pub mod MarginLaws
