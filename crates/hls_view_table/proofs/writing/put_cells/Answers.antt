@@ -8,8 +8,8 @@ loop-lane-preserved c =
     let rests = Zip-more c.loop-lane.lane-iterator c.next.new.self c.next.result (c.in-Some.lane, c.in-Some.cell)
     c.in-Some.is c.next.ensures.steps in
     one_more (λ v. v.items) _ c.loop-lane.out.items c.put_cell.new.out.items c.put.new.out.items _ _ _ _
-    c.in-Some.lane.now c.in-Some.cell.now rests.0 rests.1 c.loop-lane.invariant (rw (sym c.deref.ensures.value) c.in_ok-put_cell.ensures)
-    c.in_ok-put.ensures
+    c.in-Some.lane.now c.in-Some.cell.now rests.0 rests.1 c.loop-lane.invariant
+    (rw (sym c.deref.ensures.value) c.in_ok-put_cell.ensures) c.in_ok-put.ensures
 
 pub returns : goal.returns
 returns c =

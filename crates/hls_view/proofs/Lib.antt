@@ -1,0 +1,4 @@
+pub mod Tales
+pub mod Outcomes
+pub mod Answering
+pub mod Promised

@@ -1,0 +1,26 @@
+-- What a view says of a report.
+use Rattle.std.specs.Prelude.{◌≡◌, List, [], ◌∷◌, ◌++◌, codes}
+use Rattle.hls_text.specs.Lines.{Text}
+use Rattle.hls_report_text.specs.Content.{Content}
+use Rattle.hls_audit.specs.declared.auditing.Outcome.{Outcome}
+use Rattle.hls_top.specs.Summaries.{verdict}
+use Rattle.hls_view_words.specs.declared.views.View.{View}
+use Rattle.hls_view_words.specs.declared.views.View.TheVariants.{Margins}
+use Rattle.hls_view_margins.specs.declared.margin.Margin.{Margin}
+use Rattle.hls_view_margins.specs.Margins.{AreMargins, lasting}
+use Rattle.hls_view_rows.specs.Margins.{margins_text}
+
+-- the first lines: the name of the view, and what the audit of the report comes to
+abbrev pub opening : (name : Text) → Outcome → Text
+opening name audit =
+    codes "hlsview-" ++ (name ++ (codes " 1" ++ (10 ∷ (codes "audit " ++ (verdict audit ++ 10 ∷ [])))))
+
+-- the margins of all stays that have a tick, in the order in which they begin
+pub record ShowsMargins (c : Content) (audit : Outcome) (output : Text) : Type 0 where
+  pub margins : List Margin
+  pub are : AreMargins c (lasting c) margins
+  pub spelled : output ≡ opening (codes "margins") audit ++ margins_text margins
+
+-- the view of a report with this content, whose audit comes to this
+abbrev pub IsViewText : View → Content → Outcome → (output : Text) → Type 0
+IsViewText Margins c audit output = ShowsMargins c audit output

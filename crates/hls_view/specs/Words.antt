@@ -1,0 +1,6 @@
+-- The line that tells of the words that the program knows.
+use Rattle.std.specs.Prelude.{[], ◌∷◌, ◌++◌, codes}
+use Rattle.hls_text.specs.Lines.{Text}
+
+abbrev pub usage_line : Text
+usage_line = codes "usage: hlsview margins" ++ 10 ∷ []

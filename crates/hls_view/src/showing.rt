@@ -1,0 +1,103 @@
+// The view of the text of a report.
+ghost use Rattle.std.specs.Prelude.{◌≡◌, ◌≤◌, ◌∷◌, ◌++◌, [], IfOk, OnOk, codes, length};
+ghost use Rattle.hls_report_text.specs.Content.{content_of};
+ghost use Rattle.hls_report_text.specs.WellFormed.{IsReportText, IsWellFormed};
+ghost use Rattle.hls_audit.specs.declared.auditing.Outcome.TheVariants.{Kept};
+ghost use Rattle.hls_audit.specs.Audits.{IsAudit, IsTale};
+ghost use Rattle.hls_top.specs.Exchange.{report_limit};
+ghost use Rattle.hls_view.specs.Outputs.{IsSaid};
+ghost use Rattle.hls_view.specs.Texts.{opening, IsViewText};
+
+use crate::outputs::Output;
+use hls_audit::{Outcome, audit, audit_tale};
+use hls_io::Status;
+use hls_report::{Report, ReportFault, read_report};
+use hls_text::put;
+use hls_top::{put_verdict, refusal_line, verdict_line};
+use hls_view_margins::margins;
+use hls_view_rows::write_margins;
+use hls_view_words::View;
+use std::alloc::{AllocError, Global};
+
+/// What the audit of the first two clauses comes to, where that of all of them comes to this.
+fn tale_of(alloc: Global, report: &Report, audited: Outcome) -> Result<Outcome, AllocError>
+    requires formed { IsWellFormed report.now }
+    requires audited { IsAudit (content_of report.now) audited }
+    ensures { IfOk result (IsTale (content_of report.now)) }
+{
+    match audited {
+        Outcome::Kept => Ok(Outcome::Kept),
+        Outcome::Broken { clause, .. } if clause <= 2 => Ok(audited),
+        Outcome::Broken { .. } => audit_tale(alloc, report),
+    }
+}
+
+/// Appends the first lines of a view: its name, and what the audit comes to.
+fn put_opening(out: &mut Vec<u8>, name: &[u8], audited: Outcome) -> Result<(), AllocError>
+    ensures { OnOk result (out.new.items ≡ out.old.items ++ opening name.now audited) }
+{
+    put(out, b"hlsview-")?;
+    put(out, name)?;
+    put(out, b" 1\naudit ")?;
+    put_verdict(out, audited)?;
+    put(out, b"\n")
+}
+
+/// The view of a report that tells a tale.
+fn view_text(
+    alloc: Global,
+    view: &View,
+    report: &Report,
+    audited: Outcome,
+) -> Result<Vec<u8>, AllocError>
+    requires formed { IsWellFormed report.now }
+    ensures { IfOk result (λ bytes. IsViewText view.now (content_of report.now) audited bytes.items) }
+{
+    let mut out = Vec::new(alloc);
+    match view {
+        View::Margins => {
+            put_opening(&mut out, b"margins", audited)?;
+            let margins = margins(alloc, report)?;
+            write_margins(alloc, &mut out, &margins)?;
+        }
+    }
+    Ok(out)
+}
+
+/// The view of a report that was read from a text, or the line that tells why there is none.
+fn view_of(alloc: Global, view: &View, report: &Report, text: Vec<u8>) -> Result<Output, AllocError>
+    requires read { IsReportText text.items report.now }
+    ensures { IfOk result (λ output. IsSaid view.now text.items output.status output.bytes.items) }
+{
+    drop(text);
+    let audited = audit(alloc, report)?;
+    let told = tale_of(alloc, report, audited)?;
+    match told {
+        Outcome::Kept => Ok(Output {
+            status: Status::Done,
+            bytes: view_text(alloc, view, report, audited)?,
+        }),
+        Outcome::Broken { .. } => Ok(Output {
+            status: Status::Broken,
+            bytes: verdict_line(alloc, told)?,
+        }),
+    }
+}
+
+/// The view of the report of a text, or the line that refuses the text.
+///
+/// # Errors
+/// Returns `AllocError` for want of memory.
+pub fn view_of_text(alloc: Global, view: &View, text: Vec<u8>) -> Result<Output, AllocError>
+    requires within { length text.items ≤ report_limit }
+    ensures { IfOk result (λ output. IsSaid view.now text.items output.status output.bytes.items) }
+{
+    match read_report(alloc, &text) {
+        Ok(report) => view_of(alloc, view, &report, text),
+        Err(ReportFault::At { line }) => Ok(Output {
+            status: Status::RefusedText,
+            bytes: refusal_line(alloc, line, b"Form")?,
+        }),
+        Err(ReportFault::Memory(error)) => Err(error),
+    }
+}
