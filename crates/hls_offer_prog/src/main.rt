@@ -40,3 +40,6 @@ fn main(rt: HostRuntime) -> ExitCode {
     let status = start(alloc, &words, &mut source, &mut sink);
     ExitCode::from(status.code())
 }
+
+#[cfg(test)]
+mod tests;
