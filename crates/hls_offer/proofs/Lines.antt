@@ -74,8 +74,10 @@ module _ {V : Type 0} {P : V → Type 0} (seen : (x : V) × P x → Seen) (t : T
   pub none_yet : (old : Text) → AddsSome seen t periods 0 old old
   none_yet old = record { frees = []; text = sym (append-nil old); are = λ h tree. tt }
 
-  pub one_more : (at k : ℕ) (old mid new : Text) → ((h : Hierarchy) → IsTreeOf seen t h → slice_get h.schedulers at ≡ Some k)
-      → AddsSome seen t periods at old mid → AddsFree seen t periods k mid new → AddsSome seen t periods (at + 1) old new
+  pub one_more : (at k : ℕ) (old mid new : Text) → ((h : Hierarchy) → IsTreeOf seen t h
+      → slice_get h.schedulers at ≡ Some k)
+      → AddsSome seen t periods at old mid → AddsFree seen t periods k mid new
+      → AddsSome seen t periods (at + 1) old new
   one_more at k old mid new there some one = record {
     frees = some.frees ++ one.free ∷ [];
     text = one.text ∙ ap (λ (x : Text). x ++ with_end (free_text one.free)) some.text
