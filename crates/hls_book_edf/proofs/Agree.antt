@@ -4,7 +4,8 @@ use Rattle.hls_chron.specs.Ticks.{count}
 use Rattle.hls_chron.proofs.CountLaws.{count-agree}
 use Rattle.hls_kinds.specs.declared.reservations.Reservation.{Reservation}
 use Rattle.hls_kinds.specs.Reservations.{budget_after, is_replenished, last_replenished}
-use Rattle.hls_book_edf.specs.Recomputed.{asked_before, server_before, server_within}
+use Rattle.hls_kinds.specs.Reservations.{asked_before}
+use Rattle.hls_book_edf.specs.Recomputed.{server_before, server_within}
 use Rattle.hls_book_edf.proofs.Deadlines.{last_since, last_before}
 
 -- f and g agree from the tick m on and before the tick t

@@ -12,7 +12,8 @@ use Rattle.hls_kinds.specs.declared.reservations.Reservation.{Reservation}
 use Rattle.hls_chron.specs.Parts.{all_parts, parts}
 use Rattle.hls_kinds.specs.Reservations.{deadline_after, budget_after, is_replenished}
 use Rattle.hls_kinds.specs.Reservations.{last_replenished}
-use Rattle.hls_book_edf.specs.Recomputed.{asked_before, server_before, server_within}
+use Rattle.hls_kinds.specs.Reservations.{asked_before}
+use Rattle.hls_book_edf.specs.Recomputed.{server_before, server_within}
 use Rattle.hls_book_edf.proofs.Replenishing.{replenished-off, replenished-set, replenished-kept}
 
 abbrev pub IsRenewed : Reservation → (asks serves : ℕ → Bool) → ℕ → Bool

@@ -1,15 +1,10 @@
 -- The server of a seat, recomputed from the ticks since it was seated or settled: which of them it asked in,
 -- and which of them served it.
-use Rattle.std.specs.Prelude.{ℕ, ◌+◌, Bool, false, zero, suc}
+use Rattle.std.specs.Prelude.{ℕ, ◌+◌, Bool, suc}
 use Rattle.hls_kinds.specs.declared.reservations.Reservation.{Reservation}
 use Rattle.hls_chron.specs.Parts.{parts}
-use Rattle.hls_kinds.specs.Reservations.{deadline_after, budget_after, last_replenished}
+use Rattle.hls_kinds.specs.Reservations.{asked_before, deadline_after, budget_after, last_replenished}
 use Rattle.hls_book_edf.specs.declared.server.Server.{Server}
-
--- it asked in the tick before the nth since
-abbrev pub asked_before : Reservation → (asks : ℕ → Bool) → ℕ → Bool
-asked_before r asks zero = false
-asked_before r asks (suc n) = asks (r.since + n)
 
 -- as it stands before the replenishment of the nth tick since
 abbrev pub server_before : Reservation → (asks serves : ℕ → Bool) → ℕ → Server

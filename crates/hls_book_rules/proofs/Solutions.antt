@@ -7,9 +7,11 @@ use Rattle.hls_kinds.specs.declared.reservations.Reservation.{Reservation}
 use Rattle.hls_kinds.specs.Tags.{share_in, start_tag}
 use Rattle.hls_kinds.specs.Tenants.{tenant_then}
 use Rattle.hls_kinds.proofs.TagLaws.{AgreeBefore, start_of-agree, since-then, start_tag-is}
-use Rattle.hls_book_edf.specs.Recomputed.{asked_before}
-use Rattle.hls_book_rules.specs.Budgets.{claim_before, claim_within, claim_served}
-use Rattle.hls_book_rules.specs.Solutions.{MeetTagRules, GoByBudgetRules}
+use Rattle.hls_kinds.specs.Reservations.{asked_before}
+use Rattle.hls_kinds.specs.Reservations.{claim_within, claim_served}
+use Rattle.hls_book_rules.specs.Budgets.{claim_before}
+use Rattle.hls_kinds.specs.Tags.{MeetTagRules}
+use Rattle.hls_kinds.specs.Reservations.{MeetBudgetRules}
 use Rattle.hls_book_rules.proofs.Budgets.{budget_rules}
 
 module _ (b : Ledger) (tags : ℕ → ℕ → ℕ) (rules : MeetTagRules b tags) where
@@ -34,7 +36,7 @@ module _ (b : Ledger) (tags : ℕ → ℕ → ℕ) (rules : MeetTagRules b tags)
 
 module _ (r : Reservation) (asks serves : ℕ → Bool) (claims : ℕ → Claim)
     (sure : (n : ℕ) → serves (r.since + n) ≡ true → asks (r.since + n) ≡ true)
-    (rules : GoByBudgetRules r asks serves claims) where
+    (rules : MeetBudgetRules r asks serves claims) where
   pub only_claims : (n : ℕ) → claims n ≡ claim_before r asks serves n
   only_claims zero = rules.begins ∙ sym (budget_rules r asks serves 0).begins
   only_claims (suc n) =

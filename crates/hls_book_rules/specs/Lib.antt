@@ -3,4 +3,3 @@ pub mod Tags
 pub mod Turns
 pub mod Places
 pub mod NewBooks
-pub mod Solutions

@@ -6,7 +6,8 @@ ghost use Rattle.hls_kinds.specs.Made.{IsMade};
 ghost use Rattle.hls_kinds.specs.Tags.{start_tag};
 ghost use Rattle.hls_book_rules.specs.Budgets.{KeepsBudgetRules, KeepsClaimRules, claim_before};
 ghost use Rattle.hls_book_rules.specs.NewBooks.{IsNew, BeginsAnew};
-ghost use Rattle.hls_book_rules.specs.Solutions.{MeetTagRules, GoByBudgetRules};
+ghost use Rattle.hls_kinds.specs.Tags.{MeetTagRules};
+ghost use Rattle.hls_kinds.specs.Reservations.{MeetBudgetRules};
 ghost use Rattle.hls_book_rules.specs.Tags.{KeepsTagRules, KeepsTagOrderInTicks};
 ghost use Rattle.hls_book_rules.specs.Turns.{KeepsTurnRules};
 ghost use Rattle.hls_book_rules.specs.Places.{KeepsPlaceRules};
@@ -28,7 +29,7 @@ pub fn budgets_meet_their_rules(reservation: Reservation)
 
 /// What goes by these rules from tick to tick is this alone, in whatever way it is computed.
 pub fn budgets_are_the_only_ones(reservation: Reservation)
-    ensures { (asks serves : ℕ → Bool) (claims : ℕ → Claim) → GoByBudgetRules reservation asks serves claims →
+    ensures { (asks serves : ℕ → Bool) (claims : ℕ → Claim) → MeetBudgetRules reservation asks serves claims →
         ((n : ℕ) → serves (reservation.since + n) ≡ true → asks (reservation.since + n) ≡ true) →
         (n : ℕ) → claims n ≡ claim_before reservation asks serves n }
 {}

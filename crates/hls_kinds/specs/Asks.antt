@@ -1,6 +1,6 @@
 -- Whether a scheduler asks for the processor, by its configuration, its book and the slots that ask now.
-use Rattle.std.specs.Prelude.{ℕ, Bool, false, not, ◌&&◌, ◌||◌, ◌==◌, nat_lt, Option, Some, None}
-use Rattle.std.specs.Int.{bit_at}
+use Rattle.std.specs.Prelude.{ℕ, ◌^◌, Bool, false, not, ◌&&◌, ◌||◌, ◌==◌, nat_lt, Option, Some, None, bit_and, bit_or}
+use Rattle.std.specs.Int.{bit_at, bit_not, w32}
 use Rattle.hls_chron.specs.declared.plain.Config.{Config}
 use Rattle.hls_chron.specs.declared.plain.Config.TheVariants.{Cpu, Fp, Edf, Sfq, Rr, Wheel, Join}
 use Rattle.hls_chron.specs.Ledger.{Ledger}
@@ -14,6 +14,13 @@ some_slot_asks mask = not (mask == 0)
 
 abbrev pub slot_asks : (mask slot : ℕ) → Bool
 slot_asks mask slot = bit_at mask slot == 1
+
+-- the mask where a slot asks, and where it does not
+abbrev pub with_slot : ℕ → ℕ → ℕ
+with_slot slot mask = bit_or mask (2 ^ slot)
+
+abbrev pub without_slot : ℕ → ℕ → ℕ
+without_slot slot mask = bit_and mask (bit_not w32 (2 ^ slot))
 
 -- the seat at the slot asks and has budget, and it asks and is soft
 abbrev pub asks_in_budget : Ledger → (mask slot : ℕ) → Bool

@@ -11,4 +11,5 @@ pub mod Discipline
 pub mod Room
 pub mod Fits
 pub mod Made
+pub mod Stands
 pub mod Faults

@@ -1,5 +1,6 @@
--- Deadlines and budgets of reservations, and what of them is held after a leaving, recomputed from the book.
-use Rattle.std.specs.Prelude.{ℕ, zero, suc, ◌+◌, ◌*◌, ◌-◌, ◌/◌, Bool, true, false, ◌&&◌, ◌||◌, ◌==◌}
+-- Deadlines and budgets of reservations, and what of them is held after a leaving: the rules by which they go from tick
+-- to tick, and then the one thing that meets these rules, recomputed from the book.
+use Rattle.std.specs.Prelude.{◌≡◌, ℕ, zero, suc, ◌+◌, ◌*◌, ◌-◌, Bool, true, false, ◌&&◌, ◌||◌, ◌==◌}
 use Rattle.std.specs.Prelude.{nat_lt, nat_le, Option, Some, None, is_none, if◌then◌else◌}
 use Rattle.hls_chron.specs.declared.plain.Terms.TheVariants as terms
 use Rattle.hls_kinds.specs.declared.tenant.Tenant.{Tenant}
@@ -9,8 +10,44 @@ use Rattle.hls_kinds.specs.declared.reservations.Claim.{Claim}
 use Rattle.hls_chron.specs.Ledger.{Ledger, now_of}
 use Rattle.hls_chron.specs.Parts.{all_parts, parts}
 use Rattle.hls_chron.specs.Seats.{asked, served}
-use Rattle.hls_chron.specs.Ticks.{count}
+use Rattle.hls_chron.specs.Ticks.{count, one_if}
 use Rattle.hls_kinds.specs.Tenants.{tenant_at, asking}
+
+-- it asked in the tick before the nth since its seating or settling
+abbrev pub asked_before : Reservation → (asks : ℕ → Bool) → ℕ → Bool
+asked_before r asks zero = false
+asked_before r asks (suc n) = asks (r.since + n)
+
+-- A budget may not be kept to the deadline by a seat that wakes: the deadline has come, or in the time to it
+-- the budget is more than the reservation's share.
+abbrev pub is_too_much : Reservation → (deadline budget t : ℕ) → Bool
+is_too_much r deadline budget t =
+    nat_le deadline t || nat_lt (parts r.x r.y * (deadline - t)) (budget * all_parts)
+
+-- Where it asks on, it is replenished at its deadline. Where it wakes, it is replenished if its budget is too much.
+abbrev pub is_due : Reservation → (asked : Bool) → (t : ℕ) → Claim → Bool
+is_due r asked t claim = if asked then claim.deadline == t else is_too_much r claim.deadline claim.budget t
+
+-- a replenishment gives the whole budget, up to a deadline a period later
+abbrev pub replenished : Reservation → (t : ℕ) → Claim
+replenished r t = record { deadline = t + r.y; budget = r.x }
+
+-- what it has in a tick: as before where it does not ask, or is not due
+abbrev pub claim_within : Reservation → (asks asked : Bool) → (t : ℕ) → Claim → Claim
+claim_within r true asked t claim = if is_due r asked t claim then replenished r t else claim
+claim_within r false asked t claim = claim
+
+-- a tick that serves it takes one off its budget, while there is any
+abbrev pub claim_served : (served : Bool) → Claim → Claim
+claim_served served claim = record claim { budget = claim.budget - one_if served }
+
+-- Claims meet the rules, each that before the nth tick since the seating or settling. No others do than those that the
+-- rest of this page computes.
+pub record MeetBudgetRules (r : Reservation) (asks serves : ℕ → Bool) (claims : ℕ → Claim) : Type 0 where
+  pub begins : claims 0 ≡ record { deadline = r.since; budget = r.x }
+  pub goes_on : (n : ℕ) → claims (n + 1)
+      ≡ claim_served (serves (r.since + n))
+      (claim_within r (asks (r.since + n)) (asked_before r asks n) (r.since + n) (claims n))
 
 -- the deadline, by the last replenishment: before the first it is the tick of the seating or settling
 abbrev pub deadline_after : Reservation → Option ℕ → ℕ
@@ -21,12 +58,6 @@ deadline_after r (Some last) = last + r.y
 abbrev pub budget_after : Reservation → (serves : ℕ → Bool) → Option ℕ → ℕ → ℕ
 budget_after r serves None t = r.x
 budget_after r serves (Some last) t = r.x - count serves last (t - last)
-
--- A budget may not be kept to the deadline by a seat that wakes: the deadline has come, or in the time to it
--- the budget is more than the reservation's share.
-abbrev pub is_too_much : Reservation → (deadline budget t : ℕ) → Bool
-is_too_much r deadline budget t =
-    nat_le deadline t || nat_lt (parts r.x r.y * (deadline - t)) (budget * all_parts)
 
 -- The reservation is replenished n ticks after its seating or settling, by the last replenishment before:
 -- it asks, and this is the first time, or it wakes with too much, or it has asked on to its deadline.

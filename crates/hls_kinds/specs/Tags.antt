@@ -1,5 +1,5 @@
 -- The tags of fair queueing, counted in a unit that each weight divides, recomputed from the book.
-use Rattle.std.specs.Prelude.{ℕ, zero, suc, ◌+◌, ◌*◌, ◌-◌, ◌/◌, max, not, Option, Some, None, is_some}
+use Rattle.std.specs.Prelude.{◌≡◌, ℕ, zero, suc, ◌+◌, ◌*◌, ◌-◌, ◌/◌, max, not, Option, Some, None, is_some}
 use Rattle.hls_chron.specs.declared.plain.Terms.TheVariants as terms
 use Rattle.hls_kinds.specs.declared.tenant.Tenant.{Tenant}
 use Rattle.hls_kinds.specs.declared.tenant.Tenant.TheVariants.{Sits}
@@ -60,6 +60,10 @@ start_of b start share t slot =
 
 abbrev pub start_by : Ledger → (start : ℕ → ℕ → ℕ) → (t slot : ℕ) → ℕ
 start_by b start t slot = start_of b start (share_in (tenant_then b slot t)) t slot
+
+-- Tags meet the rules where each is the one that the tags of earlier ticks give. No others do than these:
+abbrev pub MeetTagRules : Ledger → (tags : ℕ → ℕ → ℕ) → Type 0
+MeetTagRules b tags = (t slot : ℕ) → tags t slot ≡ start_by b tags t slot
 
 -- the start tags, right for the first n ticks of all
 unfoldable pub start_tags : Ledger → ℕ → (t slot : ℕ) → ℕ

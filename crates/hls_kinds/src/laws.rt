@@ -1,11 +1,10 @@
 //! What holds of the definitions: each function's contract is a law, and its body does nothing.
 
-ghost use Rattle.std.specs.Prelude.{◌≡◌, ℕ};
 ghost use Rattle.hls_chron.specs.Ledger.{Ledger};
-ghost use Rattle.hls_kinds.specs.Tags.{start_tag, start_by};
+ghost use Rattle.hls_kinds.specs.Tags.{start_tag, MeetTagRules};
 
 /// The start tags meet their rules by themselves: each is the one that the start tags of earlier
 /// ticks give. So it does not matter in how many rounds they are computed.
 pub fn start_tags_meet_their_rules()
-    ensures { (b : Ledger) (t slot : ℕ) → start_tag b t slot ≡ start_by b (start_tag b) t slot }
+    ensures { (b : Ledger) → MeetTagRules b (start_tag b) }
 {}

@@ -13,8 +13,10 @@ use Rattle.hls_kinds.specs.Asks.{slot_asks}
 use Rattle.hls_kinds.specs.Slots.{IsFirst}
 use Rattle.hls_kinds.specs.Tags.{start_tag}
 use Rattle.hls_kinds.specs.Made.{IsMade}
-use Rattle.hls_sched.specs.Seen.{Seen, IsConfigured, with_slot, without_slot, turned, leapt, tick_row}
-use Rattle.hls_sched.specs.Stands.{to_rivals, seen_stands}
+use Rattle.hls_kinds.specs.Asks.{with_slot, without_slot}
+use Rattle.hls_sched.specs.Seen.{Seen, IsConfigured, turned, leapt, tick_row}
+use Rattle.hls_kinds.specs.Stands.{to_rivals}
+use Rattle.hls_sched.specs.Stands.{seen_stands}
 use Rattle.hls_sched.proofs.Masks.{asks_with, still_asks_with, asks_without, still_asks_without, silent_without}
 use Rattle.hls_box.specs.Inside.Sound.{IsSound}
 use Rattle.hls_box.proofs.Sounds.{row_serves}

@@ -1,7 +1,7 @@
 -- The start tags of the slots that ask, as a queue.
 use Rattle.std.specs.Prelude.{◌≡◌, ℕ, ◌<◌, List, Option, length}
 use Rattle.hls_chron.specs.Ledger.{Ledger}
-use Rattle.hls_sched.specs.Stands.{tag_of_asking}
+use Rattle.hls_kinds.specs.Stands.{tag_of_asking}
 use Rattle.hls_order.specs.Order.{key_of}
 use Rattle.hls_sfq.specs.Choice.{tag_asking}
 use Rattle.hls_sfq.specs.declared.shares.FairSeat.{FairSeat}

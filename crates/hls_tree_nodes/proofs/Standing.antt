@@ -5,7 +5,7 @@ use Rattle.std.proofs.Common.{arith, inl, inr, slice_get, length}
 use Rattle.std.specs.Prelude.{min}
 use Rattle.std.proofs.lemmas.Bool.{cases_lt, cases_Bool}
 use Rattle.std.proofs.lemmas.Option.{slice_get_within}
-use Rattle.hls_sched.specs.Stands.{always}
+use Rattle.hls_kinds.specs.Stands.{always}
 use Rattle.hls_tree_nodes.specs.Shown.{Shown, What, Scheduler, is_sched}
 use Rattle.hls_tree_nodes.specs.Shown as shown
 use Rattle.hls_tree_nodes.specs.Leapt.{StandsIn, StandsWhat, stands_in, stands_what}

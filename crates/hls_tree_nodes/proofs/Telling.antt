@@ -9,7 +9,8 @@ use Rattle.std.proofs.lemmas.Nat.Bits.{bit_at-pow_other, bit_at-lt, bit_at_above
 use Rattle.hls_chron.specs.declared.plain.Config.{Config}
 use Rattle.hls_chron.specs.Seats.{terms_at}
 use Rattle.hls_kinds.specs.Asks.{slot_asks}
-use Rattle.hls_sched.specs.Seen.{Seen, with_slot, without_slot, requested, released}
+use Rattle.hls_kinds.specs.Asks.{with_slot, without_slot}
+use Rattle.hls_sched.specs.Seen.{Seen, requested, released}
 use Rattle.hls_tree_nodes.specs.Shown.{Post, IsPosted, IsTold}
 
 set_same : (mask slot : ℕ) → slot_asks (with_slot slot mask) slot ≡ true

@@ -3,7 +3,8 @@ use Rattle.std.specs.Prelude.{◌≡◌, ◌≢◌, ℕ, zero, suc, ◌+◌, ◌
 use Rattle.hls_machine.specs.Hierarchy.{Hierarchy, Thread, Admitted, is_ready, was_served}
 use Rattle.hls_machine.specs.Steps.{Path, Elapse, after, elapsed, hop_at, hops_of}
 use Rattle.hls_sched.specs.Seen.{leapt}
-use Rattle.hls_sched.specs.Stands.{Stands, seen_stands, always}
+use Rattle.hls_kinds.specs.Stands.{always}
+use Rattle.hls_sched.specs.Stands.{Stands, seen_stands}
 use Rattle.hls_tree_nodes.specs.Shown.{Post, What, Scheduler, Shown, on_post, ServesIn}
 use Rattle.hls_tree_nodes.specs.Shown as shown
 

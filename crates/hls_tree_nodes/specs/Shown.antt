@@ -5,7 +5,8 @@ use Rattle.hls_chron.specs.Seats.{terms_at}
 use Rattle.hls_kinds.specs.Asks.{slot_asks}
 use Rattle.hls_kinds.specs.Discipline.{Serves}
 use Rattle.hls_sched.specs.Seen.{Seen, config_of, IsConfigured, seen_asks, granted, revoked, turned, seated, left}
-use Rattle.hls_sched.specs.Seen.{settled, without_slot}
+use Rattle.hls_kinds.specs.Asks.{without_slot}
+use Rattle.hls_sched.specs.Seen.{settled}
 use Rattle.hls_kinds.specs.Faults.{IsAnswer}
 use Rattle.hls_chron.specs.declared.plain.Config.{Config}
 use Rattle.hls_chron.specs.declared.plain.Terms.{Terms}

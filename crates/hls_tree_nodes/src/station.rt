@@ -12,7 +12,8 @@ ghost use Rattle.hls_tree_nodes.specs.Shown.{post_seated, post_left, post_settle
 ghost use Rattle.hls_kinds.specs.Room.{IsFree, IsFull};
 ghost use Rattle.hls_tree_nodes.specs.Views.{post_of};
 ghost use Rattle.std.specs.Prelude.{◌≤◌};
-ghost use Rattle.hls_sched.specs.Stands.{Stands, seen_stands, always};
+ghost use Rattle.hls_kinds.specs.Stands.{always};
+ghost use Rattle.hls_sched.specs.Stands.{Stands, seen_stands};
 ghost use Rattle.hls_tree_nodes.specs.Leapt.{post_leapt};
 
 use crate::NodeId;

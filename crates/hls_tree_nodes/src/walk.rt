@@ -14,7 +14,7 @@ ghost use Rattle.hls_tree_nodes.specs.Inside.Levels.{IsLevel, AreByLevel};
 ghost use Rattle.hls_tree_nodes.specs.TreeOf.{IsLaid, IsRanked, IsAlike, IsTelling, ToldBy, Sitter, Led, Ran, RootAt};
 ghost use Rattle.hls_tree_nodes.specs.TreeOf.{Passed, Tells, NoScheduler, IsNew, IsOn, IsRoll, AllFrom, AllUpTo, Each};
 ghost use Rattle.hls_tree_nodes.specs.TreeOf.{AreTold};
-ghost use Rattle.hls_sched.specs.Stands.{always};
+ghost use Rattle.hls_kinds.specs.Stands.{always};
 ghost use Rattle.hls_tree_nodes.specs.Leapt.{post_leapt, stands_in, StandsIn};
 
 use crate::node::same_place;
