@@ -10,7 +10,8 @@ use Rattle.hls_machine.specs.Ledgers.{with_marks}
 use Rattle.hls_machine.specs.Hierarchy.{Hierarchy, Node, Loaded, Admitted, Scheduler, Place, Processor, At, Seat}
 use Rattle.hls_machine.specs.Hierarchy.{seats_of, config_of}
 use Rattle.hls_machine.specs.Steps.{marked, renewed, reseated, leavings, seatings, nodes_after, effect}
-use Rattle.hls_machine.specs.Legal.{scheduler_at, SitsUnder, IsChain, fair_queue, fair_queues}
+use Rattle.hls_chron.specs.Kinds.{fair_queue}
+use Rattle.hls_machine.specs.Legal.{scheduler_at, SitsUnder, IsChain, fair_queues}
 use Rattle.hls_scenario.specs.declared.scenario.Spot.{Spot}
 use Rattle.hls_scenario.specs.declared.scenario.Spot.TheVariants.{Cpu, Under}
 use Rattle.hls_scenario.specs.declared.scenario.Perch.{Perch}

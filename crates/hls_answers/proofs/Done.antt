@@ -22,10 +22,9 @@ use Rattle.hls_report_text.specs.declared.refusal.Refusal.{Refusal}
 use Rattle.hls_report_text.specs.declared.refusal.Refusal.TheVariants as refusals
 use Rattle.hls_machine.specs.Hierarchy.{Hierarchy, Node, Loaded, Admitted, Scheduler, Place, Processor, At, Seat}
 use Rattle.hls_machine.specs.Hierarchy.{start, config_of, name_of}
-use Rattle.hls_machine.specs.Steps.{Step, Load, Admit, End, Unload, Rouse, Block, state, loaded}
-use Rattle.hls_machine.specs.Steps.{effect, nobody}
-use Rattle.hls_machine.specs.Legal.{IsChain, IsShallow, MayTake, IsNew}
-use Rattle.hls_machine.specs.Legal.{CanLoad, IsLegal, fair_queue, fair_queues}
+use Rattle.hls_machine.specs.Steps.{Step, Load, Admit, End, Unload, Rouse, Block, state, loaded, effect, nobody}
+use Rattle.hls_machine.specs.Legal.{IsChain, IsShallow, MayTake, IsNew, CanLoad, IsLegal, fair_queues}
+use Rattle.hls_chron.specs.Kinds.{fair_queue}
 use Rattle.hls_machine.specs.Lists.{IsListed}
 use Rattle.hls_machine.proofs.Kept.{IsSound}
 use Rattle.hls_machine.proofs.Lists.{run_listed}
@@ -46,6 +45,7 @@ use Rattle.hls_answers.proofs.Unrefused.{no_command, low_level, few_shares, no_t
 use Rattle.hls_answers.proofs.Unrefused.{LeavesRoom, due_follows}
 use Rattle.hls_answers.proofs.LoadsDone.{IsLoadShape, load_shape, AreSeatsFor, seats_for, seats_apart, due_from}
 use Rattle.hls_answers.proofs.LoadsDone.{spot_at}
+use Rattle.hls_chron.proofs.ConfigLaws.{one_queue, few_seats}
 
 -- what is known where a legal run leads
 pub record IsReached (h : Hierarchy) : Type 0 where
@@ -59,15 +59,6 @@ reached steps legal = record {
   listed = run_listed steps legal;
   shallow = run_shallow steps start start_shallow legal;
 }
-
-one_queue : (config : Config) → fair_queue config ≤ 1
-one_queue (configs.Sfq total most) = omega arith
-one_queue configs.Cpu = omega arith
-one_queue configs.Fp = omega arith
-one_queue configs.Edf = omega arith
-one_queue (configs.Rr quantum) = omega arith
-one_queue (configs.Wheel frame) = omega arith
-one_queue (configs.Join ports) = omega arith
 
 pub queues_short : (h : Hierarchy) (chain : List ℕ) → fair_queues h chain ≤ length chain
 queues_short h [] = omega arith
@@ -88,15 +79,6 @@ count_some test (suc n) x lt on = elim (cases_eq x n) [
       omega (arith, one)
   | inr ne ↦ let rest = count_some test n x (omega (arith, lt, ne)) on in omega (arith, rest)
 ]
-
-most_few : (config : Config) → ConfigInRange config → most_seats config ≤ 32
-most_few configs.Cpu is = omega arith
-most_few configs.Fp is = omega arith
-most_few configs.Edf is = omega arith
-most_few (configs.Sfq total most) is = (let le = is.1.1 in omega (arith, le))
-most_few (configs.Rr quantum) is = omega arith
-most_few (configs.Wheel frame) is = omega arith
-most_few (configs.Join ports) is = omega arith
 
 empty_slot : (b : Ledger) (slot : ℕ) (any : Option Terms) → terms_at b slot ≡ any
     → ((terms : Terms) → terms_at b slot ≡ Some terms → slot < 32) → (1 ≤ seats_taken b → ⊥)
@@ -178,7 +160,7 @@ module _ (m : Moment) (is_reached : IsReached m.hierarchy) where
               empty = λ slot. empty_slot s.book slot (terms_at s.book slot) refl
                   (λ terms e.
                   (let lt = (admission_made s.config s.book made).seats.within slot terms e in
-                  let few = most_few s.config (range_made s.config s.book made) in
+                  let few = few_seats s.config (range_made s.config s.book made) in
                   omega (arith, lt, few)))
                   (λ some. no_command m (said.Unload name) none (refusals.NotEmpty name (seats_taken s.book))
                   (record {

@@ -13,14 +13,14 @@ use Rattle.hls_report_text.specs.declared.report.Answer.{Answer}
 use Rattle.hls_report_text.specs.declared.report.Answer.TheVariants.{Done, Refused}
 use Rattle.hls_answers.specs.Moment.{Moment}
 use Rattle.hls_answers.specs.Dues.{Due, dues, Derives, IsUnderivable, AreSettled}
-use Rattle.hls_answers.specs.Refusals.{IsFirst, LacksDerivation}
+use Rattle.hls_answers.specs.Refusals.{IsFirstSuch, LacksDerivation}
 use Rattle.hls_answers.specs.Answers.{number, Applies, IsAnswer}
 
 -- ---- seats of which none is the first without a derivation
 
 module _ (depth : ℕ) where
   abbrev NoneLacks : List Due → Type 0
-  NoneLacks xs = (name : Text) → ¬ IsFirst xs (LacksDerivation depth) name
+  NoneLacks xs = (name : Text) → ¬ IsFirstSuch xs (LacksDerivation depth) name
 
   derivable_first : (x : Due) (xs : List Due) → NoneLacks (x ∷ xs) → ¬ IsUnderivable depth x
   derivable_first x xs none lacks = none x.name (record {

@@ -21,6 +21,7 @@ use Rattle.hls_kinds.proofs.MarkLaws.{tenant_at-mark, sits_on}
 use Rattle.hls_machine.specs.Ledgers.{with_marks}
 use Rattle.hls_machine.specs.Hierarchy.{Place, Processor, At, Seat}
 use Rattle.hls_machine.specs.Steps.{leaving_at, leavings}
+use Rattle.hls_kinds.proofs.Occupants.{occupant_plain, by_holding}
 
 -- the least slot at which there is nothing, below a bound
 pub record IsLeast (f : ℕ → Option Terms) (n : ℕ) : Type 0 where
@@ -70,14 +71,11 @@ held_other b at slot ne =
 
 occupant_other : (config : Config) (b : Ledger) (at slot : ℕ) → at ≢ slot
     → occupant_at config (with_mark b (Leave at)) slot ≡ occupant_at config b slot
-occupant_other configs.Edf b at slot ne =
+occupant_other config b at slot ne =
+    by_holding (λ c. occupant_at c (with_mark b (Leave at)) slot ≡ occupant_at c b slot) config
     (λ i. cond (held_other b at slot ne i) (terms_left (tenant_other b at slot ne i)) (terms_other b at slot ne i))
-occupant_other configs.Cpu b at slot ne = terms_other b at slot ne
-occupant_other configs.Fp b at slot ne = terms_other b at slot ne
-occupant_other (configs.Sfq total most) b at slot ne = terms_other b at slot ne
-occupant_other (configs.Rr quantum) b at slot ne = terms_other b at slot ne
-occupant_other (configs.Wheel frame) b at slot ne = terms_other b at slot ne
-occupant_other (configs.Join ports) b at slot ne = terms_other b at slot ne
+    (λ other. occupant_plain config (with_mark b (Leave at)) slot other ∙ terms_other b at slot ne
+    ∙ sym (occupant_plain config b slot other))
 
 -- the slot that is left was taken up
 abbrev IsTakenUp : Config → Ledger → Place → (p : ℕ) → Type 0
@@ -118,16 +116,3 @@ lone_free config b seat p not_full up =
 
 pub some_free : (config : Config) (b : Ledger) → ¬ IsFull config b → (slot : ℕ) × IsFree config b slot
 some_free config b not_full = free_by config b not_full
-
--- who sits in a slot takes it up
-pub occupied : (config : Config) (b : Ledger) (slot since : ℕ) (terms : Terms)
-    → tenant_at b slot ≡ tenants.Sits terms since → occupant_at config b slot ≢ None
-unfolding is_held
-occupied configs.Edf b slot since terms e none =
-    (let has = sits_on b slot since terms e in let no = rw (e, has) at none in cc)
-occupied configs.Cpu b slot since terms e none = (let has = sits_on b slot since terms e in cc)
-occupied configs.Fp b slot since terms e none = (let has = sits_on b slot since terms e in cc)
-occupied (configs.Sfq total most) b slot since terms e none = (let has = sits_on b slot since terms e in cc)
-occupied (configs.Rr quantum) b slot since terms e none = (let has = sits_on b slot since terms e in cc)
-occupied (configs.Wheel frame) b slot since terms e none = (let has = sits_on b slot since terms e in cc)
-occupied (configs.Join ports) b slot since terms e none = (let has = sits_on b slot since terms e in cc)

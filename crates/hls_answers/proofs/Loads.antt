@@ -9,7 +9,8 @@ use Rattle.hls_scenario.specs.declared.scenario.Perch.{Perch}
 use Rattle.hls_machine.specs.Hierarchy.{Hierarchy, Node, Loaded, Scheduler, Place, Processor, At, Seat, config_of}
 use Rattle.hls_machine.specs.Hierarchy.{seat_of}
 use Rattle.hls_machine.specs.Steps.{effect, nobody}
-use Rattle.hls_machine.specs.Legal.{scheduler_at, SitsUnder, IsChain, fair_queue, fair_queues}
+use Rattle.hls_chron.specs.Kinds.{fair_queue}
+use Rattle.hls_machine.specs.Legal.{scheduler_at, SitsUnder, IsChain, fair_queues}
 use Rattle.hls_machine.specs.Linked.{SitsBelow, SitsAt}
 use Rattle.hls_machine.specs.Lists.{IsListed}
 use Rattle.hls_machine.proofs.Nodes.{nobody_sits}

@@ -8,7 +8,7 @@ use Rattle.hls_text.specs.Lines.{Text}
 use Rattle.hls_chron.specs.declared.plain.Config.{Config}
 use Rattle.hls_chron.specs.declared.plain.Config.TheVariants as configs
 use Rattle.hls_chron.specs.declared.plain.Kind.TheVariants as kinds
-use Rattle.hls_chron.specs.Kinds.{kind_of}
+use Rattle.hls_chron.specs.Kinds.{kind_of, port_count}
 use Rattle.hls_guarantee.specs.declared.Guarantee.{Guarantee}
 use Rattle.hls_kinds.specs.declared.tenant.Tenant.TheVariants.{Sits}
 use Rattle.hls_kinds.specs.Room.{IsFull, occupant_at}
@@ -26,9 +26,7 @@ use Rattle.hls_machine.specs.Hierarchy.{Hierarchy, Node, Loaded, Admitted, Sched
 use Rattle.hls_machine.specs.Hierarchy.{At, Seat}
 use Rattle.hls_machine.specs.Hierarchy.{SeatHolder, seats_of, seat_of, haves_of, config_of, book_of, name_of}
 use Rattle.hls_machine.specs.Steps.{Step, Move, after, reseated, effect}
-use Rattle.hls_machine.specs.Legal.{IsChain, IsShallow, SitsOn, NotBelow, MayMoveTo, CanMove}
-use Rattle.hls_chron.specs.Kinds.{port_count}
-use Rattle.hls_machine.specs.Legal.{fair_queues}
+use Rattle.hls_machine.specs.Legal.{IsChain, IsShallow, SitsOn, NotBelow, MayMoveTo, CanMove, fair_queues}
 use Rattle.hls_machine.specs.Linked.{SitsBelow, SitsAt}
 use Rattle.hls_machine.specs.Readings.{IsUnderBy}
 use Rattle.hls_machine.proofs.Nodes.{IsCurrent, nobody_sits}
@@ -49,11 +47,13 @@ use Rattle.hls_answers.specs.Doable.{MayDo, AreDerivable}
 use Rattle.hls_answers.proofs.Found.{IsFound, named_found}
 use Rattle.hls_answers.proofs.Shallow.{chains_bounded}
 use Rattle.hls_answers.proofs.Below.{test, is_below}
-use Rattle.hls_answers.proofs.FreeSlots.{lone_free, occupied}
+use Rattle.hls_kinds.proofs.Occupants.{occupied}
+use Rattle.hls_answers.proofs.FreeSlots.{lone_free}
 use Rattle.hls_answers.proofs.Chains.{chain_moved, move_chain}
 use Rattle.hls_answers.proofs.Unrefused.{no_command, low_level, few_shares, no_thread, IsSeatFor, seat_for}
 use Rattle.hls_answers.proofs.Unrefused.{LeavesRoom, due_follows, scheduler_at_place}
 use Rattle.hls_answers.proofs.Done.{IsReached, queues_short, sound, whom, found_is}
+use Rattle.hls_chron.proofs.ConfigLaws.{one_port}
 
 -- ---- where in a list the due of a seat is
 
@@ -84,20 +84,11 @@ one_of [] e = absurd (cc)
 one_of (seat ∷ []) e = (seat, refl)
 one_of (seat ∷ other ∷ seats) e = absurd (omega (arith, e))
 
-lone_port : (config : Config) → kind_of config ≢ kinds.Join → port_count config ≡ 1
-lone_port configs.Cpu ne = refl
-lone_port configs.Fp ne = refl
-lone_port configs.Edf ne = refl
-lone_port (configs.Sfq total most) ne = refl
-lone_port (configs.Rr quantum) ne = refl
-lone_port (configs.Wheel frame) ne = refl
-lone_port (configs.Join ports) ne = absurd (ne refl)
-
 one_seat : (now : ℕ) (place : Place) (node : Option Node) → IsCurrent now node → MayMoveTo place node
     → HasOneSeat node
 one_seat now place None current may = absurd may
 one_seat now place (Some (Loaded s)) current may =
-    let one = one_of s.ports (current.seats ∙ lone_port s.config may) in
+    let one = one_of s.ports (current.seats ∙ sym (one_port s.config may)) in
     record { seat = one.0; is = one.1 }
 one_seat now place (Some (Admitted t)) current may = record { seat = t.seat; is = refl }
 

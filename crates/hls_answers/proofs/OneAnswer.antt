@@ -27,7 +27,7 @@ use Rattle.hls_machine.specs.Hierarchy.{Hierarchy, Loaded, Scheduler}
 use Rattle.hls_answers.specs.Moment.{Boxes, Moment, node_of, spots_of}
 use Rattle.hls_answers.specs.Dues.{Due, AreSettled, dues}
 use Rattle.hls_answers.specs.Refusals.{IsNotEmpty, IsCycle, IsTooDeep, AreTooManyShares, IsKitEmpty}
-use Rattle.hls_answers.specs.Refusals.{seats_taken, HasFault, IsFirst, LacksDerivation}
+use Rattle.hls_answers.specs.Refusals.{seats_taken, HasFault, IsFirstSuch, LacksDerivation}
 use Rattle.hls_answers.specs.Answers.{number, RefusesCommand, RefusesPlace, RefusesBy, RefusesFirstPlace}
 use Rattle.hls_answers.specs.Answers.{Applies, IsAnswer}
 use Rattle.hls_answers.specs.Alike.{IsAlikeSeat, AreAlikeSeats, IsAlikeAnswer}
@@ -40,8 +40,8 @@ record IsSameFirst {A : Type 0} (at other : ℕ) (item thing : A) : Type 0 where
   pub at_same : at ≡ other
   pub item_same : item ≡ thing
 
-first_same : {A K : Type 0} (items : List A) (P : A → K → Type 0) (one two : K) (f : IsFirst items P one)
-    (g : IsFirst items P two) → IsSameFirst f.at g.at f.item g.item
+first_same : {A K : Type 0} (items : List A) (P : A → K → Type 0) (one two : K) (f : IsFirstSuch items P one)
+    (g : IsFirstSuch items P two) → IsSameFirst f.at g.at f.item g.item
 first_same items P one two f g = elim (cases_lt f.at g.at) [
   | inl before ↦ absurd (g.first f.at f.item one before f.item_is f.tells)
   | inr from ↦ elim (cases_lt g.at f.at) [
@@ -206,8 +206,8 @@ place_one h command spot _ _ e f g = cc
 first_one : (m : Moment) (c : Command) (r q : Refusal) → number r ≡ number q → RefusesFirstPlace m c r
     → RefusesFirstPlace m c q → r ≡ q
 first_one m c r q e f g =
-    let mine : IsFirst (spots_of c) (RefusesBy m.hierarchy c (number q)) r =
-    subst (λ n. IsFirst (spots_of c) (RefusesBy m.hierarchy c n) r) e f.first in
+    let mine : IsFirstSuch (spots_of c) (RefusesBy m.hierarchy c (number q)) r =
+    subst (λ n. IsFirstSuch (spots_of c) (RefusesBy m.hierarchy c n) r) e f.first in
     let same = first_same (spots_of c) (RefusesBy m.hierarchy c (number q)) r q mine g.first in
     let theirs : RefusesPlace m.hierarchy c mine.item q =
     subst (λ spot. RefusesPlace m.hierarchy c spot q) (sym same.item_same) g.first.tells.refuses in

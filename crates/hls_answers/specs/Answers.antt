@@ -19,7 +19,7 @@ use Rattle.hls_answers.specs.Dues.{dues, AreSettled}
 use Rattle.hls_answers.specs.Refusals.{IsNameTaken, IsNameUnknown, IsNameOfWrongSort, AreTooManyNodes}
 use Rattle.hls_answers.specs.Refusals.{AreTooManyThreads, IsNotEmpty, IsCycle, IsTooDeep, AreTooManyShares}
 use Rattle.hls_answers.specs.Refusals.{IsKitEmpty, IsUnderived, IsPlaceUnknown, IsPlaceOfWrongSort, HasFault}
-use Rattle.hls_answers.specs.Refusals.{IsRootTaken, IsFirst}
+use Rattle.hls_answers.specs.Refusals.{IsRootTaken, IsFirstSuch}
 
 -- the numbers of refusals
 abbrev pub number : Refusal → ℕ
@@ -74,7 +74,7 @@ pub record RefusesBy (h : Hierarchy) (command : Command) (n : ℕ) (spot : Spot)
 
 -- at the first of its places that has a refusal of the number, where none of the number is of the whole command
 pub record RefusesFirstPlace (m : Moment) (command : Command) (r : Refusal) : Type 0 where
-  pub first : IsFirst (spots_of command) (RefusesBy m.hierarchy command (number r)) r
+  pub first : IsFirstSuch (spots_of command) (RefusesBy m.hierarchy command (number r)) r
   pub only : (other : Refusal) → number other ≡ number r → ¬ RefusesCommand m command other
 
 -- the refusal applies to the command

@@ -9,7 +9,8 @@ use Rattle.hls_scenario.specs.declared.scenario.Command.{Command}
 use Rattle.hls_scenario.specs.declared.scenario.Command.TheVariants.{Load, Move}
 use Rattle.hls_machine.specs.Hierarchy.{Hierarchy, Place, Processor, At, Seat}
 use Rattle.hls_machine.specs.Steps.{reseated}
-use Rattle.hls_machine.specs.Legal.{IsChain, fair_queue, fair_queues}
+use Rattle.hls_chron.specs.Kinds.{fair_queue}
+use Rattle.hls_machine.specs.Legal.{IsChain, fair_queues}
 use Rattle.hls_accounts.specs.Tells.{terms_in}
 use Rattle.hls_answers.specs.Moment.{number_of}
 

@@ -114,7 +114,7 @@ pub record IsKitEmpty (boxes : Boxes) (command : Command) (kind : Kind) (used : 
   pub used_is : used ≡ boxes.used kind
 
 -- P tells something of one of the items, and nothing of those before it
-pub record IsFirst {A K : Type 0} (items : List A) (P : A → K → Type 0) (kept : K) : Type 0 where
+pub record IsFirstSuch {A K : Type 0} (items : List A) (P : A → K → Type 0) (kept : K) : Type 0 where
   pub at : ℕ
   pub item : A
   pub item_is : slice_get items at ≡ Some item
@@ -128,7 +128,7 @@ pub record LacksDerivation (depth : ℕ) (due : Due) (name : Text) : Type 0 wher
   pub lacks : IsUnderivable depth due
 
 abbrev pub IsUnderived : Hierarchy → (depth : ℕ) → Command → Text → Type 0
-IsUnderived h depth command name = IsFirst (dues h command) (LacksDerivation depth) name
+IsUnderived h depth command name = IsFirstSuch (dues h command) (LacksDerivation depth) name
 
 -- ---- refusals at one place
 

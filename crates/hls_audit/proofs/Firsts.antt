@@ -11,7 +11,7 @@ use Rattle.hls_audit.specs.declared.auditing.Outcome.{Outcome}
 use Rattle.hls_audit.specs.declared.auditing.Outcome.TheVariants.{Kept, Broken}
 use Rattle.hls_audit.specs.Audits.{IsAudit}
 use Rattle.hls_audit_watch.specs.First.{IsFirstAt, FirstAt}
-use Rattle.hls_audit.specs.Least.{IsLeast, LeastOf}
+use Rattle.hls_audit.specs.Least.{IsLeastFailure, LeastOf}
 use Rattle.hls_audit.specs.Inside.Failing.{sooner, bound}
 use Rattle.hls_audit_threads.proofs.Formed.{stay_ends, command_early}
 use Rattle.hls_audit_threads.proofs.OnPaths.{path_early}
@@ -97,8 +97,8 @@ module _ (c : Content) (few : ℕ) (which : Clause) (is : number_of which ≡ fe
     | inr same ↦ subst (λ (x : Clause). ¬ Fails x c t) (sym same) (none t)
   ]
 
-  none_broken : (number s : ℕ) → IsLeast c few number s → ((t : ℕ) → t < s → ¬ Fails which c t)
-      → IsLeast c (few + 1) number s
+  none_broken : (number s : ℕ) → IsLeastFailure c few number s → ((t : ℕ) → t < s → ¬ Fails which c t)
+      → IsLeastFailure c (few + 1) number s
   none_broken number s old none = record {
     clause = old.clause;
     number_is = old.number_is;
@@ -112,7 +112,7 @@ module _ (c : Content) (few : ℕ) (which : Clause) (is : number_of which ≡ fe
   }
 
   new_broken : (t : ℕ) → ((other : Clause) (before : ℕ) → number_of other ≤ few → before ≤ t → ¬ Fails other c before)
-      → IsFirstAt (Fails which c) t → IsLeast c (few + 1) (few + 1) t
+      → IsFirstAt (Fails which c) t → IsLeastFailure c (few + 1) (few + 1) t
   new_broken t old first = record {
     clause = which;
     number_is = sym is;
@@ -125,7 +125,7 @@ module _ (c : Content) (few : ℕ) (which : Clause) (is : number_of which ≡ fe
     least = λ other less. old other t (omega (arith, less)) (omega arith);
   }
 
-  either : (number s t : ℕ) (b : Bool) → nat_lt t s ≡ b → IsLeast c few number s → IsFirstAt (Fails which c) t
+  either : (number s t : ℕ) (b : Bool) → nat_lt t s ≡ b → IsLeastFailure c few number s → IsFirstAt (Fails which c) t
       → LeastOf c (few + 1) (cond b (Broken (few + 1) t) (Broken number s))
   either number s t true e old first =
       let lt : t < s = ltb-true t s e in

@@ -31,11 +31,11 @@ use Rattle.hls_audit_clauses.specs.declared.member.Member.{Member}
 use Rattle.hls_audit_clauses.specs.Names.{has_name, member_of, sort_of, perches_of, is_scheduler_sort, is_join_sort}
 use Rattle.hls_audit_clauses.specs.Names.{without, with_moved, after, after_answer, tree_of}
 use Rattle.hls_audit_clauses.specs.Misplaced.{is_taken, is_unknown, is_of_wrong_sort, is_occupied, is_cycle}
-use Rattle.hls_audit_clauses.specs.Misplaced.{is_wrong_spot}
-use Rattle.hls_audit_clauses.specs.Misplaced.{is_misplaced}
+use Rattle.hls_audit_clauses.specs.Misplaced.{is_wrong_spot, is_misplaced}
 use Rattle.hls_audit_clauses.specs.Dues.{config_in, config_at, wants, haves_at, due_at, dues_from, due_under}
 use Rattle.hls_audit_clauses.specs.Dues.{is_at, dues_under, dues}
 use Rattle.hls_audit.specs.Inside.Fits.{HasSeats, IsFit, IsFitDue}
+use Rattle.hls_chron.proofs.ConfigLaws.{one_port, kind_no_join}
 
 -- ---- one seat
 
@@ -166,19 +166,13 @@ record HasOnePort (set : Config) : Type 0 where
   config : ConfigInRange set
   port : 1 ≡ port_count set
 
-one_port : (config : Config) → is_join_sort (Some (Scheduler config)) ≡ false → 1 ≡ port_count config
-one_port configs.Cpu is = refl
-one_port configs.Fp is = refl
-one_port configs.Edf is = refl
-one_port (configs.Sfq total most) is = refl
-one_port (configs.Rr quantum) is = refl
-one_port (configs.Wheel frame) is = refl
-one_port (configs.Join ports) is = absurd (cc)
+one_if_no_join : (config : Config) → is_join_sort (Some (Scheduler config)) ≡ false → 1 ≡ port_count config
+one_if_no_join config is = one_port config (kind_no_join config is)
 
 sort_config : (sort : Sort) (perches : List Perch) → HasSeats sort perches → is_join_sort (Some sort) ≡ false
     → HasOnePort (config_in (Some sort))
 sort_config (Scheduler config) perches fit is =
-    record { config = (load_fits config perches fit).config; port = one_port config is }
+    record { config = (load_fits config perches fit).config; port = one_if_no_join config is }
 sort_config Thread perches fit is = record { config = tt; port = refl }
 
 moved_config : (found : Option Member) → IsFitFound found → is_join_sort (sort_of found) ≡ false

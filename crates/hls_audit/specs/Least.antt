@@ -6,7 +6,7 @@ use Rattle.hls_audit.specs.declared.auditing.Outcome.{Outcome}
 use Rattle.hls_audit.specs.declared.auditing.Outcome.TheVariants.{Kept, Broken}
 
 -- among the clauses of numbers at most `few`
-pub record IsLeast (c : Content) (few number t : ℕ) : Type 0 where
+pub record IsLeastFailure (c : Content) (few number t : ℕ) : Type 0 where
   pub clause : Clause
   pub number_is : number ≡ number_of clause
   pub among : number ≤ few
@@ -16,4 +16,4 @@ pub record IsLeast (c : Content) (few number t : ℕ) : Type 0 where
 
 abbrev pub LeastOf : Content → (few : ℕ) → Outcome → Type 0
 LeastOf c few Kept = (clause : Clause) (t : ℕ) → number_of clause ≤ few → ¬ Fails clause c t
-LeastOf c few (Broken number t) = IsLeast c few number t
+LeastOf c few (Broken number t) = IsLeastFailure c few number t

@@ -19,8 +19,7 @@ use Rattle.hls_scenario.specs.declared.scenario.Command.TheVariants as said
 use Rattle.hls_scenario.specs.Grammar as grammar
 use Rattle.hls_report_text.specs.declared.refusal.Refusal.{Refusal}
 use Rattle.hls_report_text.specs.declared.refusal.Refusal.TheVariants as refusals
-use Rattle.hls_machine.specs.Hierarchy.{Hierarchy, Node, Loaded, Admitted}
-use Rattle.hls_machine.specs.Hierarchy.{name_of, seats_of}
+use Rattle.hls_machine.specs.Hierarchy.{Hierarchy, Node, Loaded, Admitted, name_of, seats_of}
 use Rattle.hls_machine.specs.Lists.{IsListed}
 use Rattle.hls_machine.specs.Readings.{IsUnderBy}
 use Rattle.hls_accounts.specs.Under.{is_on}
@@ -45,6 +44,7 @@ use Rattle.hls_audit_clauses.proofs.Trees.{sort_at, IsTreeOf, IsNodeOf, node_fou
 use Rattle.hls_audit_clauses.proofs.Perches.{IsSuchSeat, seat_found, IsSuchMember, such_member, at_cpu, IsOnSuch}
 use Rattle.hls_audit_clauses.proofs.Perches.{on_such}
 use Rattle.hls_audit_clauses.proofs.Placing.{found, sort_found, occupied_off, within_step, within_zero, none_of}
+use Rattle.hls_chron.proofs.ConfigLaws.{kind_of_join}
 
 not_true : (b : Bool) → not b ≡ true → b ≡ false
 not_true true e = absurd (cc)
@@ -53,15 +53,6 @@ not_true false e = refl
 some_named : (node : Option Node) (name : Text) → name_of node ≡ Some name → is_some node ≡ true
 some_named None name e = absurd (cc)
 some_named (Some node) name e = refl
-
-join_config : (config : Config) → is_join_sort (Some (sorts.Scheduler config)) ≡ true → kind_of config ≡ kinds.Join
-join_config configs.Cpu e = absurd (cc)
-join_config configs.Fp e = absurd (cc)
-join_config configs.Edf e = absurd (cc)
-join_config (configs.Sfq total most) e = absurd (cc)
-join_config (configs.Rr quantum) e = absurd (cc)
-join_config (configs.Wheel frame) e = absurd (cc)
-join_config (configs.Join ports) e = refl
 
 -- a place that passes a test
 record IsAt {X : Type 0} (test : X → Bool) (xs : List X) : Type 0 where
@@ -291,7 +282,7 @@ module _ (m : Moment) (tree : List Member) (reached : IsReached m.hierarchy) (t 
           → NamesJoin h name
       by (Loaded s) there is = record {
         place = record { scheduler = s; there = there };
-        kind = join_config s.config (ap is_join_sort is ∙ sym (ap is_join_sort e) ∙ on);
+        kind = kind_of_join s.config (ap is_join_sort is ∙ sym (ap is_join_sort e) ∙ on);
       }
       by (Admitted x) there is = absurd (cc)
 

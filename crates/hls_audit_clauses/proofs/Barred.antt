@@ -29,8 +29,7 @@ use Rattle.hls_accounts.specs.Under.{is_on}
 use Rattle.hls_accounts.specs.Tells.{HasName, IsSpot}
 use Rattle.hls_accounts.proofs.Rousings.{names_same}
 use Rattle.hls_accounts.proofs.Reached.{IsReached, listed as lists_of, seated as seated_of}
-use Rattle.hls_answers.specs.Moment.{Moment, node_of, new_name, old_name}
-use Rattle.hls_answers.specs.Moment.{spots_of}
+use Rattle.hls_answers.specs.Moment.{Moment, node_of, new_name, old_name, spots_of}
 use Rattle.hls_answers.specs.Refusals.{PlacesThread, seats_taken}
 use Rattle.hls_answers.specs.Refusals as reasons
 use Rattle.hls_answers.specs.Answers.{RefusesCommand, RefusesPlace, Applies}
@@ -49,6 +48,7 @@ use Rattle.hls_audit_clauses.proofs.Decided.{last_served}
 use Rattle.hls_audit_clauses.proofs.Perches.{seat_passes, cpu_spot, slot_spot}
 use Rattle.hls_audit_clauses.proofs.Placing.{absent_by, found, sort_found, within_step, within_zero}
 use Rattle.hls_audit_clauses.proofs.Ranked.{chain_short}
+use Rattle.hls_chron.proofs.ConfigLaws.{join_if_kind}
 
 -- ---- parts of a test
 
@@ -87,15 +87,6 @@ any_at test (y ∷ xs) zero x e on =
     let same : y ≡ x = cc in
     or_left (test y) (list_any test xs) (ap test same ∙ on)
 any_at test (y ∷ xs) (suc at) x e on = or_right (test y) (list_any test xs) (any_at test xs at x e on)
-
-config_join : (config : Config) → kind_of config ≡ kinds.Join → is_join_sort (Some (sorts.Scheduler config)) ≡ true
-config_join configs.Cpu e = absurd (cc)
-config_join configs.Fp e = absurd (cc)
-config_join configs.Edf e = absurd (cc)
-config_join (configs.Sfq total most) e = absurd (cc)
-config_join (configs.Rr quantum) e = absurd (cc)
-config_join (configs.Wheel frame) e = absurd (cc)
-config_join (configs.Join ports) e = refl
 
 any_member : (h : Hierarchy) (test : Member → Bool) (ks : List ℕ) (tree : List Member) (d : ℕ)
     → AreMembers h ks tree → Contains ks d → ((m : Member) → IsMember h d m → test m ≡ true)
@@ -173,7 +164,7 @@ module _ (m : Moment) (tree : List Member) (reached : IsReached m.hierarchy) (t 
       let same : own ≡ name = (let e = f.old in cc) in
       ap (λ (n : Text). is_join_sort (sort_of (member_of tree n))) same
       ∙ ap is_join_sort (sort_named name (Loaded f.wrong.place.scheduler) f.wrong.place.there)
-      ∙ config_join f.wrong.place.scheduler.config f.wrong.kind
+      ∙ join_if_kind f.wrong.place.scheduler.config f.wrong.kind
   sort_wrong (said.Wake own burst) name f =
       let same : own ≡ name = (let e = f.old in cc) in
       ap (is_scheduler tree) same

@@ -45,6 +45,7 @@ use Rattle.hls_audit_clauses.proofs.TreeSteps.{empty_seat}
 use Rattle.hls_audit_clauses.proofs.TreeRuns.{IsCommandStep, command_step}
 use Rattle.hls_audit_clauses.proofs.Perches.{IsSuchSeat, seat_found, IsSuchMember, such_member, at_cpu, IsOnSuch}
 use Rattle.hls_audit_clauses.proofs.Perches.{on_such}
+use Rattle.hls_chron.proofs.ConfigLaws.{no_join_config}
 
 pub within_step : (tree : List Member) (steps : ℕ) (above name : Text)
     → is_within tree (suc steps) above name
@@ -65,19 +66,9 @@ absent_by h tree t name nobody (Some m) e =
     let n = node_found h tree t name m e in
     absurd (nobody n.k n.has)
 
-config_no_join : (config : Config) → kind_of config ≢ kinds.Join
-    → is_join_sort (Some (sorts.Scheduler config)) ≡ false
-config_no_join configs.Cpu ne = refl
-config_no_join configs.Fp ne = refl
-config_no_join configs.Edf ne = refl
-config_no_join (configs.Sfq total most) ne = refl
-config_no_join (configs.Rr quantum) ne = refl
-config_no_join (configs.Wheel frame) ne = refl
-config_no_join (configs.Join ports) ne = absurd (ne refl)
-
 no_join : (place : Place) (node : Option Node) → MayMoveTo place node → is_join_sort (sort_at node) ≡ false
 no_join place None may = absurd may
-no_join place (Some (Loaded s)) may = config_no_join s.config may
+no_join place (Some (Loaded s)) may = no_join_config s.config may
 no_join place (Some (Admitted t)) may = refl
 
 no_thread : (node : Option Node) → MayMoveTo Processor node → is_thread_sort (sort_at node) ≡ false

@@ -16,6 +16,7 @@ use Rattle.hls_accounts.specs.Under.{is_on}
 use Rattle.hls_audit_clauses.specs.declared.member.Sort.{Sort}
 use Rattle.hls_audit_clauses.specs.declared.member.Sort.TheVariants.{Scheduler, Thread}
 use Rattle.hls_audit_clauses.specs.declared.member.Member.{Member}
+use Rattle.hls_chron.specs.Kinds.{is_join_config}
 
 abbrev pub has_name : (name : Text) → Member → Bool
 has_name name m = bytes_eq m.name name
@@ -71,7 +72,7 @@ is_thread_sort (Some Thread) = true
 is_thread_sort _ = false
 
 abbrev pub is_join_sort : Option Sort → Bool
-is_join_sort (Some (Scheduler (configs.Join ports))) = true
+is_join_sort (Some (Scheduler config)) = is_join_config config
 is_join_sort _ = false
 
 abbrev pub is_scheduler : List Member → (name : Text) → Bool

@@ -12,7 +12,7 @@ use Rattle.hls_guarantee.specs.Service.{schedule_of}
 use Rattle.hls_guarantee.proofs.Debts.{no_debt}
 use Rattle.hls_guarantee.proofs.Excesses.{no_excess}
 use Rattle.hls_audit_watch.specs.declared.cuts.Cuts.{Cuts}
-use Rattle.hls_audit_watch.specs.Inside.Carried.{HasRoom, IsCarried, IsCapCarried}
+use Rattle.hls_audit_watch.specs.Inside.Carried.{HasPlaces, IsCarried, IsCapCarried}
 use Rattle.hls_audit_watch.specs.Inside.Lately.{Lately}
 use Rattle.hls_audit_watch.specs.Inside.Periods.{IsPeriodOf}
 use Rattle.hls_audit_watch.specs.Inside.Watching.{IsWatching}
@@ -37,7 +37,7 @@ cap_carried_none (Resc hard x y) = tt
 cap_carried_none (Psbe s d) = tt
 
 pub watching_none : (g : Guarantee) (ticks w : ℕ) (cuts : Cuts) (list : List Bool) → IsValid g →
-    ticks ≤ 1000000 → ((n : ℕ) → n ≤ ticks → IsPeriodOf g w n) → HasRoom g w (length cuts.broken.items) →
+    ticks ≤ 1000000 → ((n : ℕ) → n ≤ ticks → IsPeriodOf g w n) → HasPlaces g w (length cuts.broken.items) →
     cuts.from ≡ 0 → cuts.free ≡ 0 → list ≡ [] → IsWatching g ticks w 0 0 cuts true true list
 watching_none g ticks w cuts list valid few period room from free none =
     subst (λ l. IsWatching g ticks w 0 0 cuts true true l) (sym none) (record {
@@ -56,7 +56,7 @@ watching_none g ticks w cuts list valid few period room from free none =
 pub watching_more : (g : Guarantee) (ticks w debt excess : ℕ) (cuts : Cuts) (kept capped : Bool) (l : List Bool)
     (b : Bool) (now : Lately) (owed had : ℕ) (left : Cuts) (keeps caps : Bool) →
     IsWatching g ticks w debt excess cuts kept capped l → length l < ticks →
-    now ≡ record { period = w; list = l ++ b ∷ [] } → HasRoom g w (length left.broken.items) →
+    now ≡ record { period = w; list = l ++ b ∷ [] } → HasPlaces g w (length left.broken.items) →
     (IsTrue keeps ↔ ListSatisfies g (l ++ b ∷ [])) → (IsTrue keeps → IsCarried g w owed left (l ++ b ∷ [])) →
     (IsTrue caps ↔ ListKeepsCap g (l ++ b ∷ [])) → (IsTrue caps → IsCapCarried g had (l ++ b ∷ [])) →
     IsWatching g ticks now.period owed had left keeps caps now.list

@@ -6,7 +6,7 @@ ghost use Rattle.hls_guarantee.specs.Cap.{ListKeepsCap};
 ghost use Rattle.hls_guarantee.specs.Limits.{IsReservation, IsShare, IsValid};
 ghost use Rattle.hls_guarantee.specs.Satisfaction.{ListSatisfies};
 ghost use Rattle.hls_guarantee.specs.Service.{schedule_of, service_before};
-ghost use Rattle.hls_audit_watch.specs.Inside.Carried.{HasRoom, IsCarried, IsCapCarried};
+ghost use Rattle.hls_audit_watch.specs.Inside.Carried.{HasPlaces, IsCarried, IsCapCarried};
 ghost use Rattle.hls_audit_watch.specs.Inside.Periods.{IsPeriod, IsPeriodOf};
 
 use crate::cuts::Cuts;
@@ -77,11 +77,11 @@ fn stays_kept(
 ) -> bool
     requires valid { IsValid g.now }
     requires period { IsPeriodOf g.now recent.now.period (length recent.now.list + 1) }
-    requires room { HasRoom g.now recent.now.period (length cuts.old.broken.items) }
+    requires room { HasPlaces g.now recent.now.period (length cuts.old.broken.items) }
     requires kept { ListSatisfies g.now recent.now.list }
     requires carried { IsCarried g.now recent.now.period debt.old cuts.old recent.now.list }
     ensures kept { IsTrue result ↔ ListSatisfies g.now (recent.now.list ++ served ∷ []) }
-    ensures room { HasRoom g.now recent.now.period (length cuts.new.broken.items) }
+    ensures room { HasPlaces g.now recent.now.period (length cuts.new.broken.items) }
     ensures carried { IsTrue result →
         IsCarried g.now recent.now.period debt.new cuts.new (recent.now.list ++ served ∷ []) }
 {
@@ -124,11 +124,11 @@ pub(crate) fn is_kept(
 ) -> bool
     requires valid { IsValid g.now }
     requires period { IsPeriodOf g.now recent.now.period (length recent.now.list + 1) }
-    requires room { HasRoom g.now recent.now.period (length cuts.old.broken.items) }
+    requires room { HasPlaces g.now recent.now.period (length cuts.old.broken.items) }
     requires kept { IsTrue was ↔ ListSatisfies g.now recent.now.list }
     requires carried { IsTrue was → IsCarried g.now recent.now.period debt.old cuts.old recent.now.list }
     ensures kept { IsTrue result ↔ ListSatisfies g.now (recent.now.list ++ served ∷ []) }
-    ensures room { HasRoom g.now recent.now.period (length cuts.new.broken.items) }
+    ensures room { HasPlaces g.now recent.now.period (length cuts.new.broken.items) }
     ensures carried { IsTrue result →
         IsCarried g.now recent.now.period debt.new cuts.new (recent.now.list ++ served ∷ []) }
 {

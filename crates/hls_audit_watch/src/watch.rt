@@ -3,7 +3,7 @@ ghost use Rattle.std.specs.Prelude.{◌≡◌, ℕ, ◌<◌, ◌≤◌, ◌↔�
 ghost use Rattle.hls_guarantee.specs.Cap.{ListKeepsCap};
 ghost use Rattle.hls_guarantee.specs.Limits.{IsValid};
 ghost use Rattle.hls_guarantee.specs.Satisfaction.{ListSatisfies};
-ghost use Rattle.hls_audit_watch.specs.Inside.Carried.{HasRoom};
+ghost use Rattle.hls_audit_watch.specs.Inside.Carried.{HasPlaces};
 ghost use Rattle.hls_audit_watch.specs.Inside.Periods.{IsPeriodOf};
 
 use crate::cuts::Cuts;
@@ -54,7 +54,7 @@ fn period_of(guarantee: &Guarantee, ticks: u32) -> u32
 
 /// How many offsets are told apart.
 fn places_of(guarantee: &Guarantee, period: u32) -> u32
-    ensures { HasRoom guarantee.now period result }
+    ensures { HasPlaces guarantee.now period result }
 {
     match *guarantee {
         Guarantee::Resb { .. } => period,

@@ -28,6 +28,7 @@ use Rattle.hls_book_wheel.proofs.OwnerLaws.{owner_at-mark}
 use Rattle.hls_book_edf.proofs.MarkSteps.{asked-mark, served-mark}
 use Rattle.hls_book_edf.proofs.Occupants.{occupant_of, occupant-is}
 use Rattle.hls_kinds.proofs.Sums.{sum-le}
+use Rattle.hls_kinds.proofs.Occupants.{occupant_plain, by_holding}
 
 -- the terms at a slot after a leaving are those before it, or none
 left_terms : (at slot : ℕ) (some : Option Terms) (terms : Terms)
@@ -174,14 +175,12 @@ untaken b at slot none = terms_at-mark b (Leave at) slot ∙ elim (cases_eq at s
 
 pub free-leave : (config : Config) (b : Ledger) (at slot : ℕ) → occupant_at config b slot ≡ None
     → occupant_at config (with_mark b (Leave at)) slot ≡ None
-free-leave Edf b at slot free =
-    occupant-mark b (Leave at) slot ∙ free_by b at slot (tenant_at b slot) (sym (occupant-is b slot) ∙ free)
-free-leave Cpu b at slot free = untaken b at slot free
-free-leave Fp b at slot free = untaken b at slot free
-free-leave (Sfq total most) b at slot free = untaken b at slot free
-free-leave (Rr quantum) b at slot free = untaken b at slot free
-free-leave (Wheel frame) b at slot free = untaken b at slot free
-free-leave (Join ports) b at slot free = untaken b at slot free
+free-leave config b at slot =
+    by_holding (λ c. occupant_at c b slot ≡ None → occupant_at c (with_mark b (Leave at)) slot ≡ None) config
+    (λ free. occupant-mark b (Leave at) slot
+    ∙ free_by b at slot (tenant_at b slot) (sym (occupant-is b slot) ∙ free))
+    (λ other free. occupant_plain config (with_mark b (Leave at)) slot other
+    ∙ untaken b at slot (sym (occupant_plain config b slot other) ∙ free))
 
 pub full-leave : (config : Config) (b : Ledger) (at : ℕ) → IsFull config (with_mark b (Leave at))
     → IsFull config b

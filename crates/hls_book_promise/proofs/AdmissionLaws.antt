@@ -18,10 +18,10 @@ use Rattle.hls_chron.proofs.BookLaws.{row_at-unwritten, dated-mark, dated-row, d
 use Rattle.hls_kinds.specs.declared.tenant.Tenant.{Tenant}
 use Rattle.hls_kinds.specs.declared.tenant.Tenant.TheVariants.{Vacant, Sits, Left}
 use Rattle.hls_kinds.specs.Tenants.{after_leaving, after_settling, tenant_at, settled_at}
-use Rattle.hls_kinds.specs.Fits.{Fits}
+use Rattle.hls_kinds.specs.Fits.{Fits, HasSeats}
 use Rattle.hls_kinds.proofs.MarkLaws.{tenant_at-mark, tenant_at-row, tenant_at-unmarked, settled_at-mark}
 use Rattle.hls_kinds.proofs.MarkLaws.{settled_at-row, settled_at-unmarked, sits_on}
-use Rattle.hls_book_promise.specs.Admission.{HasSeats, HasStood, KeepsAdmission}
+use Rattle.hls_book_promise.specs.Admission.{HasStood, KeepsAdmission}
 
 -- a mark that a scheduler may be told of
 abbrev pub MayMark : Config → Ledger → Event → Type 0

@@ -7,13 +7,7 @@ use Rattle.hls_chron.specs.Ledger.{Ledger, now_of, row_at, before, IsDated}
 use Rattle.hls_chron.specs.Seats.{SlotAsks, most_seats, terms_at, priority_at}
 use Rattle.hls_kinds.specs.declared.tenant.Tenant.TheVariants.{Sits}
 use Rattle.hls_kinds.specs.Tenants.{tenant_at, settled_at}
-
--- the seats that are taken: of the scheduler's kind, and no two of one priority number
-pub record HasSeats (config : Config) (b : Ledger) : Type 0 where
-  pub within : (slot : ℕ) (terms : Terms) → terms_at b slot ≡ Some terms → slot < most_seats config
-  pub of_kind : (slot : ℕ) (terms : Terms) → terms_at b slot ≡ Some terms → terms_kind terms ≡ kind_of config
-  pub apart : (slot other priority : ℕ) → priority_at b slot ≡ Some priority
-      → priority_at b other ≡ Some priority → slot ≡ other
+use Rattle.hls_kinds.specs.Fits.{HasSeats}
 
 -- A seat stands in the book before each tick since its seating, or since the last settling if that is later.
 pub record HasStood (b : Ledger) : Type 0 where

@@ -9,7 +9,8 @@ use Rattle.hls_kinds.specs.Tenants.{tenant_at, settled_at}
 use Rattle.hls_kinds.specs.Asks.{asks}
 use Rattle.hls_guarantee.specs.declared.Guarantee.{Guarantee}
 use Rattle.hls_guarantee.specs.Supply.{Supplies}
-use Rattle.hls_guarantee.specs.Steps.{IsPort, LendsThrough}
+use Rattle.hls_chron.specs.Kinds.{IsPort}
+use Rattle.hls_guarantee.specs.Steps.{LendsThrough}
 
 -- in tick t the scheduler was given the processor through this port
 unfoldable pub given : Ledger → (port : ℕ) → ℕ → Bool

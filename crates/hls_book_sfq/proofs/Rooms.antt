@@ -23,7 +23,7 @@ use Rattle.hls_kinds.specs.Room.{weight_in, room_used}
 use Rattle.hls_kinds.proofs.SlotLaws.{any_below-none}
 use Rattle.hls_kinds.proofs.TenantLaws.{seated_in, seated-terms}
 use Rattle.hls_kinds.proofs.MarkLaws.{tenant_at-same}
-use Rattle.hls_book_promise.specs.Admission.{HasSeats}
+use Rattle.hls_kinds.specs.Fits.{HasSeats}
 use Rattle.hls_book_promise.proofs.AdmissionLaws.{seats-same}
 use Rattle.hls_book_promise.proofs.PromiseLaws.{asked-slot}
 use Rattle.hls_book_sfq.specs.ShareBook.{HasWeights, KeepsShareBook}

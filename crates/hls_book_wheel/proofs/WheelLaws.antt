@@ -9,7 +9,7 @@ use Rattle.std.proofs.lemmas.Nat.Bits.{bit_at-zero}
 use Rattle.hls_chron.specs.declared.plain.Kind.TheVariants as kinds
 use Rattle.hls_chron.specs.declared.plain.Config.{Config}
 use Rattle.hls_chron.specs.declared.plain.Config.TheVariants as configs
-use Rattle.hls_chron.specs.Kinds.{kind_of}
+use Rattle.hls_chron.specs.Kinds.{kind_of, frame_of}
 use Rattle.hls_chron.specs.declared.plain.Terms.{Terms}
 use Rattle.hls_chron.specs.declared.plain.Terms.TheVariants as terms
 use Rattle.hls_chron.specs.Ledger.{Ledger, no_row, now_of, row_at, before}
@@ -31,7 +31,8 @@ use Rattle.hls_book_promise.specs.Promise.{given, asked_by, KeepsPromise}
 use Rattle.hls_book_promise.specs.Admission.{KeepsAdmission}
 use Rattle.hls_book_promise.proofs.PromiseLaws.{row_at-later, asked-slot, served-to, to-served, given-went}
 use Rattle.hls_book_promise.proofs.PromiseLaws.{nothing-supplies}
-use Rattle.hls_book_wheel.specs.Places.{frame_of, owns_place, KeepsPlaces}
+use Rattle.hls_book_wheel.specs.Places.{owns_place, KeepsPlaces}
+use Rattle.hls_chron.proofs.ConfigLaws.{of_wheel}
 
 -- the places of the ticks come round
 abbrev in_tick : (frame : ℕ) → (ℕ → Bool) → ℕ → Bool
@@ -239,10 +240,7 @@ wheel_keeps frame b kept discipline places = record {
 -- the same of a configuration of this kind
 pub wheel_of : (config : Config) (b : Ledger) → kind_of config ≡ kinds.Wheel → KeepsAdmission config b
     → KeepsDiscipline config b → KeepsPlaces (frame_of config) b → KeepsPromise config b
-wheel_of (configs.Wheel frame) b is kept discipline places = wheel_keeps frame b kept discipline places
-wheel_of configs.Cpu b is kept discipline places = absurd cc
-wheel_of configs.Fp b is kept discipline places = absurd cc
-wheel_of configs.Edf b is kept discipline places = absurd cc
-wheel_of (configs.Sfq total most) b is kept discipline places = absurd cc
-wheel_of (configs.Rr quantum) b is kept discipline places = absurd cc
-wheel_of (configs.Join ports) b is kept discipline places = absurd cc
+wheel_of config b is =
+    of_wheel (λ config. KeepsAdmission config b → KeepsDiscipline config b → KeepsPlaces (frame_of config) b
+    → KeepsPromise config b)
+    (λ frame kept discipline places. wheel_keeps frame b kept discipline places) config is

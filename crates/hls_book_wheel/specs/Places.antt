@@ -11,11 +11,6 @@ use Rattle.hls_kinds.specs.declared.tenant.Tenant.TheVariants.{Sits}
 use Rattle.hls_kinds.specs.Tenants.{tenant_at}
 use Rattle.hls_kinds.specs.Frames.{owner_at}
 
--- the places of the frame, or 1 where there is none
-abbrev pub frame_of : Config → ℕ
-frame_of (Wheel frame) = frame
-frame_of _ = 1
-
 -- the place is the slot's
 abbrev pub owns_place : Ledger → (slot place : ℕ) → Bool
 owns_place b slot place = is_slot (owner_at b place) slot

@@ -3,7 +3,8 @@ ghost use Rattle.std.specs.Prelude.{◌≡◌, ◌≤◌, ◌^◌, ◌↔◌, Is
 ghost use Rattle.hls_chron.specs.Ranges.{ConfigInRange, TermsInRange, IsWithin};
 ghost use Rattle.hls_guarantee.specs.Limits.{IsValid, IsShare};
 ghost use Rattle.hls_guarantee.specs.Satisfaction.{IsSoft};
-ghost use Rattle.hls_guarantee.specs.Steps.{IsPort, IsFairShare, LendsByTerms, LendsNothing, LendsThrough};
+ghost use Rattle.hls_chron.specs.Kinds.{IsPort};
+ghost use Rattle.hls_guarantee.specs.Steps.{IsFairShare, LendsByTerms, LendsNothing, LendsThrough};
 
 use hls_chron::{Config, Terms};
 use hls_derive::Place;

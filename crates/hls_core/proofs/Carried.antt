@@ -61,8 +61,8 @@ all_left left new id here others k = by (cases_eq k id)
     by (inr other) = others k other
 
 -- a done answer without seats is well formed
-pub formed_none : (command : Command) (answer : Answer) → answer ≡ Done [] → formed.IsAnswer command answer
-formed_none command answer done = subst (λ (a : Answer). formed.IsAnswer command a) (sym done) tt
+pub formed_none : (command : Command) (answer : Answer) → answer ≡ Done [] → formed.MayAnswer command answer
+formed_none command answer done = subst (λ (a : Answer). formed.MayAnswer command a) (sym done) tt
 
 pub same_boxes : (one other : Boxes) → ((kind : Kind) → one.left kind ≡ other.left kind)
     → ((kind : Kind) → one.used kind ≡ other.used kind) → one ≡ other

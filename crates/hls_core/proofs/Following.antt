@@ -24,7 +24,7 @@ use Rattle.hls_machine.specs.Legal.{IsReached}
 use Rattle.hls_manager.specs.Outcomes.{HasMarkRoom, moment}
 use Rattle.hls_manager.proofs.Outcomes.{reached_listed}
 use Rattle.hls_core_stays.specs.Tallies.{AreStays}
-use Rattle.hls_core_stays.specs.Turnovers.{IsTurnover, Tells}
+use Rattle.hls_core_stays.specs.Turnovers.{IsTurnover, TellsBelow}
 use Rattle.hls_core_stays.specs.Changes.{Turns, MayTurn}
 use Rattle.hls_core_stays.specs.declared.stays.Stays.{Stays}
 use Rattle.hls_core_stays.specs.declared.turnover.Turnover.{Turnover}
@@ -34,7 +34,7 @@ use Rattle.hls_core.specs.Standing.{IsAt}
 use Rattle.hls_core.specs.Inside.Outcomes.{CarriesOut, CarriesStays, MayCarry, Follows, MayFollow}
 
 run_tells : (steps : List Step) → IsLegal start steps → (k : ℕ) (below : ℕ → Bool)
-    → IsBelow (state start steps) k below → Tells (state start steps) k below
+    → IsBelow (state start steps) k below → TellsBelow (state start steps) k below
 run_tells steps legal k below is node =
     let kept = run_keeps steps start start_kept legal in (
       λ on. below_rank (state start steps) kept.rank kept.sound k below is (suc (kept.rank node)) node
@@ -42,9 +42,9 @@ run_tells steps legal k below is node =
       λ under. under_below (state start steps) k below is under.0 node under.1,
     )
 
-reached_tells : (h : Hierarchy) → IsReached h → (k : ℕ) (below : ℕ → Bool) → IsBelow h k below → Tells h k below
+reached_tells : (h : Hierarchy) → IsReached h → (k : ℕ) (below : ℕ → Bool) → IsBelow h k below → TellsBelow h k below
 reached_tells h is =
-    subst (λ (g : Hierarchy). (k : ℕ) (below : ℕ → Bool) → IsBelow g k below → Tells g k below) (sym is.leads)
+    subst (λ (g : Hierarchy). (k : ℕ) (below : ℕ → Bool) → IsBelow g k below → TellsBelow g k below) (sym is.leads)
     (run_tells is.past is.legal)
 
 reached_after : (h : Hierarchy) (step : Step) → IsReached h → Can h step → IsReached (after h step)

@@ -126,7 +126,7 @@ module _ {V W : Type 0} {P : V → Type 0} {Q : W → Type 0}
       (due : IsDue s.items old.agenda old.journal.ticks command) → length s.items ≤ commands
       → CarriesOut seen old.tree new.tree new.bursts (moment (state start is.steps) old.kit old.depth) commands command
       answer
-      → boxes_in new.kit ≡ boxes_after (boxes_in old.kit) command answer → formed.IsAnswer command answer
+      → boxes_in new.kit ≡ boxes_after (boxes_in old.kit) command answer → formed.MayAnswer command answer
       → IsGood (boxed seen) new.kit → IsNoted command answer old.journal new.journal → new.agenda ≡ old.agenda + 1
       → new.scenario ≡ old.scenario → new.depth ≡ old.depth → new.tree.horizon ≡ old.tree.horizon
       → ((h : Hierarchy) (step : Step) → MayCarry seen old.tree old.bursts old.stays h → Answers h command answer step
@@ -144,7 +144,7 @@ module _ {V W : Type 0} {P : V → Type 0} {Q : W → Type 0}
       let notes : IsNoted item.command answer old.journal new.journal =
       subst (λ c. IsNoted c answer old.journal new.journal) (sym due.is) noted in
       let grammar = items_command s.horizon 0 s.items old.agenda item is.within.items due.there in
-      let fit = subst (λ c. formed.IsAnswer c answer) (sym due.is) fits in
+      let fit = subst (λ c. formed.MayAnswer c answer) (sym due.is) fits in
       let c = told s.items old.depth old.journal in
       let a = answered_as item answer in
       let boxed_now = boxes_left boxes (answered_by s.items old.journal.answers.items) in

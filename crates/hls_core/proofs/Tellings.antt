@@ -16,7 +16,7 @@ use Rattle.hls_scenario.specs.Grammar.{IsScenario, IsCommand}
 use Rattle.hls_report_text.specs.declared.report.Answer.{Answer}
 use Rattle.hls_report_text.specs.declared.report.Answered.{Answered}
 use Rattle.hls_report_text.specs.ReportText.{head_lines, answered_lines, ended}
-use Rattle.hls_report_text.specs.WellFormed.{IsAnswer}
+use Rattle.hls_report_text.specs.WellFormed.{MayAnswer}
 use Rattle.hls_sched.specs.Seen.{Seen}
 use Rattle.hls_answers.specs.Moment.{Boxes}
 use Rattle.hls_core_journal.specs.declared.journal.Journal.{Journal}
@@ -61,7 +61,7 @@ pub record IsLastOf (s : Scenario) (before : List Answer) (answer : Answer) : Ty
   pub item : Item
   pub there : slice_get s.items (length before) ≡ Some item
   pub command : IsCommand item.command
-  pub fits : IsAnswer item.command answer
+  pub fits : MayAnswer item.command answer
 
 pub last_of : (s : Scenario) (j : Journal) (before : List Answer) (answer : Answer) → IsScenario s → IsKept s j
     → j.answers.items ≡ before ++ answer ∷ [] → IsLastOf s before answer
@@ -69,7 +69,7 @@ last_of s j before answer is kept all =
     let few = kept.few in
     let count = ap length all ∙ length-append before (answer ∷ []) in
     let at = found s.items (length before) (omega (arith, few, count)) in
-    let P = λ (p : Item × Answer). IsAnswer p.0.command p.1 in
+    let P = λ (p : Item × Answer). MayAnswer p.0.command p.1 in
     record {
       item = at.0;
       there = at.1;
@@ -82,7 +82,7 @@ last_of s j before answer is kept all =
 -- its lines may be written
 pub record MayPut (item : Item) (answer : Answer) : Type 0 where
   pub command : IsCommand item.command
-  pub fits : IsAnswer item.command answer
+  pub fits : MayAnswer item.command answer
 
 -- what is read at a place
 pub item_at : (items read : List Item) (place : ℕ) (item : Item) → read ≡ items → place < length items
@@ -273,8 +273,8 @@ module _ {V W : Type 0} {P : V → Type 0} {Q : W → Type 0}
       let same : last.item ≡ item = cc in
       record {
         command = subst (λ (i : Item). IsCommand i.command) same last.command;
-        fits = subst (λ (a : Answer). IsAnswer item.command a) (sym one.same)
-            (subst (λ (i : Item). IsAnswer i.command u.answer) same last.fits);
+        fits = subst (λ (a : Answer). MayAnswer item.command a) (sym one.same)
+            (subst (λ (i : Item). MayAnswer i.command u.answer) same last.fits);
       }
 
 -- where nothing failed

@@ -4,7 +4,7 @@ ghost use Rattle.hls_scenario.specs.Grammar.{IsCommand};
 ghost use Rattle.hls_scenario.specs.declared.scenario.Command.{Command as CommandSeen};
 ghost use Rattle.hls_scenario.specs.declared.scenario.Command.TheVariants.{Wake, Block};
 ghost use Rattle.hls_report_text.specs.declared.report.Answer.TheVariants.{Done};
-ghost use Rattle.hls_report_text.specs.WellFormed.{IsAnswer as IsWellFormed};
+ghost use Rattle.hls_report_text.specs.WellFormed.{MayAnswer as IsWellFormed};
 ghost use Rattle.hls_sched.specs.GoodKit.{IsGood};
 ghost use Rattle.hls_machine.specs.Hierarchy.{Hierarchy};
 ghost use Rattle.hls_machine.specs.Steps.{Step, after};
@@ -15,7 +15,7 @@ ghost use Rattle.hls_answers.specs.Kit.{boxes_after};
 ghost use Rattle.hls_tree_nodes.specs.Views.{boxed};
 ghost use Rattle.hls_tree.specs.Kits.{IsSameKit};
 ghost use Rattle.hls_tree.specs.Trees.{IsTreeOf, IsReadyOf, IsAsBefore, Stands};
-ghost use Rattle.hls_core_stays.specs.Tallies.{AreStays, HasRoom};
+ghost use Rattle.hls_core_stays.specs.Tallies.{AreStays, HasSpare};
 ghost use Rattle.hls_core_stays.specs.Turnovers.{stays_begun};
 ghost use Rattle.hls_manager.specs.Outcomes as manager;
 ghost use Rattle.hls_machine.specs.Legal.{IsReached};
@@ -130,7 +130,7 @@ fn carry_out(
 /// Ends and begins stays, where a command was done.
 fn follow(tree: &Tree, stays: &mut Stays, turnover: Turnover, answer: &Answer)
     requires may { MayFollow seen stays.old tree.now turnover answer.now }
-    requires room { HasRoom stays.old (stays_begun turnover) }
+    requires room { HasSpare stays.old (stays_begun turnover) }
     ensures { (h : Hierarchy) (command : CommandSeen) (step : Step) →
         Follows seen stays.old tree.now turnover answer.now h command step → AreStays stays.new (after h step) }
 {

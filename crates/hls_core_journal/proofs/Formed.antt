@@ -16,7 +16,7 @@ use Rattle.hls_report_text.specs.declared.report.Run.{Run}
 use Rattle.hls_report_text.specs.declared.report.Account.{Account}
 use Rattle.hls_report_text.specs.declared.report.Report.{Report}
 use Rattle.hls_report_text.specs.Content.{content_of}
-use Rattle.hls_report_text.specs.WellFormed.{AreAnswered, IsAnswer, HasShort, IsContent}
+use Rattle.hls_report_text.specs.WellFormed.{AreAnswered, MayAnswer, HasShort, IsContent}
 use Rattle.hls_accounts.specs.Schedule.{path_at}
 use Rattle.hls_accounts.specs.Accounts.{accounts_of, idle_of}
 use Rattle.hls_core_journal.specs.declared.journal.Journal.{Journal}
@@ -28,12 +28,12 @@ use Rattle.hls_core_journal.proofs.Totals.{accounts_formed}
 use Rattle.hls_core_journal.proofs.Few.{few_names}
 
 are_answered : (horizon last : ℕ) (items : List Item) (answers : List Answer) → AreItems horizon last items
-    → All (λ (p : Item × Answer). IsAnswer p.0.command p.1) (zip items answers)
+    → All (λ (p : Item × Answer). MayAnswer p.0.command p.1) (zip items answers)
     → AreAnswered horizon last (answered_by items answers)
 are_answered horizon last [] answers are fit = tt
 are_answered horizon last (item ∷ items) [] are fit = tt
 are_answered horizon last (item ∷ items) (answer ∷ answers) are fit =
-    let P = λ (p : Item × Answer). IsAnswer p.0.command p.1 in (
+    let P = λ (p : Item × Answer). MayAnswer p.0.command p.1 in (
       are.0,
       All-head P (item, answer) (zip items answers) fit,
       are.1,

@@ -22,7 +22,7 @@ use Rattle.hls_report_text.specs.declared.report.Path.{Path}
 use Rattle.hls_report_text.specs.declared.report.Run.{Run}
 use Rattle.hls_report_text.specs.declared.stretch.Stretch.{Stretch}
 use Rattle.hls_report_text.specs.Content.{Content, stretch_of}
-use Rattle.hls_report_text.specs.WellFormed.{Cover, HasShort, IsPath, IsAnswer, with_name}
+use Rattle.hls_report_text.specs.WellFormed.{Cover, HasShort, IsPath, MayAnswer, with_name}
 use Rattle.hls_report_text.proofs.NameLaws.{Grows, grows_none, name_grows, AreIn, grown_in}
 use Rattle.hls_report_text.proofs.NameLaws.{grown_names}
 use Rattle.hls_answers.specs.Moment.{new_name}
@@ -140,7 +140,7 @@ noted_grows command answer old new n =
 
 pub kept_note : (s : Scenario) (old new : Journal) (item : Item) (answer : Answer) → IsKept s old
     → slice_get s.items (length old.answers.items) ≡ Some item → IsCommand item.command
-    → IsAnswer item.command answer → IsNoted item.command answer old new → IsKept s new
+    → MayAnswer item.command answer → IsNoted item.command answer old new → IsKept s new
 kept_note s old new item answer kept there is fits n =
     let g = noted_grows item.command answer old new n in
     let lt : length old.answers.items < length s.items = slice_get_within s.items _ item there in
@@ -153,11 +153,11 @@ kept_note s old new item answer kept there is fits n =
       within = subst (λ t. t ≤ s.horizon) (sym n.ticks) kept.within;
       few = omega (arith, lt, count);
       fit =
-          subst (λ (xs : List Answer). All (λ (p : Item × Answer). IsAnswer p.0.command p.1) (zip s.items xs))
+          subst (λ (xs : List Answer). All (λ (p : Item × Answer). MayAnswer p.0.command p.1) (zip s.items xs))
           (sym n.answers)
-          (subst (All (λ (p : Item × Answer). IsAnswer p.0.command p.1))
+          (subst (All (λ (p : Item × Answer). MayAnswer p.0.command p.1))
           (sym (zip_push s.items old.answers.items item answer there))
-          (All-push (λ (p : Item × Answer). IsAnswer p.0.command p.1) (zip s.items old.answers.items) (item, answer)
+          (All-push (λ (p : Item × Answer). MayAnswer p.0.command p.1) (zip s.items old.answers.items) (item, answer)
           kept.fit fits));
       named =
           subst (All IsName) (sym n.names)
@@ -328,7 +328,7 @@ kept_tick s old new path kept lt way t =
       few = subst (λ answers. length answers.items ≤ length s.items) (sym t.answers) kept.few;
       fit =
           subst
-          (λ answers. All (λ (p : Item × Answer). IsAnswer p.0.command p.1) (zip s.items answers.items))
+          (λ answers. All (λ (p : Item × Answer). MayAnswer p.0.command p.1) (zip s.items answers.items))
           (sym t.answers) kept.fit;
       named = subst (λ ns. All IsName ns.keys) (sym t.names) kept.named;
       fewer =
@@ -387,7 +387,7 @@ kept_new s j new =
       within = let now = new.ticks in omega (arith, now);
       few = omega (arith, none);
       fit =
-          subst (λ (xs : List Answer). All (λ (p : Item × Answer). IsAnswer p.0.command p.1) (zip s.items xs))
+          subst (λ (xs : List Answer). All (λ (p : Item × Answer). MayAnswer p.0.command p.1) (zip s.items xs))
           (sym new.answers) (zip_none s.items);
       named = subst (All IsName) (sym new.names) (All-nil IsName);
       fewer = omega (arith, none, unnamed);
@@ -406,6 +406,6 @@ kept_new s j new =
       runs_room = new.runs_room;
     }
   where
-    zip_none : (items : List Item) → All (λ (p : Item × Answer). IsAnswer p.0.command p.1) (zip items [])
-    zip_none [] = All-nil (λ (p : Item × Answer). IsAnswer p.0.command p.1)
-    zip_none (item ∷ items) = All-nil (λ (p : Item × Answer). IsAnswer p.0.command p.1)
+    zip_none : (items : List Item) → All (λ (p : Item × Answer). MayAnswer p.0.command p.1) (zip items [])
+    zip_none [] = All-nil (λ (p : Item × Answer). MayAnswer p.0.command p.1)
+    zip_none (item ∷ items) = All-nil (λ (p : Item × Answer). MayAnswer p.0.command p.1)

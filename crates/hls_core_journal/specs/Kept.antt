@@ -14,7 +14,7 @@ use Rattle.hls_report_text.specs.declared.report.Answer.{Answer}
 use Rattle.hls_report_text.specs.declared.report.Answer.TheVariants.{Done}
 use Rattle.hls_report_text.specs.declared.report.Path.{Path}
 use Rattle.hls_report_text.specs.declared.report.Run.{Run}
-use Rattle.hls_report_text.specs.WellFormed.{Cover, HasShort, IsAnswer, with_name}
+use Rattle.hls_report_text.specs.WellFormed.{Cover, HasShort, MayAnswer, with_name}
 use Rattle.hls_answers.specs.Moment.{new_name}
 use Rattle.hls_core_journal.specs.declared.journal.Journal.{Journal}
 use Rattle.hls_core_journal.specs.Told.{stretches_of}
@@ -99,7 +99,7 @@ pub record MayTick (j : Journal) : Type 0 where
 pub record IsKept (s : Scenario) (j : Journal) : Type 0 where
   pub within : j.ticks ≤ s.horizon
   pub few : length j.answers.items ≤ length s.items
-  pub fit : All (λ (p : Item × Answer). IsAnswer p.0.command p.1) (zip s.items j.answers.items)
+  pub fit : All (λ (p : Item × Answer). MayAnswer p.0.command p.1) (zip s.items j.answers.items)
   pub named : All IsName j.names.keys
   pub fewer : length j.names.keys ≤ length j.answers.items
   pub cover : Cover 0 None (stretches_of j) j.ticks

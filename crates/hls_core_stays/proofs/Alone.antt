@@ -17,7 +17,7 @@ use Rattle.hls_tree.specs.Reads.{IsSort}
 use Rattle.hls_tree.specs.Trees.{IsTreeOf, Stands, Any}
 use Rattle.hls_tree.specs.declared.seat.Sort.TheVariants as sorts
 use Rattle.hls_tree.specs.declared.tree.Tree.{Tree}
-use Rattle.hls_core_stays.specs.Turnovers.{Tells, AreBelow}
+use Rattle.hls_core_stays.specs.Turnovers.{TellsBelow, AreBelow}
 use Rattle.hls_core_stays.specs.Inside.Renewals.{IsApart}
 use Rattle.hls_core_stays.proofs.Lists.{apart_pairs}
 use Rattle.hls_core_stays.proofs.Renewed.{apart_rest}
@@ -65,7 +65,7 @@ module _ (h : Hierarchy) (k : ℕ) (free : (c : ℕ) → ¬ SitsOn h c k) where
       let parent = itself count under.0 under.2 in
       absurd (free c (subst (λ p. SitsOn h c p) parent under.1))
 
-  not_below : (below : ℕ → Bool) → Tells h k below → (c : ℕ) → c ≢ k → below c ≡ false
+  not_below : (below : ℕ → Bool) → TellsBelow h k below → (c : ℕ) → c ≢ k → below c ≡ false
   not_below below tells c ne =
       false_from_ne_true (below c) (λ on. (let under = (tells c).0 on in ne (itself under.0 c under.1)))
 

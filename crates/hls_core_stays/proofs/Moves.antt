@@ -19,7 +19,7 @@ use Rattle.hls_accounts.specs.Tells.{Does}
 use Rattle.hls_accounts.proofs.Alike.{moved-reseated}
 use Rattle.hls_accounts.proofs.Orders.{listed_same}
 use Rattle.hls_core_stays.specs.Tallies.{AreTallies, AreStays, IsStanding}
-use Rattle.hls_core_stays.specs.Turnovers.{Tells, IsTurnover}
+use Rattle.hls_core_stays.specs.Turnovers.{TellsBelow, IsTurnover}
 use Rattle.hls_core_stays.specs.Inside.Steps.{HasOpen}
 use Rattle.hls_core_stays.specs.Inside.Renewals.{IsApart, HasAlike, AreRenewable, renewed_one, renewed_all}
 use Rattle.hls_core_stays.specs.declared.stays.Stays.{Stays}
@@ -208,14 +208,14 @@ moved_above s h k seat below standing lists on off are =
 
 pub follow_reseats : (s : Stays) (h : Hierarchy) (id : ℕ) (command : Command) (step : Step)
     → IsTurnover h command (Reseats id) → Does h command step → Can h step
-    → ((k : ℕ) (below : ℕ → Bool) → IsBelow h k below → Tells h k below) → IsStanding h → IsListed h
+    → ((k : ℕ) (below : ℕ → Bool) → IsBelow h k below → TellsBelow h k below) → IsStanding h → IsListed h
     → (are : AreStays s h) → HasReseated s h (after h step) are.kept id
 follow_reseats s h id (said.Move name perch) (Move k seat below) of does can tells standing lists are =
     let is : k ≡ id = lists.names k id name does.0 of.0 in
     subst (HasReseated s h (effect h k (reseated seat (h.nodes k)) below) are.kept) is
     (moved_alone s h k seat below standing lists can.0.under.itself
     (ap (λ n. is_thread (h.nodes n)) is ∙ of.1)
-    (ap (λ n. n ∷ []) is ∙ of.2 below (subst (λ n. Tells h n below) is (tells k below can.0.under))) are)
+    (ap (λ n. n ∷ []) is ∙ of.2 below (subst (λ n. TellsBelow h n below) is (tells k below can.0.under))) are)
 follow_reseats s h id (said.Move name perch) _ of does can tells standing lists are = absurd does
 follow_reseats s h id _ _ of does can tells standing lists are = absurd of
 
@@ -225,12 +225,12 @@ RenewsThese _ ids = ⊥
 
 pub follow_renews : (s : Stays) (h : Hierarchy) (ids : List ℕ) (turnover : Turnover) (command : Command)
     (step : Step) → IsTurnover h command turnover → RenewsThese turnover ids → Does h command step → Can h step
-    → ((k : ℕ) (below : ℕ → Bool) → IsBelow h k below → Tells h k below) → IsStanding h → IsListed h
+    → ((k : ℕ) (below : ℕ → Bool) → IsBelow h k below → TellsBelow h k below) → IsStanding h → IsListed h
     → (are : AreStays s h) → HaveRenewed s h (after h step) are.kept ids
 follow_renews s h ids (Renews threads) (said.Move name perch) (Move k seat below) of same does can tells standing lists
     are =
     let is : of.0 ≡ k = lists.names of.0 k name of.1 does.0 in
-    let told : Tells h of.0 below = subst (λ n. Tells h n below) (sym is) (tells k below can.0.under) in
+    let told : TellsBelow h of.0 below = subst (λ n. TellsBelow h n below) (sym is) (tells k below can.0.under) in
     subst (HaveRenewed s h (effect h k (reseated seat (h.nodes k)) below) are.kept)
     (sym (sym same ∙ of.3 below told))
     (moved_above s h k seat below standing lists can.0.under.itself

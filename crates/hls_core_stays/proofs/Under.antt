@@ -13,7 +13,7 @@ use Rattle.hls_tree.specs.declared.tree.Tree.{Tree}
 use Rattle.hls_text.specs.Lines.{Text}
 use Rattle.hls_scenario.specs.declared.scenario.Command.{Command}
 use Rattle.hls_scenario.specs.declared.scenario.Command.TheVariants as said
-use Rattle.hls_core_stays.specs.Turnovers.{Tells, IsRoused, IsTurnover}
+use Rattle.hls_core_stays.specs.Turnovers.{TellsBelow, IsRoused, IsTurnover}
 use Rattle.hls_core_stays.specs.declared.turnover.Turnover.{Turnover}
 use Rattle.hls_core_stays.proofs.Lists.{take_next, take_all}
 
@@ -31,19 +31,19 @@ next_under below ks at k b e is =
     ap (filter below) (take_next ks at k e) ∙ filter-append below (take at ks) (k ∷ [])
     ∙ ap (λ l. filter below (take at ks) ++ l) (filter_one below k b is)
 
-pub under_next : (h : Hierarchy) (below : ℕ → Bool) (id at k : ℕ) (kept new : List ℕ) → Tells h id below
+pub under_next : (h : Hierarchy) (below : ℕ → Bool) (id at k : ℕ) (kept new : List ℕ) → TellsBelow h id below
     → slice_get h.threads at ≡ Some k → IsUnder h id k → kept ≡ filter below (take at h.threads)
     → new ≡ kept ++ k ∷ [] → new ≡ filter below (take (at + 1) h.threads)
 under_next h below id at k kept new tells e under are push =
     push ∙ ap (λ l. l ++ k ∷ []) are ∙ sym (next_under below h.threads at k true e ((tells k).1 under))
 
-not_told : (h : Hierarchy) (below : ℕ → Bool) (id k : ℕ) → Tells h id below → ¬ IsUnder h id k → below k ≡ false
+not_told : (h : Hierarchy) (below : ℕ → Bool) (id k : ℕ) → TellsBelow h id below → ¬ IsUnder h id k → below k ≡ false
 not_told h below id k tells not = elim (cases_Bool (below k)) [
   | inl on ↦ absurd (not ((tells k).0 on))
   | inr off ↦ off
 ]
 
-pub under_skip : (h : Hierarchy) (below : ℕ → Bool) (id at k : ℕ) (kept : List ℕ) → Tells h id below
+pub under_skip : (h : Hierarchy) (below : ℕ → Bool) (id at k : ℕ) (kept : List ℕ) → TellsBelow h id below
     → slice_get h.threads at ≡ Some k → ¬ IsUnder h id k → kept ≡ filter below (take at h.threads)
     → kept ≡ filter below (take (at + 1) h.threads)
 under_skip h below id at k kept tells e not are =

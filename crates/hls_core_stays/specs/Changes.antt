@@ -12,7 +12,7 @@ use Rattle.hls_tree_nodes.specs.Leapt.{later}
 use Rattle.hls_tree.specs.Trees.{IsTreeOf, IsReadyOf, ready_of}
 use Rattle.hls_tree.specs.declared.tree.Tree.{Tree}
 use Rattle.hls_core_stays.specs.Tallies.{AreStays, IsStanding}
-use Rattle.hls_core_stays.specs.Turnovers.{IsTurnover, Tells}
+use Rattle.hls_core_stays.specs.Turnovers.{IsTurnover, TellsBelow}
 use Rattle.hls_core_stays.specs.declared.stays.Stays.{Stays}
 use Rattle.hls_core_stays.specs.declared.turnover.Turnover.{Turnover}
 use Rattle.hls_machine.specs.Legal.{IsBelow}
@@ -29,7 +29,7 @@ module _ {V : Type 0} {P : V → Type 0} where
     pub of : IsTurnover h command turnover
     pub does : Does h command step
     pub can : Can h step
-    pub tells : (k : ℕ) (below : ℕ → Bool) → IsBelow h k below → Tells h k below
+    pub tells : (k : ℕ) (below : ℕ → Bool) → IsBelow h k below → TellsBelow h k below
     pub tree : IsTreeOf seen t (after h step)
     pub ready : IsReadyOf seen t (after h step)
 

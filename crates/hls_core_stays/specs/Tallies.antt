@@ -67,8 +67,8 @@ pub record IsStanding (h : Hierarchy) : Type 0 where
   pub past : (at : ℕ) (stay : Stay) → slice_get h.stays at ≡ Some stay → end_of h.now stay.until ≤ h.now
 
 -- there is room for so many stays more
-abbrev pub HasRoom : Stays → (more : ℕ) → Type 0
-HasRoom s more = more ≤ s.tallies.spare
+abbrev pub HasSpare : Stays → (more : ℕ) → Type 0
+HasSpare s more = more ≤ s.tallies.spare
 
 -- the tally at a place is that of an open stay of a thread
 abbrev pub open_by : Option Tally → (k : ℕ) → Bool

@@ -11,12 +11,12 @@ use Rattle.hls_core_stays.specs.declared.turnover.Turnover.{Turnover}
 use Rattle.hls_core_stays.specs.declared.turnover.Turnover.TheVariants.{Nothing, Begins, Ends, Reseats, Renews, Rouses}
 
 -- the test tells what is a node or below it
-abbrev pub Tells : Hierarchy → (k : ℕ) → (below : ℕ → Bool) → Type 0
-Tells h k below = (c : ℕ) → (below c ≡ true) ↔ IsUnder h k c
+abbrev pub TellsBelow : Hierarchy → (k : ℕ) → (below : ℕ → Bool) → Type 0
+TellsBelow h k below = (c : ℕ) → (below c ≡ true) ↔ IsUnder h k c
 
 -- these are the threads that are a node or below it
 abbrev pub AreBelow : Hierarchy → (k : ℕ) → (threads : List ℕ) → Type 0
-AreBelow h k threads = (below : ℕ → Bool) → Tells h k below → threads ≡ filter below h.threads
+AreBelow h k threads = (below : ℕ → Bool) → TellsBelow h k below → threads ≡ filter below h.threads
 
 abbrev pub IsNameless : Hierarchy → Text → Type 0
 IsNameless h name = (k : ℕ) → ¬ HasName h k name

@@ -7,7 +7,7 @@ ghost use Rattle.hls_machine.specs.Steps.{Step, Path, after, stay_of, with_wake}
 ghost use Rattle.hls_scenario.specs.declared.scenario.Command.{Command};
 ghost use Rattle.hls_tree_nodes.specs.Leapt.{later};
 ghost use Rattle.hls_tree.specs.Trees.{IsTreeOf, IsReadyOf, Stands};
-ghost use Rattle.hls_core_stays.specs.Tallies.{AreStays, AreTallies, HasRoom, IsNoted, waited, opened_at};
+ghost use Rattle.hls_core_stays.specs.Tallies.{AreStays, AreTallies, HasSpare, IsNoted, waited, opened_at};
 ghost use Rattle.hls_core_stays.specs.Turnovers.{stays_begun};
 ghost use Rattle.hls_core_stays.specs.Changes.{Turns, MayTurn, Ticks, MayTick};
 ghost use Rattle.hls_core_stays.specs.Inside.Steps.{HasOpen, HasNone, MayClose, without};
@@ -85,7 +85,7 @@ impl Stays {
     /// # Errors
     /// Returns `AllocError` for want of memory, and then the stays are as before.
     pub fn reserve(&mut self, turnover: &Turnover) -> Result<(), AllocError>
-        ensures room { OnOk result (HasRoom self.new (stays_begun turnover.now)) }
+        ensures room { OnOk result (HasSpare self.new (stays_begun turnover.now)) }
         ensures same { (h : Hierarchy) → AreStays self.old h → AreStays self.new h }
     {
         let fresh = self.tallies.len().saturating_sub(self.fresh);
@@ -142,7 +142,7 @@ impl Stays {
     /// place has the same name and guarantee, the two share them.
     fn open(&mut self, tree: &Tree, id: NodeId, like: usize)
         requires thread { Stands seen tree.now (λ h. IsThread (h.nodes id)) }
-        requires room { HasRoom self.old 1 }
+        requires room { HasSpare self.old 1 }
         ensures opened { (h : Hierarchy) (stays : List Stay) → IsTreeOf seen tree.now h → IsReadyOf seen tree.now h →
             IsThread (h.nodes id) → AreTallies self.old h stays → HasNone stays id →
             AreTallies self.new h (stays ++ stay_of h.now id (h.nodes id)) }
@@ -171,7 +171,7 @@ impl Stays {
     /// Ends the open stay of a thread that was moved, and begins another.
     fn reseat(&mut self, tree: &Tree, id: NodeId)
         requires thread { Stands seen tree.now (λ h. IsThread (h.nodes id)) }
-        requires room { HasRoom self.old 1 }
+        requires room { HasSpare self.old 1 }
         requires close { MayClose self.old id }
         ensures { (h : Hierarchy) (stays : List Stay) → IsTreeOf seen tree.now h → IsReadyOf seen tree.now h →
             IsThread (h.nodes id) → AreTallies self.old h stays → HasOpen stays id →
@@ -183,7 +183,7 @@ impl Stays {
 
     /// Ends the open stay of a thread, and begins another with the same name and guarantee.
     fn renew(&mut self, tree: &Tree, id: NodeId)
-        requires room { HasRoom self.old 1 }
+        requires room { HasSpare self.old 1 }
         requires close { MayClose self.old id }
         ensures renewed { (h : Hierarchy) (stays : List Stay) → IsTreeOf seen tree.now h →
             IsReadyOf seen tree.now h → AreTallies self.old h stays → HasAlike h stays id →
@@ -201,7 +201,7 @@ impl Stays {
     fn renew_each(&mut self, tree: &Tree, ids: &[NodeId])
         requires may { Stands seen tree.now (λ h. IsReadyOf seen tree.now h ×
             ((stays : List Stay) × AreRenewable self.old h stays ids.now)) }
-        requires room { HasRoom self.old (length ids.now) }
+        requires room { HasSpare self.old (length ids.now) }
         ensures { (h : Hierarchy) (stays : List Stay) → IsTreeOf seen tree.now h → IsReadyOf seen tree.now h →
             AreRenewable self.old h stays ids.now → AreTallies self.new h (renewed_all h stays ids.now) }
     {
@@ -231,7 +231,7 @@ impl Stays {
     fn renew_all(&mut self, tree: &Tree, ids: &[NodeId])
         requires may { Stands seen tree.now (λ h. IsReadyOf seen tree.now h ×
             ((stays : List Stay) × AreRenewable self.old h stays ids.now)) }
-        requires room { HasRoom self.old (length ids.now) }
+        requires room { HasSpare self.old (length ids.now) }
         ensures { (h : Hierarchy) (stays : List Stay) → IsTreeOf seen tree.now h → IsReadyOf seen tree.now h →
             AreRenewable self.old h stays ids.now → AreInAll self.new h (renewed_all h stays ids.now) }
     {
@@ -244,7 +244,7 @@ impl Stays {
     fn begin(&mut self, tree: &Tree)
         requires thread { Stands seen tree.now (λ h. (k : ℕ) × (front : List ℕ) ×
             (h.threads ≡ front ++ k ∷ [])) }
-        requires room { HasRoom self.old 1 }
+        requires room { HasSpare self.old 1 }
         ensures { (h : Hierarchy) (stays : List Stay) (front : List ℕ) (k : ℕ) → IsTreeOf seen tree.now h →
             IsReadyOf seen tree.now h → IsThread (h.nodes k) → h.threads ≡ front ++ k ∷ [] →
             AreTallies self.old h stays → HasNone stays k →
@@ -269,7 +269,7 @@ impl Stays {
     /// Ends and begins stays, after a command was carried out, into room that is there.
     pub fn follow(&mut self, tree: &Tree, turnover: Turnover)
         requires may { MayTurn seen self.old tree.now turnover }
-        requires room { HasRoom self.old (stays_begun turnover) }
+        requires room { HasSpare self.old (stays_begun turnover) }
         ensures { (h : Hierarchy) (command : Command) (step : Step) →
             Turns seen self.old tree.now turnover h command step → AreStays self.new (after h step) }
     {

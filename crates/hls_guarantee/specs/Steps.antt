@@ -10,6 +10,7 @@ use Rattle.hls_guarantee.specs.declared.Guarantee.{Guarantee}
 use Rattle.hls_guarantee.specs.declared.Guarantee.TheVariants.{All, Null, Resb, Resc, Psbe}
 use Rattle.hls_guarantee.specs.Satisfaction.{IsSoft}
 use Rattle.hls_guarantee.specs.Limits.{IsValid}
+use Rattle.hls_chron.specs.Kinds.{IsPort}
 
 -- the share s' with the error d' that a seat has of s with d, beside at most `others` seats of at most `rest`
 pub record IsFairShare (total most weight : ℕ) (s d s' d' : Frac) : Type 0 where
@@ -44,11 +45,6 @@ LendsByTerms _ _ _ _ = ⊥
 abbrev pub LendsNothing : Config → Guarantee → Type 0
 LendsNothing configs.Cpu h = ⊥
 LendsNothing _ h = h ≡ Null
-
--- 0 but for a join
-abbrev pub IsPort : Config → ℕ → Type 0
-IsPort (configs.Join ports) port = port < ports
-IsPort _ port = port ≡ 0
 
 -- what has g through this port lends h to a seat on these terms
 pub record LendsThrough (config : Config) (terms : Terms) (port : ℕ) (g h : Guarantee) : Type 0 where

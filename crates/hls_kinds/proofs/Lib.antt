@@ -10,3 +10,5 @@ pub mod Rooms
 pub mod ServingLaws
 pub mod Props
 pub mod Sums
+pub mod Occupants
+pub mod Choices

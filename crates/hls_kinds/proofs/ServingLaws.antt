@@ -1,5 +1,5 @@
--- A scheduler that has a slot to serve asks.
-use Rattle.std.proofs.Common.{◌≡◌, ℕ, ◌||◌, ◌&&◌, Bool, true, false, refl, inl, inr, cond}
+-- A scheduler that has a slot to serve asks, and so does the slot.
+use Rattle.std.proofs.Common.{◌≡◌, ℕ, ◌||◌, ◌&&◌, Bool, true, false, refl, sym, subst, inl, inr, cond}
 use Rattle.std.proofs.lemmas.Bool.{cases_eq, cases_Bool, eq-eqb, ne_eqb, eqb-true}
 use Rattle.std.proofs.lemmas.Nat.Bits.{bit_at-zero}
 use Rattle.hls_chron.specs.declared.plain.Config.{Config}
@@ -59,3 +59,28 @@ serves-asks (Sfq total most) b mask slot serves = some_tested mask slot serves.c
 serves-asks (Rr quantum) b mask slot serves = turn_asks quantum b mask slot serves
 serves-asks (Wheel frame) b mask slot serves = rw serves.owns (eq-eqb _ 1 serves.asks)
 serves-asks (Join ports) b mask slot serves = some_asks mask slot serves.asks
+
+pub may_go_asks : (b : Ledger) (mask slot : ℕ) → may_go b mask slot ≡ true → slot_asks mask slot ≡ true
+may_go_asks b mask slot go =
+    elim (any_below (asks_in_budget b mask) 32) as (λ x. cond x (asks_in_budget b mask slot)
+    (asks_softly b mask slot) ≡ true → slot_asks mask slot ≡ true) [
+      | true ↦ λ e. and_left (slot_asks mask slot) _ e
+      | false ↦ λ e. and_left (slot_asks mask slot) _ e
+    ] go
+
+turn_asks_slot : (quantum : ℕ) (b : Ledger) (mask slot : ℕ) → TakesTurn quantum b mask slot → SlotAsks mask slot
+turn_asks_slot quantum b mask slot turn = elim (cases_Bool (turn_goes_on quantum b mask)) [
+  | inl on ↦ let at : SlotAsks mask (turn_slot b) = eqb-true _ 1 (and_left (slot_asks mask (turn_slot b)) _ on) in
+      let P : ℕ → Type 0 = λ n. SlotAsks mask n in subst P (sym (turn.goes_on on)) at
+  | inr off ↦ eqb-true _ 1 (turn.passes off).chosen
+]
+
+pub serves-slot : (config : Config) (b : Ledger) (mask slot : ℕ) → Serves config b mask slot
+    → SlotAsks mask slot
+serves-slot Cpu b mask slot serves = absurd serves
+serves-slot Fp b mask slot serves = serves.asks
+serves-slot Edf b mask slot serves = eqb-true _ 1 (may_go_asks b mask slot serves.chosen)
+serves-slot (Sfq total most) b mask slot serves = eqb-true _ 1 serves.chosen
+serves-slot (Rr quantum) b mask slot serves = turn_asks_slot quantum b mask slot serves
+serves-slot (Wheel frame) b mask slot serves = serves.asks
+serves-slot (Join ports) b mask slot serves = serves.asks

@@ -26,11 +26,11 @@ fault_number (Full seats) = 18
 fault_number (NoRoom free asked) = 23
 
 -- the fault of least number that applies
-pub record IsFirst (config : Config) (b : Ledger) (terms : Terms) (fault : SeatFault) : Type 0 where
+pub record IsFirstFault (config : Config) (b : Ledger) (terms : Terms) (fault : SeatFault) : Type 0 where
   pub applies : Applies config b terms fault
   pub first : (other : SeatFault) → Applies config b terms other → fault_number fault ≤ fault_number other
 
 -- the first fault where one applies, and none where none does
-abbrev pub IsAnswer : Config → Ledger → Terms → Option SeatFault → Type 0
-IsAnswer config b terms (Some fault) = IsFirst config b terms fault
-IsAnswer config b terms None = (fault : SeatFault) → ¬ Applies config b terms fault
+abbrev pub IsFirstFaultIfAny : Config → Ledger → Terms → Option SeatFault → Type 0
+IsFirstFaultIfAny config b terms (Some fault) = IsFirstFault config b terms fault
+IsFirstFaultIfAny config b terms None = (fault : SeatFault) → ¬ Applies config b terms fault

@@ -35,6 +35,7 @@ use Rattle.hls_legal_jobs.specs.Runs.{HasReservation}
 use Rattle.hls_legal_jobs.proofs.InTime.{jobs_in_book}
 use Rattle.hls_legal_jobs.proofs.SeatedSince.{sits_since}
 use Rattle.hls_legal_jobs.proofs.Agreeing.{Agree, turned, jobs-agree, in_time-agree}
+use Rattle.hls_chron.proofs.ConfigLaws.{of_edf}
 
 -- who sits on a node sits on a scheduler
 record IsLoaded (node : Option Node) : Type 0 where
@@ -48,13 +49,9 @@ loaded_there (Some (Admitted t)) slot since terms e = absurd (nobody_sits 0 0 0 
 loaded_there (Some (Loaded s)) slot since terms e = record { scheduler = s; there = refl }
 
 edf_config : (config : Config) → kinds.Edf ≡ kind_of config → config ≡ configs.Edf
-edf_config configs.Cpu e = absurd (cc)
-edf_config configs.Fp e = absurd (cc)
-edf_config configs.Edf e = refl
-edf_config (configs.Sfq total most) e = absurd (cc)
-edf_config (configs.Rr quantum) e = absurd (cc)
-edf_config (configs.Wheel frame) e = absurd (cc)
-edf_config (configs.Join ports) e = absurd (cc)
+edf_config config e =
+    of_edf (λ config. config ≡ configs.Edf)
+    refl config (sym e)
 
 reservations_config : (config : Config) (b : Ledger) (slot since x y : ℕ) (hard : Bool) → IsMade config b
     → tenant_at b slot ≡ Sits (Res hard x y) since → config ≡ configs.Edf

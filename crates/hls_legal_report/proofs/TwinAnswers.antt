@@ -7,7 +7,7 @@ use Rattle.std.proofs.lemmas.List.{map-append, length-map}
 use Rattle.std.proofs.lemmas.Option.{slice_get-map}
 use Rattle.hls_text.specs.Lines.{Text}
 use Rattle.hls_chron.specs.declared.plain.Config.{Config}
-use Rattle.hls_chron.specs.Kinds.{kind_of}
+use Rattle.hls_chron.specs.Kinds.{kind_of, fair_queue}
 use Rattle.hls_chron.specs.Ledger.{Ledger}
 use Rattle.hls_chron.specs.Ticks.{count}
 use Rattle.hls_kinds.specs.declared.fault.SeatFault.{SeatFault}
@@ -30,17 +30,15 @@ use Rattle.hls_report_text.specs.declared.report.Answer.TheVariants.{Done, Refus
 use Rattle.hls_machine.specs.Hierarchy.{Hierarchy, Node, Loaded, Admitted, Scheduler, Place, Processor, At, Seat}
 use Rattle.hls_machine.specs.Hierarchy.{SeatHolder, seats_of, seat_of}
 use Rattle.hls_machine.specs.Steps.{reseated}
-use Rattle.hls_machine.specs.Legal.{SitsUnder, IsChain, fair_queue, fair_queues, SitsOn}
+use Rattle.hls_machine.specs.Legal.{SitsUnder, IsChain, fair_queues, SitsOn}
 use Rattle.hls_machine.specs.Readings.{IsUnderBy}
 use Rattle.hls_accounts.specs.Schedule.{is_name}
 use Rattle.hls_answers.specs.Moment.{Boxes, Moment, has_name, number_of, node_of, NamesScheduler, NamesThread}
-use Rattle.hls_answers.specs.Levels.{HasChain, LeadsTo, place_there, seat_there, with_mover}
-use Rattle.hls_answers.specs.Levels.{HasChainAfter, place_on}
+use Rattle.hls_answers.specs.Levels.{HasChain, LeadsTo, place_there, seat_there, with_mover, HasChainAfter, place_on}
 use Rattle.hls_answers.specs.Dues.{Due, config_there, haves_there, due_at, dues_from, told_name, dues_in, dues_of}
 use Rattle.hls_answers.specs.Dues.{dues_on, dues}
 use Rattle.hls_answers.specs.Refusals as refusals
-use Rattle.hls_answers.specs.Answers.{RefusesCommand, RefusesPlace, RefusesFirstPlace, Applies}
-use Rattle.hls_answers.specs.Answers.{IsAnswer}
+use Rattle.hls_answers.specs.Answers.{RefusesCommand, RefusesPlace, RefusesFirstPlace, Applies, IsAnswer}
 use Rattle.hls_legal_report.proofs.Bare.{terms_like, fault_like}
 use Rattle.hls_legal_report.proofs.Twins.{Renaming, inverse, same_test, place_to, seat_to, holder_to}
 use Rattle.hls_legal_report.proofs.Twins.{TwinScheduler, TwinNode, TwinNodes, Twin, twin_back}
@@ -478,7 +476,7 @@ module _ (boxes : Boxes) (depth : ℕ) where
   }
   command-twin r h g twin c (KitEmpty kind used) f = f
   command-twin r h g twin c (NoDerivation name within) f =
-      (subst (λ ds. refusals.IsFirst ds (refusals.LacksDerivation depth) name) (dues-twin r h g twin c) f.0, f.1)
+      (subst (λ ds. refusals.IsFirstSuch ds (refusals.LacksDerivation depth) name) (dues-twin r h g twin c) f.0, f.1)
   command-twin r h g twin c (TermsUnfit name) f = absurd f
   command-twin r h g twin c (PriorityTaken priority) f = absurd f
   command-twin r h g twin c (SeatsFull name n) f = absurd f

@@ -8,8 +8,10 @@ use Rattle.hls_machine.specs.Hierarchy.{Hierarchy, Node, Loaded, Admitted, Aslee
 use Rattle.hls_machine.specs.Steps.{Step, Refuse, Load, Admit, End, Unload, Move, Rouse, Block, Elapse, after}
 use Rattle.hls_machine.specs.Steps.{nobody, marked, renewed, reseated, roused, wake_by, ticked, seatings}
 use Rattle.hls_machine.specs.Steps.{leavings, nodes_after, loaded, admitted, hop_at, hops_of}
-use Rattle.hls_machine.specs.Legal.{SitsUnder, IsChain, IsShallow, fair_queue, fair_queues}
+use Rattle.hls_chron.specs.Kinds.{fair_queue}
+use Rattle.hls_machine.specs.Legal.{SitsUnder, IsChain, IsShallow, fair_queues}
 use Rattle.hls_machine.proofs.Kept.{at_same, at_other}
+use Rattle.hls_chron.proofs.ConfigLaws.{one_queue}
 
 -- the step makes node c
 abbrev pub Makes : (c : ℕ) → Step → Type 0
@@ -76,18 +78,9 @@ chain_short h rank top ranked [] chain = omega arith
 chain_short h rank top ranked (k ∷ rest) chain = let later =
     chain_under h rank top ranked rest k (ranked.within None k chain.0) chain.1 in omega (arith, later)
 
-queue_one : (config : Config) → fair_queue config ≤ 1
-queue_one configs.Cpu = omega arith
-queue_one configs.Fp = omega arith
-queue_one configs.Edf = omega arith
-queue_one (configs.Sfq total most) = omega arith
-queue_one (configs.Rr quantum) = omega arith
-queue_one (configs.Wheel frame) = omega arith
-queue_one (configs.Join ports) = omega arith
-
 queues_few : (h : Hierarchy) (chain : List ℕ) → fair_queues h chain ≤ length chain
 queues_few h [] = omega arith
-queues_few h (k ∷ chain) = let one = queue_one (config_of (h.nodes k)) in let rest = queues_few h chain in
+queues_few h (k ∷ chain) = let one = one_queue (config_of (h.nodes k)) in let rest = queues_few h chain in
     omega (arith, one, rest)
 
 pub shallow : (h : Hierarchy) (rank : ℕ → ℕ) (top : ℕ) → top < 4 → IsRanked h rank top → IsShallow h

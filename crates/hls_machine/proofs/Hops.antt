@@ -6,12 +6,12 @@ use Rattle.std.proofs.lemmas.Option.{slice_get_within}
 use Rattle.hls_chron.specs.declared.plain.Config.{Config}
 use Rattle.hls_chron.specs.declared.plain.Config.TheVariants as configs
 use Rattle.hls_kinds.specs.Discipline.{Serves}
-use Rattle.hls_guarantee.specs.Steps.{IsPort}
+use Rattle.hls_chron.specs.Kinds.{IsPort, port_count}
 use Rattle.hls_machine.specs.Hierarchy.{Hierarchy, Loaded, Scheduler, Place, Processor, At}
 use Rattle.hls_machine.specs.Steps.{Hop, Path, hop_at, hops_of, row_by}
 use Rattle.hls_machine.specs.Legal.{Walk, MayRun}
-use Rattle.hls_chron.specs.Kinds.{port_count}
 use Rattle.hls_machine.proofs.Kept.{at_same, at_other}
+use Rattle.hls_chron.proofs.ConfigLaws.{is_port}
 
 pub record GoesThrough (s : Scheduler) (mask : ℕ) (hop : Hop) : Type 0 where
   pub serves : Serves s.config s.book mask hop.slot
@@ -44,16 +44,6 @@ pub path_goes : (h : Hierarchy) (asking : ℕ → Bool) (masks : ℕ → ℕ) (p
     → h.nodes k ≡ Some (Loaded s) → GoesThrough s (masks k) hop
 path_goes h asking masks None m k hop s e n = absurd (cc)
 path_goes h asking masks (Some p) m k hop s e n = hop_goes h masks p.hops p.thread Processor k hop s m.1 e n
-
--- a port that there is
-is_port : (config : Config) (port : ℕ) → port < port_count config → IsPort config port
-is_port configs.Cpu port lt = omega arith
-is_port configs.Fp port lt = omega arith
-is_port configs.Edf port lt = omega arith
-is_port (configs.Sfq total most) port lt = omega arith
-is_port (configs.Rr quantum) port lt = omega arith
-is_port (configs.Wheel frame) port lt = omega arith
-is_port (configs.Join ports) port lt = lt
 
 pub row_port : (h : Hierarchy) (asking : ℕ → Bool) (masks : ℕ → ℕ) (path : Option Path)
     → MayRun h asking masks path → (k : ℕ) (s : Scheduler) → h.nodes k ≡ Some (Loaded s)

@@ -23,6 +23,5 @@ pub mod Determined
 pub mod Goes
 pub mod Listings
 pub mod Lists
-pub mod Choices
 pub mod Solutions
 pub mod Seated

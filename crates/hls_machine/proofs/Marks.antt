@@ -16,7 +16,7 @@ use Rattle.hls_kinds.specs.Tenants.{tenant_after, tenant_at, settled_after, sett
 use Rattle.hls_kinds.proofs.MarkLaws.{tenant_at-mark, settled_at-mark}
 use Rattle.hls_book_promise.proofs.PromiseLaws.{row_at-later}
 use Rattle.hls_kinds.specs.Asks.{asks, slot_asks}
-use Rattle.hls_guarantee.specs.Steps.{IsPort}
+use Rattle.hls_chron.specs.Kinds.{IsPort}
 use Rattle.hls_book_promise.specs.Promise.{given, asked_by, HasPorts}
 use Rattle.hls_machine.specs.Ledgers.{empty_book, with_marks}
 use Rattle.hls_kinds.proofs.Rooms.{asks-room, before-last}

@@ -7,7 +7,7 @@ use Rattle.hls_chron.specs.declared.plain.Terms.{Terms}
 use Rattle.hls_chron.specs.declared.plain.Config.{Config}
 use Rattle.hls_chron.specs.declared.plain.Config.TheVariants as configs
 use Rattle.hls_chron.specs.declared.plain.Kind.TheVariants as kinds
-use Rattle.hls_chron.specs.Kinds.{kind_of}
+use Rattle.hls_chron.specs.Kinds.{kind_of, port_count}
 use Rattle.hls_chron.specs.Ledger.{now_of, IsDated}
 use Rattle.hls_chron.specs.Seats.{asked, served}
 use Rattle.hls_kinds.specs.declared.tenant.Tenant.TheVariants.{Sits}
@@ -17,11 +17,10 @@ use Rattle.hls_machine.specs.Ledgers.{empty_book}
 use Rattle.hls_machine.specs.Hierarchy.{Node, Loaded, Admitted, Scheduler, Tick, Wake, Place, Seat, seats_of}
 use Rattle.hls_machine.specs.Hierarchy.{seat_of, book_of, config_of, since_of, asking_of, given_of}
 use Rattle.hls_machine.specs.Steps.{marked, renewed, reseated, roused}
-use Rattle.hls_chron.specs.Kinds.{port_count}
 use Rattle.hls_machine.specs.Legal.{MayMoveTo}
 use Rattle.hls_machine.proofs.Marks.{now_of-marks, tenant_at-marks, settled_at-marks, asked_by-marks}
-use Rattle.hls_machine.proofs.Marks.{asked-marks, served-marks, given-marks, settled_grows, dated-marks}
-use Rattle.hls_machine.proofs.Marks.{ports-marks}
+use Rattle.hls_machine.proofs.Marks.{asked-marks, served-marks, given-marks, settled_grows, dated-marks, ports-marks}
+use Rattle.hls_chron.proofs.ConfigLaws.{one_port}
 
 -- a scheduler whose book is up to the present tick, with a seat for each port
 pub record IsUpTo (now : ℕ) (s : Scheduler) : Type 0 where
@@ -120,15 +119,6 @@ grown_renewed now past k true (Some (Admitted t)) c =
       since = c;
       current = omega arith;
     }
-
-one_port : (config : Config) → kind_of config ≢ kinds.Join → 1 ≡ port_count config
-one_port configs.Cpu ne = refl
-one_port configs.Fp ne = refl
-one_port configs.Edf ne = refl
-one_port (configs.Sfq total most) ne = refl
-one_port (configs.Rr quantum) ne = refl
-one_port (configs.Wheel frame) ne = refl
-one_port (configs.Join ports) ne = absurd (ne refl)
 
 pub grown_reseated : (now : ℕ) (past : ℕ → Tick) (k : ℕ) (seat : Seat) (place : Place) (node : Option Node)
     → MayMoveTo place node → IsCurrent now node → Grown now past k node (reseated seat node)

@@ -14,7 +14,7 @@ use Rattle.hls_kinds.specs.Turns.{turn_slot, turn_goes_on}
 use Rattle.hls_kinds.specs.Tenants.{settled_after, settled_at}
 use Rattle.hls_kinds.specs.Slots.{any_below}
 use Rattle.hls_kinds.specs.Asks.{slot_asks, asks_in_budget, asks_softly}
-use Rattle.hls_kinds.specs.Discipline.{Serves, TakesTurn, may_go}
+use Rattle.hls_kinds.specs.Discipline.{Serves, TakesTurn, may_go, KeepsDiscipline}
 use Rattle.hls_book_promise.proofs.PromiseLaws.{served-to, row_at-later}
 use Rattle.hls_machine.specs.Hierarchy.{Hierarchy, Node, Loaded, Admitted, Thread, Wake, Asleep, Place}
 use Rattle.hls_machine.specs.Hierarchy.{Processor, At, Seat, seats_of, since_of, is_ready, is_just, was_served}
@@ -25,41 +25,16 @@ use Rattle.hls_machine.specs.Steps.{elapsed, Step, Refuse, Load, Admit, End, Unl
 use Rattle.hls_machine.specs.Steps.{after, state, wake_by, nobody, loaded, admitted}
 use Rattle.hls_machine.specs.Legal.{Walk, IsAsking, MayRun, IsBelow, CanMove, Can, IsLegal, asks_now}
 use Rattle.hls_machine.specs.Linked.{SitsBelow, SitsAt}
-use Rattle.hls_kinds.specs.Discipline.{KeepsDiscipline}
 use Rattle.hls_machine.specs.Readings.{IsUnderBy, IsUnder, Renews, IsRouseOf, LetSleep}
 use Rattle.hls_machine.proofs.Marks.{settled_at-marks}
 use Rattle.hls_machine.proofs.Nodes.{IsCurrent, grown_marked, grown_reseated}
 use Rattle.hls_machine.proofs.Kept.{IsSound, at_same, at_other}
-
-and_left : (a b : Bool) → (a && b) ≡ true → a ≡ true
-and_left true b e = refl
-and_left false b e = e
+use Rattle.hls_kinds.proofs.ServingLaws.{serves-slot}
 
 -- what is served asks
-pub or_asks : (b : Ledger) (mask slot : ℕ) → may_go b mask slot ≡ true → slot_asks mask slot ≡ true
-or_asks b mask slot go =
-    elim (any_below (asks_in_budget b mask) 32) as (λ x. cond x (asks_in_budget b mask slot)
-    (asks_softly b mask slot) ≡ true → slot_asks mask slot ≡ true) [
-      | true ↦ λ e. and_left (slot_asks mask slot) _ e
-      | false ↦ λ e. and_left (slot_asks mask slot) _ e
-    ] go
-
-turn_asks : (quantum : ℕ) (b : Ledger) (mask slot : ℕ) → TakesTurn quantum b mask slot
-    → slot_asks mask slot ≡ true
-turn_asks quantum b mask slot turn = elim (cases_Bool (turn_goes_on quantum b mask)) [
-  | inl on ↦ ap (slot_asks mask) (turn.goes_on on) ∙ and_left (slot_asks mask (turn_slot b)) _ on
-  | inr off ↦ (turn.passes off).chosen
-]
-
 pub serves-asking : (config : Config) (b : Ledger) (mask slot : ℕ) → Serves config b mask slot
     → slot_asks mask slot ≡ true
-serves-asking configs.Cpu b mask slot serves = absurd serves
-serves-asking configs.Fp b mask slot serves = eq-eqb _ 1 serves.asks
-serves-asking configs.Edf b mask slot serves = or_asks b mask slot serves.chosen
-serves-asking (configs.Sfq total most) b mask slot serves = serves.chosen
-serves-asking (configs.Rr quantum) b mask slot serves = turn_asks quantum b mask slot serves
-serves-asking (configs.Wheel frame) b mask slot serves = eq-eqb _ 1 serves.asks
-serves-asking (configs.Join ports) b mask slot serves = eq-eqb _ 1 serves.asks
+serves-asking config b mask slot serves = eq-eqb _ 1 (serves-slot config b mask slot serves)
 
 past_row : (b : Ledger) (t slot : ℕ) → (row_at b t).to ≡ Some slot → t < now_of b
 past_row b t slot to = elim (cases_lt t (now_of b)) [

@@ -10,7 +10,7 @@ use Rattle.hls_chron.specs.declared.plain.Terms.{Terms}
 use Rattle.hls_chron.specs.Seats.{most_seats, terms_at}
 use Rattle.hls_kinds.specs.Asks.{asks, slot_asks}
 use Rattle.hls_kinds.proofs.MarkLaws.{sits_on}
-use Rattle.hls_book_promise.specs.Admission.{HasSeats}
+use Rattle.hls_kinds.specs.Fits.{HasSeats}
 use Rattle.hls_book_promise.proofs.AdmissionLaws.{admission-unwritten}
 use Rattle.hls_chron.specs.declared.plain.Config.TheVariants.{Cpu}
 use Rattle.hls_machine.specs.Ledgers.{empty_book}
@@ -32,7 +32,7 @@ use Rattle.hls_machine.proofs.Readings.{serves-asking}
 use Rattle.hls_machine.proofs.Runs.{Kept, step_keeps, start_kept}
 use Rattle.hls_machine.proofs.Sitters.{HasSitters, IsFinite, step_sitters, step_finite, start_sitters}
 use Rattle.hls_machine.proofs.Unique.{most_rank, rank_below}
-use Rattle.hls_machine.proofs.Choices.{OnlySeats, serves_some}
+use Rattle.hls_kinds.proofs.Choices.{OnlySeats, serves_some}
 
 -- the mask of the slots below n at which a test is true
 pub mask_of : (ℕ → Bool) → ℕ → ℕ

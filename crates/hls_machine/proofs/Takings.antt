@@ -17,6 +17,7 @@ use Rattle.hls_machine.specs.Legal.{MaySit, MayBeRoot, MayTakeAt}
 use Rattle.hls_machine.specs.Linked.{book_at}
 use Rattle.hls_machine.proofs.Marks.{tenant_at-marks}
 use Rattle.hls_machine.proofs.Seatings.{Elsewhere, leavings_off}
+use Rattle.hls_kinds.proofs.Occupants.{occupied}
 
 -- a rank above those of these seats' places
 abbrev above_place : (ℕ → ℕ) → Place → ℕ
@@ -72,19 +73,6 @@ root_stays (seat ∷ seats) root off =
       | Processor ↦ λ ne. absurd (ne refl)
       | At p slot ↦ λ ne. root_stays seats root (λ port other e. off (suc port) other e)
     ] (off 0 seat refl)
-
--- a seat takes up its slot
-occupied : (config : Config) (b : Ledger) (slot since : ℕ) (terms : Terms)
-    → tenant_at b slot ≡ Sits terms since → occupant_at config b slot ≢ None
-unfolding is_held
-occupied configs.Edf b slot since terms e none = let has = sits_on b slot since terms e in let no =
-    rw (e, has) at none in cc
-occupied configs.Cpu b slot since terms e none = let has = sits_on b slot since terms e in cc
-occupied configs.Fp b slot since terms e none = let has = sits_on b slot since terms e in cc
-occupied (configs.Sfq total most) b slot since terms e none = let has = sits_on b slot since terms e in cc
-occupied (configs.Rr quantum) b slot since terms e none = let has = sits_on b slot since terms e in cc
-occupied (configs.Wheel frame) b slot since terms e none = let has = sits_on b slot since terms e in cc
-occupied (configs.Join ports) b slot since terms e none = let has = sits_on b slot since terms e in cc
 
 -- and it is not free for another, unless it is left
 pub taken_not_free : (h : Hierarchy) (left : List Seat) (seat : Seat) (p slot since : ℕ) (terms : Terms)

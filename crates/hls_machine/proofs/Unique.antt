@@ -15,7 +15,7 @@ use Rattle.hls_kinds.specs.Turns.{turn_goes_on}
 use Rattle.hls_kinds.specs.Asks.{slot_asks}
 use Rattle.hls_kinds.specs.Discipline.{HasLeastPriority, TakesTurn, Serves}
 use Rattle.hls_kinds.specs.Room.{IsFree}
-use Rattle.hls_book_promise.specs.Admission.{HasSeats}
+use Rattle.hls_kinds.specs.Fits.{HasSeats}
 use Rattle.hls_machine.specs.Ledgers.{with_marks}
 use Rattle.hls_machine.specs.Hierarchy.{Hierarchy, Loaded, Admitted, Scheduler, Place, Processor, At, Seat}
 use Rattle.hls_machine.specs.Hierarchy.{seat_of, book_of}
@@ -31,46 +31,7 @@ use Rattle.hls_book_made.proofs.Vacancies.{free_one}
 use Rattle.hls_machine.proofs.Books.{AllMade, made_at}
 use Rattle.hls_machine.proofs.Readings.{under_below, below_rank}
 use Rattle.hls_machine.proofs.Sitters.{HasSitters, IsFinite}
-
--- the slot to serve
-first_one : (n : ℕ) (among : ℕ → Bool) (key : ℕ → ℕ) (a b : ℕ) → IsFirst n among key a → IsFirst n among key b
-    → a ≡ b
-first_one n among key a b f g =
-    let x = f.least b g.within g.chosen in
-    let y = g.least a f.within f.chosen in
-    let same : key a ≡ key b = omega (arith, x, y) in
-    let u = f.first b g.within g.chosen same in
-    let v = g.first a f.within f.chosen (sym same) in
-    omega (arith, u, v)
-
-least_one : (b : Ledger) (mask slot other : ℕ) (p q : Option ℕ) → HasSeats configs.Fp b
-    → HasLeastPriority b mask slot → HasLeastPriority b mask other → priority_at b slot ≡ p
-    → priority_at b other ≡ q → slot ≡ other
-least_one b mask slot other None q seats f g e h = absurd (f.seated e)
-least_one b mask slot other (Some m) None seats f g e h = absurd (g.seated h)
-least_one b mask slot other (Some m) (Some n) seats f g e h =
-    let x = f.least other m n g.asks e h in
-    let y = g.least slot n m f.asks h e in
-    let same : m ≡ n = omega (arith, x, y) in
-    seats.apart slot other n (e ∙ ap (λ k. Some k) same) h
-
-turn_one : (quantum : ℕ) (b : Ledger) (mask slot other : ℕ) → TakesTurn quantum b mask slot
-    → TakesTurn quantum b mask other → slot ≡ other
-turn_one quantum b mask slot other f g = elim (cases_Bool (turn_goes_on quantum b mask)) [
-  | inl on ↦ f.goes_on on ∙ sym (g.goes_on on)
-  | inr off ↦ first_one 32 _ _ slot other (f.passes off) (g.passes off)
-]
-
-pub serves_one : (config : Config) (b : Ledger) (mask slot other : ℕ) → HasSeats config b
-    → Serves config b mask slot → Serves config b mask other → slot ≡ other
-serves_one configs.Cpu b mask slot other seats f g = absurd f
-serves_one configs.Fp b mask slot other seats f g =
-    least_one b mask slot other (priority_at b slot) (priority_at b other) seats f g refl refl
-serves_one configs.Edf b mask slot other seats f g = first_one 32 _ _ slot other f g
-serves_one (configs.Sfq total most) b mask slot other seats f g = first_one 32 _ _ slot other f g
-serves_one (configs.Rr quantum) b mask slot other seats f g = turn_one quantum b mask slot other f g
-serves_one (configs.Wheel frame) b mask slot other seats f g = let same = sym f.owns ∙ g.owns in cc
-serves_one (configs.Join ports) b mask slot other seats f g = f.sole ∙ sym g.sole
+use Rattle.hls_kinds.proofs.Choices.{serves_one}
 
 -- the path
 record SameWalk (hops others : List Hop) (thread rival : ℕ) : Type 0 where

@@ -5,7 +5,7 @@ use Rattle.std.specs.Prelude.{Bool, true, false, slice_get}
 use Rattle.hls_chron.specs.declared.plain.Config.{Config}
 use Rattle.hls_chron.specs.declared.plain.Config.TheVariants as configs
 use Rattle.hls_chron.specs.declared.plain.Kind.TheVariants as kinds
-use Rattle.hls_chron.specs.Kinds.{kind_of, terms_kind, port_count}
+use Rattle.hls_chron.specs.Kinds.{kind_of, terms_kind, port_count, fair_queue}
 use Rattle.hls_chron.specs.Name.{IsName}
 use Rattle.hls_chron.specs.Ranges.{ConfigInRange, TermsInRange}
 use Rattle.hls_chron.specs.Seats.{terms_at}
@@ -20,8 +20,7 @@ use Rattle.hls_machine.specs.Derived.{Follows}
 use Rattle.hls_machine.specs.Hierarchy.{Hierarchy, Place, Processor, At, Seat, Scheduler, Thread, Node, Loaded}
 use Rattle.hls_machine.specs.Hierarchy.{Admitted, is_ready, was_served, name_of, seats_of, seat_of, haves_of}
 use Rattle.hls_machine.specs.Hierarchy.{book_of, config_of, start}
-use Rattle.hls_machine.specs.Steps.{Step, Refuse, Load, Admit, End, Unload, Move, Rouse, Block, Elapse, Hop}
-use Rattle.hls_machine.specs.Steps.{Path}
+use Rattle.hls_machine.specs.Steps.{Step, Refuse, Load, Admit, End, Unload, Move, Rouse, Block, Elapse, Hop, Path}
 use Rattle.hls_machine.specs.Steps.{leavings, reseated, after, state}
 
 -- a scheduler sits under another, or under the processor where there is none
@@ -41,10 +40,6 @@ pub record SitsUnder (h : Hierarchy) (parent : Option ℕ) (k : ℕ) : Type 0 wh
 abbrev pub IsChain : Hierarchy → (parent : Option ℕ) → List ℕ → Type 0
 IsChain h parent [] = Unit {0}
 IsChain h parent (k ∷ chain) = SitsUnder h parent k × IsChain h (Some k) chain
-
-abbrev pub fair_queue : Config → ℕ
-fair_queue (configs.Sfq total most) = 1
-fair_queue _ = 0
 
 abbrev pub fair_queues : Hierarchy → List ℕ → ℕ
 fair_queues h [] = 0

@@ -5,7 +5,7 @@ use Rattle.std.specs.Prelude.{IsSome, is_some}
 use Rattle.hls_text.specs.Lines.{Text}
 use Rattle.hls_chron.specs.declared.plain.Terms.{Terms}
 use Rattle.hls_kinds.specs.declared.fault.SeatFault.{SeatFault}
-use Rattle.hls_kinds.specs.Faults.{IsFirst}
+use Rattle.hls_kinds.specs.Faults.{IsFirstFault}
 use Rattle.hls_kinds.specs.Faults as seats
 use Rattle.hls_derive.specs.declared.derivation.Derivation.{Derivation}
 use Rattle.hls_scenario.specs.declared.scenario.Spot.{Spot}
@@ -180,7 +180,7 @@ module _ (m : Moment) (name : Text) (perch : Perch) where
         }
 
         module _ (few : length h.threads < 256) where
-          pub seat_fault : (fault : SeatFault) → IsFirst s.config s.book terms fault
+          pub seat_fault : (fault : SeatFault) → IsFirstFault s.config s.book terms fault
               → IsRefused m c (fault_refusal sched fault)
           seat_fault fault first =
               place_refused (fault_refusal sched fault)

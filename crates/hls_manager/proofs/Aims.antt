@@ -7,7 +7,7 @@ use Rattle.hls_chron.specs.declared.plain.Terms.{Terms}
 use Rattle.hls_chron.specs.declared.plain.Terms.TheVariants as terms
 use Rattle.hls_kinds.specs.declared.fault.SeatFault.{SeatFault}
 use Rattle.hls_kinds.specs.declared.fault.SeatFault.TheVariants as faults
-use Rattle.hls_kinds.specs.Faults.{IsAnswer}
+use Rattle.hls_kinds.specs.Faults.{IsFirstFaultIfAny}
 use Rattle.hls_scenario.specs.declared.scenario.Spot.{Spot}
 use Rattle.hls_scenario.specs.declared.scenario.Spot.TheVariants.{Cpu, Under}
 use Rattle.hls_scenario.specs.declared.scenario.Perch.{Perch}
@@ -86,9 +86,9 @@ module _ (h : Hierarchy) (listed : IsListed h) (c : Command) (sched : Text) (set
   there = named_is h listed p sched has ∙ is.there
 
   answer_is : (answer : Option SeatFault) → IsSeatAnswer h (Some p) set answer
-      → IsAnswer is.scheduler.config is.scheduler.book set answer
+      → IsFirstFaultIfAny is.scheduler.config is.scheduler.book set answer
   answer_is answer f =
-      subst (λ (n : Option Node). IsAnswer (config_of n) (book_of n) set answer) is.there f
+      subst (λ (n : Option Node). IsFirstFaultIfAny (config_of n) (book_of n) set answer) is.there f
 
   under_fault : (fault : SeatFault) → IsSeatAnswer h (Some p) set (Some fault) → IsFaultAt h c (Under sched set) fault
   under_fault fault f =

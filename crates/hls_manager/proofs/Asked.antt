@@ -13,7 +13,7 @@ use Rattle.hls_report_text.specs.declared.report.Answer.TheVariants.{Refused}
 use Rattle.hls_machine.specs.Legal.{IsReached}
 use Rattle.hls_answers.specs.Moment.{Moment}
 use Rattle.hls_answers.specs.Dues.{dues_on, AreSettled}
-use Rattle.hls_answers.specs.Refusals.{IsFirst, LacksDerivation}
+use Rattle.hls_answers.specs.Refusals.{IsFirstSuch, LacksDerivation}
 use Rattle.hls_answers.specs.Answers.{IsAnswer}
 use Rattle.hls_tree.specs.declared.seat.Seat.{Seat}
 use Rattle.hls_manager.specs.Seats.{due_for}
@@ -43,7 +43,7 @@ module _ (m : Moment) (reached : IsReached m.hierarchy) (name : Text) (perch : P
       subst (λ (a : Answer). IsAnswer m (said.Move name perch) a) (sym told.0)
       (done_answer m reached name perch within id seat movable seats settled)
   move_answered (Lacks other) answer are told =
-      let lacks = subst (λ n. IsFirst (due_for m.hierarchy name 0 seat ∷ dues_on m.hierarchy seat.kept (Some id))
+      let lacks = subst (λ n. IsFirstSuch (due_for m.hierarchy name 0 seat ∷ dues_on m.hierarchy seat.kept (Some id))
       (LacksDerivation n) other) (sym deep) are in
       let is = lacks_answer m reached name perch within id seat movable other lacks in
       let same : answer ≡ Refused (NoDerivation other m.depth) =

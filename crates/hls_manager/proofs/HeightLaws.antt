@@ -14,7 +14,8 @@ use Rattle.hls_scenario.specs.declared.scenario.Perch.{Perch}
 use Rattle.hls_scenario.specs.declared.scenario.Command.{Command}
 use Rattle.hls_scenario.specs.declared.scenario.Command.TheVariants as said
 use Rattle.hls_machine.specs.Hierarchy.{Hierarchy}
-use Rattle.hls_machine.specs.Legal.{IsChain, fair_queue, fair_queues}
+use Rattle.hls_chron.specs.Kinds.{fair_queue}
+use Rattle.hls_machine.specs.Legal.{IsChain, fair_queues, IsReached}
 use Rattle.hls_machine.specs.Lists.{IsListed}
 use Rattle.hls_answers.specs.Levels.{LeadsTo, HasNewChain}
 use Rattle.hls_answers.specs.Refusals.{IsTooDeep, AreTooManyShares}
@@ -23,7 +24,6 @@ use Rattle.hls_answers.proofs.Found.{named_found}
 use Rattle.hls_tree.specs.Offers.{IsLevel}
 use Rattle.hls_tree.specs.Reads.{IsShares, IsLoaded, IsParent}
 use Rattle.hls_tree.specs.declared.seat.Seat.{Seat}
-use Rattle.hls_machine.specs.Legal.{IsReached}
 use Rattle.hls_manager.specs.Inside.Ports.{IsAt, IsWanted, AreWanted, AreAtParents}
 use Rattle.hls_manager.specs.Inside.Heights.{IsChainTo, IsOnChain, IsMost, IsLowEnough}
 use Rattle.hls_manager.proofs.Outcomes.{reached_done}

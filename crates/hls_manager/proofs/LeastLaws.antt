@@ -5,7 +5,7 @@ use Rattle.std.specs.Prelude.{IfSome, nat_le, if◌then◌else◌}
 use Rattle.std.proofs.lemmas.Bool.{cases_lt, leb-true, leb-false}
 use Rattle.hls_report_text.specs.declared.refusal.Refusal.{Refusal}
 use Rattle.hls_answers.specs.Answers.{number}
-use Rattle.hls_manager.specs.Inside.Least.{lesser, IsLeastOf, IsLeast}
+use Rattle.hls_manager.specs.Inside.Least.{lesser, IsLeastOf, IsLeastRefusal}
 
 module _ (P : ℕ → Refusal → Type 0) (n : ℕ) where
   -- a port of the first n + 1
@@ -23,7 +23,7 @@ module _ (P : ℕ → Refusal → Type 0) (n : ℕ) where
       | inr here ↦ absurd (none r (subst (λ (k : ℕ). P k r) here f))
     ]
 
-    pub less_by_none : (best : Option Refusal) → IsLeast P n best → IsLeast P (n + 1) best
+    pub less_by_none : (best : Option Refusal) → IsLeastRefusal P n best → IsLeastRefusal P (n + 1) best
     less_by_none None is = λ at other lt f. is at other (none_here at other lt f) f
     less_by_none (Some r) is =
         let port = is.port in
@@ -70,7 +70,7 @@ module _ (P : ℕ → Refusal → Type 0) (n : ℕ) where
         → P at other → number r < number other
     below best is lt at other less f = (let more = is.least at other less f in omega (arith, lt, more))
 
-    pub less_by_one : (best : Option Refusal) → IsLeast P n best → IsLeastOf P (n + 1) (lesser best r)
+    pub less_by_one : (best : Option Refusal) → IsLeastRefusal P n best → IsLeastOf P (n + 1) (lesser best r)
     less_by_one None is = newly (λ at other lt f. absurd (is at other lt f))
     less_by_one (Some best) is = by (nat_le (number best) (number r)) refl
       where

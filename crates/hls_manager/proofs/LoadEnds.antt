@@ -23,22 +23,19 @@ use Rattle.hls_report_text.specs.declared.report.Seated.{Seated}
 use Rattle.hls_report_text.specs.declared.report.Answer.TheVariants.{Done}
 use Rattle.hls_kinds.specs.Faults as kinds_faults
 use Rattle.hls_sched.specs.Seen.{Seen}
-use Rattle.hls_machine.specs.Hierarchy.{Hierarchy, Place, Processor, At, name_of}
-use Rattle.hls_machine.specs.Hierarchy.{Seat as TakenSeat}
+use Rattle.hls_machine.specs.Hierarchy.{Hierarchy, Place, Processor, At, name_of, Seat as TakenSeat}
 use Rattle.hls_machine.specs.Steps.{Load}
-use Rattle.hls_machine.specs.Legal.{scheduler_at}
+use Rattle.hls_machine.specs.Legal.{scheduler_at, IsReached}
 use Rattle.hls_machine.specs.Lists.{IsListed}
 use Rattle.hls_accounts.specs.Tells.{HasName, IsSpot, IsPerch, ArePerches, terms_in}
 use Rattle.hls_answers.specs.Moment.{Moment}
 use Rattle.hls_answers.proofs.Found.{named_is}
 use Rattle.hls_answers.proofs.LoadsDone.{IsLoadShape, load_shape}
-use Rattle.hls_tree.specs.Offers.{IsFreeName, TakesAt, MayTake, MayLoad}
-use Rattle.hls_tree.specs.Offers.{IsTakenAs, AreTakenAs}
+use Rattle.hls_tree.specs.Offers.{IsFreeName, TakesAt, MayTake, MayLoad, IsTakenAs, AreTakenAs}
 use Rattle.hls_tree.specs.Trees.{Loads}
 use Rattle.hls_tree.specs.declared.seat.Seat.{Seat}
 use Rattle.hls_tree.specs.declared.tree.Tree.{Tree}
 use Rattle.hls_manager.specs.Faults.{fault_refusal}
-use Rattle.hls_machine.specs.Legal.{IsReached}
 use Rattle.hls_manager.specs.Outcomes.{HasMarkRoom, CarriesOut}
 use Rattle.hls_manager.specs.Inside.Ports.{IsAt, IsWanted, AreWanted, RefusesSpot, ArePerchesInRange}
 use Rattle.hls_manager.specs.Inside.Loads.{IsPlaced, IsOpen, AreTold}
@@ -49,6 +46,7 @@ use Rattle.hls_manager.proofs.LoadSteps.{AreAtFree}
 use Rattle.hls_manager.proofs.LoadTold.{derivable, done}
 use Rattle.hls_manager.proofs.Outcomes.{reached_listed}
 use Rattle.hls_manager.proofs.PortLaws.{item_at, perch_at, in_range}
+use Rattle.hls_chron.proofs.ConfigLaws.{few_ports}
 
 -- ---- what the grammar says
 
@@ -59,15 +57,6 @@ perches_in_range name config perches within = (load_shape config perches within.
 pub config_boxed : (name : Text) (config : Config) (perches : List Perch)
     → IsCommand (said.Load name config perches) → kind_of config ≢ kinds.Cpu
 config_boxed name config perches within = (load_shape config perches within.1).kind
-
-few_ports : (config : Config) → ConfigInRange config → port_count config ≤ 4
-few_ports configs.Cpu is = omega arith
-few_ports configs.Fp is = omega arith
-few_ports configs.Edf is = omega arith
-few_ports (configs.Sfq total most) is = omega arith
-few_ports (configs.Rr quantum) is = omega arith
-few_ports (configs.Wheel frame) is = omega arith
-few_ports (configs.Join ports) is = is.1
 
 pub few_seats : (h : Hierarchy) (name : Text) (config : Config) (perches : List Perch) (seats : List Seat)
     → IsCommand (said.Load name config perches) → AreWanted h perches (length perches) seats → length seats ≤ 4

@@ -10,7 +10,7 @@ use Rattle.hls_scenario.specs.declared.scenario.Perch.{Perch}
 use Rattle.hls_scenario.specs.declared.scenario.Command.TheVariants.{Load}
 use Rattle.hls_report_text.specs.declared.report.Seated.{Seated}
 use Rattle.hls_report_text.specs.declared.report.Answer.TheVariants.{Done}
-use Rattle.hls_report_text.specs.WellFormed.{IsSeated, IsAnswer}
+use Rattle.hls_report_text.specs.WellFormed.{IsSeated, MayAnswer}
 use Rattle.hls_machine.specs.Hierarchy.{Hierarchy}
 use Rattle.hls_tree.specs.declared.seat.Seat.{Seat}
 use Rattle.hls_machine.specs.Legal.{IsReached}
@@ -25,14 +25,14 @@ all_by P [] each = tt
 all_by P (x ∷ xs) each = (each 0 x refl, all_by P xs (λ i y e. each (suc i) y e))
 
 seats_formed : (name : Text) (config : Config) (perches : List Perch) (told : List Seated)
-    → AllByRecursion IsSeated told → IsAnswer (Load name config perches) (Done told)
+    → AllByRecursion IsSeated told → MayAnswer (Load name config perches) (Done told)
 seats_formed name config perches [] all = tt
 seats_formed name config perches (one ∷ told) all = (tt, all)
 
 pub told_formed : (h : Hierarchy) → IsReached h → (depth : ℕ) → depth ≤ 6 → (name : Text) → IsName name
     → (config : Config) (perches : List Perch) (seats : List Seat) → AreAtParents h seats → length seats ≤ 4
     → (told : List Seated) → AreTold h depth name seats (length seats) told
-    → IsAnswer (Load name config perches) (Done told)
+    → MayAnswer (Load name config perches) (Done told)
 told_formed h is depth shallow name named config perches seats there few told are =
     seats_formed name config perches told (all_by IsSeated told (λ port one e.
     (let within = slice_get_within told port one e in

@@ -20,12 +20,12 @@ use Rattle.hls_machine.specs.Hierarchy.{Hierarchy, Node}
 use Rattle.hls_machine.specs.Lists.{IsListed}
 use Rattle.hls_accounts.specs.Tells.{HasName}
 use Rattle.hls_answers.specs.Moment.{Moment, node_of, spots_of}
-use Rattle.hls_answers.specs.Refusals.{IsFirst, IsTooDeep, AreTooManyShares}
+use Rattle.hls_answers.specs.Refusals.{IsFirstSuch, IsTooDeep, AreTooManyShares}
 use Rattle.hls_answers.specs.Answers.{number, RefusesPlace, RefusesBy, IsRefused}
 use Rattle.hls_answers.proofs.LoadsDone.{spot_at}
 use Rattle.hls_answers.proofs.Found.{named_is}
 use Rattle.hls_tree.specs.declared.seat.Seat.{Seat}
-use Rattle.hls_manager.specs.Inside.Least.{IsLeast, IsLeastOf, is_early}
+use Rattle.hls_manager.specs.Inside.Least.{IsLeastRefusal, IsLeastOf, is_early}
 use Rattle.hls_manager.specs.Inside.Ports.{IsNameRefused, IsPortRefused}
 use Rattle.hls_manager.specs.Inside.Heights.{IsLowEnough, IsHeightRefusal}
 use Rattle.hls_manager.specs.Inside.Loads.{IsPlaced, IsOpen}
@@ -109,7 +109,7 @@ module _ (m : Moment) (name : Text) (config : Config) (perches : List Perch) whe
   port_number port r f = place_number h c f.perch.spot r (of_spot h name config perches f.perch.spot r f.refuses)
 
   first_port : (r : Refusal) → IsLeastOf (IsPortRefused h perches) (length perches) r
-      → IsFirst (spots_of c) (RefusesBy h c (number r)) r
+      → IsFirstSuch (spots_of c) (RefusesBy h c (number r)) r
   first_port r is = record {
     at = is.port;
     item = is.refuses.perch.spot;
@@ -243,7 +243,7 @@ module _ (m : Moment) (name : Text) (config : Config) (perches : List Perch) whe
       late_number r e = ltb-false (number r) 20 e
 
       -- a fault of a seat that comes before the rest
-      pub early_fault : (fault : Option Refusal) → IsLeast (IsPortRefused h perches) (length perches) fault
+      pub early_fault : (fault : Option Refusal) → IsLeastRefusal (IsPortRefused h perches) (length perches) fault
           → is_early fault ≡ true → (r : Refusal) → fault ≡ Some r → IsRefused m c r
       early_fault None is on r e = absurd (cc)
       early_fault (Some f) is on r e =
@@ -253,9 +253,9 @@ module _ (m : Moment) (name : Text) (config : Config) (perches : List Perch) whe
           (port_refused f is (counted (number f) (omega (arith, lt))))
 
       -- no fault comes before the rest
-      module _ (fault : Option Refusal) (is : IsLeast (IsPortRefused h perches) (length perches) fault)
+      module _ (fault : Option Refusal) (is : IsLeastRefusal (IsPortRefused h perches) (length perches) fault)
           (off : is_early fault ≡ false) where
-        later_by : (any : Option Refusal) → IsLeast (IsPortRefused h perches) (length perches) any
+        later_by : (any : Option Refusal) → IsLeastRefusal (IsPortRefused h perches) (length perches) any
             → is_early any ≡ false → (port : ℕ) (r : Refusal) → port < length perches
             → IsPortRefused h perches port r → 20 ≤ number r
         later_by None none e port r lt f = absurd (none port r lt f)
@@ -327,13 +327,13 @@ module _ (m : Moment) (name : Text) (config : Config) (perches : List Perch) whe
 
             pub last_fault : (r : Refusal) → fault ≡ Some r → IsRefused m c r
             last_fault r e =
-                port_refused r (subst (λ (x : Option Refusal). IsLeast (IsPortRefused h perches) (length perches) x)
+                port_refused r (subst (λ (x : Option Refusal). IsLeastRefusal (IsPortRefused h perches) (length perches) x)
                 e is) (clear (number r))
 
             pub open_load : fault ≡ None → IsOpen m config perches
             open_load e = record {
               few = few;
-              ports = subst (λ (x : Option Refusal). IsLeast (IsPortRefused h perches) (length perches) x) e is;
+              ports = subst (λ (x : Option Refusal). IsLeastRefusal (IsPortRefused h perches) (length perches) x) e is;
               low = lowly;
               has_box = has_box;
             }

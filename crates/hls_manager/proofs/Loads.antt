@@ -20,7 +20,7 @@ use Rattle.hls_report_text.specs.declared.report.Seated.{Seated}
 use Rattle.hls_machine.specs.Hierarchy.{Hierarchy}
 use Rattle.hls_answers.specs.Moment.{Moment, node_of, spots_of}
 use Rattle.hls_answers.specs.Dues.{dues, AreSettled}
-use Rattle.hls_answers.specs.Refusals.{IsFirst, IsTooDeep, AreTooManyShares, IsUnderived}
+use Rattle.hls_answers.specs.Refusals.{IsFirstSuch, IsTooDeep, AreTooManyShares, IsUnderived}
 use Rattle.hls_answers.specs.Answers.{number, RefusesCommand, RefusesPlace, RefusesBy, RefusesFirstPlace, Applies}
 use Rattle.hls_answers.specs.Answers.{IsRefused, IsDone}
 use Rattle.hls_manager.proofs.Places.{to_last, IsPlaceNumber, place_number}
@@ -92,7 +92,7 @@ module _ (m : Moment) (name : Text) (config : Config) (perches : List Perch) whe
   no_number r (NoDerivation a depth) is e g = is.derived (sym e)
   no_number r _ is e g = g
 
-  place_applies : (r : Refusal) → IsFirst (spots_of c) (RefusesBy h c (number r)) r → Applies m c r
+  place_applies : (r : Refusal) → IsFirstSuch (spots_of c) (RefusesBy h c (number r)) r → Applies m c r
   place_applies r f = inr (record {
     first = f;
     only = λ other same g.
@@ -144,7 +144,7 @@ module _ (m : Moment) (name : Text) (config : Config) (perches : List Perch) whe
       record { applies = inl f; least = least (number r) (to_last r) clear places }
 
   -- so is what refuses at a place, at the first that has a refusal of the number
-  pub place_refused : (r : Refusal) → IsFirst (spots_of c) (RefusesBy h c (number r)) r → IsClear (number r)
+  pub place_refused : (r : Refusal) → IsFirstSuch (spots_of c) (RefusesBy h c (number r)) r → IsClear (number r)
       → ((other : Refusal) → IsPlaceRefusal h c (spots_of c) other → number r ≤ number other) → IsRefused m c r
   place_refused r f clear places =
       record { applies = place_applies r f; least = least (number r) (to_last r) clear places }

@@ -22,7 +22,7 @@ use Rattle.hls_report_text.specs.declared.refusal.Refusal.TheVariants.{TooManyTh
 use Rattle.hls_report_text.specs.declared.report.Answer.{Answer}
 use Rattle.hls_report_text.specs.declared.report.Answer.TheVariants.{Done}
 use Rattle.hls_kinds.specs.declared.fault.SeatFault.{SeatFault}
-use Rattle.hls_kinds.specs.Faults.{IsAnswer}
+use Rattle.hls_kinds.specs.Faults.{IsFirstFaultIfAny}
 use Rattle.hls_sched.specs.Seen.{Seen}
 use Rattle.hls_machine.specs.Hierarchy.{Hierarchy, Node, Loaded, Place, Processor, At}
 use Rattle.hls_machine.specs.Hierarchy.{config_of, haves_of, book_of, name_of}
@@ -120,20 +120,20 @@ module _ (m : Moment) (name : Text) (perch : Perch) (free : node_of m.hierarchy 
     too_many_threads many = too_many m name perch free sched terms at is.scheduler there many
 
     answer_is : (answer : Option SeatFault)
-        → IsAnswer (config_of (m.hierarchy.nodes p)) (book_of (m.hierarchy.nodes p)) terms answer
-        → IsAnswer is.scheduler.config is.scheduler.book terms answer
+        → IsFirstFaultIfAny (config_of (m.hierarchy.nodes p)) (book_of (m.hierarchy.nodes p)) terms answer
+        → IsFirstFaultIfAny is.scheduler.config is.scheduler.book terms answer
     answer_is answer f =
-        subst (λ (n : Option Node). IsAnswer (config_of n) (book_of n) terms answer) is.there f
+        subst (λ (n : Option Node). IsFirstFaultIfAny (config_of n) (book_of n) terms answer) is.there f
 
     pub faulty : length m.hierarchy.threads < 256 → (fault : SeatFault)
-        → IsAnswer (config_of (m.hierarchy.nodes p)) (book_of (m.hierarchy.nodes p)) terms (Some fault)
+        → IsFirstFaultIfAny (config_of (m.hierarchy.nodes p)) (book_of (m.hierarchy.nodes p)) terms (Some fault)
         → IsRefused m (said.Thread name perch) (fault_refusal sched fault)
     faulty few fault f =
         seat_fault m name perch free sched terms at is.scheduler there few fault (answer_is (Some fault) f)
 
     pub offered : length m.hierarchy.threads < 256 → (seat : Seat) → seat.parent ≡ Some p → seat.terms ≡ terms
         → seat.kept ≡ perch.want
-        → IsAnswer (config_of (m.hierarchy.nodes p)) (book_of (m.hierarchy.nodes p)) terms None
+        → IsFirstFaultIfAny (config_of (m.hierarchy.nodes p)) (book_of (m.hierarchy.nodes p)) terms None
         → IsOffered m.hierarchy name perch seat
     offered few seat parent set kept f = record {
       name_free = free;
@@ -146,7 +146,7 @@ module _ (m : Moment) (name : Text) (perch : Perch) (free : node_of m.hierarchy 
       has = has;
       scheduler = is.scheduler;
       there = is.there;
-      fits = subst (λ (t : Terms). IsAnswer is.scheduler.config is.scheduler.book t None) (sym set)
+      fits = subst (λ (t : Terms). IsFirstFaultIfAny is.scheduler.config is.scheduler.book t None) (sym set)
           (answer_is None f);
     }
 

@@ -4,7 +4,7 @@ use Rattle.hls_text.specs.Lines.{Text}
 use Rattle.hls_chron.specs.declared.plain.Terms.{Terms}
 use Rattle.hls_kinds.specs.declared.fault.SeatFault.{SeatFault}
 use Rattle.hls_kinds.specs.declared.fault.SeatFault.TheVariants as faults
-use Rattle.hls_kinds.specs.Faults.{fault_number, IsFirst}
+use Rattle.hls_kinds.specs.Faults.{fault_number, IsFirstFault}
 use Rattle.hls_kinds.specs.Faults as seats
 use Rattle.hls_scenario.specs.declared.scenario.Spot.{Spot}
 use Rattle.hls_scenario.specs.declared.scenario.Spot.TheVariants.{Cpu, Under}
@@ -209,7 +209,7 @@ module _ (h : Hierarchy) (c : Command) (sched : Text) (terms : Terms) where
     to_fault (faults.NoRoom free asked) f = (sched, fault_at (faults.NoRoom free asked) f)
 
     -- the first fault is the least refusal
-    pub first_fault : (fault : SeatFault) → IsFirst s.config s.book terms fault → (r : Refusal)
+    pub first_fault : (fault : SeatFault) → IsFirstFault s.config s.book terms fault → (r : Refusal)
         → RefusesPlace h c spot r → number (fault_refusal sched fault) ≤ number r
     first_fault fault is r f =
         let of = of_fault r f in

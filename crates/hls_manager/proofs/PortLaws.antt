@@ -14,7 +14,7 @@ use Rattle.hls_guarantee.specs.declared.Guarantee.{Guarantee}
 use Rattle.hls_guarantee.specs.Limits.{IsNarrow}
 use Rattle.hls_kinds.specs.declared.fault.SeatFault.{SeatFault}
 use Rattle.hls_kinds.specs.declared.fault.SeatFault.TheVariants as faults
-use Rattle.hls_kinds.specs.Faults.{IsAnswer}
+use Rattle.hls_kinds.specs.Faults.{IsFirstFaultIfAny}
 use Rattle.hls_scenario.specs.declared.scenario.Spot.{Spot}
 use Rattle.hls_scenario.specs.declared.scenario.Spot.TheVariants.{Cpu, Under}
 use Rattle.hls_scenario.specs.declared.scenario.Perch.{Perch}
@@ -36,7 +36,7 @@ use Rattle.hls_tree.specs.Reads.{IsLoaded, IsParent, IsRootAnswer, IsSeatAnswer}
 use Rattle.hls_tree.specs.declared.seat.Seat.{Seat}
 use Rattle.hls_manager.specs.Faults.{fault_refusal}
 use Rattle.hls_manager.specs.Finds.{IsNoScheduler}
-use Rattle.hls_manager.specs.Inside.Least.{IsLeast, IsLeastOf, lesser}
+use Rattle.hls_manager.specs.Inside.Least.{IsLeastRefusal, IsLeastOf, lesser}
 use Rattle.hls_manager.specs.Inside.Ports.{IsAt, IsWanted, AreWanted, IsPut, AreAtParents, ArePerchesInRange}
 use Rattle.hls_manager.specs.Inside.Ports.{IsInRange, AreInRange, RefusesName, RefusesSpot, IsNameRefused}
 use Rattle.hls_manager.specs.Inside.Ports.{IsPortRefused, IsSpotAnswer}
@@ -187,7 +187,7 @@ module _ (h : Hierarchy) where
 
     -- so far: the least refusal of a name, and the seats where there is none
     pub record AreNamed (n : ℕ) (best : Option Refusal) (seats : List Seat) : Type 0 where
-      pub least : IsLeast (IsNameRefused h perches) n best
+      pub least : IsLeastRefusal (IsNameRefused h perches) n best
       pub wanted : best ≡ None → AreWanted h perches n seats
 
     pub none_named : AreNamed 0 None []
@@ -310,21 +310,21 @@ module _ (h : Hierarchy) where
     there : node_of h sched ≡ Some (Loaded is.scheduler)
     there = named_is h listed p sched has ∙ is.there
 
-    answer_is : (answer : Option SeatFault) → IsAnswer (config_of (h.nodes p)) (book_of (h.nodes p)) set answer
-        → IsAnswer is.scheduler.config is.scheduler.book set answer
-    answer_is answer f = subst (λ (n : Option Node). IsAnswer (config_of n) (book_of n) set answer) is.there f
+    answer_is : (answer : Option SeatFault) → IsFirstFaultIfAny (config_of (h.nodes p)) (book_of (h.nodes p)) set answer
+        → IsFirstFaultIfAny is.scheduler.config is.scheduler.book set answer
+    answer_is answer f = subst (λ (n : Option Node). IsFirstFaultIfAny (config_of n) (book_of n) set answer) is.there f
 
     abbrev load : Command
     load = said.Load [] configs.Cpu []
 
-    under_free : IsAnswer (config_of (h.nodes p)) (book_of (h.nodes p)) set None
+    under_free : IsFirstFaultIfAny (config_of (h.nodes p)) (book_of (h.nodes p)) set None
         → IsSpotAnswer h (Under sched set) None
     under_free none r f =
         let of = of_fault h load sched set is.scheduler there r f in
         answer_is None none of.fault of.applies
 
     under_fault : (fault : SeatFault)
-        → IsAnswer (config_of (h.nodes p)) (book_of (h.nodes p)) set (Some fault)
+        → IsFirstFaultIfAny (config_of (h.nodes p)) (book_of (h.nodes p)) set (Some fault)
         → IsSpotAnswer h (Under sched set) (Some (fault_refusal sched fault))
     under_fault fault f =
         let first = answer_is (Some fault) f in
@@ -341,7 +341,7 @@ module _ (h : Hierarchy) where
       root_free (subst (λ (t : Terms). IsRootAnswer h.root t None) e f)
   free_by listed (Under sched terms) (Some p) set at e f =
       under_free listed p sched terms at.0 at.1
-      (subst (λ (t : Terms). IsAnswer (config_of (h.nodes p)) (book_of (h.nodes p)) t None) e f)
+      (subst (λ (t : Terms). IsFirstFaultIfAny (config_of (h.nodes p)) (book_of (h.nodes p)) t None) e f)
   free_by listed Cpu (Some p) set at e f = absurd at
   free_by listed (Under sched terms) None set at e f = absurd at
 
@@ -377,7 +377,7 @@ module _ (h : Hierarchy) where
           let named : name ≡ sched = cc in
           subst (λ (n : Text). IsSpotAnswer h (Under n terms) (Some (fault_refusal name fault))) named
           (under_fault listed q name terms has there fault
-          (subst (λ (t : Terms). IsAnswer (config_of (h.nodes q)) (book_of (h.nodes q)) t (Some fault)) e f))
+          (subst (λ (t : Terms). IsFirstFaultIfAny (config_of (h.nodes q)) (book_of (h.nodes q)) t (Some fault)) e f))
   fault_by listed Cpu None set at e p name is has fault f = absurd (cc)
   fault_by listed Cpu (Some q) set at e p name is has fault f = absurd at
   fault_by listed (Under sched terms) None set at e p name is has fault f = absurd at
@@ -416,17 +416,17 @@ module _ (h : Hierarchy) where
         let same : is.perch ≡ perch = cc in
         subst (λ (p : Perch). RefusesSpot h p.spot r) same is.refuses
 
-    pub none_faulty : IsLeast (IsPortRefused h perches) 0 None
+    pub none_faulty : IsLeastRefusal (IsPortRefused h perches) 0 None
     none_faulty at other lt f = absurd (omega (arith, lt))
 
-    pub one_free : (n : ℕ) (perch : Perch) (best : Option Refusal) → IsLeast (IsPortRefused h perches) n best
+    pub one_free : (n : ℕ) (perch : Perch) (best : Option Refusal) → IsLeastRefusal (IsPortRefused h perches) n best
         → slice_get perches n ≡ Some perch → IsSpotAnswer h perch.spot None
-        → IsLeast (IsPortRefused h perches) (n + 1) best
+        → IsLeastRefusal (IsPortRefused h perches) (n + 1) best
     one_free n perch best is at none =
         less_by_none (IsPortRefused h perches) n (λ r f. none r (fault_here n perch at r f)) best is
 
     pub one_faulty : (n : ℕ) (perch : Perch) (best : Option Refusal) (r : Refusal)
-        → IsLeast (IsPortRefused h perches) n best → slice_get perches n ≡ Some perch
+        → IsLeastRefusal (IsPortRefused h perches) n best → slice_get perches n ≡ Some perch
         → IsSpotAnswer h perch.spot (Some r) → IsLeastOf (IsPortRefused h perches) (n + 1) (lesser best r)
     one_faulty n perch best r is at there =
         less_by_one (IsPortRefused h perches) n r
@@ -436,9 +436,9 @@ module _ (h : Hierarchy) where
     -- at the seats of the ports
     module _ (seats : List Seat) (are : AreWanted h perches (length perches) seats) (n : ℕ) (seat : Seat)
         (at_port : slice_get seats n ≡ Some seat) (best : Option Refusal)
-        (is : IsLeast (IsPortRefused h perches) n best) where
+        (is : IsLeastRefusal (IsPortRefused h perches) n best) where
       pub one_seat_free : ((perch : Perch) → IsWanted h perch seat → IsSpotAnswer h perch.spot None)
-          → IsLeast (IsPortRefused h perches) (n + 1) best
+          → IsLeastRefusal (IsPortRefused h perches) (n + 1) best
       one_seat_free none =
           let perch = perch_at h perches (length perches) seats are (omega arith) n seat at_port in
           one_free n perch.0 best is perch.1 (none perch.0 perch.2)

@@ -8,12 +8,12 @@ use Rattle.hls_chron.specs.declared.plain.Config.TheVariants as configs
 use Rattle.hls_chron.specs.declared.plain.Kind.TheVariants as kinds
 use Rattle.hls_chron.specs.Kinds.{kind_of, port_count}
 use Rattle.hls_chron.specs.Ranges.{ConfigInRange}
-use Rattle.hls_machine.specs.Hierarchy.{Hierarchy, Node, Loaded, Admitted, Seat, Wake, Asleep}
-use Rattle.hls_machine.specs.Hierarchy.{Place, start, seats_of}
+use Rattle.hls_machine.specs.Hierarchy.{Hierarchy, Node, Loaded, Admitted, Seat, Wake, Asleep, Place, start, seats_of}
 use Rattle.hls_machine.specs.Steps.{Step, Refuse, Load, Admit, End, Unload, Move, Rouse, Block, Elapse, Hop}
 use Rattle.hls_machine.specs.Steps.{after, state, effect, nobody, marked, renewed, reseated, roused, ticked}
 use Rattle.hls_machine.specs.Steps.{wake_by, hop_at, hops_of, leavings, seatings}
 use Rattle.hls_machine.specs.Legal.{SeatInRange, MayMoveTo, Can, IsLegal, IsReached}
+use Rattle.hls_chron.proofs.ConfigLaws.{one_port}
 
 abbrev pub AreInRange : List Seat → Type 0
 AreInRange seats = (port : ℕ) (seat : Seat) → slice_get seats port ≡ Some seat → SeatInRange seat
@@ -40,15 +40,6 @@ ranged_renewed true now (Some (Admitted t)) has = has
 lone_range : (seat : Seat) → SeatInRange seat → AreInRange (seat ∷ [])
 lone_range seat is zero other e = (let same : seat ≡ other = cc in subst (λ (s : Seat). SeatInRange s) same is)
 lone_range seat is (suc port) other e = absurd (cc)
-
-pub one_port : (config : Config) → kind_of config ≢ kinds.Join → 1 ≡ port_count config
-one_port configs.Cpu ne = refl
-one_port configs.Fp ne = refl
-one_port configs.Edf ne = refl
-one_port (configs.Sfq total most) ne = refl
-one_port (configs.Rr quantum) ne = refl
-one_port (configs.Wheel frame) ne = refl
-one_port (configs.Join ports) ne = absurd (ne refl)
 
 ranged_reseated : (seat : Seat) (place : Place) (node : Option Node) → SeatInRange seat → MayMoveTo place node
     → IsRangedNode node → IsRangedNode (reseated seat node)

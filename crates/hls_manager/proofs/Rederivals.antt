@@ -20,19 +20,18 @@ use Rattle.hls_derive.specs.Derives.{IsDerivation}
 use Rattle.hls_search.specs.Search.{CanSearch}
 use Rattle.hls_report_text.specs.declared.report.Seated.{Seated}
 use Rattle.hls_machine.specs.Hierarchy.{Hierarchy, Node, Loaded, Admitted, Place as Spot, Processor, At, Seat}
-use Rattle.hls_machine.specs.Hierarchy.{SeatHolder}
-use Rattle.hls_machine.specs.Hierarchy.{seat_of, config_of, name_of}
-use Rattle.hls_machine.specs.Legal.{SeatInRange}
+use Rattle.hls_machine.specs.Hierarchy.{SeatHolder, seat_of, config_of, name_of}
+use Rattle.hls_machine.specs.Legal.{SeatInRange, IsReached}
 use Rattle.hls_answers.specs.Dues.{Due, Derives, IsUnderivable, dues_on, dues_of, dues_in, told_name, IsSettled}
 use Rattle.hls_answers.specs.Dues.{AreSettled}
-use Rattle.hls_answers.specs.Refusals.{IsFirst, LacksDerivation}
+use Rattle.hls_answers.specs.Refusals.{IsFirstSuch, LacksDerivation}
 use Rattle.hls_tree.specs.Lists.{is_on, holder_view}
 use Rattle.hls_tree.specs.Reads.{taken_on}
 use Rattle.hls_tree.specs.declared.lists.Holder.{Holder}
-use Rattle.hls_machine.specs.Legal.{IsReached}
 use Rattle.hls_manager.specs.Rederived.{IsLone}
 use Rattle.hls_manager.specs.Inside.Holders.{due_held, terms_of, kept_of}
-use Rattle.hls_manager.proofs.Ranged.{IsRangedNode, AllRanged, legal_ranged, one_port}
+use Rattle.hls_chron.proofs.ConfigLaws.{one_port}
+use Rattle.hls_manager.proofs.Ranged.{IsRangedNode, AllRanged, legal_ranged}
 
 -- ---- lists
 
@@ -166,7 +165,7 @@ module _ (h : Hierarchy) (k : ℕ) (has : Guarantee) (depth : ℕ) (seats : List
       → slice_get (taken_on h k) (length seats) ≡ Some (record { node = node; port = port })
       → name_of (h.nodes node) ≡ Some name
       → IsUnderivable depth (due_held h k has (record { node = node; port = port }))
-      → IsFirst (dues_on h has (Some k)) (LacksDerivation depth) name
+      → IsFirstSuch (dues_on h has (Some k)) (LacksDerivation depth) name
   lacks_one node port name e named lacks = record {
     at = length seats;
     item = due_held h k has (record { node = node; port = port });

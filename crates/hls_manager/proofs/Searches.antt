@@ -1,32 +1,31 @@
 -- What a search is asked for a seat that is wanted, and what it tells, by the hierarchy.
-use Rattle.std.proofs.Common.{◌≡◌, ℕ, suc, ◌≤◌, List, [], ◌∷◌, Option, Some, None, refl, sym, ◌∙◌}
+use Rattle.std.proofs.Common.{◌≡◌, ℕ, suc, ◌≤◌, ◌<◌, ◌≢◌, List, [], ◌∷◌, Option, Some, None, refl, sym, ◌∙◌}
 use Rattle.std.proofs.Common.{length, subst, arith}
 use Rattle.std.specs.Prelude.{All}
 use Rattle.std.proofs.lemmas.List.Elements.{All-nil, All-cons, All-map}
 use Rattle.std.proofs.lemmas.List.{length-map}
 use Rattle.hls_text.specs.Lines.{Text}
 use Rattle.hls_chron.specs.declared.plain.Config.{Config}
-use Rattle.hls_chron.specs.declared.plain.Config.TheVariants as configs
+use Rattle.hls_chron.specs.declared.plain.Kind.TheVariants as kinds
 use Rattle.hls_chron.specs.declared.plain.Kind.{Kind}
-use Rattle.hls_chron.specs.Kinds.{kind_of, port_count}
+use Rattle.hls_chron.specs.Kinds.{kind_of, port_count, IsPort}
 use Rattle.hls_chron.specs.Ranges.{ConfigInRange, TermsInRange}
 use Rattle.hls_guarantee.specs.declared.Guarantee.{Guarantee}
 use Rattle.hls_guarantee.specs.declared.Guarantee.TheVariants as guarantees
 use Rattle.hls_guarantee.specs.Limits.{IsNarrow}
-use Rattle.hls_guarantee.specs.Steps.{IsPort}
 use Rattle.hls_derive.specs.declared.derivation.Place.{Place}
 use Rattle.hls_derive.specs.declared.derivation.Derivation.{Derivation}
 use Rattle.hls_derive.specs.Derivation.{PortFits, IsWithinGrammar}
 use Rattle.hls_derive.proofs.Derivings.{follow-valid, follow-start}
 use Rattle.hls_search.specs.Search.{CanSearch}
-use Rattle.hls_machine.specs.Hierarchy.{Hierarchy, Node, Loaded, Admitted, Seat as TakenSeat}
-use Rattle.hls_machine.specs.Hierarchy.{config_of, haves_of}
+use Rattle.hls_machine.specs.Hierarchy.{Hierarchy, Node, Loaded, Admitted, Seat as TakenSeat, config_of, haves_of}
 use Rattle.hls_answers.specs.Dues.{Derives}
 use Rattle.hls_tree.specs.Reads.{IsLoaded, IsParent}
 use Rattle.hls_tree.specs.declared.seat.Seat.{Seat}
 use Rattle.hls_manager.specs.Seats.{config_at, haves_at, due_for}
 use Rattle.hls_machine.specs.Legal.{IsReached}
 use Rattle.hls_manager.proofs.Ranged.{AreInRange, IsRangedNode, reached_ranged}
+use Rattle.hls_chron.proofs.ConfigLaws.{port_within, few_ports, sole_port}
 
 -- ---- what is asked
 
@@ -88,15 +87,21 @@ module _ (h : Hierarchy) (seat : Seat) (config : Config) (haves : List Guarantee
 
 -- ---- what is told has a text
 
+fits_by : (kind : Kind) (port : ℕ) → (kind ≢ kinds.Join → port ≡ 0) → port < 4 → PortFits kind port
+fits_by kinds.Join port zero few = omega (arith, few)
+fits_by kinds.Cpu port zero few = zero (λ e. cc)
+fits_by kinds.Fp port zero few = zero (λ e. cc)
+fits_by kinds.Edf port zero few = zero (λ e. cc)
+fits_by kinds.Sfq port zero few = zero (λ e. cc)
+fits_by kinds.Rr port zero few = zero (λ e. cc)
+fits_by kinds.Wheel port zero few = zero (λ e. cc)
+
 pub port_fits : (config : Config) (port : ℕ) → ConfigInRange config → IsPort config port
     → PortFits (kind_of config) port
-port_fits configs.Cpu port range is = is
-port_fits configs.Fp port range is = is
-port_fits configs.Edf port range is = is
-port_fits (configs.Sfq total most) port range is = is
-port_fits (configs.Rr quantum) port range is = is
-port_fits (configs.Wheel frame) port range is = is
-port_fits (configs.Join ports) port range is = (let most = range.1 in omega (arith, is, most))
+port_fits config port range is =
+    let lt = port_within config port is in
+    let few = few_ports config range in
+    fits_by (kind_of config) port (λ ne. sole_port config port ne is) (omega (arith, lt, few))
 
 pub within_grammar : (h : Hierarchy) (seat : Seat) → IsReached h → IsParent h seat.parent → (depth : ℕ) → depth ≤ 6
     → (name : Text) (port : ℕ) (d : Derivation) → Derives depth (due_for h name port seat) d → IsWithinGrammar d

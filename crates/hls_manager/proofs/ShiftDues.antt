@@ -27,7 +27,7 @@ use Rattle.hls_machine.specs.Lists.{IsListed}
 use Rattle.hls_answers.specs.Moment.{number_of}
 use Rattle.hls_answers.specs.Dues.{Due, dues, due_at, dues_on, Derives, IsUnderivable, IsSettled, AreSettled}
 use Rattle.hls_answers.specs.Dues.{config_there, haves_there, told_name}
-use Rattle.hls_answers.specs.Refusals.{IsFirst, LacksDerivation}
+use Rattle.hls_answers.specs.Refusals.{IsFirstSuch, LacksDerivation}
 use Rattle.hls_answers.proofs.Found.{named_is}
 use Rattle.hls_tree.specs.Reads.{IsParent, taken_on}
 use Rattle.hls_tree.specs.declared.seat.Seat.{Seat}
@@ -40,6 +40,7 @@ use Rattle.hls_manager.proofs.Searches.{port_fits}
 use Rattle.hls_manager.proofs.Askings.{at_parent}
 use Rattle.hls_manager.proofs.NamedNodes.{reached_name}
 use Rattle.hls_manager.proofs.Rederivals.{dues_held, held_seat}
+use Rattle.hls_chron.proofs.ConfigLaws.{few_ports}
 
 -- ---- the due of the mover
 
@@ -85,12 +86,12 @@ settled_derives depth (x ∷ ds) (s ∷ seats) are (suc at) due e = settled_deri
 
 -- no due is without a derivation
 pub none_lacks : (depth : ℕ) (ds : List Due) (seats : List Seated) → AreSettled depth ds seats → (name : Text)
-    → ¬ IsFirst ds (LacksDerivation depth) name
+    → ¬ IsFirstSuch ds (LacksDerivation depth) name
 none_lacks depth ds seats are name f =
     (let d = settled_derives depth ds seats are f.at f.item f.item_is in f.tells.lacks d.0 d.1)
 
 pub lacks_first : (depth : ℕ) (due : Due) (ds : List Due) → IsUnderivable depth due
-    → IsFirst (due ∷ ds) (LacksDerivation depth) due.name
+    → IsFirstSuch (due ∷ ds) (LacksDerivation depth) due.name
 lacks_first depth due ds lacks = record {
   at = 0;
   item = due;
@@ -100,7 +101,7 @@ lacks_first depth due ds lacks = record {
 }
 
 pub lacks_later : (depth : ℕ) (due : Due) (ds : List Due) (d : Derivation) → Derives depth due d → (name : Text)
-    → IsFirst ds (LacksDerivation depth) name → IsFirst (due ∷ ds) (LacksDerivation depth) name
+    → IsFirstSuch ds (LacksDerivation depth) name → IsFirstSuch (due ∷ ds) (LacksDerivation depth) name
 lacks_later depth due ds d derives name f = record {
   at = suc f.at;
   item = f.item;
@@ -161,15 +162,6 @@ seats_told depth shallow (x ∷ ds) (s ∷ seats) are is = (
 )
 
 -- ---- the dues of a move are tellable
-
-few_ports : (config : Config) → ConfigInRange config → port_count config ≤ 4
-few_ports configs.Cpu range = omega arith
-few_ports configs.Fp range = omega arith
-few_ports configs.Edf range = omega arith
-few_ports (configs.Sfq total most) range = omega arith
-few_ports (configs.Rr quantum) range = omega arith
-few_ports (configs.Wheel frame) range = omega arith
-few_ports (configs.Join ports) range = range.1
 
 few_seats : (node : Option Node) → IsRangedNode node → length (seats_of node) ≤ 4
 few_seats None is = omega arith

@@ -8,7 +8,7 @@ use Rattle.hls_chron.specs.Seats.{terms_at}
 use Rattle.hls_chron.specs.declared.plain.Terms.{Terms}
 use Rattle.hls_chron.proofs.BookLaws.{terms_at-unmarked}
 use Rattle.hls_guarantee.specs.Limits.{IsNarrow}
-use Rattle.hls_kinds.specs.Faults.{IsAnswer}
+use Rattle.hls_kinds.specs.Faults.{IsFirstFaultIfAny}
 use Rattle.hls_scenario.specs.declared.scenario.Spot.{Spot}
 use Rattle.hls_scenario.specs.declared.scenario.Spot.TheVariants.{Cpu, Under}
 use Rattle.hls_scenario.specs.declared.scenario.Perch.{Perch}
@@ -139,7 +139,7 @@ module _ (h : Hierarchy) (seated : IsSeated h) (room : HasMarkRoom h) (name : Te
   takes_under p is fits = record {
     scheduler = is.scheduler;
     there = is.there;
-    fits = subst (λ (n : Option Node). IsAnswer (config_of n) (book_of n) seat.terms None) is.there fits;
+    fits = subst (λ (n : Option Node). IsFirstFaultIfAny (config_of n) (book_of n) seat.terms None) is.there fits;
     room = (let le = room p is.scheduler is.there in omega (arith, le));
   }
 

@@ -14,14 +14,14 @@ use Rattle.hls_report_text.specs.declared.refusal.Refusal.TheVariants.{NoDerivat
 use Rattle.hls_report_text.specs.declared.report.Seated.{Seated}
 use Rattle.hls_report_text.specs.declared.report.Answer.{Answer}
 use Rattle.hls_report_text.specs.declared.report.Answer.TheVariants.{Done, Refused}
-use Rattle.hls_report_text.specs.WellFormed.{IsAnswer as IsWellFormed, IsSeated}
+use Rattle.hls_report_text.specs.WellFormed.{MayAnswer as IsWellFormed, IsSeated}
 use Rattle.hls_sched.specs.Seen.{Seen}
 use Rattle.hls_machine.specs.Hierarchy.{Hierarchy}
 use Rattle.hls_machine.specs.Lists.{IsListed}
 use Rattle.hls_machine.specs.Steps.{Move}
 use Rattle.hls_answers.specs.Moment.{Moment}
 use Rattle.hls_answers.specs.Dues.{Due, due_at, dues, dues_on, AreSettled, IsSettled}
-use Rattle.hls_answers.specs.Refusals.{IsFirst, LacksDerivation}
+use Rattle.hls_answers.specs.Refusals.{IsFirstSuch, LacksDerivation}
 use Rattle.hls_answers.specs.Answers.{IsRefused, IsDone}
 use Rattle.hls_answers.specs.Doable.{AreDerivable}
 use Rattle.hls_tree.specs.Offers.{MayMove}
@@ -79,9 +79,9 @@ module _ (h : Hierarchy) (reached : IsReached h) (name : Text) (perch : Perch)
   settled_so : (depth : ℕ) (seats : List Seated) → AreSettled depth asked seats → AreSettled depth (dues h c) seats
   settled_so depth seats are = subst (λ (ds : List Due). AreSettled depth ds seats) dues_are are
 
-  first_so : (depth : ℕ) (other : Text) → IsFirst asked (LacksDerivation depth) other
-      → IsFirst (dues h c) (LacksDerivation depth) other
-  first_so depth other f = subst (λ (ds : List Due). IsFirst ds (LacksDerivation depth) other) dues_are f
+  first_so : (depth : ℕ) (other : Text) → IsFirstSuch asked (LacksDerivation depth) other
+      → IsFirstSuch (dues h c) (LacksDerivation depth) other
+  first_so depth other f = subst (λ (ds : List Due). IsFirstSuch ds (LacksDerivation depth) other) dues_are f
 
   tellable : (at : ℕ) (due : Due) → slice_get (dues h c) at ≡ Some due → IsTellable due
   tellable =
@@ -100,7 +100,7 @@ module _ (h : Hierarchy) (reached : IsReached h) (name : Text) (perch : Perch)
   done_formed depth shallow seats are =
       formed_by seats (seats_told depth shallow (dues h c) seats (settled_so depth seats are) tellable)
 
-  pub lacks_formed : (depth : ℕ) (other : Text) → IsFirst asked (LacksDerivation depth) other → IsName other
+  pub lacks_formed : (depth : ℕ) (other : Text) → IsFirstSuch asked (LacksDerivation depth) other → IsName other
   lacks_formed depth other f =
       let g = first_so depth other f in
       subst (λ (n : Text). IsName n) (sym g.tells.whose) (tellable g.at g.item g.item_is).named
@@ -133,7 +133,7 @@ module _ (m : Moment) (reached : IsReached m.hierarchy) (name : Text) (perch : P
   heard : IsListed g
   heard = reached_listed g reached
 
-  pub lacks_answer : (other : Text) → IsFirst asked_of (LacksDerivation m.depth) other
+  pub lacks_answer : (other : Text) → IsFirstSuch asked_of (LacksDerivation m.depth) other
       → IsRefused m move (NoDerivation other m.depth)
   lacks_answer other f =
       lacks_refused m name perch other (first_so g reached name perch within id seat movable m.depth other f)
@@ -210,7 +210,7 @@ module _ {V : Type 0} {P : V → Type 0} (seen : (x : V) × P x → Seen) where
       (moves m reached name perch within id seat movable seats settled seen old new commands (taken.1 m.hierarchy tree))
   told_carried old new m commands name perch id seat depth e tree reached within movable (Lacks other) answer are
       taken =
-      let lacks = subst (λ n. IsFirst (due_for m.hierarchy name 0 seat ∷ dues_on m.hierarchy seat.kept (Some id))
+      let lacks = subst (λ n. IsFirstSuch (due_for m.hierarchy name 0 seat ∷ dues_on m.hierarchy seat.kept (Some id))
       (LacksDerivation n) other) (sym e) are in
       let is = lacks_answer m reached name perch within id seat movable other lacks in
       let same : answer ≡ Refused (NoDerivation other m.depth) =

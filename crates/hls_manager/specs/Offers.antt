@@ -1,7 +1,7 @@
 -- A thread that only the want of a derivation can still refuse.
 use Rattle.std.specs.Prelude.{◌≡◌, ◌<◌, ℕ, None, Some, length}
 use Rattle.hls_text.specs.Lines.{Text}
-use Rattle.hls_kinds.specs.Faults.{IsAnswer}
+use Rattle.hls_kinds.specs.Faults.{IsFirstFaultIfAny}
 use Rattle.hls_scenario.specs.declared.scenario.Perch.{Perch}
 use Rattle.hls_scenario.specs.declared.scenario.Spot.TheVariants.{Under}
 use Rattle.hls_machine.specs.Hierarchy.{Hierarchy, Scheduler, Loaded}
@@ -21,4 +21,4 @@ pub record IsOffered (h : Hierarchy) (name : Text) (perch : Perch) (seat : Seat)
   pub has : HasName h parent sched
   pub scheduler : Scheduler
   pub there : h.nodes parent ≡ Some (Loaded scheduler)
-  pub fits : IsAnswer scheduler.config scheduler.book seat.terms None
+  pub fits : IsFirstFaultIfAny scheduler.config scheduler.book seat.terms None

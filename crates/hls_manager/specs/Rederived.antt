@@ -4,7 +4,7 @@ use Rattle.hls_chron.specs.declared.plain.Kind.TheVariants as kinds
 use Rattle.hls_chron.specs.Kinds.{kind_of}
 use Rattle.hls_machine.specs.Hierarchy.{Node, Loaded, Scheduler}
 use Rattle.hls_answers.specs.Dues.{Due, AreSettled}
-use Rattle.hls_answers.specs.Refusals.{IsFirst, LacksDerivation}
+use Rattle.hls_answers.specs.Refusals.{IsFirstSuch, LacksDerivation}
 use Rattle.hls_manager.specs.declared.rederiving.Rederived.{Rederived}
 use Rattle.hls_manager.specs.declared.rederiving.Rederived.TheVariants.{All, Lacks}
 use Rattle.std.specs.Prelude.{ℕ}
@@ -18,4 +18,4 @@ pub record IsLone (node : Option Node) : Type 0 where
 -- each is told with a derivation, or the first that has none
 abbrev pub AreRederived : (depth : ℕ) → List Due → Rederived → Type 0
 AreRederived depth dues (All seats) = AreSettled depth dues seats
-AreRederived depth dues (Lacks name) = IsFirst dues (LacksDerivation depth) name
+AreRederived depth dues (Lacks name) = IsFirstSuch dues (LacksDerivation depth) name

@@ -1,7 +1,7 @@
 // Threads that are admitted, and schedulers that are loaded.
 ghost use Rattle.std.specs.Prelude.{◌≡◌, ◌≤◌, IfOk, OnErr};
 ghost use Rattle.hls_scenario.specs.Grammar.{IsCommand};
-ghost use Rattle.hls_report_text.specs.WellFormed.{IsAnswer as IsWellFormed};
+ghost use Rattle.hls_report_text.specs.WellFormed.{MayAnswer as IsWellFormed};
 ghost use Rattle.hls_sched.specs.GoodKit.{IsGood};
 ghost use Rattle.hls_machine.specs.Hierarchy.{Hierarchy};
 ghost use Rattle.hls_answers.specs.Kit.{boxes_after};

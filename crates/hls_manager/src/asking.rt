@@ -2,7 +2,7 @@
 ghost use Rattle.std.specs.Prelude.{◌≡◌, ◌≤◌, IfOk};
 ghost use Rattle.hls_scenario.specs.declared.scenario.Command.TheVariants.{Thread, Move};
 ghost use Rattle.hls_scenario.specs.Grammar.{IsCommand};
-ghost use Rattle.hls_report_text.specs.WellFormed.{IsAnswer as IsWellFormed};
+ghost use Rattle.hls_report_text.specs.WellFormed.{MayAnswer as IsWellFormed};
 ghost use Rattle.hls_machine.specs.Legal.{IsReached};
 ghost use Rattle.hls_answers.specs.Moment.{Moment};
 ghost use Rattle.hls_answers.specs.Answers.{IsAnswer};

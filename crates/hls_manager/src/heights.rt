@@ -4,9 +4,9 @@ ghost use Rattle.hls_text.specs.Lines.{Text};
 ghost use Rattle.hls_scenario.specs.declared.scenario.Perch.{Perch};
 ghost use Rattle.hls_report_text.specs.WellFormed.{IsRefusal};
 ghost use Rattle.hls_machine.specs.Hierarchy.{Hierarchy};
-ghost use Rattle.hls_machine.specs.Legal.{fair_queue, fair_queues};
+ghost use Rattle.hls_chron.specs.Kinds.{fair_queue};
+ghost use Rattle.hls_machine.specs.Legal.{fair_queues, IsReached};
 ghost use Rattle.hls_tree.specs.Trees.{IsTreeOf, Stands};
-ghost use Rattle.hls_machine.specs.Legal.{IsReached};
 ghost use Rattle.hls_manager.specs.Inside.Ports.{AreAtParents, AreWanted};
 ghost use Rattle.hls_manager.specs.Inside.Heights.{IsMost, IsHeightRefusal, IsLowEnough};
 

@@ -9,7 +9,7 @@ ghost use Rattle.hls_machine.specs.Lists.{IsListed};
 ghost use Rattle.hls_answers.specs.Answers.{number as number_of};
 ghost use Rattle.hls_tree.specs.Reads.{IsParent};
 ghost use Rattle.hls_tree.specs.Trees.{IsTreeOf, Stands, Any};
-ghost use Rattle.hls_manager.specs.Inside.Least.{IsLeast, IsLeastOf, lesser as lesser_of};
+ghost use Rattle.hls_manager.specs.Inside.Least.{IsLeastRefusal, IsLeastOf, lesser as lesser_of};
 ghost use Rattle.hls_manager.specs.Inside.Ports.{IsWanted, AreWanted, IsPut, AreAtParents};
 ghost use Rattle.hls_manager.specs.Inside.Ports.{ArePerchesInRange, AreInRange};
 ghost use Rattle.hls_manager.specs.Inside.Ports.{RefusesName, IsNameRefused, IsPortRefused, IsSpotAnswer};
@@ -161,7 +161,7 @@ pub(crate) fn least_fault(tree: &Tree, seats: &[Seat]) -> Option<Refusal>
     requires range { AreInRange seats.now }
     ensures answer { (h : Hierarchy) (perches : List Asked) → IsTreeOf seen tree.now h → IsListed h →
         AreWanted h perches (length perches) seats.now →
-        IsLeast (IsPortRefused h perches) (length perches) result }
+        IsLeastRefusal (IsPortRefused h perches) (length perches) result }
     ensures formed { (h : Hierarchy) (perches : List Asked) → IsTreeOf seen tree.now h →
         AreWanted h perches (length perches) seats.now → ArePerchesInRange perches →
         IfSome result (λ refusal. IsRefusal refusal) }

@@ -4,7 +4,7 @@ ghost use Rattle.hls_scenario.specs.declared.scenario.Spot.TheVariants.{Under};
 ghost use Rattle.hls_scenario.specs.declared.scenario.Command.TheVariants.{Thread};
 ghost use Rattle.hls_scenario.specs.Grammar.{IsCommand};
 ghost use Rattle.hls_report_text.specs.declared.report.Answer.TheVariants.{Done};
-ghost use Rattle.hls_report_text.specs.WellFormed.{IsAnswer as IsWellFormed, IsRefusal};
+ghost use Rattle.hls_report_text.specs.WellFormed.{MayAnswer as IsWellFormed, IsRefusal};
 ghost use Rattle.hls_machine.specs.Hierarchy.{Hierarchy};
 ghost use Rattle.hls_machine.specs.Lists.{IsListed};
 ghost use Rattle.hls_answers.specs.Moment.{Moment, node_of};

@@ -4,7 +4,7 @@ ghost use Rattle.hls_scenario.specs.declared.scenario.Command.TheVariants.{End, 
 ghost use Rattle.hls_report_text.specs.declared.report.Answer.TheVariants.{Done, Refused};
 ghost use Rattle.hls_scenario.specs.Grammar.{IsCommand};
 ghost use Rattle.hls_chron.specs.Name.{IsName};
-ghost use Rattle.hls_report_text.specs.WellFormed.{IsAnswer as IsWellFormed, IsRefusal};
+ghost use Rattle.hls_report_text.specs.WellFormed.{MayAnswer as IsWellFormed, IsRefusal};
 ghost use Rattle.hls_answers.specs.Moment.{Moment};
 ghost use Rattle.hls_machine.specs.Hierarchy.{Hierarchy};
 ghost use Rattle.hls_accounts.specs.Tells.{HasName};

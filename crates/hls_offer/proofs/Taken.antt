@@ -9,11 +9,11 @@ use Rattle.hls_chron.specs.Ledger.{Ledger}
 use Rattle.hls_chron.specs.Seats.{HasPriority}
 use Rattle.hls_kinds.specs.declared.fault.SeatFault.{SeatFault}
 use Rattle.hls_kinds.specs.declared.fault.SeatFault.TheVariants.{Unfit, PriorityTaken, Full, NoRoom}
-use Rattle.hls_kinds.specs.Faults.{IsAnswer}
+use Rattle.hls_kinds.specs.Faults.{IsFirstFaultIfAny}
 use Rattle.hls_offer.specs.Inside.Faults.{is_of_priority}
 
 pub priority_taken : (config : Config) (b : Ledger) (p : ℕ) (answer : Option SeatFault)
-    → IsAnswer config b (Prio p) answer → is_of_priority answer ≡ true → HasPriority b p
+    → IsFirstFaultIfAny config b (Prio p) answer → is_of_priority answer ≡ true → HasPriority b p
 priority_taken config b p None is e = absurd (cc)
 priority_taken config b p (Some Unfit) is e = absurd (cc)
 priority_taken config b p (Some (PriorityTaken other)) is e =
@@ -22,14 +22,14 @@ priority_taken config b p (Some (PriorityTaken other)) is e =
 priority_taken config b p (Some (Full seats)) is e = absurd (cc)
 priority_taken config b p (Some (NoRoom free asked)) is e = absurd (cc)
 
-fixed_fits : (b : Ledger) (p : ℕ) → IsAnswer configs.Fp b (Prio p) (Some Unfit) → ⊥
+fixed_fits : (b : Ledger) (p : ℕ) → IsFirstFaultIfAny configs.Fp b (Prio p) (Some Unfit) → ⊥
 fixed_fits b p is = by is.applies
   where
     by : Rattle.hls_kinds.specs.Faults.Applies configs.Fp b (Prio p) Unfit → ⊥
     by (inl ne) = ne refl
     by (inr exceeds) = exceeds
 
-free_at : (b : Ledger) (p : ℕ) (answer : Option SeatFault) → IsAnswer configs.Fp b (Prio p) answer
+free_at : (b : Ledger) (p : ℕ) (answer : Option SeatFault) → IsFirstFaultIfAny configs.Fp b (Prio p) answer
     → is_of_priority answer ≡ false → ¬ HasPriority b p
 free_at b p None is e has = is (PriorityTaken p) (refl, has)
 free_at b p (Some Unfit) is e has = fixed_fits b p is
@@ -40,9 +40,9 @@ free_at b p (Some (NoRoom free asked)) is e has =
     let le = is.first (PriorityTaken p) (refl, has) in omega (arith, le)
 
 pub priority_free : (config : Config) (b : Ledger) (p : ℕ) (answer : Option SeatFault) → config ≡ configs.Fp
-    → IsAnswer config b (Prio p) answer → is_of_priority answer ≡ false → ¬ HasPriority b p
+    → IsFirstFaultIfAny config b (Prio p) answer → is_of_priority answer ≡ false → ¬ HasPriority b p
 priority_free config b p answer fixed is =
-    free_at b p answer (subst (λ (c : Config). IsAnswer c b (Prio p) answer) fixed is)
+    free_at b p answer (subst (λ (c : Config). IsFirstFaultIfAny c b (Prio p) answer) fixed is)
 
 -- what holds below a priority, and of it, holds below the next
 pub below_more : (P : ℕ → Type 0) (from end : ℕ) → ((p : ℕ) → from ≤ p → p < end → P p) → P end

@@ -14,7 +14,8 @@ use Rattle.hls_guarantee.specs.declared.rule.RuleName.TheVariants.{R1, R8}
 use Rattle.hls_guarantee.specs.Satisfaction.{IsSoft}
 use Rattle.hls_guarantee.specs.Limits.{IsValid, IsNarrow}
 use Rattle.hls_guarantee.specs.Conversions.{Converts}
-use Rattle.hls_guarantee.specs.Steps.{IsFairShare, IsPort, LendsByTerms, LendsNothing}
+use Rattle.hls_chron.specs.Kinds.{IsPort}
+use Rattle.hls_guarantee.specs.Steps.{IsFairShare, LendsByTerms, LendsNothing}
 use Rattle.hls_derive.specs.declared.derivation.Place.{Place}
 use Rattle.hls_derive.specs.declared.derivation.Step.{Step}
 use Rattle.hls_derive.specs.declared.derivation.Derivation.{Derivation}

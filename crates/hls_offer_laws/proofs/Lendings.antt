@@ -7,12 +7,12 @@ use Rattle.hls_chron.specs.declared.plain.Config.{Config}
 use Rattle.hls_chron.specs.declared.plain.Config.TheVariants as configs
 use Rattle.hls_chron.specs.declared.plain.Terms.{Terms}
 use Rattle.hls_chron.specs.declared.plain.Terms.TheVariants as terms
-use Rattle.hls_chron.specs.Kinds.{port_count}
+use Rattle.hls_chron.specs.Kinds.{port_count, IsPort}
 use Rattle.hls_guarantee.specs.declared.Guarantee.{Guarantee}
 use Rattle.hls_guarantee.specs.declared.Guarantee.TheVariants.{All, Null, Resb, Resc, Psbe}
 use Rattle.hls_guarantee.specs.Satisfaction.{IsSoft}
 use Rattle.hls_guarantee.specs.Limits.{IsValid, IsNarrow}
-use Rattle.hls_guarantee.specs.Steps.{IsPort, LendsByTerms}
+use Rattle.hls_guarantee.specs.Steps.{LendsByTerms}
 use Rattle.hls_derive.specs.declared.derivation.Place.{Place}
 use Rattle.hls_search_laws.proofs.Closed.{Least, Closed}
 use Rattle.hls_search_laws.proofs.Closed.Least.{least-all, least-blocks, least-windows, least-share}
@@ -23,6 +23,7 @@ use Rattle.hls_offer_laws.specs.Offered.{CanOffer, IsOffered, IsShareOf, IsLentO
 use Rattle.hls_offer_laws.proofs.Leading.{closed-leads, offered}
 use Rattle.hls_offer_laws.proofs.Shares.{narrow-share, share-leads}
 use Rattle.hls_offer_laws.proofs.Comings.{before-also, after-also}
+use Rattle.hls_chron.proofs.ConfigLaws.{is_port}
 
 -- what so many conversions of what is lent reach is offered
 pub record Lending (place : Place) (haves : List Guarantee) (n : ℕ) (lent : Guarantee) : Type 0 where
@@ -47,16 +48,6 @@ least-some Null some = absurd (some refl)
 least-some (Resb hard x y) some = (2, least-blocks)
 least-some (Resc hard x y) some = (2, least-windows)
 least-some (Psbe s d) some = (1, least-share)
-
--- a port that there is
-port-fits : (config : Config) (port : ℕ) → port < port_count config → IsPort config port
-port-fits configs.Cpu port within = omega arith
-port-fits configs.Fp port within = omega arith
-port-fits configs.Edf port within = omega arith
-port-fits (configs.Sfq total most) port within = omega arith
-port-fits (configs.Rr quantum) port within = omega arith
-port-fits (configs.Wheel frame) port within = omega arith
-port-fits (configs.Join ports) port within = within
 
 module _ (haves : List Guarantee) (n port : ℕ) (two : 2 ≤ n) (have : Guarantee)
     (there : slice_get haves port ≡ Some have) (narrow : IsNarrow have) where
@@ -136,4 +127,4 @@ lending place haves n lent can two is =
     let within : is.port < length haves = slice_get_within haves is.port is.have is.there in
     let fits : is.port < port_count place.config = (let all = can.ports in omega arith) in
     lend haves n is.port two is.have is.there (narrow-at haves is.port is.have can.each_have is.there) place.config
-    place.terms lent can (port-fits place.config is.port fits) is.lends
+    place.terms lent can (is_port place.config is.port fits) is.lends

@@ -17,9 +17,9 @@ use Rattle.hls_report_text.specs.declared.report.Answered.{Answered}
 use Rattle.hls_report_text.specs.ReportText.{item_text, item_of, refusal_text, seat_text, answer_lines}
 use Rattle.hls_report_text.specs.ReportText.{answered_lines}
 use Rattle.hls_report_text.specs.Inside.Reading.{refusal_at}
-use Rattle.hls_report_text.specs.WellFormed.{IsRefusal, IsSeated, TakesSeats, AreSeats, IsAnswer, AreAnswered}
+use Rattle.hls_report_text.specs.WellFormed.{IsRefusal, IsSeated, TakesSeats, AreSeats, MayAnswer, AreAnswered}
 use Rattle.hls_report_text.specs.WellFormed.{IsOneLine}
-use Rattle.hls_report.specs.Inside.Rests.{HasRoom, Passes, CommandRest, SeatRest, AnswerRest, RunRest, IsNext}
+use Rattle.hls_report.specs.Inside.Rests.{CanCount, Passes, CommandRest, SeatRest, AnswerRest, RunRest, IsNext}
 use Rattle.hls_report.specs.Inside.CommandLines.{SeatsPass, AnswerPasses, SeatPasses, ItemPasses, CommandPasses}
 use Rattle.hls_report.proofs.Heads.{some_text}
 use Rattle.hls_report_text.proofs.RefusalTexts.{refusal_again}
@@ -90,7 +90,7 @@ seat_shorter command s old new p =
     let read = p.2 0 0 0 in let next = read.counted in let room = read.room in omega arith
 
 pub seats_room : (command : Command) (seats : List Seated) (start at : Lines)
-    → SeatsRead command seats start at → HasRoom start → HasRoom at
+    → SeatsRead command seats start at → CanCount start → CanCount at
 seats_room command seats start at r room = let kept = (r.read 0 0 0).room in omega arith
 
 pub seats_passed : (command : Command) (seats : List Seated) (start old new : Lines)
@@ -171,7 +171,7 @@ item_comes h last left i old new fits is some one e next =
     )
 
 pub answer_comes : (h last left : ℕ) (i : Item) (answer : Answer) (start old new : Lines)
-    → ItemPasses h last left (Some i) start old → IsAnswer i.command answer
+    → ItemPasses h last left (Some i) start old → MayAnswer i.command answer
     → AnswerPasses i.command (answer_lines answer) old new
     → CommandPasses h last left (Some (record { tick = i.tick; command = i.command; answer = answer })) start
     new
@@ -189,7 +189,7 @@ last_tick last [] = last
 last_tick last (a ∷ more) = last_tick a.tick more
 
 answered_more : (h last : ℕ) (ps : List Answered) (a : Answered) → AreAnswered h last ps
-    → IsNext h (last_tick last ps) (item_of a) → IsAnswer a.command a.answer
+    → IsNext h (last_tick last ps) (item_of a) → MayAnswer a.command a.answer
     → AreAnswered h last (ps ++ a ∷ [])
 unfolding last_tick
 answered_more h last [] a are n is = (n.0, is, n.1, n.2, tt)

@@ -21,7 +21,7 @@ use Rattle.hls_report_text.specs.declared.stretch.Stretch.{Stretch}
 use Rattle.hls_report_text.specs.ReportText.{item_text, item_of, refusal_text, seat_text, answer_lines}
 use Rattle.hls_report_text.specs.ReportText.{answered_lines}
 use Rattle.hls_report_text.specs.ReportText.{stretch_text, account_text}
-use Rattle.hls_report_text.specs.WellFormed.{IsRefusal, IsSeated, TakesSeats, AreSeats, IsAnswer, AreAnswered}
+use Rattle.hls_report_text.specs.WellFormed.{IsRefusal, IsSeated, TakesSeats, AreSeats, MayAnswer, AreAnswered}
 use Rattle.hls_report_text.specs.WellFormed.{IsPath}
 use Rattle.hls_report_text.specs.WellFormed.{Cover, with_name, with_path, FewNames, IsAccount}
 use Rattle.hls_report.specs.Inside.Rests.{EndRest, AccountRest, RunRest, CommandRest, SeatRest, AnswerRest}
@@ -470,7 +470,7 @@ pub answer_next : (command : Command) (h last left : ℕ) (line : Text) (lines :
     → NextDone command h last left line lines ⊎ NextRefused h last left line lines
 answer_next command h last left line lines r = by_answer r.answer r.is r.text
   where
-    by_answer : (p : Answer) → IsAnswer command p → line ∷ lines ≡ answer_lines p ++ r.rest
+    by_answer : (p : Answer) → MayAnswer command p → line ∷ lines ≡ answer_lines p ++ r.rest
         → NextDone command h last left line lines ⊎ NextRefused h last left line lines
     by_answer (Done seats) is e = inl (record {
       text = ap first_line e;

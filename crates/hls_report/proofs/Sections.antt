@@ -20,7 +20,7 @@ use Rattle.hls_report_text.specs.ReportText.{item_text, item_of, refusal_text, s
 use Rattle.hls_report_text.specs.ReportText.{answered_lines}
 use Rattle.hls_report_text.specs.ReportText.{two_words, span_text, stretch_text, account_text, end_lines}
 use Rattle.hls_report_text.specs.ReportText.{accounts_lines, content_lines, report_text}
-use Rattle.hls_report_text.specs.WellFormed.{IsSeated, IsAnswer, AreAnswered, Cover, IsAccount, IsContent}
+use Rattle.hls_report_text.specs.WellFormed.{IsSeated, MayAnswer, AreAnswered, Cover, IsAccount, IsContent}
 use Rattle.hls_report_text.specs.WellFormed.{IsWellFormed}
 use Rattle.hls_text.proofs.Marks.{Lacks, cut_same, number_lacks, number_same}
 use Rattle.hls_report_text.proofs.Marks.{name_lacks, marked_same}
@@ -65,7 +65,7 @@ seats_front (s ∷ ss) (t ∷ ts) xs ys a b free free_too e =
 
 -- ---- answers
 
-pub answer_front : (c d : Command) (p q : Answer) (xs ys : List Text) → IsAnswer c p → IsAnswer d q
+pub answer_front : (c d : Command) (p q : Answer) (xs ys : List Text) → MayAnswer c p → MayAnswer d q
     → NoSeat xs
     → NoSeat ys → answer_lines p ++ xs ≡ answer_lines q ++ ys → (p ≡ q) × (xs ≡ ys)
 answer_front c d (Done ss) (Done ts) xs ys a b free free_too e =
@@ -261,7 +261,7 @@ seats_lines : (seats : List Seated) → AllByRecursion IsSeated seats → AreOne
 seats_lines [] are = tt
 seats_lines (s ∷ ss) are = (seat_line s are.0, seats_lines ss are.1)
 
-answer_one : (c : Command) (p : Answer) → IsAnswer c p → AreOneLine (answer_lines p)
+answer_one : (c : Command) (p : Answer) → MayAnswer c p → AreOneLine (answer_lines p)
 answer_one c (Done seats) is = (refl, seats_lines seats (seats_all c seats is))
 answer_one c (Refused r) is = (refusal_line r is, tt)
 

@@ -4,7 +4,7 @@ ghost use Rattle.std.specs.Prelude.{OnOk, IfOk, IfErr, IfSome, Some};
 ghost use Rattle.std.specs.List.{AllByRecursion};
 ghost use Rattle.hls_report_text.specs.ReportText.{account_text, ended};
 ghost use Rattle.hls_report_text.specs.WellFormed.{IsAccount};
-ghost use Rattle.hls_report.specs.Inside.Rests.{HasRoom, Passes, FailsAt, AccountRest, EndRest, NoRest};
+ghost use Rattle.hls_report.specs.Inside.Rests.{CanCount, Passes, FailsAt, AccountRest, EndRest, NoRest};
 ghost use Rattle.hls_report.specs.Inside.AccountLines.{AccountPasses};
 
 use crate::ReportFault;
@@ -32,7 +32,7 @@ fn idle_of(line: &[u8]) -> Option<u32>
 }
 
 fn next_account(lines: &mut Lines<'_>, horizon: u32) -> Result<AccountLine, ReportFault>
-    requires room { HasRoom lines.old }
+    requires room { CanCount lines.old }
     requires few { horizon ≤ 100000 }
     ensures ok { IfOk result (λ line. AccountPasses horizon line lines.old lines.new) }
     ensures err { IfErr result (λ fault. FailsAt (AccountRest horizon) lines.old fault) }
@@ -62,7 +62,7 @@ pub fn accounts(
     lines: &mut Lines<'_>,
     horizon: u32,
 ) -> Result<(Vec<Account>, u32), ReportFault>
-    requires room { HasRoom lines.old }
+    requires room { CanCount lines.old }
     requires few { horizon ≤ 100000 }
     ensures ok { IfOk result (λ p. AllByRecursion (IsAccount horizon) p.0.items × (p.1 < 2 ^ 32)
         × Passes (AccountRest horizon) EndRest
@@ -79,7 +79,7 @@ pub fn accounts(
 }
 
 fn end_line(lines: &mut Lines<'_>) -> Result<(), ReportFault>
-    requires { HasRoom lines.old }
+    requires { CanCount lines.old }
     ensures ok { OnOk result (Passes EndRest NoRest (codes "end" ∷ []) lines.old lines.new) }
     ensures err { IfErr result (λ fault. FailsAt EndRest lines.old fault) }
 {
@@ -95,7 +95,7 @@ fn end_line(lines: &mut Lines<'_>) -> Result<(), ReportFault>
 
 /// Reads the last line, behind which nothing stands.
 pub fn end(lines: &mut Lines<'_>) -> Result<(), ReportFault>
-    requires { HasRoom lines.old }
+    requires { CanCount lines.old }
     ensures ok { OnOk result (lines.old.rest.now ≡ ended (codes "end" ∷ [])) }
     ensures err { IfErr result (λ fault. FailsAt EndRest lines.old fault) }
 {

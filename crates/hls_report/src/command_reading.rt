@@ -2,8 +2,8 @@
 ghost use Rattle.std.specs.Prelude.{◌≡◌, ◌↔◌, ℕ, ◌≤◌, ◌++◌, ◌∷◌, [], codes, length, map, flat_map, None};
 ghost use Rattle.std.specs.Prelude.{OnOk, IfOk, IfErr, IfSome, Some, IsTrue};
 ghost use Rattle.hls_report_text.specs.ReportText.{refusal_text, seat_text, answer_lines, answered_lines};
-ghost use Rattle.hls_report_text.specs.WellFormed.{IsRefusal, TakesSeats, AreSeats, IsAnswer, AreAnswered};
-ghost use Rattle.hls_report.specs.Inside.Rests.{HasRoom, Passes, FailsAt, CommandRest, AnswerRest, RunRest};
+ghost use Rattle.hls_report_text.specs.WellFormed.{IsRefusal, TakesSeats, AreSeats, MayAnswer, AreAnswered};
+ghost use Rattle.hls_report.specs.Inside.Rests.{CanCount, Passes, FailsAt, CommandRest, AnswerRest, RunRest};
 ghost use Rattle.hls_report.specs.Inside.CommandLines.{SeatPasses, SeatsPass, AnswerPasses, ItemPasses};
 ghost use Rattle.hls_report.specs.Inside.CommandLines.{CommandPasses};
 
@@ -36,7 +36,7 @@ fn next_seat(
     lines: &mut Lines<'_>,
     command: &Command,
 ) -> Result<Option<Seated>, AllocError>
-    requires { HasRoom lines.old }
+    requires { CanCount lines.old }
     ensures { IfOk result (λ found. SeatPasses command.now found lines.old lines.new) }
 {
     if !takes_seats(command) {
@@ -71,7 +71,7 @@ fn keep_seat(seats: &mut Vec<Seated>, seat: Seated) -> Result<(), AllocError>
 
 /// Reads the seats of a command that was done.
 fn seats(alloc: Global, lines: &mut Lines<'_>, command: &Command) -> Result<Vec<Seated>, AllocError>
-    requires { HasRoom lines.old }
+    requires { CanCount lines.old }
     ensures { IfOk result (λ seats. AreSeats command.now seats.items
         × SeatsPass command.now (map seat_text seats.items) lines.old lines.new) }
 {
@@ -93,8 +93,8 @@ fn refused(line: &[u8]) -> Option<Refusal>
 
 /// Reads the answer to a command.
 fn answer(alloc: Global, lines: &mut Lines<'_>, command: &Command) -> Result<Answer, ReportFault>
-    requires { HasRoom lines.old }
-    ensures ok { IfOk result (λ answer. IsAnswer command.now answer
+    requires { CanCount lines.old }
+    ensures ok { IfOk result (λ answer. MayAnswer command.now answer
         × AnswerPasses command.now (answer_lines answer) lines.old lines.new) }
     ensures err { IfErr result (λ fault. (horizon last left : ℕ) →
         FailsAt (AnswerRest command.now horizon last left) lines.old fault) }
@@ -120,7 +120,7 @@ fn next_item(
     last: u32,
     left: u32,
 ) -> Result<Option<Item>, ReportFault>
-    requires room { HasRoom lines.old }
+    requires room { CanCount lines.old }
     requires few { horizon ≤ 100000 }
     ensures ok { IfOk result (λ found. ItemPasses horizon last left found lines.old lines.new) }
     ensures err { IfErr result (λ fault. FailsAt (CommandRest horizon last left) lines.old fault) }
@@ -148,7 +148,7 @@ fn next_command(
     last: u32,
     left: u32,
 ) -> Result<Option<Answered>, ReportFault>
-    requires room { HasRoom lines.old }
+    requires room { CanCount lines.old }
     requires few { horizon ≤ 100000 }
     ensures ok { IfOk result (λ found. CommandPasses horizon last left found lines.old lines.new) }
     ensures err { IfErr result (λ fault. FailsAt (CommandRest horizon last left) lines.old fault) }
@@ -179,7 +179,7 @@ pub fn commands(
     lines: &mut Lines<'_>,
     horizon: u32,
 ) -> Result<Vec<Answered>, ReportFault>
-    requires room { HasRoom lines.old }
+    requires room { CanCount lines.old }
     requires few { horizon ≤ 100000 }
     ensures ok { IfOk result (λ answered. AreAnswered horizon 0 answered.items
         × (length answered.items ≤ 65536)

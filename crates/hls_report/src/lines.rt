@@ -1,7 +1,7 @@
 // Whole lines of a text, and their numbers.
 ghost use Rattle.std.specs.Prelude.{◌≡◌, ◌+◌, ◌∷◌, ◌++◌, MatchOption, length};
 ghost use Rattle.hls_report_text.specs.WellFormed.{IsOneLine};
-ghost use Rattle.hls_report.specs.Inside.Rests.{HasRoom};
+ghost use Rattle.hls_report.specs.Inside.Rests.{CanCount};
 
 use crate::ReportFault;
 use hls_text::cut;
@@ -16,7 +16,7 @@ pub struct Lines<'a> {
 impl<'a> Lines<'a> {
     /// The next line, without its end. `None` where no whole line is left.
     pub fn next(&mut self) -> Option<&'a [u8]>
-        requires { HasRoom self.old }
+        requires { CanCount self.old }
         ensures line { MatchOption result (IsOneLine self.old.rest.now)
             (λ line. IsOneLine line.now × (self.old.rest.now ≡ line.now ++ (10 ∷ self.new.rest.now))) }
         ensures count { self.new.count ≡ self.old.count + 1 }

@@ -5,7 +5,7 @@ ghost use Rattle.std.specs.List.{AllByRecursion};
 ghost use Rattle.hls_chron.specs.Ranges.{IsWithin};
 ghost use Rattle.hls_report_text.specs.ReportText.{account_text};
 ghost use Rattle.hls_report_text.specs.WellFormed.{IsAccount};
-ghost use Rattle.hls_report.specs.Inside.Rests.{HasRoom, Passes, FailsAt, HeaderRest, HorizonRest, DepthRest};
+ghost use Rattle.hls_report.specs.Inside.Rests.{CanCount, Passes, FailsAt, HeaderRest, HorizonRest, DepthRest};
 ghost use Rattle.hls_report.specs.Inside.Rests.{CommandRest, AccountRest, EndRest};
 
 use crate::ReportFault;
@@ -21,7 +21,7 @@ const MOST_TICKS: u32 = 100_000;
 
 /// Reads the first line.
 pub fn header(lines: &mut Lines<'_>) -> Result<(), ReportFault>
-    requires { HasRoom lines.old }
+    requires { CanCount lines.old }
     ensures ok { OnOk result (Passes HeaderRest HorizonRest (codes "hls-report 1" ∷ []) lines.old lines.new) }
     ensures err { IfErr result (λ fault. FailsAt HeaderRest lines.old fault) }
 {
@@ -49,7 +49,7 @@ fn horizon_of(line: &[u8]) -> Option<u32>
 
 /// Reads the horizon.
 pub fn horizon(lines: &mut Lines<'_>) -> Result<u32, ReportFault>
-    requires { HasRoom lines.old }
+    requires { CanCount lines.old }
     ensures ok { IfOk result (λ n. IsWithin 1 100000 n
         × Passes HorizonRest (DepthRest n) ((codes "horizon " ++ decimal n) ∷ []) lines.old lines.new) }
     ensures err { IfErr result (λ fault. FailsAt HorizonRest lines.old fault) }
@@ -73,7 +73,7 @@ fn depth_of(line: &[u8]) -> Option<u8>
 
 /// Reads the depth.
 pub fn depth(lines: &mut Lines<'_>, horizon: u32) -> Result<u8, ReportFault>
-    requires { HasRoom lines.old }
+    requires { CanCount lines.old }
     ensures ok { IfOk result (λ n. (n ≤ 6)
         × Passes (DepthRest horizon) (CommandRest horizon 0 65536) ((codes "depth " ++ decimal n) ∷ [])
         lines.old lines.new) }

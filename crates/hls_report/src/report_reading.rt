@@ -4,7 +4,7 @@ ghost use Rattle.std.specs.List.{AllByRecursion};
 ghost use Rattle.hls_chron.specs.Ranges.{IsWithin};
 ghost use Rattle.hls_report_text.specs.ReportText.{account_text, head_lines, end_lines, ended};
 ghost use Rattle.hls_report_text.specs.WellFormed.{IsAccount, IsReportText};
-ghost use Rattle.hls_report.specs.Inside.Rests.{HasRoom, Passes, FailsAt, HeaderRest, CommandRest, AccountRest};
+ghost use Rattle.hls_report.specs.Inside.Rests.{CanCount, Passes, FailsAt, HeaderRest, CommandRest, AccountRest};
 ghost use Rattle.hls_report.specs.Reports.{HasNamesByUse, ReadsAs, IsBadAt};
 
 use crate::ReportFault;
@@ -19,7 +19,7 @@ use std::alloc::Global;
 
 /// Reads the lines before the commands.
 fn head(lines: &mut Lines<'_>) -> Result<(u32, u8), ReportFault>
-    requires { HasRoom lines.old }
+    requires { CanCount lines.old }
     ensures ok { IfOk result (λ p. IsWithin 1 100000 p.0 × (p.1 ≤ 6)
         × Passes HeaderRest (CommandRest p.0 0 65536) (head_lines p.0 p.1) lines.old lines.new) }
     ensures err { IfErr result (λ fault. FailsAt HeaderRest lines.old fault) }
@@ -36,7 +36,7 @@ fn tail(
     lines: &mut Lines<'_>,
     horizon: u32,
 ) -> Result<(Vec<Account>, u32), ReportFault>
-    requires room { HasRoom lines.old }
+    requires room { CanCount lines.old }
     requires few { horizon ≤ 100000 }
     ensures ok { IfOk result (λ p. AllByRecursion (IsAccount horizon) p.0.items × (p.1 < 2 ^ 32)
         × (lines.old.rest.now ≡ ended (map account_text p.0.items ++ end_lines p.1))) }
@@ -49,7 +49,7 @@ fn tail(
 
 /// Reads all lines of a report.
 fn report(alloc: Global, lines: &mut Lines<'_>) -> Result<Report, ReportFault>
-    requires { HasRoom lines.old }
+    requires { CanCount lines.old }
     ensures ok { IfOk result (λ r. IsReportText lines.old.rest.now r) }
     ensures names { IfOk result HasNamesByUse }
     ensures err { IfErr result (λ fault. FailsAt HeaderRest lines.old fault) }

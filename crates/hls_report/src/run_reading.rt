@@ -6,7 +6,7 @@ ghost use Rattle.hls_text.specs.Lines.{Text};
 ghost use Rattle.hls_chron.specs.Name.{IsName};
 ghost use Rattle.hls_report_text.specs.Content.{stretch_of};
 ghost use Rattle.hls_report_text.specs.ReportText.{two_words, span_text, path_text, stretch_text};
-ghost use Rattle.hls_report.specs.Inside.Rests.{HasRoom, Passes, FailsAt, RunRest, AccountRest};
+ghost use Rattle.hls_report.specs.Inside.Rests.{CanCount, Passes, FailsAt, RunRest, AccountRest};
 ghost use Rattle.hls_report.specs.Inside.RunLines.{FitsPath, IsPathTold, IsNextRun, IsRunTold, IsLast, RunPasses};
 ghost use Rattle.hls_report.specs.Inside.RunLines.{stretches_of, IsSchedule, AreNames, IsRunRead, RunFails};
 ghost use Rattle.hls_report.specs.Inside.RunLines.{AccountsPass, AccountsFail};
@@ -123,7 +123,7 @@ fn next_run<'a>(
     last: &[u8],
     horizon: u32,
 ) -> Result<ToldRun<'a>, ReportFault>
-    requires room { HasRoom lines.old }
+    requires room { CanCount lines.old }
     requires few { horizon ≤ 100000 }
     requires left { from < horizon }
     requires known { AreNames known.old.keys }
@@ -142,7 +142,7 @@ fn next_run<'a>(
 
 /// Reads the line behind the runs.
 fn accounts_line(lines: &mut Lines<'_>) -> Result<(), ReportFault>
-    requires { HasRoom lines.old }
+    requires { CanCount lines.old }
     ensures ok { OnOk result (AccountsPass lines.old lines.new) }
     ensures err { IfErr result (AccountsFail lines.old) }
 {
@@ -173,7 +173,7 @@ fn names_of(alloc: Global, known: &IndexSet<Name>) -> Result<List<Name>, AllocEr
 
 /// Reads the runs, and the line behind them.
 pub fn runs(alloc: Global, lines: &mut Lines<'_>, horizon: u32) -> Result<Schedule, ReportFault>
-    requires room { HasRoom lines.old }
+    requires room { CanCount lines.old }
     requires few { horizon ≤ 100000 }
     ensures ok { IfOk result (λ s. IsSchedule horizon s
         × Passes (RunRest horizon 0 None []) (AccountRest horizon)

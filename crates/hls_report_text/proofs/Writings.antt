@@ -15,11 +15,11 @@ use Rattle.hls_report_text.specs.declared.report.Report.{Report}
 use Rattle.hls_report_text.specs.Content.{stretch_of}
 use Rattle.hls_report_text.specs.ReportText.{answered_lines, stretch_text, account_text, head_lines}
 use Rattle.hls_report_text.specs.ReportText.{end_lines, with_end, ended, report_text}
-use Rattle.hls_report_text.specs.WellFormed.{AreAnswered, IsAnswer, IsAccount, AreSeats, IsSeated}
+use Rattle.hls_report_text.specs.WellFormed.{AreAnswered, MayAnswer, IsAccount, AreSeats, IsSeated}
 use Rattle.hls_scenario.specs.declared.scenario.Command.{Command}
 
 pub commands_answers : (horizon last : ℕ) (answered : List Answered) → AreAnswered horizon last answered
-    → AllByRecursion (λ a. IsCommand a.command × IsAnswer a.command a.answer) answered
+    → AllByRecursion (λ a. IsCommand a.command × MayAnswer a.command a.answer) answered
 commands_answers horizon last [] are = tt
 commands_answers horizon last (a ∷ more) are = ((are.0, are.1), commands_answers horizon a.tick more are.4)
 

@@ -74,14 +74,14 @@ abbrev pub AreSeats : Command → List Seated → Type 0
 AreSeats command [] = Unit {0}
 AreSeats command seats = TakesSeats command × AllByRecursion IsSeated seats
 
-abbrev pub IsAnswer : Command → Answer → Type 0
-IsAnswer command (Done seats) = AreSeats command seats
-IsAnswer command (Refused refusal) = IsRefusal refusal
+abbrev pub MayAnswer : Command → Answer → Type 0
+MayAnswer command (Done seats) = AreSeats command seats
+MayAnswer command (Refused refusal) = IsRefusal refusal
 
 -- ticks never fall and are below the horizon
 abbrev pub AreAnswered : (horizon last : ℕ) → List Answered → Type 0
 AreAnswered horizon last [] = Unit {0}
-AreAnswered horizon last (a ∷ more) = IsCommand a.command × IsAnswer a.command a.answer × (last ≤ a.tick)
+AreAnswered horizon last (a ∷ more) = IsCommand a.command × MayAnswer a.command a.answer × (last ≤ a.tick)
     × (a.tick < horizon) × AreAnswered horizon a.tick more
 
 -- ---- the schedule

@@ -9,7 +9,7 @@ ghost use Rattle.hls_report_text.specs.ReportText.{item_text, seat_text, answer_
 ghost use Rattle.hls_report_text.specs.ReportText.{span_text, path_text, stretch_text, account_text};
 ghost use Rattle.hls_report_text.specs.ReportText.{ticks_text, head_lines, end_lines, with_end, ended};
 ghost use Rattle.hls_report_text.specs.ReportText.{report_text};
-ghost use Rattle.hls_report_text.specs.WellFormed.{IsWellFormed, IsSeated, IsAnswer, HasShort, IsReportText};
+ghost use Rattle.hls_report_text.specs.WellFormed.{IsWellFormed, IsSeated, MayAnswer, HasShort, IsReportText};
 
 use crate::refusals::put_refusal;
 use crate::{Account, Answer, Answered, Path, Report, Run, Seated};
@@ -55,7 +55,7 @@ pub fn put_head(out: &mut Vec<u8>, horizon: u32, depth: u8) -> Result<(), AllocE
 }
 
 fn put_all_answered(out: &mut Vec<u8>, answered: &[Answered]) -> Result<(), AllocError>
-    requires { AllByRecursion (λ a. IsCommand a.command × IsAnswer a.command a.answer) answered.now }
+    requires { AllByRecursion (λ a. IsCommand a.command × MayAnswer a.command a.answer) answered.now }
     ensures { OnOk result (out.new.items
         ≡ out.old.items ++ flat_map (λ a. ended (answered_lines a)) answered.now) }
 {
@@ -76,7 +76,7 @@ pub fn put_answered(
     answer: &Answer,
 ) -> Result<(), AllocError>
     requires command { IsCommand command.now }
-    requires answer { IsAnswer command.now answer.now }
+    requires answer { MayAnswer command.now answer.now }
     ensures { OnOk result (out.new.items ≡ out.old.items
         ++ ended (answered_lines (record { tick = tick; command = command.now; answer = answer.now }))) }
 {
@@ -101,7 +101,7 @@ pub fn put_command(out: &mut Vec<u8>, tick: u32, command: &Command) -> Result<()
 }
 
 fn put_answer(out: &mut Vec<u8>, answer: &Answer) -> Result<(), AllocError>
-    requires { (command : CommandSeen) × IsAnswer command answer.now }
+    requires { (command : CommandSeen) × MayAnswer command answer.now }
     ensures { OnOk result (out.new.items ≡ out.old.items ++ ended (answer_lines answer.now)) }
 {
     match answer {

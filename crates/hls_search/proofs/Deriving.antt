@@ -1,5 +1,5 @@
 -- Derivations from their parts, and what a place lends.
-use Rattle.std.proofs.Common.{◌≡◌, ℕ, ◌+◌, ◌≤◌, ◌<◌, ◌⊎◌, inl, inr, List, [], length, refl, sym, subst, arith}
+use Rattle.std.proofs.Common.{◌≡◌, ◌≢◌, ℕ, ◌+◌, ◌≤◌, ◌<◌, ◌⊎◌, inl, inr, List, [], length, refl, sym, subst, arith}
 use Rattle.std.specs.Prelude.{Some, slice_get}
 use Rattle.std.proofs.lemmas.Option.{slice_get_within}
 use Rattle.hls_chron.specs.declared.plain.Config.{Config}
@@ -10,34 +10,19 @@ use Rattle.hls_chron.specs.Ranges.{ConfigInRange, TermsInRange}
 use Rattle.hls_guarantee.specs.declared.Guarantee.{Guarantee}
 use Rattle.hls_guarantee.specs.declared.Guarantee.TheVariants.{All, Psbe}
 use Rattle.hls_guarantee.specs.Limits.{IsValid, IsNarrow}
-use Rattle.hls_guarantee.specs.Steps.{IsPort, LendsByTerms, LendsNothing, LendsThrough}
+use Rattle.hls_chron.specs.Kinds.{IsPort, port_count, kind_of}
+use Rattle.hls_guarantee.specs.Steps.{LendsByTerms, LendsNothing, LendsThrough}
 use Rattle.hls_derive.specs.declared.derivation.Place.{Place}
 use Rattle.hls_derive.specs.declared.derivation.Step.{Step}
-use Rattle.hls_chron.specs.Kinds.{port_count}
 use Rattle.hls_search_laws.proofs.Makes.{narrow-valid}
 use Rattle.hls_search.specs.Inside.Chains.{LeadsTo}
 use Rattle.hls_search.specs.Inside.Found.{through, Derives}
-use Rattle.hls_search.specs.Inside.Places.{LendsOfAll, LendsShares}
+use Rattle.hls_search.specs.Inside.Places.{LendsOfAll, LendsShares, LendsOfAllOf, LendsSharesOf}
+use Rattle.hls_chron.specs.declared.plain.Kind.{Kind}
+use Rattle.hls_chron.specs.declared.plain.Kind.TheVariants as kinds
 use Rattle.hls_search.proofs.Shares.{fair-valid, fair-error}
 use Rattle.hls_search.proofs.Completing.{weight-of}
-
-pub ports-some : (config : Config) → ConfigInRange config → 0 < port_count config
-ports-some configs.Cpu range = omega arith
-ports-some configs.Fp range = omega arith
-ports-some configs.Edf range = omega arith
-ports-some (configs.Sfq total most) range = omega arith
-ports-some (configs.Rr quantum) range = omega arith
-ports-some (configs.Wheel frame) range = omega arith
-ports-some (configs.Join ports) range = omega (arith, range.0)
-
-pub port-zero : (config : Config) → ConfigInRange config → IsPort config 0
-port-zero configs.Cpu range = refl
-port-zero configs.Fp range = refl
-port-zero configs.Edf range = refl
-port-zero (configs.Sfq total most) range = refl
-port-zero (configs.Rr quantum) range = refl
-port-zero (configs.Wheel frame) range = refl
-port-zero (configs.Join ports) range = omega (arith, range.0)
+use Rattle.hls_chron.proofs.ConfigLaws.{some_port, first_port, sole_port}
 
 -- what is lent of a narrow guarantee is valid
 pub lent-valid : (config : Config) (its : Terms) (g h : Guarantee) → ConfigInRange config → TermsInRange its
@@ -62,7 +47,7 @@ pub nothing-lent : (config : Config) (its : Terms) (have want : Guarantee) → C
 nothing-lent config its have want range from to nothing = record {
   from = from;
   to = to;
-  port_of = port-zero config range;
+  port_of = first_port config range;
   lends = inr nothing;
 }
 
@@ -75,16 +60,18 @@ pub by-its-terms : (config : Config) (its : Terms) (port : ℕ) (g h : Guarantee
     → LendsThrough config its port g h → LendsByTerms config its g h
 by-its-terms config its port g h some lends = or-nothing config its g h some lends.lends
 
+of_no_join : (kind : Kind) → LendsOfAllOf kind ⊎ LendsSharesOf kind → kind ≢ kinds.Join
+of_no_join kinds.Join (inl of) e = absurd of
+of_no_join kinds.Join (inr of) e = absurd of
+of_no_join kinds.Cpu of e = cc
+of_no_join kinds.Fp of e = cc
+of_no_join kinds.Edf of e = cc
+of_no_join kinds.Sfq of e = cc
+of_no_join kinds.Rr of e = cc
+of_no_join kinds.Wheel of e = cc
+
 pub sole-port : (config : Config) (port : ℕ) → LendsOfAll config ⊎ LendsShares config → IsPort config port → port ≡ 0
-sole-port configs.Cpu port kind is = is
-sole-port configs.Fp port (inl kind) is = absurd kind
-sole-port configs.Fp port (inr kind) is = absurd kind
-sole-port configs.Edf port kind is = is
-sole-port (configs.Sfq total most) port kind is = is
-sole-port (configs.Rr quantum) port kind is = is
-sole-port (configs.Wheel frame) port kind is = is
-sole-port (configs.Join ports) port (inl kind) is = absurd kind
-sole-port (configs.Join ports) port (inr kind) is = absurd kind
+sole-port config port kind is = sole_port config port (of_no_join (kind_of config) kind) is
 
 -- no conversion
 pub leads-none : (g : Guarantee) → LeadsTo 0 g g []

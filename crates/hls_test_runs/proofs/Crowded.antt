@@ -20,7 +20,7 @@ use Rattle.hls_machine.specs.Derived.{Follows}
 use Rattle.hls_machine.specs.Hierarchy.{Hierarchy, Thread, Awake, start, name_of}
 use Rattle.hls_machine.specs.Steps.{Rouse, after}
 use Rattle.hls_machine.specs.Legal.{MaySit, IsAsking, Can, IsLegal}
-use Rattle.hls_machine.proofs.Readings.{or_asks}
+use Rattle.hls_kinds.proofs.ServingLaws.{may_go_asks}
 use Rattle.hls_test_runs.specs.Crowded.{longer_seat, shorter_seat, load_crowd, admit_longer, admit_shorter}
 use Rattle.hls_test_runs.specs.Crowded.{all_three_ask, crowd_slots, crowd_path, longer_tick, shorter_tick, crowded}
 use Rattle.hls_test_runs.proofs.Small.{Few, few_after, each_of_three, beyond, take_one, yields, the}
@@ -169,7 +169,7 @@ can_admit_shorter = record {
 -- whom a tick serves
 may_ask : (b : Ledger) (other : ℕ) → may_go b 3 (suc (suc other)) ≡ true → ⊥
 may_ask b other goes =
-    let on = or_asks b 3 (suc (suc other)) goes in
+    let on = may_go_asks b 3 (suc (suc other)) goes in
     let off = off_two other in
     let clash : true ≡ false = sym on ∙ off in cc
 

@@ -20,7 +20,7 @@ use Rattle.hls_machine.specs.Derived.{Follows}
 use Rattle.hls_machine.specs.Hierarchy.{Hierarchy, Thread, Awake, start, name_of}
 use Rattle.hls_machine.specs.Steps.{Step, Path, Rouse, Elapse, after, state}
 use Rattle.hls_machine.specs.Legal.{MaySit, IsAsking, Can, IsLegal}
-use Rattle.hls_machine.proofs.Readings.{or_asks}
+use Rattle.hls_kinds.proofs.ServingLaws.{may_go_asks}
 use Rattle.hls_machine.proofs.Determined.{elapse_one, run_known, start_known}
 use Rattle.hls_test_runs.specs.Reserved.{reserver_seat, load_root, admit_reserver, first_slot, both_ask}
 use Rattle.hls_test_runs.specs.Reserved.{only_reserver_asks, served_tick, idle_tick, reserver_path, reserved, used_up}
@@ -124,7 +124,7 @@ at_awake = record {
 sole : (b : Ledger) (other : ℕ) → may_go b 1 other ≡ true → other ≡ 0
 sole b zero goes = refl
 sole b (suc other) goes =
-    absurd (let on = or_asks b 1 (suc other) goes in let off = bit_off 0 (suc other) (λ e. omega (arith, e)) in cc)
+    absurd (let on = may_go_asks b 1 (suc other) goes in let off = bit_off 0 (suc other) (λ e. omega (arith, e)) in cc)
 
 pub lone_first : (b : Ledger) → may_go b 1 0 ≡ true → Serves Edf b 1 0
 lone_first b go = record {

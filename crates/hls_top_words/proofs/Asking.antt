@@ -3,7 +3,7 @@ use Rattle.std.proofs.Common.{codes, List, [], ◌∷◌, ◌≡◌, ℕ, ◌≤
 use Rattle.std.specs.Prelude.{Option, Some, None, decimal, IfSome, IsNone, MatchOption}
 use Rattle.hls_text.specs.Lines.{Text}
 use Rattle.hls_top_words.specs.Table.{HasDepth, HasNumber, IsJob, IsNoJob}
-use Rattle.hls_top_words.specs.Inside.Shapes.{States, HasShape, Tells, TellsDepth, TellsNumber}
+use Rattle.hls_top_words.specs.Inside.Shapes.{States, HasShape, TellsJob, TellsDepth, TellsNumber}
 use Rattle.hls_top_words.specs.declared.jobs.Job.{Job}
 use Rattle.hls_top_words.specs.declared.jobs.Job.TheVariants.{Run, Check, Gen, Trial}
 use Rattle.hls_top_words.proofs.Digits.{is_digits, number_is_digits}
@@ -46,7 +46,7 @@ given : (options : List Text) (value : Text) (number : ℕ) → options ≡ valu
 given options value number is (small, spelled) = (small, rw (some_same _ _ spelled) at is)
 
 run_asks : (words options : List Text) (value : Option Text) (job : Job) → words ≡ codes "run" ∷ options
-    → States options value → Tells (Some (codes "run", value, None)) job → IsJob words job
+    → States options value → TellsJob (Some (codes "run", value, None)) job → IsJob words job
 run_asks words options value (Run depth) is states (named, tells) =
     (options, is, stated options value depth states tells)
 run_asks words options value Check is states named =
@@ -57,14 +57,14 @@ run_asks words options value (Trial number) is states (named, tells) =
     absurd (apart _ _ named (λ (n : 114 ≡ 116). omega arith))
 
 check_asks : (words : List Text) (job : Job) → words ≡ codes "check" ∷ []
-    → Tells (Some (codes "check", None, None)) job → IsJob words job
+    → TellsJob (Some (codes "check", None, None)) job → IsJob words job
 check_asks words (Run depth) is (named, tells) = absurd (apart _ _ named (λ (n : 99 ≡ 114). omega arith))
 check_asks words Check is named = is
 check_asks words (Gen number) is (named, tells) = absurd (apart _ _ named (λ (n : 99 ≡ 103). omega arith))
 check_asks words (Trial number) is (named, tells) = absurd (apart _ _ named (λ (n : 99 ≡ 116). omega arith))
 
 gen_asks : (words options : List Text) (value : Text) (job : Job) → words ≡ codes "gen" ∷ options
-    → options ≡ value ∷ [] → Tells (Some (codes "gen", None, Some value)) job → IsJob words job
+    → options ≡ value ∷ [] → TellsJob (Some (codes "gen", None, Some value)) job → IsJob words job
 gen_asks words options value (Run depth) is one (named, tells) =
     absurd (apart _ _ named (λ (n : 103 ≡ 114). omega arith))
 gen_asks words options value Check is one named = absurd (apart _ _ named (λ (n : 103 ≡ 99). omega arith))
@@ -73,7 +73,7 @@ gen_asks words options value (Trial number) is one (named, tells) =
     absurd (apart _ _ named (λ (n : 103 ≡ 116). omega arith))
 
 trial_asks : (words options : List Text) (value : Text) (job : Job) → words ≡ codes "trial" ∷ options
-    → options ≡ value ∷ [] → Tells (Some (codes "trial", None, Some value)) job → IsJob words job
+    → options ≡ value ∷ [] → TellsJob (Some (codes "trial", None, Some value)) job → IsJob words job
 trial_asks words options value (Run depth) is one (named, tells) =
     absurd (apart _ _ named (λ (n : 116 ≡ 114). omega arith))
 trial_asks words options value Check is one named = absurd (apart _ _ named (λ (n : 116 ≡ 99). omega arith))
@@ -82,34 +82,34 @@ trial_asks words options value (Gen number) is one (named, tells) =
 trial_asks words options value (Trial number) is one (named, tells) =
     (options, is, given options value number one tells)
 
-pub asks : (words : List Text) (job : Job) → HasShape words → Tells (told_by words) job → IsJob words job
+pub asks : (words : List Text) (job : Job) → HasShape words → TellsJob (told_by words) job → IsJob words job
 asks words job (inl (options, is, (value, states))) tells =
     run_asks words options value job is states
-    (subst (λ t. Tells t job) (ap told_by is ∙ told_stated options value states) tells)
+    (subst (λ t. TellsJob t job) (ap told_by is ∙ told_stated options value states) tells)
 asks words job (inr (inl is)) tells =
-    check_asks words job is (subst (λ t. Tells t job) (ap told_by is ∙ told_check) tells)
+    check_asks words job is (subst (λ t. TellsJob t job) (ap told_by is ∙ told_check) tells)
 asks words job (inr (inr (inl (options, is, gives)))) tells =
     let d = is_digits gives.value gives.digit in
     gen_asks words options gives.value job is gives.is
-    (subst (λ t. Tells t job) (ap told_by is ∙ ap (λ o. told_by (codes "gen" ∷ o)) gives.is
+    (subst (λ t. TellsJob t job) (ap told_by is ∙ ap (λ o. told_by (codes "gen" ∷ o)) gives.is
     ∙ gen_value gives.value d.first d.rest d.small d.is) tells)
 asks words job (inr (inr (inr (options, is, gives)))) tells =
     let d = is_digits gives.value gives.digit in
     trial_asks words options gives.value job is gives.is
-    (subst (λ t. Tells t job) (ap told_by is ∙ ap (λ o. told_by (codes "trial" ∷ o)) gives.is
+    (subst (λ t. TellsJob t job) (ap told_by is ∙ ap (λ o. told_by (codes "trial" ∷ o)) gives.is
     ∙ trial_value gives.value d.first d.rest d.small d.is) tells)
 
 -- ---- what is asked for is told
 
 depth_told : (options : List Text) (depth : ℕ) → HasDepth options depth
-    → Tells (told_by (codes "run" ∷ options)) (Run depth)
+    → TellsJob (told_by (codes "run" ∷ options)) (Run depth)
 depth_told options depth (inl (is, usual)) = rw (is, told_run) (refl, usual)
 depth_told options depth (inr (small, inl is)) =
     let d = number_is_digits depth (omega (arith, small)) in
     rw (is, apart_value (decimal depth) d.first d.rest d.small d.is) (refl, (small, refl))
 depth_told options depth (inr (small, inr is)) = rw (is, told_joined (decimal depth)) (refl, (small, refl))
 
-pub tells : (words : List Text) (job : Job) → IsJob words job → Tells (told_by words) job
+pub tells : (words : List Text) (job : Job) → IsJob words job → TellsJob (told_by words) job
 tells words (Run depth) (options, is, has) = rw is (depth_told options depth has)
 tells words Check is = rw (is, told_check) refl
 tells words (Gen number) (options, is, (small, one)) =
@@ -121,8 +121,8 @@ tells words (Trial number) (options, is, (small, one)) =
 
 -- so the job that is told, where there is one, is the one that is asked for
 pub answered : (words : List Text) (found : Option Job) (facts : Option (Text × Option Text × Option Text))
-    → HasShape words → facts ≡ told_by words → IfSome found (Tells facts)
-    → (IsNone found → (job : Job) → ¬ Tells facts job) → MatchOption found (IsNoJob words) (IsJob words)
+    → HasShape words → facts ≡ told_by words → IfSome found (TellsJob facts)
+    → (IsNone found → (job : Job) → ¬ TellsJob facts job) → MatchOption found (IsNoJob words) (IsJob words)
 answered words None facts shape is found none = λ job asked.
-    none refl job (subst (λ t. Tells t job) (sym is) (tells words job asked))
-answered words (Some job) facts shape is found none = asks words job shape (subst (λ t. Tells t job) is found)
+    none refl job (subst (λ t. TellsJob t job) (sym is) (tells words job asked))
+answered words (Some job) facts shape is found none = asks words job shape (subst (λ t. TellsJob t job) is found)

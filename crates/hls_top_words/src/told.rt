@@ -1,7 +1,7 @@
 // What clap's matches ask for.
 ghost use Rattle.std.specs.Prelude.{◌≡◌, ◌≤◌, ◌<◌, ◌^◌, decimal, IfSome, IsNone, ℕ};
 ghost use Rattle.clap.specs.Words.{found_of, rows_of, subcommand_rows_of};
-ghost use Rattle.hls_top_words.specs.Inside.Shapes.{told, depth_in, number_in as number_of, Tells, TellsDepth};
+ghost use Rattle.hls_top_words.specs.Inside.Shapes.{told, depth_in, number_in as number_of, TellsJob, TellsDepth};
 ghost use Rattle.hls_top_words.specs.Inside.Shapes.{TellsNumber};
 
 use crate::Job;
@@ -63,12 +63,12 @@ fn number_found(matches: &ArgMatches) -> Option<u32>
 
 /// The job of a subcommand with these matches.
 fn job_of(name: &str, matches: &ArgMatches) -> Option<Job>
-    ensures found { IfSome result (Tells (Some (
+    ensures found { IfSome result (TellsJob (Some (
       name.now,
       depth_in (rows_of (found_of matches.now)),
       number_of (rows_of (found_of matches.now)),
     ))) }
-    ensures none { IsNone result → (job : Job) → ¬ Tells (Some (
+    ensures none { IsNone result → (job : Job) → ¬ TellsJob (Some (
       name.now,
       depth_in (rows_of (found_of matches.now)),
       number_of (rows_of (found_of matches.now)),
@@ -91,8 +91,8 @@ fn job_of(name: &str, matches: &ArgMatches) -> Option<Job>
 
 /// The job that matches tell, or `None` where what they state is no depth, or no number.
 pub fn job_told(matches: &ArgMatches) -> Option<Job>
-    ensures found { IfSome result (Tells (told (subcommand_rows_of matches.now))) }
-    ensures none { IsNone result → (job : Job) → ¬ Tells (told (subcommand_rows_of matches.now)) job }
+    ensures found { IfSome result (TellsJob (told (subcommand_rows_of matches.now))) }
+    ensures none { IsNone result → (job : Job) → ¬ TellsJob (told (subcommand_rows_of matches.now)) job }
 {
     let (name, found) = matches.subcommand()?;
     job_of(name, found)

@@ -14,8 +14,7 @@ use Rattle.hls_chron.proofs.CountLaws.{count-agree}
 use Rattle.hls_book_made.proofs.Books.{range_made, admission_made}
 use Rattle.hls_machine.specs.Ledgers.{empty_book}
 use Rattle.hls_machine.specs.Hierarchy.{Hierarchy, Node, Loaded, Admitted, Seat, SeatHolder, Place, Processor, At}
-use Rattle.hls_machine.specs.Hierarchy.{start}
-use Rattle.hls_machine.specs.Hierarchy.{seats_of, seat_of, book_of}
+use Rattle.hls_machine.specs.Hierarchy.{start, seats_of, seat_of, book_of}
 use Rattle.hls_machine.specs.Steps.{Step, Refuse, Load, Admit, End, Unload, Move, Rouse, Block, Elapse, sitters, effect}
 use Rattle.hls_machine.specs.Steps.{nobody, loaded, admitted, reseated, after, state}
 use Rattle.hls_machine.specs.Legal.{IsLegal}
@@ -29,7 +28,7 @@ use Rattle.hls_machine.proofs.Listings.{contains_filter, filter_had, filter_true
 use Rattle.hls_machine.proofs.Seated.{run_seated}
 use Rattle.hls_tree.specs.Lists.{is_on}
 use Rattle.hls_tree.specs.Reads.{taken_on}
-use Rattle.hls_tree.proofs.Attaches.{few_seats}
+use Rattle.hls_chron.proofs.ConfigLaws.{few_seats}
 
 -- ---- each seat is listed once
 

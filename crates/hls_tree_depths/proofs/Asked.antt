@@ -3,7 +3,7 @@ use Rattle.std.proofs.Common.{◌≡◌, ◌⊎◌, inl, inr, ℕ, ◌+◌, ◌<
 use Rattle.std.proofs.Common.{Option, Some, None, true, refl, sym, ap, ◌∙◌, subst, arith}
 use Rattle.std.proofs.lemmas.Bool.{cases_eq}
 use Rattle.hls_machine.specs.Hierarchy.{Hierarchy, Node, Loaded, Admitted, Scheduler, Seat, config_of}
-use Rattle.hls_machine.specs.Legal.{fair_queue}
+use Rattle.hls_chron.specs.Kinds.{fair_queue}
 use Rattle.hls_machine.specs.Readings.{IsUnder}
 use Rattle.hls_machine.specs.Steps.{is_scheduler, reseated}
 use Rattle.hls_tree_nodes.specs.Shown.{level_in}

@@ -11,13 +11,13 @@ use Rattle.hls_chron.specs.declared.plain.Config.TheVariants as configs
 use Rattle.hls_chron.specs.Seats.{terms_at}
 use Rattle.hls_machine.specs.Hierarchy.{Hierarchy, Node, Loaded, Admitted, Scheduler, Seat, Place, Processor, At}
 use Rattle.hls_machine.specs.Hierarchy.{seats_of, book_of, config_of}
-use Rattle.hls_machine.specs.Legal.{SitsOn, scheduler_at, fair_queue}
+use Rattle.hls_chron.specs.Kinds.{fair_queue}
+use Rattle.hls_machine.specs.Legal.{SitsOn, scheduler_at}
 use Rattle.hls_machine.specs.Lists.{Lists}
 use Rattle.hls_machine.specs.Readings.{IsUnder, IsUnderBy}
 use Rattle.hls_machine.specs.Steps.{is_scheduler}
 use Rattle.hls_tree_nodes.specs.Shown.{Shown, What, PostedIn, PostedWhat, Bare, SchedulerNode, ThreadNode, bare}
-use Rattle.hls_tree_nodes.specs.Shown.{bare_in}
-use Rattle.hls_tree_nodes.specs.Shown.{level_in, seats_in, place_in, book_in, most_bare, most_in}
+use Rattle.hls_tree_nodes.specs.Shown.{bare_in, level_in, seats_in, place_in, book_in, most_bare, most_in}
 use Rattle.hls_tree_nodes.specs.Shown.{Scheduler as SchedulerWhat, Thread as ThreadWhat}
 use Rattle.hls_tree_nodes.specs.TreeOf.{IsLaid}
 use Rattle.hls_tree_nodes.proofs.Snapshots.{Nodes, rise, empty_terms}
@@ -28,6 +28,7 @@ use Rattle.hls_tree_depths.specs.Inside.Sums.{counts_in, IsSettled, IsLocal}
 use Rattle.hls_tree_depths.specs.declared.question.Counted.{Counted}
 use Rattle.hls_tree_depths.specs.declared.question.Counted.TheVariants as counts
 use Rattle.hls_tree_depths.proofs.Chains.{over_each, top_seat, over_same, IsRanking, IsCapped}
+use Rattle.hls_chron.proofs.ConfigLaws.{one_queue}
 
 loaded_on : (node : Option Node) (slot : ℕ) → terms_at (book_of node) slot ≢ None
     → (s : Scheduler) × (node ≡ Some (Loaded s))
@@ -44,18 +45,8 @@ at_slot : (place : Place) (p : ℕ) → scheduler_at place ≡ Some p → (slot 
 at_slot Processor p e = cc
 at_slot (At q slot) p e = (slot, (let same : q ≡ p = cc in ap (λ n. At n slot) same))
 
--- what counts
-fair_one : (config : Config) → fair_queue config ≤ 1
-fair_one configs.Cpu = omega arith
-fair_one configs.Fp = omega arith
-fair_one configs.Edf = omega arith
-fair_one (configs.Sfq total most) = omega arith
-fair_one (configs.Rr quantum) = omega arith
-fair_one (configs.Wheel frame) = omega arith
-fair_one (configs.Join ports) = omega arith
-
 fair_what_one : (what : What) → fair_what what ≤ 1
-fair_what_one (SchedulerWhat post) = fair_one post.config
+fair_what_one (SchedulerWhat post) = one_queue post.config
 fair_what_one (ThreadWhat ready) = omega arith
 
 fair_in_one : (o : Option Shown) → fair_in o ≤ 1

@@ -1,7 +1,8 @@
 -- What is counted on paths of schedulers, in the hierarchies that nodes are of.
 use Rattle.std.specs.Prelude.{◌≡◌, ◌≢◌, ℕ, ◌+◌, ◌≤◌, true, List, [], ◌∷◌, ◌++◌, Option, Some, None}
 use Rattle.hls_machine.specs.Hierarchy.{Hierarchy, Seat, config_of}
-use Rattle.hls_machine.specs.Legal.{IsChain, scheduler_at, fair_queue}
+use Rattle.hls_chron.specs.Kinds.{fair_queue}
+use Rattle.hls_machine.specs.Legal.{IsChain, scheduler_at}
 use Rattle.hls_machine.specs.Lists.{Lists}
 use Rattle.hls_machine.specs.Readings.{IsUnder}
 use Rattle.hls_machine.specs.Steps.{is_scheduler, reseated}

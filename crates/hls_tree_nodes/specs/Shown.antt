@@ -7,7 +7,7 @@ use Rattle.hls_kinds.specs.Discipline.{Serves}
 use Rattle.hls_sched.specs.Seen.{Seen, config_of, IsConfigured, seen_asks, granted, revoked, turned, seated, left}
 use Rattle.hls_kinds.specs.Asks.{without_slot}
 use Rattle.hls_sched.specs.Seen.{settled}
-use Rattle.hls_kinds.specs.Faults.{IsAnswer}
+use Rattle.hls_kinds.specs.Faults.{IsFirstFaultIfAny}
 use Rattle.hls_chron.specs.declared.plain.Config.{Config}
 use Rattle.hls_chron.specs.declared.plain.Terms.{Terms}
 use Rattle.hls_chron.specs.Ranges.{ConfigInRange, TermsInRange}
@@ -72,11 +72,11 @@ post_settled post = record post { unit = settled post.unit }
 
 -- no fault applies to a seat on these terms
 pub record HasNoFault (config : Config) (b : Ledger) (terms : Terms) : Type 0 where
-  pub none : IsAnswer config b terms None
+  pub none : IsFirstFaultIfAny config b terms None
 
 -- a seat on these terms can be taken
 pub record MaySit (post : Post) (terms : Terms) : Type 0 where
-  pub fits : IsAnswer (config_of post.unit) post.unit.book terms None
+  pub fits : IsFirstFaultIfAny (config_of post.unit) post.unit.book terms None
   pub ranges : TermsInRange terms
   pub room : 0 < post.unit.book.spare_marks
 

@@ -6,7 +6,7 @@ ghost use Rattle.hls_chron.specs.Seats.{terms_at};
 ghost use Rattle.hls_kinds.specs.Asks.{slot_asks};
 ghost use Rattle.hls_kinds.specs.Discipline.{Serves};
 ghost use Rattle.hls_sched.specs.Seen.{config_of, IsConfigured, seen_asks, requested, released};
-ghost use Rattle.hls_kinds.specs.Faults.{IsFirst};
+ghost use Rattle.hls_kinds.specs.Faults.{IsFirstFault};
 ghost use Rattle.hls_tree_nodes.specs.Shown.{HasNoFault, IsPosted, IsTold, post_granted, post_revoked, post_turned};
 ghost use Rattle.hls_tree_nodes.specs.Shown.{post_seated, post_left, post_settled, MaySit};
 ghost use Rattle.hls_kinds.specs.Room.{IsFree, IsFull};
@@ -77,7 +77,7 @@ fn free_slot(unit: &Box<dyn Scheduler>) -> Option<u32>
 fn fits(unit: &dyn Scheduler, terms: &Terms) -> Option<SeatFault>
     requires configured { IsConfigured (seen unit.now) }
     requires ranges { TermsInRange terms.now }
-    ensures some { IfSome result (IsFirst (config_of (seen unit.now)) (seen unit.now).book terms.now) }
+    ensures some { IfSome result (IsFirstFault (config_of (seen unit.now)) (seen unit.now).book terms.now) }
     ensures none { IsNone result → HasNoFault (config_of (seen unit.now)) (seen unit.now).book terms.now }
 {
     unit.fits(terms)
@@ -96,7 +96,7 @@ impl Station {
     pub fn fits(&self, terms: &Terms) -> Option<SeatFault>
         requires posted { IsPosted (post_of seen self.now) }
         requires ranges { TermsInRange terms.now }
-        ensures some { IfSome result (IsFirst (config_of (seen self.now.unit)) (seen self.now.unit).book terms.now) }
+        ensures some { IfSome result (IsFirstFault (config_of (seen self.now.unit)) (seen self.now.unit).book terms.now) }
         ensures none { IsNone result →
             HasNoFault (config_of (seen self.now.unit)) (seen self.now.unit).book terms.now }
     {

@@ -2,7 +2,7 @@
 use Rattle.std.specs.Prelude.{◌≡◌, ℕ, ◌≤◌, List, Some, slice_get}
 use Rattle.hls_scenario.specs.Grammar.{IsCommand}
 use Rattle.hls_report_text.specs.declared.report.Answered.{Answered}
-use Rattle.hls_report_text.specs.WellFormed.{IsAnswer}
+use Rattle.hls_report_text.specs.WellFormed.{MayAnswer}
 
 -- ticks never fall
 abbrev pub AreInOrder : List Answered → Type 0
@@ -12,4 +12,4 @@ AreInOrder all = (i j : ℕ) (a b : Answered) → i ≤ j → slice_get all i �
 -- as the grammar of reports has it
 pub record IsSound (a : Answered) : Type 0 where
   pub command : IsCommand a.command
-  pub answer : IsAnswer a.command a.answer
+  pub answer : MayAnswer a.command a.answer

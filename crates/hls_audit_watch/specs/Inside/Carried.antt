@@ -10,9 +10,9 @@ use Rattle.hls_audit_watch.specs.declared.cuts.Cuts.{Cuts}
 use Rattle.hls_audit_watch.specs.Inside.Cuts.{AreCuts}
 
 -- there is a place for each offset
-abbrev pub HasRoom : Guarantee → (w places : ℕ) → Type 0
-HasRoom (Resb hard x y) w places = places ≡ w
-HasRoom _ w places = Unit {0}
+abbrev pub HasPlaces : Guarantee → (w places : ℕ) → Type 0
+HasPlaces (Resb hard x y) w places = places ≡ w
+HasPlaces _ w places = Unit {0}
 
 -- by blocks the broken offsets; by a share the greatest debt
 abbrev pub IsCarried : Guarantee → (w debt : ℕ) → Cuts → List Bool → Type 0

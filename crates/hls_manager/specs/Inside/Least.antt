@@ -18,9 +18,9 @@ pub record IsLeastOf (P : ℕ → Refusal → Type 0) (ports : ℕ) (r : Refusal
   pub least : (at : ℕ) (other : Refusal) → at < ports → P at other → number r ≤ number other
 
 -- it is that, or none of them has any
-abbrev pub IsLeast : (P : ℕ → Refusal → Type 0) → (ports : ℕ) → Option Refusal → Type 0
-IsLeast P ports None = (at : ℕ) (other : Refusal) → at < ports → P at other → ⊥
-IsLeast P ports (Some r) = IsLeastOf P ports r
+abbrev pub IsLeastRefusal : (P : ℕ → Refusal → Type 0) → (ports : ℕ) → Option Refusal → Type 0
+IsLeastRefusal P ports None = (at : ℕ) (other : Refusal) → at < ports → P at other → ⊥
+IsLeastRefusal P ports (Some r) = IsLeastOf P ports r
 
 -- it is told before the refusals of a load for its height and for want of a box
 abbrev pub is_early : Option Refusal → Bool

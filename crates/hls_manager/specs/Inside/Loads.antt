@@ -11,7 +11,7 @@ use Rattle.hls_answers.specs.Moment.{Moment, node_of}
 use Rattle.hls_answers.specs.Dues.{Derives, IsUnderivable}
 use Rattle.hls_tree.specs.declared.seat.Seat.{Seat}
 use Rattle.hls_manager.specs.Seats.{due_for}
-use Rattle.hls_manager.specs.Inside.Least.{IsLeast}
+use Rattle.hls_manager.specs.Inside.Least.{IsLeastRefusal}
 use Rattle.hls_manager.specs.Inside.Ports.{AreWanted, IsPortRefused}
 use Rattle.hls_manager.specs.Inside.Heights.{IsLowEnough}
 
@@ -23,7 +23,7 @@ pub record IsPlaced (h : Hierarchy) (name : Text) (perches : List Perch) (seats 
 -- nothing refuses it but want of derivations
 pub record IsOpen (m : Moment) (config : Config) (perches : List Perch) : Type 0 where
   pub few : length m.hierarchy.schedulers < 64
-  pub ports : IsLeast (IsPortRefused m.hierarchy perches) (length perches) None
+  pub ports : IsLeastRefusal (IsPortRefused m.hierarchy perches) (length perches) None
   pub low : IsLowEnough m.hierarchy config perches
   pub has_box : m.boxes.left (kind_of config) ≢ 0
 

@@ -7,7 +7,7 @@ use Rattle.hls_report.specs.declared.lines.Lines.{Lines}
 use Rattle.hls_report_text.specs.declared.report.Seated.{Seated}
 use Rattle.hls_report_text.specs.declared.report.Answered.{Answered}
 use Rattle.hls_report_text.specs.ReportText.{item_text, item_of, seat_text, answered_lines}
-use Rattle.hls_report_text.specs.WellFormed.{IsSeated, TakesSeats, IsAnswer}
+use Rattle.hls_report_text.specs.WellFormed.{IsSeated, TakesSeats, MayAnswer}
 use Rattle.hls_report.specs.Inside.Rests.{Passes, CommandRest, SeatRest, AnswerRest, RunRest, IsNext}
 
 -- whatever further commands there are
@@ -41,6 +41,6 @@ ItemPasses horizon last left (Some item) old new = IsNext horizon last item × (
 abbrev pub CommandPasses : (horizon last left : ℕ) → Option Answered → (old new : Lines) → Type 0
 CommandPasses horizon last left None old new = SchedulePasses horizon last left old new
 CommandPasses horizon last left (Some a) old new = IsNext horizon last (item_of a)
-    × IsAnswer a.command a.answer × (0 < left)
+    × MayAnswer a.command a.answer × (0 < left)
     × Passes (CommandRest horizon last left) (CommandRest horizon a.tick (left - 1)) (answered_lines a)
     old new

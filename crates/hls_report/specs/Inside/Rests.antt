@@ -17,7 +17,7 @@ use Rattle.hls_report_text.specs.declared.stretch.Stretch.{Stretch}
 use Rattle.hls_report_text.specs.ReportText.{answer_lines, answered_lines, seat_text, stretch_text}
 use Rattle.hls_report_text.specs.ReportText.{account_text}
 use Rattle.hls_report_text.specs.ReportText.{ended}
-use Rattle.hls_report_text.specs.WellFormed.{IsAnswer, AreSeats, AreAnswered, IsPath, Cover, FewNames}
+use Rattle.hls_report_text.specs.WellFormed.{MayAnswer, AreSeats, AreAnswered, IsPath, Cover, FewNames}
 use Rattle.hls_report_text.specs.WellFormed.{IsAccount}
 use Rattle.hls_report_text.specs.WellFormed.{with_path, IsOneLine}
 use Rattle.hls_scenario.specs.declared.scenario.Item.{Item}
@@ -81,7 +81,7 @@ pub record SeatRest (command : Command) (horizon last left : ℕ) (lines : List 
 pub record AnswerRest (command : Command) (horizon last left : ℕ) (lines : List Text) : Type 0 where
   pub answer : Answer
   pub rest : List Text
-  pub is : IsAnswer command answer
+  pub is : MayAnswer command answer
   pub more : CommandRest horizon last left rest
   pub text : lines ≡ answer_lines answer ++ rest
 
@@ -135,5 +135,5 @@ pub record Passes (May Then : List Text → Type 0) (front : List Text) (old new
   pub lift : (k : ℕ) → IsStuck Then new.rest.now k → IsStuck May old.rest.now (length front + k)
 
 -- the lines can be counted in 32 bits
-abbrev pub HasRoom : Lines → Type 0
-HasRoom at = at.count + length at.rest.now < 2 ^ 32 - 1
+abbrev pub CanCount : Lines → Type 0
+CanCount at = at.count + length at.rest.now < 2 ^ 32 - 1

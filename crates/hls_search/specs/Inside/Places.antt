@@ -2,7 +2,9 @@
 use Rattle.std.specs.Prelude.{◌≡◌, ℕ, ◌≤◌, ◌-◌, Bool, List}
 use Rattle.hls_frac.specs.declared.Frac.{Frac}
 use Rattle.hls_chron.specs.declared.plain.Config.{Config}
-use Rattle.hls_chron.specs.declared.plain.Config.TheVariants as configs
+use Rattle.hls_chron.specs.declared.plain.Kind.{Kind}
+use Rattle.hls_chron.specs.declared.plain.Kind.TheVariants as kinds
+use Rattle.hls_chron.specs.Kinds.{kind_of}
 use Rattle.hls_chron.specs.declared.plain.Terms.{Terms}
 use Rattle.hls_guarantee.specs.declared.Guarantee.{Guarantee}
 use Rattle.hls_guarantee.specs.declared.Guarantee.TheVariants.{All, Resb, Resc, Psbe}
@@ -17,24 +19,33 @@ use Rattle.hls_derive.specs.Derives.{IsDerivation, IsWholeShare}
 use Rattle.hls_derive.specs.declared.derivation.Place.{Place}
 use Rattle.hls_search_laws.specs.Words.{IsFound}
 
+abbrev pub PassesOnOf : Kind → Type 0
+PassesOnOf kinds.Fp = Unit {0}
+PassesOnOf kinds.Join = Unit {0}
+PassesOnOf _ = ⊥
+
+abbrev pub LendsSharesOf : Kind → Type 0
+LendsSharesOf kinds.Sfq = Unit {0}
+LendsSharesOf _ = ⊥
+
+abbrev pub LendsOfAllOf : Kind → Type 0
+LendsOfAllOf kinds.Cpu = Unit {0}
+LendsOfAllOf kinds.Edf = Unit {0}
+LendsOfAllOf kinds.Rr = Unit {0}
+LendsOfAllOf kinds.Wheel = Unit {0}
+LendsOfAllOf _ = ⊥
+
 -- what such a place lends is the same as what it has
 abbrev pub PassesOn : Config → Type 0
-PassesOn configs.Fp = Unit {0}
-PassesOn (configs.Join ports) = Unit {0}
-PassesOn _ = ⊥
+PassesOn config = PassesOnOf (kind_of config)
 
 -- such a place lends a share of a share
 abbrev pub LendsShares : Config → Type 0
-LendsShares (configs.Sfq total most) = Unit {0}
-LendsShares _ = ⊥
+LendsShares config = LendsSharesOf (kind_of config)
 
 -- such a place lends of every tick alone
 abbrev pub LendsOfAll : Config → Type 0
-LendsOfAll configs.Cpu = Unit {0}
-LendsOfAll configs.Edf = Unit {0}
-LendsOfAll (configs.Rr quantum) = Unit {0}
-LendsOfAll (configs.Wheel frame) = Unit {0}
-LendsOfAll _ = ⊥
+LendsOfAll config = LendsOfAllOf (kind_of config)
 
 -- the best share of a guarantee, and the conversions that it takes
 pub data IsBestShare : Guarantee → ℕ → Guarantee → Type 0 where

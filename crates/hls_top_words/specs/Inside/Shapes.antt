@@ -54,9 +54,9 @@ number_in rows = first_of (codes "number") rows
 abbrev pub told : Option (Text × List Row) → Option (Text × Option Text × Option Text)
 told = option_map (λ p. (p.0, depth_in p.1, number_in p.1))
 
-abbrev pub Tells : Option (Text × Option Text × Option Text) → Job → Type 0
-Tells (Some (name, depth, number)) (Run conversions) = (name ≡ codes "run") × TellsDepth depth conversions
-Tells (Some (name, depth, number)) Check = name ≡ codes "check"
-Tells (Some (name, depth, number)) (Gen n) = (name ≡ codes "gen") × TellsNumber number n
-Tells (Some (name, depth, number)) (Trial n) = (name ≡ codes "trial") × TellsNumber number n
-Tells None job = ⊥
+abbrev pub TellsJob : Option (Text × Option Text × Option Text) → Job → Type 0
+TellsJob (Some (name, depth, number)) (Run conversions) = (name ≡ codes "run") × TellsDepth depth conversions
+TellsJob (Some (name, depth, number)) Check = name ≡ codes "check"
+TellsJob (Some (name, depth, number)) (Gen n) = (name ≡ codes "gen") × TellsNumber number n
+TellsJob (Some (name, depth, number)) (Trial n) = (name ≡ codes "trial") × TellsNumber number n
+TellsJob None job = ⊥

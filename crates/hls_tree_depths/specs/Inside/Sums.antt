@@ -3,7 +3,8 @@
 use Rattle.std.specs.Prelude.{◌≡◌, ℕ, ◌+◌, ◌-◌, ◌^◌, ◌<◌, ◌≤◌, min, max, ◌==◌, if◌then◌else◌}
 use Rattle.std.specs.Prelude.{List, [], ◌∷◌, length, slice_index, Option, Some, None}
 use Rattle.hls_machine.specs.Hierarchy.{Seat}
-use Rattle.hls_machine.specs.Legal.{scheduler_at, fair_queue}
+use Rattle.hls_chron.specs.Kinds.{fair_queue}
+use Rattle.hls_machine.specs.Legal.{scheduler_at}
 use Rattle.hls_tree_nodes.specs.Shown.{Shown, What, Scheduler, Thread, seats_in}
 use Rattle.hls_tree_depths.specs.Subtrees.{sum_at}
 use Rattle.hls_tree_depths.specs.declared.question.Counted.{Counted}

@@ -1,5 +1,4 @@
-use Rattle.hls_machine.proofs.Choices.{serves_some}
-use Rattle.hls_machine.proofs.Unique.{serves_one}
+use Rattle.hls_kinds.proofs.Choices.{serves_some, serves_one}
 use Rattle.hls_machine.proofs.laws.asking_schedulers_serve_one_slot.Goals as goal
 
 pub returns-clause-some : goal.returns-clause-some

@@ -2,7 +2,7 @@ use Rattle.std.proofs.Common.{◌≡◌, ℕ, Some, refl, subst, arith, length, 
 use Rattle.std.proofs.lemmas.Option.{slice_get_read}
 use Rattle.hls_report_text.specs.declared.refusal.Refusal.{Refusal}
 use Rattle.hls_report_text.specs.WellFormed.{IsRefusal}
-use Rattle.hls_manager.specs.Inside.Least.{IsLeast}
+use Rattle.hls_manager.specs.Inside.Least.{IsLeastRefusal}
 use Rattle.hls_manager.specs.Inside.Ports.{IsPortRefused}
 use Rattle.hls_manager.proofs.LeastLaws.{lesser_keeps}
 use Rattle.hls_manager.proofs.PortLaws.{perch_at, one_seat_free, one_seat_faulty}
@@ -40,5 +40,5 @@ pub returns-clause-answer : goal.returns-clause-answer
 returns-clause-answer g c = λ h perches tree listed are.
     (let counted = are.counted in
     let end : c.loop-seat.seat-index ≡ length perches = omega (arith, counted) in
-    subst (λ (n : ℕ). IsLeast (IsPortRefused h perches) n c.loop-seat.least) end
+    subst (λ (n : ℕ). IsLeastRefusal (IsPortRefused h perches) n c.loop-seat.least) end
     (c.loop-seat.invariant.answer h perches tree listed are))

@@ -5,7 +5,7 @@ use Rattle.hls_report_text.specs.WellFormed.{IsRefusal}
 use Rattle.hls_machine.specs.Hierarchy.{Hierarchy}
 use Rattle.hls_machine.specs.Lists.{IsListed}
 use Rattle.hls_tree.specs.Trees.{IsTreeOf}
-use Rattle.hls_manager.specs.Inside.Least.{IsLeast}
+use Rattle.hls_manager.specs.Inside.Least.{IsLeastRefusal}
 use Rattle.hls_manager.specs.Inside.Ports.{AreWanted, ArePerchesInRange, IsPortRefused}
 use Rattle.hls_manager.proofs.ports.least_fault.Given as goal
 
@@ -13,7 +13,7 @@ abbrev pub invariant-loop-seat : goal.invariant-loop-seat
 invariant-loop-seat g l = record {
   answer : (h : Hierarchy) (perches : List Perch) → IsTreeOf (λ z. (goal.Scheduler-dyn g z).seen z.1) l.tree h
       → IsListed h → AreWanted h perches (length perches) l.seats
-      → IsLeast (IsPortRefused h perches) l.seat-index l.least;
+      → IsLeastRefusal (IsPortRefused h perches) l.seat-index l.least;
   formed : (h : Hierarchy) (perches : List Perch) → IsTreeOf (λ z. (goal.Scheduler-dyn g z).seen z.1) l.tree h
       → AreWanted h perches (length perches) l.seats → ArePerchesInRange perches
       → IfSome l.least (λ refusal. IsRefusal refusal);

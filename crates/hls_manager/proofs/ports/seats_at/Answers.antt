@@ -2,7 +2,7 @@ use Rattle.std.proofs.Common.{◌≡◌, ℕ, Option, Some, refl, subst, arith, 
 use Rattle.std.proofs.lemmas.Option.{slice_get_read}
 use Rattle.hls_report_text.specs.declared.refusal.Refusal.{Refusal}
 use Rattle.hls_report_text.specs.WellFormed.{IsRefusal}
-use Rattle.hls_manager.specs.Inside.Least.{IsLeast, IsLeastOf}
+use Rattle.hls_manager.specs.Inside.Least.{IsLeastRefusal, IsLeastOf}
 use Rattle.hls_manager.specs.Inside.Ports.{IsNameRefused, AreWanted}
 use Rattle.hls_manager.proofs.LeastLaws.{lesser_keeps}
 use Rattle.hls_manager.proofs.PortLaws.{one_put, one_unnamed}
@@ -40,7 +40,7 @@ returns-in-Some-least-clause-refused g c = λ h tree listed.
     (let end : c.loop-perch.perch-index ≡ length c.args.perches.now = omega arith in
     let least = (c.loop-perch.invariant.named h tree listed).least in
     subst (λ (n : ℕ). IsLeastOf (IsNameRefused h c.args.perches.now) n c.in-Some-least.refusal) end
-    (subst (λ (b : Option Refusal). IsLeast (IsNameRefused h c.args.perches.now) c.loop-perch.perch-index b)
+    (subst (λ (b : Option Refusal). IsLeastRefusal (IsNameRefused h c.args.perches.now) c.loop-perch.perch-index b)
     c.in-Some-least.is least))
 
 pub returns-in-None-clause-seats : goal.returns-in-None-clause-seats

@@ -4,7 +4,8 @@ use Rattle.hls_search_laws.specs.Words.{IsFound}
 use Rattle.hls_search_laws.proofs.Makes.{narrow-valid}
 use Rattle.hls_search.specs.Inside.Chains.{LeadsTo}
 use Rattle.hls_search.specs.Inside.Found.{Derives}
-use Rattle.hls_search.proofs.Deriving.{lent-valid, port-zero, leads-exact, derives}
+use Rattle.hls_chron.proofs.ConfigLaws.{first_port}
+use Rattle.hls_search.proofs.Deriving.{lent-valid, leads-exact, derives}
 use Rattle.hls_search.proofs.Hitting.{best-hit, lent-found}
 use Rattle.hls_search.proofs.searching.by_best_share.Goals as goal
 
@@ -64,7 +65,7 @@ returns-clause-found g c =
       from = narrow-valid best.share c.in_ok-best.ensures.narrow;
       to = lent-valid place.config place.terms best.share to c.requires.fits.config c.requires.fits.terms
           c.in_ok-best.ensures.narrow c.in_ok-to.ensures.some;
-      port_of = port-zero place.config c.requires.fits.config;
+      port_of = first_port place.config c.requires.fits.config;
       lends = inl c.in_ok-to.ensures.some;
     } in
     let found = derives place haves want c.args.depth count (c.args.depth - count) 0 have best.share to best.before

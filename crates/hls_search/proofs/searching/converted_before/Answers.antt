@@ -1,6 +1,6 @@
 use Rattle.std.proofs.Common.{inl, refl, arith}
 use Rattle.hls_search_laws.proofs.Makes.{narrow-valid}
-use Rattle.hls_search.proofs.Deriving.{port-zero}
+use Rattle.hls_chron.proofs.ConfigLaws.{first_port}
 use Rattle.hls_search.proofs.Completing.{derived-before}
 use Rattle.hls_search.proofs.Hitting.{none_found-more, found-nowhere}
 use Rattle.hls_search.proofs.searching.converted_before.Goals as goal
@@ -15,7 +15,7 @@ returns-then-not-lends-clause-none g c = λ none d is few.
     let yes = c.lends.ensures.1 (record {
       from = valid;
       to = valid;
-      port_of = port-zero place.config c.requires.fits.config;
+      port_of = first_port place.config c.requires.fits.config;
       lends = inl hit.0;
     }) in
     let no = c.if-not-lends.true in

@@ -1,6 +1,6 @@
 use Rattle.std.proofs.Common.{◌≡◌, ℕ, ◌≤◌, length, ap, sym, subst, ◌∙◌, refl}
 use Rattle.hls_audit_watch.specs.Inside.Lately.{Lately}
-use Rattle.hls_audit_watch.specs.Inside.Carried.{HasRoom}
+use Rattle.hls_audit_watch.specs.Inside.Carried.{HasPlaces}
 use Rattle.hls_audit_watch.specs.Inside.Periods.{IsPeriodOf}
 use Rattle.hls_audit_watch.proofs.Watching.{watching_none}
 use Rattle.hls_audit_watch.proofs.watch.Watch.new.Goals as goal
@@ -14,9 +14,9 @@ invariant_of-result c =
     let period : (n : ℕ) → n ≤ c.args.ticks → IsPeriodOf c.args.guarantee.now c.in_ok-recent.recent.period n =
     subst (λ w. (n : ℕ) → n ≤ c.args.ticks → IsPeriodOf c.args.guarantee.now w n) (sym width)
     c.period_of-period.ensures.period in
-    let room : HasRoom c.args.guarantee.now c.in_ok-recent.recent.period (length c.in_ok-broken.broken.items) =
-    subst (λ w. HasRoom c.args.guarantee.now w (length c.in_ok-broken.broken.items)) (sym width)
-    (subst (λ n. HasRoom c.args.guarantee.now c.period_of-period.result n) (sym long) c.places_of-places.ensures) in
+    let room : HasPlaces c.args.guarantee.now c.in_ok-recent.recent.period (length c.in_ok-broken.broken.items) =
+    subst (λ w. HasPlaces c.args.guarantee.now w (length c.in_ok-broken.broken.items)) (sym width)
+    (subst (λ n. HasPlaces c.args.guarantee.now c.period_of-period.result n) (sym long) c.places_of-places.ensures) in
     watching_none c.args.guarantee.now c.args.ticks c.in_ok-recent.recent.period
     (record { from = 0; broken = c.in_ok-broken.broken; free = 0 }) c.in_ok-recent.recent.list c.requires.valid
     c.requires.few period room refl refl (ap (λ (r : Lately). r.list) c.in_ok-recent.ensures)

@@ -1,6 +1,6 @@
 use Rattle.std.proofs.Common.{◌≡◌, ℕ, ◌≤◌, length, ap, sym, subst, refl}
 use Rattle.hls_audit_watch.specs.Inside.Lately.{Lately}
-use Rattle.hls_audit_watch.specs.Inside.Carried.{HasRoom}
+use Rattle.hls_audit_watch.specs.Inside.Carried.{HasPlaces}
 use Rattle.hls_audit_watch.specs.Inside.Periods.{IsPeriodOf}
 use Rattle.hls_audit_watch.proofs.Watching.{watching_none}
 use Rattle.hls_audit_watch.proofs.watch.Watch.restart.Goals as goal
@@ -15,6 +15,6 @@ invariant_of-self c =
     v.valid v.few
     (subst (λ w. (n : ℕ) → n ≤ c.self.inside.ticks → IsPeriodOf c.self.inside.guarantee w n) (sym width)
     v.period)
-    (subst (λ w. HasRoom c.self.inside.guarantee w (length c.self.inside.cuts.broken.items)) (sym width)
+    (subst (λ w. HasPlaces c.self.inside.guarantee w (length c.self.inside.cuts.broken.items)) (sym width)
     v.room) refl refl
     (ap (λ (r : Lately). r.list) c.restart.ensures))

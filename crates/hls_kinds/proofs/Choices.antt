@@ -1,5 +1,5 @@
--- A scheduler that asks has a slot to serve, where only seats ask.
-use Rattle.std.proofs.Common.{◌≡◌, ◌≢◌, ℕ, zero, suc, inl, inr, ◌+◌, ◌<◌, ◌≤◌, ◌||◌, Option, Some, None, Bool}
+-- A scheduler that asks has a slot to serve, where only seats ask, and one alone.
+use Rattle.std.proofs.Common.{◌≡◌, ◌≢◌, ℕ, zero, suc, inl, inr, ◌+◌, ◌<◌, ◌||◌, Option, Some, None, Bool}
 use Rattle.std.proofs.Common.{true, false, if◌then◌else◌, refl, sym, ap, ◌∙◌, subst, arith}
 use Rattle.std.specs.Int.{bit_at}
 use Rattle.std.proofs.lemmas.Bool.{cases_eq, cases_lt, cases_Bool, eq-eqb, eqb-true}
@@ -22,7 +22,8 @@ use Rattle.hls_kinds.specs.Asks.{asks, some_slot_asks, slot_asks, asks_in_budget
 use Rattle.hls_kinds.specs.Discipline.{HasLeastPriority, TakesTurn, may_go, IsOwner, Serves}
 use Rattle.hls_kinds.proofs.SlotLaws.{any_below-zero, any_below-miss, any_below-none, any_below-or}
 use Rattle.hls_kinds.proofs.SlotLaws.{first-alone, first-better, first-held, first-missed}
-use Rattle.hls_book_promise.specs.Admission.{HasSeats}
+use Rattle.hls_kinds.specs.Fits.{HasSeats}
+use Rattle.hls_chron.proofs.ConfigLaws.{few_seats}
 
 -- where the test holds below n, there is a first slot
 pub record HasFirst (n : ℕ) (among : ℕ → Bool) (key : ℕ → ℕ) : Type 0 where
@@ -67,15 +68,6 @@ within_seats : (config : Config) (b : Ledger) (mask slot : ℕ) → HasSeats con
     → slot_asks mask slot ≡ true → slot < most_seats config
 within_seats config b mask slot seats only on = let m = seat_in (terms_at b slot) (only slot on) in
     seats.within slot m.0 m.1
-
-few_seats : (config : Config) → ConfigInRange config → most_seats config ≤ 32
-few_seats Cpu range = omega arith
-few_seats Fp range = omega arith
-few_seats Edf range = omega arith
-few_seats (Sfq total most) range = let le = range.1.1 in omega arith
-few_seats (Rr quantum) range = omega arith
-few_seats (Wheel frame) range = omega arith
-few_seats (Join ports) range = omega arith
 
 zero_bit : (mask slot : ℕ) → slot_asks mask slot ≡ false → bit_at mask slot ≡ 0
 zero_bit mask slot off = elim (cases_eq (bit_at mask slot) 1) [
@@ -192,3 +184,44 @@ serves_some (Join ports) b mask range seats only on =
     in
     let lt : f.slot < 1 = within_seats (Join ports) b mask f.slot seats only f.first.chosen in
     (f.slot, record { sole = omega arith; asks = eqb-true (bit_at mask f.slot) 1 f.first.chosen })
+
+-- ---- and one alone
+
+first_one : (n : ℕ) (among : ℕ → Bool) (key : ℕ → ℕ) (a b : ℕ) → IsFirst n among key a → IsFirst n among key b
+    → a ≡ b
+first_one n among key a b f g =
+    let x = f.least b g.within g.chosen in
+    let y = g.least a f.within f.chosen in
+    let same : key a ≡ key b = omega (arith, x, y) in
+    let u = f.first b g.within g.chosen same in
+    let v = g.first a f.within f.chosen (sym same) in
+    omega (arith, u, v)
+
+least_one : (b : Ledger) (mask slot other : ℕ) (p q : Option ℕ) → HasSeats Fp b
+    → HasLeastPriority b mask slot → HasLeastPriority b mask other → priority_at b slot ≡ p
+    → priority_at b other ≡ q → slot ≡ other
+least_one b mask slot other None q seats f g e h = absurd (f.seated e)
+least_one b mask slot other (Some m) None seats f g e h = absurd (g.seated h)
+least_one b mask slot other (Some m) (Some n) seats f g e h =
+    let x = f.least other m n g.asks e h in
+    let y = g.least slot n m f.asks h e in
+    let same : m ≡ n = omega (arith, x, y) in
+    seats.apart slot other n (e ∙ ap (λ k. Some k) same) h
+
+turn_one : (quantum : ℕ) (b : Ledger) (mask slot other : ℕ) → TakesTurn quantum b mask slot
+    → TakesTurn quantum b mask other → slot ≡ other
+turn_one quantum b mask slot other f g = elim (cases_Bool (turn_goes_on quantum b mask)) [
+  | inl on ↦ f.goes_on on ∙ sym (g.goes_on on)
+  | inr off ↦ first_one 32 _ _ slot other (f.passes off) (g.passes off)
+]
+
+pub serves_one : (config : Config) (b : Ledger) (mask slot other : ℕ) → HasSeats config b
+    → Serves config b mask slot → Serves config b mask other → slot ≡ other
+serves_one Cpu b mask slot other seats f g = absurd f
+serves_one Fp b mask slot other seats f g =
+    least_one b mask slot other (priority_at b slot) (priority_at b other) seats f g refl refl
+serves_one Edf b mask slot other seats f g = first_one 32 _ _ slot other f g
+serves_one (Sfq total most) b mask slot other seats f g = first_one 32 _ _ slot other f g
+serves_one (Rr quantum) b mask slot other seats f g = turn_one quantum b mask slot other f g
+serves_one (Wheel frame) b mask slot other seats f g = let same = sym f.owns ∙ g.owns in cc
+serves_one (Join ports) b mask slot other seats f g = f.sole ∙ sym g.sole
