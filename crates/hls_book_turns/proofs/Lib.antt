@@ -1,0 +1,6 @@
+mod Circle
+mod Rounds
+mod Ticks
+mod Runs
+mod Waits
+mod Shares

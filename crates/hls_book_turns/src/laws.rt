@@ -1,0 +1,36 @@
+//! What holds of round robin: each function's contract is a law, and its body does nothing.
+
+ghost use Rattle.hls_chron.specs.Ledger.{Ledger};
+ghost use Rattle.hls_kinds.specs.Made.{IsMade};
+ghost use Rattle.hls_book_turns.specs.Waits.{PassesNoSeatOver, ServesAlike, KeepsDelays};
+ghost use Rattle.hls_book_turns.specs.Shares.{KeepsPart, KeepsTurnPromise};
+
+use hls_chron::Config;
+
+/// While a seat asks, whoever comes, leaves or blocks meanwhile, each other slot has at most a quantum before the
+/// seat's first tick, and one more for each quantum that the seat has had.
+pub fn no_seat_is_passed_over(quantum: u32)
+    ensures { (b : Ledger) → IsMade (Config.Rr quantum) b → PassesNoSeatOver quantum b }
+{}
+
+/// So while two seats ask, the ticks that they have differ by at most a quantum.
+pub fn two_seats_are_served_alike(quantum: u32)
+    ensures { (b : Ledger) → IsMade (Config.Rr quantum) b → ServesAlike quantum b }
+{}
+
+/// A seat that asks has its n-th tick, however many others there are, by the time that the scheduler was given `n`
+/// ticks, 31 quanta, and 31 more for each quantum that the seat had before.
+pub fn seats_have_their_turns_in_time(quantum: u32)
+    ensures { (b : Ledger) → IsMade (Config.Rr quantum) b → KeepsDelays quantum b }
+{}
+
+/// Of the ticks that the scheduler is given it has one in 32, all but 31 quanta.
+pub fn seats_have_their_part(quantum: u32)
+    ensures { (b : Ledger) → IsMade (Config.Rr quantum) b → KeepsPart quantum b }
+{}
+
+/// That is a share: where the scheduler has a share of the ticks in which it asks, the seat has a 32nd part of it in
+/// those in which the seat asks.
+pub fn shares_are_divided(quantum: u32)
+    ensures { (b : Ledger) → IsMade (Config.Rr quantum) b → KeepsTurnPromise quantum b }
+{}
