@@ -1,0 +1,4 @@
+mod Times
+mod Further
+mod WorstBlocks
+mod WorstWindows

@@ -1,0 +1,28 @@
+-- Windows of so many periods.
+use Rattle.std.proofs.Common.{◌≡◌, ℕ, zero, suc, ◌+◌, ◌*◌, ◌≤◌, Bool, arith, inl, inr}
+use Rattle.std.proofs.lemmas.Bool.{cases_lt}
+use Rattle.hls_guarantee.proofs.Missed.{missed}
+use Rattle.hls_guarantee.proofs.Spans.{Spans}
+
+-- the same of fewer ticks
+pub shorter : (c y z : ℕ) (f : ℕ → Bool) (lo hi : ℕ) → Spans c y f lo hi → z ≤ y → Spans c z f lo hi
+shorter c y z f lo hi s le = record { few = λ i j from up to near. s.few i j from up to (omega (arith, near, le)) }
+
+few_times : (c y k : ℕ) (f : ℕ → Bool) (lo hi : ℕ) → Spans c y f lo hi → (i j : ℕ) → lo ≤ i → i ≤ j → j ≤ hi
+    → j ≤ i + k * y → missed f j ≤ missed f i + k * c
+few_times c y zero f lo hi s i j from up to near =
+    let few = s.few i i from (omega arith) (omega (arith, up, to)) (omega arith) in
+    let same : j ≡ i = omega (arith, up, near) in
+    rw same (omega arith)
+few_times c y (suc k) f lo hi s i j from up to near = elim (cases_lt (i + y) j) [
+  | inr short ↦ omega (arith, s.few i j from up to short)
+  | inl long ↦
+      let first = s.few i (i + y) from (omega arith) (omega (arith, long, to)) (omega arith) in
+      let rest = few_times c y k f lo hi s (i + y) j (omega (arith, from)) (omega (arith, long)) to
+      (omega (arith, near)) in
+      omega (arith, first, rest)
+]
+
+-- of so many times y ticks in a row
+pub times : (c y k : ℕ) (f : ℕ → Bool) (lo hi : ℕ) → Spans c y f lo hi → Spans (k * c) (k * y) f lo hi
+times c y k f lo hi s = record { few = few_times c y k f lo hi s }
