@@ -1,4 +1,5 @@
 mod Times
 mod Further
-mod WorstBlocks
-mod WorstWindows
+mod Late
+mod Windows
+mod Blocks

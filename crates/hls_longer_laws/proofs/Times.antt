@@ -1,7 +1,8 @@
 -- Windows of so many periods.
 use Rattle.std.proofs.Common.{◌≡◌, ℕ, zero, suc, ◌+◌, ◌*◌, ◌≤◌, Bool, arith, inl, inr}
+use Rattle.std.specs.Prelude.{min}
 use Rattle.std.proofs.lemmas.Bool.{cases_lt}
-use Rattle.hls_guarantee.proofs.Missed.{missed}
+use Rattle.hls_guarantee.proofs.Missed.{missed, slow}
 use Rattle.hls_guarantee.proofs.Spans.{Spans}
 
 -- the same of fewer ticks
@@ -23,6 +24,21 @@ few_times c y (suc k) f lo hi s i j from up to near = elim (cases_lt (i + y) j) 
       omega (arith, first, rest)
 ]
 
--- of so many times y ticks in a row
+-- of so many times y ticks in a row, and of a rest besides
+pub times_and : (c y k r : ℕ) (f : ℕ → Bool) (lo hi : ℕ) → Spans c y f lo hi → r ≤ y
+    → Spans (k * c + min r c) (k * y + r) f lo hi
+times_and c y k r f lo hi s le = record {
+  few = λ i j from up to near. elim (cases_lt (i + r) j) [
+    | inr short ↦
+        let few = s.few i j from up to (omega (arith, short, le)) in
+        omega (arith, few, slow f i j up, short)
+    | inl long ↦
+        let first = s.few i (i + r) from (omega arith) (omega (arith, long, to)) (omega (arith, le)) in
+        let rest = few_times c y k f lo hi s (i + r) j (omega (arith, from)) (omega (arith, long)) to
+        (omega (arith, near)) in
+        omega (arith, first, rest, slow f i (i + r) (omega arith))
+  ];
+}
+
 pub times : (c y k : ℕ) (f : ℕ → Bool) (lo hi : ℕ) → Spans c y f lo hi → Spans (k * c) (k * y) f lo hi
 times c y k f lo hi s = record { few = few_times c y k f lo hi s }

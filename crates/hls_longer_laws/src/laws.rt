@@ -1,12 +1,13 @@
 //! What holds of the further conversions: each function's contract is a law, and its body does nothing.
 
-ghost use Rattle.std.specs.Prelude.{ℕ, ◌*◌, ◌≤◌, Bool, false, List};
+ghost use Rattle.std.specs.Prelude.{ℕ, ◌*◌, ◌≤◌, ◌↔◌, Bool, false, List};
 ghost use Rattle.hls_guarantee.specs.Limits.{IsReservation};
 ghost use Rattle.hls_guarantee.specs.Satisfaction.{ListSatisfies};
 ghost use Rattle.hls_guarantee.specs.Cap.{KeepsCap, ListKeepsCap};
 ghost use Rattle.hls_guarantee.specs.Supply.{Supplies};
 ghost use Rattle.hls_guarantee.specs.Conversions.{Leads};
 ghost use Rattle.hls_longer_laws.specs.Further.{ConvertsFurther, LeadsFurther, Implies};
+ghost use Rattle.hls_longer_laws.specs.Least.{least_of_windows, least_of_blocks};
 
 use crate::FurtherRule;
 use hls_guarantee::{Guarantee, RuleName};
@@ -60,4 +61,21 @@ pub fn windows_lead_no_further(hard: bool, x: u32, y: u32, less: u32, times: u32
     requires some { 1 ≤ times }
     ensures { Implies (Guarantee.Resc hard x y) (Guarantee.Resc false less (times * y)) →
         LeadsFurther FurtherRule.R11 (Guarantee.Resc hard x y) (Guarantee.Resc false less (times * y)) }
+{}
+
+/// From windows exactly those windows follow that ask for no more than windows of their length have at least: a budget
+/// for each whole period, and of the rest all but what a period may miss.
+pub fn windows_give_exactly(hard: bool, x: u32, y: u32, less: u32, longer: u32)
+    requires from { IsReservation x y }
+    requires to { IsReservation less longer }
+    ensures { Implies (Guarantee.Resc hard x y) (Guarantee.Resc false less longer) ↔
+        (less ≤ least_of_windows x y longer) }
+{}
+
+/// And from blocks, those that ask for no more than windows have at least that are shorter by what a block may miss.
+pub fn blocks_give_exactly(hard: bool, x: u32, y: u32, less: u32, longer: u32)
+    requires from { IsReservation x y }
+    requires to { IsReservation less longer }
+    ensures { Implies (Guarantee.Resb hard x y) (Guarantee.Resc false less longer) ↔
+        (less ≤ least_of_blocks x y longer) }
 {}

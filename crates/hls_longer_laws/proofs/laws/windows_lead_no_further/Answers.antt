@@ -1,4 +1,4 @@
-use Rattle.hls_longer_laws.proofs.WorstWindows.{no_further}
+use Rattle.hls_longer_laws.proofs.Windows.{no_further}
 use Rattle.hls_longer_laws.proofs.laws.windows_lead_no_further.Goals as goal
 
 pub returns : goal.returns

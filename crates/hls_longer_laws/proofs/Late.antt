@@ -1,19 +1,18 @@
 -- The worst ticks that satisfy windows: in each period the budget comes last.
-use Rattle.std.proofs.Common.{◌≡◌, ℕ, zero, suc, ◌+◌, ◌-◌, ◌*◌, ◌<◌, ◌≤◌, ◌%◌, Bool, false, refl, sym, ap, ◌∙◌}
+use Rattle.std.proofs.Common.{◌≡◌, ℕ, zero, suc, ◌+◌, ◌-◌, ◌*◌, ◌<◌, ◌≤◌, ◌%◌, ◌/◌, Bool, refl, sym, ap, ◌∙◌}
 use Rattle.std.proofs.Common.{arith, inl, inr}
 use Rattle.std.specs.Prelude.{min, nat_lt, not}
 use Rattle.std.proofs.lemmas.Bool.{cases_lt, lt-ltb, le-ltb}
 use Rattle.std.proofs.lemmas.Nat.{mod-mul-add}
 use Rattle.hls_chron.specs.Ticks.{one_if, count}
 use Rattle.hls_guarantee.specs.declared.Guarantee.TheVariants.{Resc}
-use Rattle.hls_guarantee.specs.Limits.{IsReservation}
 use Rattle.hls_guarantee.specs.Satisfaction.{IsReserved, Satisfies}
 use Rattle.hls_guarantee.proofs.Missed.{missed, balance}
 use Rattle.hls_guarantee.proofs.Offsets.{cut_at}
-use Rattle.hls_longer_laws.specs.Further.{HasTimes, Implies}
+use Rattle.hls_longer_laws.specs.Least.{least_of_windows}
 
 -- all but the first c of each y ticks
-abbrev late : (c y t : ℕ) → Bool
+abbrev pub late : (c y t : ℕ) → Bool
 late c y t = not (nat_lt (t % y) c)
 
 by_place : (c y r n : ℕ) → n % y ≡ r → min r c + (1 - one_if (late c y n)) ≡ min (suc r) c
@@ -23,7 +22,7 @@ by_place c y r n is = elim (cases_lt r c) [
 ]
 
 -- the ticks missed, by whole periods and a rest
-missed_is : (c y periods rest n : ℕ) → c ≤ y → rest + periods * y ≡ n → rest < y
+pub missed_is : (c y periods rest n : ℕ) → c ≤ y → rest + periods * y ≡ n → rest < y
     → missed (late c y) n ≡ periods * c + min rest c
 unfolding missed
 missed_is c y zero rest zero le is small = omega (arith, is)
@@ -61,31 +60,16 @@ reserved hard c x y p r i n got sum is small short counted =
           }
     ]
 
-satisfies : (hard : Bool) (c x y hi : ℕ) → y ≡ c + x → 0 < y → Satisfies (Resc hard x y) (late c y) 0 hi
-satisfies hard c x y hi sum some = λ i n from to short.
+pub late-satisfies : (hard : Bool) (c x y hi : ℕ) → y ≡ c + x → 0 < y → Satisfies (Resc hard x y) (late c y) 0 hi
+late-satisfies hard c x y hi sum some = λ i n from to short.
     let at = cut_at y i some in
     reserved hard c x y at.pieces at.offset i n (count (late c y) i n) sum at.is at.small short refl
 
--- so many whole periods
-pub no_more : (hard : Bool) (x y x' k : ℕ) → IsReservation x y → Implies (Resc hard x y) (Resc false x' (k * y))
-    → x' ≤ k * x
-no_more hard x y x' k from implies =
-    let c : ℕ = y - x in
-    let sum : y ≡ c + x = (let fits = from.fits in omega arith) in
-    let some : 0 < y = omega (arith, from.some, from.fits) in
-    let all = implies (late c y) 0 (k * y) (satisfies hard c x y (k * y) sum some) in
-    let window = (all 0 (k * y) (omega arith) (omega arith) (omega arith)).enough in
-    let none = missed_is c y 0 0 0 (omega (arith, sum)) (omega arith) some in
-    let end = missed_is c y k 0 (0 + k * y) (omega (arith, sum)) (omega arith) some in
-    let even = balance (late c y) 0 (k * y) in
-    let parts : k * y ≡ k * c + k * x = ap (λ n. k * n) sum ∙ omega arith in
-    omega (arith, window, none, end, even, parts)
-
-pub no_further : (hard : Bool) (x y x' k : ℕ) → IsReservation x y → 1 ≤ k
-    → Implies (Resc hard x y) (Resc false x' (k * y)) → HasTimes x y x' (k * y)
-no_further hard x y x' k from some implies = record {
-  times = k;
-  some = some;
-  enough = no_more hard x y x' k from implies;
-  within = omega arith;
-}
+-- what they miss of the first n, and the least of windows of n
+pub late-least : (x y n : ℕ) → 0 < y → x ≤ y → least_of_windows x y n + missed (late (y - x) y) n ≡ n
+late-least x y n some fits =
+    let is = missed_is (y - x) y (n / y) (n % y) n (omega arith) (omega arith) (omega arith) in
+    let whole : n / y * y ≡ n / y * (y - x) + n / y * x =
+    ap (λ k. n / y * k) (let sum : y ≡ y - x + x = omega (arith, fits) in sum) ∙ omega arith in
+    let all : n % y + n / y * y ≡ n = omega arith in
+    omega (arith, is, whole, all)
