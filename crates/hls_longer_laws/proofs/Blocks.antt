@@ -86,10 +86,10 @@ enough hard x y x' y' from to least = λ f lo hi s.
 
 -- ---- and some have no more: the budget of the first block comes first, and that of each later one last
 
-abbrev worst : (x y t : ℕ) → Bool
+abbrev pub worst : (x y t : ℕ) → Bool
 worst x y t = if nat_lt t y then nat_lt t x else late (y - x) y t
 
-first_is : (x y n : ℕ) → x ≤ y → n ≤ y → missed (worst x y) n ≡ n - x
+pub first_is : (x y n : ℕ) → x ≤ y → n ≤ y → missed (worst x y) n ≡ n - x
 unfolding missed
 first_is x y zero fits le = omega arith
 first_is x y (suc n) fits le =
@@ -103,7 +103,7 @@ first_is x y (suc n) fits le =
       | inr ge ↦ rw (le-ltb n x ge) (omega (arith, before, ge))
     ]
 
-later_is : (x y m : ℕ) → 0 < y → x ≤ y → missed (worst x y) (y + m) ≡ missed (late (y - x) y) (y + m)
+pub later_is : (x y m : ℕ) → 0 < y → x ≤ y → missed (worst x y) (y + m) ≡ missed (late (y - x) y) (y + m)
 unfolding missed
 later_is x y zero some fits =
     let one = missed_is (y - x) y 1 0 (y + 0) (omega arith) (omega arith) some in
@@ -136,8 +136,8 @@ one_piece y zero i n early starts ends = omega (arith, ends)
 one_piece y (suc zero) i n early starts ends = omega (arith, ends)
 one_piece y (suc (suc k)) i n early starts ends = absurd (omega (arith, starts, early))
 
-satisfies : (hard : Bool) (x y hi : ℕ) → 0 < y → x ≤ y → Satisfies (Resb hard x y) (worst x y) 0 hi
-satisfies hard x y hi some fits = (
+pub worst-satisfies : (hard : Bool) (x y hi : ℕ) → 0 < y → x ≤ y → Satisfies (Resb hard x y) (worst x y) 0 hi
+worst-satisfies hard x y hi some fits = (
   0,
   some,
   λ i n from to piece. elim (cases_lt i y) [
@@ -154,7 +154,7 @@ pub no_more : (hard : Bool) (x y x' y' : ℕ) → IsReservation x y → Implies 
 no_more hard x y x' y' from implies =
     let some : 0 < y = omega (arith, from.some, from.fits) in
     let fits : x ≤ y = from.fits in
-    let all = implies (worst x y) 0 (x + y') (satisfies hard x y (x + y') some fits) in
+    let all = implies (worst x y) 0 (x + y') (worst-satisfies hard x y (x + y') some fits) in
     let window = (all x y' (omega arith) (omega arith) (omega arith)).enough in
     let even = balance (worst x y) x y' in
     let none = first_is x y x fits fits in

@@ -3,3 +3,4 @@ mod Further
 mod Late
 mod Windows
 mod Blocks
+mod Shares

@@ -8,8 +8,10 @@ ghost use Rattle.hls_guarantee.specs.Supply.{Supplies};
 ghost use Rattle.hls_guarantee.specs.Conversions.{Leads};
 ghost use Rattle.hls_longer_laws.specs.Further.{ConvertsFurther, LeadsFurther, Implies};
 ghost use Rattle.hls_longer_laws.specs.Least.{least_of_windows, least_of_blocks};
+ghost use Rattle.hls_longer_laws.specs.Shares.{IsShareOf};
 
 use crate::FurtherRule;
+use hls_frac::Frac;
 use hls_guarantee::{Guarantee, RuleName};
 
 /// Where a further rule leads from one guarantee to another, ticks that satisfy the one satisfy the other.
@@ -78,4 +80,17 @@ pub fn blocks_give_exactly(hard: bool, x: u32, y: u32, less: u32, longer: u32)
     requires to { IsReservation less longer }
     ensures { Implies (Guarantee.Resb hard x y) (Guarantee.Resc false less longer) ↔
         (less ≤ least_of_blocks x y longer) }
+{}
+
+/// From windows exactly those shares follow whose rate is at most `x / y`, and whose error is at least what they have
+/// of as many ticks as a period may miss.
+pub fn windows_give_shares_exactly(hard: bool, x: u32, y: u32, s: Frac, d: Frac)
+    requires { IsReservation x y }
+    ensures { Implies (Guarantee.Resc hard x y) (Guarantee.Psbe s d) ↔ IsShareOf 1 x y s d }
+{}
+
+/// And from blocks, those whose error is at least twice that.
+pub fn blocks_give_shares_exactly(hard: bool, x: u32, y: u32, s: Frac, d: Frac)
+    requires { IsReservation x y }
+    ensures { Implies (Guarantee.Resb hard x y) (Guarantee.Psbe s d) ↔ IsShareOf 2 x y s d }
 {}

@@ -1,4 +1,5 @@
-//! What more follows of reservations by blocks and by sliding windows: two further rules of conversion.
+//! What more follows of reservations by blocks and by sliding windows: two further rules of conversion, and exactly
+//! which windows and shares follow.
 #![tactic(auto)]
 
 pub mod laws;
