@@ -149,7 +149,7 @@ linear quantum few own theirs some le passed =
     mul-le-mul_right (most_beside quantum own) le in
     omega (arith, passed, most, whole own quantum some)
 
-more_beside : (quantum few own last : ℕ) → 0 < quantum → few ≤ 31 → own ≤ last
+pub more_beside : (quantum few own last : ℕ) → 0 < quantum → few ≤ 31 → own ≤ last
     → few * most_beside quantum own ≤ 31 * most_beside quantum last
 more_beside quantum few own last some le early =
     let turns : own / quantum ≤ last / quantum =
@@ -219,11 +219,11 @@ module _ (quantum : ℕ) (b : Ledger) (made : IsMade (Rr quantum) b) where
       part i n slot ends on = omega (arith, theirs i n slot ends on, all-ticks b slot i (n + 1))
 
   pub delays : KeepsDelays quantum b
-  delays = λ i n slot turns ends on had. elim (cases_lt (served_ticks b slot i (n + 1)) turns) [
+  delays = λ i n slot own ends on had. elim (cases_lt (served_ticks b slot i (n + 1)) own) [
     | inr enough ↦ enough
     | inl short ↦
         let theirs = all i n slot ends on in
-        let most = more_beside quantum (rivals b slot i (n + 1)) (served_ticks b slot i (n + 1)) (turns - 1) some
+        let most = more_beside quantum (rivals b slot i (n + 1)) (served_ticks b slot i (n + 1)) (own - 1) some
         (few i n (n + 1) slot ends on) (omega (arith, short)) in
         absurd (omega (arith, theirs, most, had, short, all-ticks b slot i (n + 1)))
   ]

@@ -27,12 +27,12 @@ ServesAlike quantum b =
     → served_ticks b other i (n + 1) ≤ served_ticks b slot i (n + 1) + quantum
 
 -- so many ticks of the seat, and what 31 others may have before the last of them
-abbrev pub delay : (quantum turns : ℕ) → ℕ
-delay quantum turns = turns + 31 * most_beside quantum (turns - 1)
+abbrev pub delay : (quantum own : ℕ) → ℕ
+delay quantum own = own + 31 * most_beside quantum (own - 1)
 
 -- The seat asks from tick i to tick i + n. Where the scheduler was given so many of these ticks, the seat has had its
--- turns.
+-- own.
 abbrev pub KeepsDelays : (quantum : ℕ) → Ledger → Type 0
 KeepsDelays quantum b =
-    (i n slot turns : ℕ) → i + n < now_of b → AsksForTurns b slot i n
-    → delay quantum turns ≤ given_ticks b i (n + 1) → turns ≤ served_ticks b slot i (n + 1)
+    (i n slot own : ℕ) → i + n < now_of b → AsksForTurns b slot i n
+    → delay quantum own ≤ given_ticks b i (n + 1) → own ≤ served_ticks b slot i (n + 1)

@@ -29,8 +29,8 @@ pub fn seats_have_their_part(quantum: u32)
     ensures { (b : Ledger) → IsMade (Config.Rr quantum) b → KeepsPart quantum b }
 {}
 
-/// That is a share: where the scheduler has a share of the ticks in which it asks, the seat has a 32nd part of it in
-/// those in which the seat asks.
-pub fn shares_are_divided(quantum: u32)
+/// So each seat has a part of what the scheduler is supplied with in the ticks in which it asks: of a share the 32nd
+/// part, and of windows those ticks that come to it in time of as many given ones, whoever else sits there.
+pub fn turns_are_supplied(quantum: u32)
     ensures { (b : Ledger) → IsMade (Config.Rr quantum) b → KeepsTurnPromise quantum b }
 {}
