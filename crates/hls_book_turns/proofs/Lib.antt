@@ -4,3 +4,4 @@ mod Ticks
 mod Runs
 mod Waits
 mod Shares
+mod Reached

@@ -338,7 +338,7 @@ module _ (quantum : ℕ) (some : 0 < quantum) where
   past_same b row i n le = λ t ge lt. row_at-past b row t (omega (arith, lt, le))
 
   -- the counts with the tick
-  own_next : (b : Ledger) (row : TickRow) (slot i n : ℕ) → i + n ≡ now_of b
+  pub own_next : (b : Ledger) (row : TickRow) (slot i n : ℕ) → i + n ≡ now_of b
       → count (served (with_row b row) slot) i (suc n) ≡ count (served b slot) i n + one_if (is_slot row.to slot)
   unfolding served
   own_next b row slot i n ends =

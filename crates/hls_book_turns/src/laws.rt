@@ -1,9 +1,11 @@
 //! What holds of round robin: each function's contract is a law, and its body does nothing.
 
 ghost use Rattle.hls_chron.specs.Ledger.{Ledger};
+ghost use Rattle.hls_chron.specs.Ranges.{IsWithin};
 ghost use Rattle.hls_kinds.specs.Made.{IsMade};
 ghost use Rattle.hls_book_turns.specs.Waits.{PassesNoSeatOver, ServesAlike, KeepsDelays};
 ghost use Rattle.hls_book_turns.specs.Shares.{KeepsPart, KeepsTurnPromise};
+ghost use Rattle.hls_book_turns.specs.Reached.{WaitsLongest};
 
 use hls_chron::Config;
 
@@ -33,4 +35,11 @@ pub fn seats_have_their_part(quantum: u32)
 /// part, and of windows those ticks that come to it in time of as many given ones, whoever else sits there.
 pub fn turns_are_supplied(quantum: u32)
     ensures { (b : Ledger) → IsMade (Config.Rr quantum) b → KeepsTurnPromise quantum b }
+{}
+
+/// The bound on a wait is reached: for each number of ticks of its own there are a book and a run in which a seat has
+/// so many, and each of 31 other slots has as many as it may.
+pub fn waits_are_as_long_as_they_may_be(quantum: u32, own: u32)
+    requires { IsWithin 1 100 quantum }
+    ensures { WaitsLongest quantum own }
 {}
