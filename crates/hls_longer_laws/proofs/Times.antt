@@ -1,9 +1,12 @@
 -- Windows of so many periods.
-use Rattle.std.proofs.Common.{◌≡◌, ℕ, zero, suc, ◌+◌, ◌*◌, ◌≤◌, Bool, arith, inl, inr}
+use Rattle.std.proofs.Common.{◌≡◌, ℕ, zero, suc, ◌+◌, ◌*◌, ◌≤◌, ◌/◌, Bool, arith, inl, inr}
 use Rattle.std.specs.Prelude.{min}
+use Rattle.std.proofs.Math.Nat.{mul-le-mul_right}
 use Rattle.std.proofs.lemmas.Bool.{cases_lt}
+use Rattle.std.proofs.lemmas.Nat.{le-div}
 use Rattle.hls_guarantee.proofs.Missed.{missed, slow}
 use Rattle.hls_guarantee.proofs.Spans.{Spans}
+use Rattle.hls_longer_laws.specs.Further.{HasTimes}
 
 -- the same of fewer ticks
 pub shorter : (c y z : ℕ) (f : ℕ → Bool) (lo hi : ℕ) → Spans c y f lo hi → z ≤ y → Spans c z f lo hi
@@ -42,3 +45,14 @@ times_and c y k r f lo hi s le = record {
 
 pub times : (c y k : ℕ) (f : ℕ → Bool) (lo hi : ℕ) → Spans c y f lo hi → Spans (k * c) (k * y) f lo hi
 times c y k f lo hi s = record { few = few_times c y k f lo hi s }
+
+-- the most whole periods
+pub most_times : (x y x' y' : ℕ) → 1 ≤ y → HasTimes x y x' y' → (1 ≤ y' / y) × (x' ≤ y' / y * x)
+most_times x y x' y' some has =
+    let most : has.times ≤ y' / y = le-div has.times y' y some has.within in
+    let more : has.times * x ≤ y' / y * x = mul-le-mul_right x most in
+    (omega (arith, most, has.some), omega (arith, more, has.enough))
+
+pub times_of : (x y x' y' : ℕ) → 1 ≤ y → (1 ≤ y' / y) × (x' ≤ y' / y * x) → HasTimes x y x' y'
+times_of x y x' y' some is =
+    record { times = y' / y; some = is.0; enough = is.1; within = omega (arith, some) }

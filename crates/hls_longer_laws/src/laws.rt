@@ -1,12 +1,12 @@
 //! What holds of the further conversions: each function's contract is a law, and its body does nothing.
 
-ghost use Rattle.std.specs.Prelude.{ℕ, ◌*◌, ◌≤◌, ◌↔◌, Bool, false, List};
+ghost use Rattle.std.specs.Prelude.{ℕ, ◌*◌, ◌/◌, ◌≤◌, ◌↔◌, Bool, false, List};
 ghost use Rattle.hls_guarantee.specs.Limits.{IsReservation};
 ghost use Rattle.hls_guarantee.specs.Satisfaction.{ListSatisfies};
 ghost use Rattle.hls_guarantee.specs.Cap.{KeepsCap, ListKeepsCap};
 ghost use Rattle.hls_guarantee.specs.Supply.{Supplies};
 ghost use Rattle.hls_guarantee.specs.Conversions.{Leads};
-ghost use Rattle.hls_longer_laws.specs.Further.{ConvertsFurther, LeadsFurther, Implies};
+ghost use Rattle.hls_longer_laws.specs.Further.{HasTimes, ConvertsFurther, LeadsFurther, Implies};
 ghost use Rattle.hls_longer_laws.specs.Least.{least_of_windows, least_of_blocks};
 ghost use Rattle.hls_longer_laws.specs.Shares.{IsShareOf};
 
@@ -44,6 +44,12 @@ pub fn blocks_lead_further(g: Guarantee, h: Guarantee)
 pub fn windows_lead_further(x: u32, y: u32, less: u32, longer: u32)
     ensures { Leads RuleName.R1 (Guarantee.Resc false x y) (Guarantee.Resc false less longer) →
         LeadsFurther FurtherRule.R11 (Guarantee.Resc false x y) (Guarantee.Resc false less longer) }
+{}
+
+/// The most that `R11` reaches is by the whole periods of the longer window.
+pub fn multiples_are_whole_periods(x: u32, y: u32, less: u32, longer: u32)
+    requires { 1 ≤ y }
+    ensures { HasTimes x y less longer ↔ ((1 ≤ longer / y) × (less ≤ longer / y * x)) }
 {}
 
 /// From blocks, no windows of at most their budget follow but by `R10`: there are ticks that satisfy the blocks, and no
