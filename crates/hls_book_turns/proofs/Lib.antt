@@ -1,0 +1,7 @@
+mod Circle
+mod Rounds
+mod Ticks
+mod Runs
+mod Waits
+mod Shares
+mod Reached

@@ -1,0 +1,4 @@
+pub mod Runs
+pub mod Waits
+pub mod Shares
+pub mod Reached

@@ -1,0 +1,6 @@
+mod Times
+mod Further
+mod Late
+mod Windows
+mod Blocks
+mod Shares
