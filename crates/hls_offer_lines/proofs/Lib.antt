@@ -1,0 +1,7 @@
+pub mod Assembling
+pub mod Coverings
+pub mod HardOnes
+pub mod Placing
+pub mod Pushes
+pub mod Reserving
+pub mod Rising

@@ -1,0 +1,27 @@
+-- Terms in the order of cost, each at its place.
+use Rattle.std.specs.Prelude.{ℕ, ◌-◌, ◌<◌, min, None}
+use Rattle.hls_chron.specs.declared.plain.Config.{Config}
+use Rattle.hls_chron.specs.declared.plain.Config.TheVariants as configs
+use Rattle.hls_chron.specs.declared.plain.Terms.{Terms}
+use Rattle.hls_chron.specs.declared.plain.Terms.TheVariants.{Prio, Weight, Slots}
+use Rattle.hls_offer_lines.specs.declared.terms.TermsAsked.{TermsAsked}
+use Rattle.hls_offer_lines.specs.Cost.{IsFit, IsHadOn}
+
+-- the place of terms that are no reservation
+abbrev pub place_of : Terms → ℕ
+place_of (Prio priority) = 31 - priority
+place_of (Weight weight) = weight - 1
+place_of (Slots places) = places - 1
+place_of _ = 0
+
+-- how many places there are
+abbrev pub place_count : Config → ℕ
+place_count configs.Fp = 32
+place_count (configs.Sfq total most) = min total 20
+place_count (configs.Wheel frame) = frame
+place_count _ = 1
+
+-- on no terms of the first places it can be had
+abbrev pub NoneBelow : TermsAsked → (count : ℕ) → Type 0
+NoneBelow asked count =
+    (its : Terms) → IsFit asked.config None its → place_of its < count → IsHadOn asked its → ⊥
