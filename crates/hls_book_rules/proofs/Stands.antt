@@ -1,6 +1,6 @@
 -- Each scheduler stands for the present tick.
-use Rattle.std.proofs.Common.{◌≡◌, ◌≢◌, ℕ, zero, suc, ◌+◌, ◌-◌, ◌*◌, ◌/◌, ◌%◌, ◌<◌, ◌≤◌, Bool, true, false, cond}
-use Rattle.std.proofs.Common.{refl, sym, ap, ◌∙◌, arith, subst}
+use Rattle.std.proofs.Common.{◌≡◌, ◌≢◌, ℕ, zero, suc, ◌+◌, ◌-◌, ◌/◌, ◌%◌, ◌<◌, ◌≤◌, Bool, true, false, cond}
+use Rattle.std.proofs.Common.{refl, sym, ap, ◌∙◌, arith, inl, inr}
 use Rattle.std.specs.Prelude.{Option, Some, None, min, nat_lt, ◌==◌}
 use Rattle.std.proofs.Math.Nat.{le-div_iff_mul-le}
 use Rattle.std.proofs.lemmas.Bool.{eq-eqb, eqb-true, eqb-false, ltb-false, cases_eq}
@@ -14,7 +14,8 @@ use Rattle.hls_kinds.specs.declared.tenant.Tenant.TheVariants.{Vacant, Sits, Lef
 use Rattle.hls_kinds.specs.Asks.{slot_asks}
 use Rattle.hls_kinds.specs.Discipline.{Serves}
 use Rattle.hls_kinds.specs.Made.{IsMade}
-use Rattle.hls_kinds.specs.Reservations.{deadline_at, budget_at, deadline_in, deadline_after, last_replenished, claim_in, claim_at}
+use Rattle.hls_kinds.specs.Reservations.{deadline_at, budget_at, deadline_in, deadline_after, last_replenished}
+use Rattle.hls_kinds.specs.Reservations.{claim_in, claim_at}
 use Rattle.hls_kinds.specs.declared.reservations.Reservation.{Reservation}
 use Rattle.hls_kinds.specs.Room.{weight_in}
 use Rattle.hls_kinds.specs.Stands.{always, to_deadlines, rest_of_budget, same_slot, owned_for, ticks_apart, apart_from}
@@ -126,11 +127,6 @@ some_step : (weight : ℕ) → 1 ≤ weight → weight ≤ 20 → 0 < tag_step w
 some_step weight some few =
     let le : 1 ≤ unit_tag / weight = (le-div_iff_mul-le some).1 (omega (arith, few)) in omega (arith, le)
 
--- the tag of a slot that asks
-record Asking (b : Ledger) (mask slot theirs : ℕ) : Type 0 where
-  on : slot_asks mask slot ≡ true
-  tag : start_tag b (now_of b) slot ≡ theirs
-
 asking_by : (asks : Bool) (tag theirs : ℕ) → cond asks (Some tag) None ≡ Some theirs → (asks ≡ true) × (tag ≡ theirs)
 asking_by true tag theirs is = (refl, cc)
 asking_by false tag theirs is = absurd cc
@@ -154,8 +150,8 @@ shares_stand total most b mask slot made only serves =
     let first = serves.first other lt on.0 in
     let tag = on.1 in
     elim (cases_eq (start_tag b (now_of b) slot) (start_tag b (now_of b) other)) [
-      | Rattle.std.proofs.Common.inl same ↦ let no = first same in absurd (omega (arith, no, before))
-      | Rattle.std.proofs.Common.inr apart ↦ omega (arith, least, apart, tag)
+      | inl same ↦ let no = first same in absurd (omega (arith, no, before))
+      | inr apart ↦ omega (arith, least, apart, tag)
     ]))
 
 -- ---- frames

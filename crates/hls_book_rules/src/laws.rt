@@ -74,8 +74,8 @@ pub fn places_meet_their_rules()
     ensures { (b : Ledger) → KeepsPlaceRules b }
 {}
 
-/// Each scheduler stands for the present tick, so that `stands_of` asks for one tick at least in vain: deadlines lie
-/// ahead, whoever is served has the least tag, and the place of the present tick is its owner's.
+/// Each scheduler stands for the present tick: deadlines lie ahead, who is served has the least tag, and a place is its
+/// owner's. So `stands_of`, which says one tick at least, says no more than these numbers do.
 pub fn each_stands_for_the_present_tick(total: u32, most: u32)
     ensures reservations { (b : Ledger) (mask : ℕ) (choice : Option ℕ) → IsMade Config.Edf b → OnlySeatsAsk b mask →
         0 < min (to_deadlines b mask 32) (rest_of_budget b mask choice) }
