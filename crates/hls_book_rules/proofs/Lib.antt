@@ -5,3 +5,4 @@ pub mod Places
 pub mod NewBooks
 pub mod TagOrder
 pub mod Solutions
+pub mod Stands

@@ -21,7 +21,7 @@ use Rattle.hls_book_rules.specs.Tags.{time_of, start_of, KeepsTagRules, KeepsTag
 use Rattle.hls_book_rules.proofs.Tags.{tag_rules}
 
 -- the terms of a seat of fair queueing are a weight
-weight_of : (taken : Option Terms) → taken ≢ None → ((its : Terms) → taken ≡ Some its → terms_kind its ≡ kinds.Sfq)
+pub weight_of : (taken : Option Terms) → taken ≢ None → ((its : Terms) → taken ≡ Some its → terms_kind its ≡ kinds.Sfq)
     → (weight : ℕ) × (taken ≡ Some (terms.Weight weight))
 weight_of None seat kind = absurd (seat refl)
 weight_of (Some (terms.Weight weight)) seat kind = (weight, refl)

@@ -3,3 +3,4 @@ pub mod Tags
 pub mod Turns
 pub mod Places
 pub mod NewBooks
+pub mod Stands

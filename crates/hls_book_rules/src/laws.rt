@@ -1,9 +1,14 @@
 //! What holds of the definitions: each function's contract is a law, and its body does nothing.
 
-ghost use Rattle.std.specs.Prelude.{◌≡◌, ℕ, ◌+◌, Bool, true, ◌<◌};
-ghost use Rattle.hls_chron.specs.Ledger.{Ledger};
+ghost use Rattle.std.specs.Prelude.{◌≡◌, ℕ, ◌+◌, Option, Bool, true, ◌<◌, min};
+ghost use Rattle.hls_chron.specs.Ledger.{Ledger, now_of};
+ghost use Rattle.hls_chron.specs.Seats.{terms_at};
+ghost use Rattle.hls_kinds.specs.Discipline.{Serves};
+ghost use Rattle.hls_kinds.specs.Frames.{owner_at};
+ghost use Rattle.hls_kinds.specs.Room.{weight_in};
+ghost use Rattle.hls_kinds.specs.Stands.{to_deadlines, rest_of_budget, to_rivals, tag_of_asking, owned_for};
 ghost use Rattle.hls_kinds.specs.Made.{IsMade};
-ghost use Rattle.hls_kinds.specs.Tags.{start_tag};
+ghost use Rattle.hls_kinds.specs.Tags.{start_tag, tag_step};
 ghost use Rattle.hls_book_rules.specs.Budgets.{KeepsBudgetRules, KeepsClaimRules, claim_before};
 ghost use Rattle.hls_book_rules.specs.NewBooks.{IsNew, BeginsAnew};
 ghost use Rattle.hls_kinds.specs.Tags.{MeetTagRules};
@@ -11,6 +16,7 @@ ghost use Rattle.hls_kinds.specs.Reservations.{MeetBudgetRules};
 ghost use Rattle.hls_book_rules.specs.Tags.{KeepsTagRules, KeepsTagOrderInTicks};
 ghost use Rattle.hls_book_rules.specs.Turns.{KeepsTurnRules};
 ghost use Rattle.hls_book_rules.specs.Places.{KeepsPlaceRules};
+ghost use Rattle.hls_book_rules.specs.Stands.{OnlySeatsAsk};
 
 use hls_chron::Config;
 use hls_kinds::{Claim, Reservation};
@@ -66,4 +72,16 @@ pub fn turns_meet_their_rules(quantum: u32)
 /// The places of a frame come to seats and go by their rules.
 pub fn places_meet_their_rules()
     ensures { (b : Ledger) → KeepsPlaceRules b }
+{}
+
+/// Each scheduler stands for the present tick: deadlines lie ahead, who is served has the least tag, and a place is its
+/// owner's. So `stands_of`, which says one tick at least, says no more than these numbers do.
+pub fn each_stands_for_the_present_tick(total: u32, most: u32)
+    ensures reservations { (b : Ledger) (mask : ℕ) (choice : Option ℕ) → IsMade Config.Edf b → OnlySeatsAsk b mask →
+        0 < min (to_deadlines b mask 32) (rest_of_budget b mask choice) }
+    ensures shares { (b : Ledger) (mask slot : ℕ) → IsMade (Config.Sfq total most) b → OnlySeatsAsk b mask →
+        Serves (Config.Sfq total most) b mask slot →
+        0 < to_rivals (tag_of_asking b mask) slot (start_tag b (now_of b) slot)
+        (tag_step (weight_in (terms_at b slot))) 32 }
+    ensures frames { (b : Ledger) (frame : ℕ) → 0 < owned_for (owner_at b) frame (now_of b) frame }
 {}
