@@ -1,5 +1,5 @@
 -- Bars, each above the longest row of neighbouring columns of one height.
-use Rattle.std.specs.Prelude.{ℕ, suc, ◌+◌, ◌==◌, ◌&&◌, Bool, List, [], ◌∷◌, take, if◌then◌else◌}
+use Rattle.std.specs.Prelude.{ℕ, suc, ◌+◌, ◌==◌, ◌&&◌, Bool, List, [], ◌∷◌, map, take, if◌then◌else◌}
 use Rattle.hls_view_scale.specs.declared.scale.Scale.{Scale}
 use Rattle.hls_view_scale.specs.declared.bars.Bar.{Bar}
 use Rattle.hls_view_scale.specs.Heights.{heights}
@@ -33,5 +33,13 @@ with_columns bars column (high ∷ heights) = with_columns (with_column bars col
 abbrev pub bars_above : List ℕ → List Bar
 bars_above heights = with_columns [] 0 heights
 
+-- as high as their part of each column
 abbrev pub bars_of : Scale → (full : ℕ) → List ℕ → List Bar
 bars_of s full counts = bars_above (heights s full (take s.columns counts))
+
+-- of one height above each column in which something is
+abbrev pub if_any : (high count : ℕ) → ℕ
+if_any high count = if count == 0 then 0 else high
+
+abbrev pub grounds_of : Scale → (high : ℕ) → List ℕ → List Bar
+grounds_of s high counts = bars_above (map (if_any high) (take s.columns counts))

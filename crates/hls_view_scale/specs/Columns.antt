@@ -7,6 +7,10 @@ use Rattle.hls_view_scale.specs.Measures.{ticks_shown}
 abbrev pub offset : Scale → ℕ → ℕ
 offset s tick = (tick - s.from) * s.wide / s.ticks
 
+-- how far right of the first column
+abbrev pub column_offset : Scale → ℕ → ℕ
+column_offset s column = column * s.wide
+
 -- how many ticks a column has; the last may have fewer
 abbrev pub ticks_in : Scale → ℕ → ℕ
 ticks_in s column = min (ticks_shown s.from s.to - column * s.ticks) s.ticks

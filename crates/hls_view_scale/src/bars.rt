@@ -1,7 +1,8 @@
 // Bars above columns.
-ghost use Rattle.std.specs.Prelude.{◌≡◌, ◌≤◌, ◌+◌, ◌==◌, ◌&&◌, IfOk, OnOk, take};
+ghost use Rattle.std.specs.Prelude.{◌≡◌, ◌≤◌, ◌+◌, ◌==◌, ◌&&◌, IfOk, OnOk, map, take};
 ghost use Rattle.hls_view_scale.specs.Heights.{heights};
 ghost use Rattle.hls_view_scale.specs.Bars.{touches, one_wide, with_column, bars_above, bars_of};
+ghost use Rattle.hls_view_scale.specs.Bars.{if_any, grounds_of};
 
 use crate::heights::heights;
 use crate::scale::Scale;
@@ -85,4 +86,37 @@ pub fn bars_of(
 {
     let shown = counts.len().min(scale.columns as usize);
     bars_above(alloc, &heights(alloc, scale, &counts[..shown], full)?)
+}
+
+fn if_any(high: u64, count: u32) -> u64
+    ensures { result ≡ if_any high count }
+{
+    if count == 0 { 0 } else { high }
+}
+
+fn even_heights(alloc: Global, counts: &[u32], high: u64) -> Result<Vec<u64>, AllocError>
+    ensures { IfOk result (λ heights. heights.items ≡ map (if_any high) counts.now) }
+{
+    let mut heights = Vec::new(alloc);
+    for count in counts {
+        heights.push(if_any(high, *count))?;
+    }
+    Ok(heights)
+}
+
+/// The bars of one height above the columns that have a count, from the left. Of counts beyond the last column
+/// nothing is shown.
+///
+/// # Errors
+/// Returns `AllocError` for want of memory.
+pub fn grounds_of(
+    alloc: Global,
+    scale: &Scale,
+    counts: &[u32],
+    high: u64,
+) -> Result<Vec<Bar>, AllocError>
+    ensures { IfOk result (λ bars. bars.items ≡ grounds_of scale.now high counts.now) }
+{
+    let shown = counts.len().min(scale.columns as usize);
+    bars_above(alloc, &even_heights(alloc, &counts[..shown], high)?)
 }

@@ -8,7 +8,7 @@ pub mod laws;
 mod rounds;
 mod scale;
 
-pub use bars::{Bar, bars_of};
+pub use bars::{Bar, bars_of, grounds_of};
 pub use columns::scale_of;
 pub use heights::height;
 pub use rounds::nice;

@@ -26,7 +26,7 @@ pub struct Scale {
 }
 
 impl Scale {
-    ghost use Rattle.hls_view_scale.specs.Columns.{offset, ticks_in};
+    ghost use Rattle.hls_view_scale.specs.Columns.{offset, column_offset, ticks_in};
 
     /// How far right of the first tick a tick stands.
     pub fn offset(&self, tick: u64) -> u128
@@ -35,6 +35,22 @@ impl Scale {
     {
         let ticks = tick.saturating_sub(u64::from(self.from));
         u128::from(ticks) * u128::from(self.wide) / u128::from(self.ticks)
+    }
+
+    /// How far right of the first column a column stands, from 0.
+    pub fn column_offset(&self, column: u64) -> u128
+        ensures is { result ≡ column_offset self.now column }
+        ensures within { result < 2 ^ 70 }
+    {
+        u128::from(column) * u128::from(self.wide)
+    }
+
+    /// How wide all columns are together.
+    pub fn across(&self) -> u128
+        ensures is { result ≡ column_offset self.now self.now.columns }
+        ensures within { result < 2 ^ 70 }
+    {
+        self.column_offset(self.columns)
     }
 
     /// How many ticks a column has, from 0; none beyond the last.
