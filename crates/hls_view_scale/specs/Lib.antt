@@ -1,0 +1,4 @@
+pub mod Measures
+pub mod Columns
+pub mod Heights
+pub mod Bars
