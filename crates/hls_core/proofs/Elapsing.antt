@@ -11,7 +11,7 @@ use Rattle.hls_sched.specs.Seen.{Seen}
 use Rattle.hls_machine.specs.Hierarchy.{Hierarchy, Place, Processor, At, Admitted, Thread}
 use Rattle.hls_machine.specs.Hierarchy.{start, name_of}
 use Rattle.hls_machine.specs.Hierarchy.{is_ready, was_served, is_just}
-use Rattle.hls_machine.specs.Steps.{Hop, Step, Elapse, after, state, thread_of, hops_of, hop_at, ticked}
+use Rattle.hls_machine.specs.Steps.{Hop, Step, Elapse, after, thread_of, hops_of, hop_at, ticked}
 use Rattle.hls_machine.specs.Steps as steps
 use Rattle.hls_machine.specs.Legal.{Can, Walk, MayRun, IsReached}
 use Rattle.hls_machine.proofs.Goes.{state_goes, legal_goes}
@@ -79,14 +79,14 @@ route_known h j asking masks (Some path) noted may = record {
 }
 
 -- the thread of a path is there, and ready
-runs_thread : (h : Hierarchy) (asking : ℕ → Bool) (masks : ℕ → ℕ) (path : Option steps.Path) (k : ℕ)
+pub runs_thread : (h : Hierarchy) (asking : ℕ → Bool) (masks : ℕ → ℕ) (path : Option steps.Path) (k : ℕ)
     → MayRun h asking masks path → is_just (thread_of path) k ≡ true → Comes h k
 runs_thread h asking masks None k may on = absurd (cc)
 runs_thread h asking masks (Some path) k may on =
     let same : path.thread ≡ k = eqb-true path.thread k on in
     subst (Comes h) same (walk_comes h masks Processor path.hops path.thread may.1)
 
-ran : (h : Hierarchy) (asking : ℕ → Bool) (masks : ℕ → ℕ) (path : Option steps.Path) → MayRun h asking masks path
+pub ran : (h : Hierarchy) (asking : ℕ → Bool) (masks : ℕ → ℕ) (path : Option steps.Path) → MayRun h asking masks path
     → (k : ℕ) (t : Thread) → h.nodes k ≡ Some (Admitted t) → is_just (thread_of path) k ≡ true
     → is_ready (was_served h.past k) h.now t.wake ≡ true
 ran h asking masks path may k t there on =
@@ -111,7 +111,7 @@ way_of h j (Some path) None tells = absurd tells
 way_of h j (Some path) (Some p) tells = tells.way
 
 -- the thread that is granted is that of the path
-granted : (path : Option steps.Path) (route : Option (List ℕ)) (thread : Option ℕ) → route ≡ walks.route_of path
+pub granted : (path : Option steps.Path) (route : Option (List ℕ)) (thread : Option ℕ) → route ≡ walks.route_of path
     → (route ≡ None → thread ≡ None)
     → ((front : List ℕ) (last : ℕ) → route ≡ Some (front ++ last ∷ []) → thread ≡ Some last)
     → thread ≡ thread_of path
@@ -242,12 +242,12 @@ module _ {V : Type 0} {P : V → Type 0} (seen : (x : V) × P x → Seen) (choic
         → MayLeap (shown_at (boxed seen) passed.nodes) (choice_at (boxed choice) passed.nodes) h asking slots path n
     may_leap h asking slots path may by =
         let is_thread = thread_is h asking slots path by in
-        let still : (m k : ℕ) (t : Thread) → m < n → 1 < n → h.nodes k ≡ Some (Admitted t)
+        let still : (m k : ℕ) (t : Thread) → m < n → h.nodes k ≡ Some (Admitted t)
         → is_ready (was_served (later h asking slots path m).past k) (later h asking slots path m).now t.wake
         ≡ is_ready (was_served h.past k) h.now t.wake =
-        λ m k t lt some there. still_ready h asking slots path m (left_in bursts) may.at_state.left k t there
+        λ m k t lt there. still_ready h asking slots path m (left_in bursts) may.at_state.left k t there
         (ran h asking slots path by.can.1 k t there)
-        (λ rest on is. (let all = leaps.burst k rest (is_thread ∙ just_is (thread_of path) k on) is some in
+        (λ rest on is. (let all = leaps.burst k rest (is_thread ∙ just_is (thread_of path) k on) is in
         omega (arith, all, lt))) in
         record {
           one = λ m k slot lt on serves.
@@ -255,8 +255,7 @@ module _ {V : Type 0} {P : V → Type 0} (seen : (x : V) × P x → Seen) (choic
               (leaps.tree h may.at_state.tree).of by leaps.law m k slot (omega (arith, lt)) on serves;
           ready = λ m k t lt there.
               (let was = (on_ticks h asking slots path m).was k t there in
-              still (suc m) k t lt (omega (arith, lt)) was
-              ∙ sym (still m k t (omega (arith, lt)) (omega (arith, lt)) was));
+              still (suc m) k t lt was ∙ sym (still m k t (omega (arith, lt)) was));
         }
 
     is_after : (h : Hierarchy) (asking : ℕ → Bool) (slots : ℕ → ℕ) (path : Option steps.Path)

@@ -1,6 +1,7 @@
 -- A core lets ticks pass, and ends.
 use Rattle.std.proofs.Common.{◌≡◌, ℕ, ◌+◌, ◌-◌, ◌^◌, ◌<◌, ◌≤◌, List, [], ◌∷◌, length, refl, sym, ap}
-use Rattle.std.proofs.Common.{◌∙◌, subst, arith}
+use Rattle.std.proofs.Common.{◌∙◌, ◌⊎◌, inl, inr, subst, arith}
+use Rattle.std.proofs.lemmas.Bool.{cases_lt}
 use Rattle.std.specs.Prelude.{Option, Result, Ok, Err, IfOk, slice_get}
 use Rattle.std.specs.Fn.{Mut}
 use Rattle.hls_guarantee.specs.declared.Guarantee.{Guarantee}
@@ -26,12 +27,14 @@ use Rattle.hls_core_journal.proofs.Keeps.{may_tick, way_short}
 use Rattle.hls_core_stays.specs.Tallies.{AreStays}
 use Rattle.hls_core_stays.specs.declared.stays.Stays.{Stays}
 use Rattle.hls_core.specs.Marks.{HasMarksFor}
-use Rattle.hls_core.specs.Inside.Elapses.{MayElapse, Elapses}
+use Rattle.hls_kinds.specs.Stands.{always}
+use Rattle.hls_core.specs.Leaps.{IsLeapTo, Comes, at_end, at_command, at_change}
+use Rattle.hls_core.specs.Inside.Elapses.{MayElapse, Elapses, IsStretch}
 use Rattle.hls_report_text.specs.declared.report.Account.{Account}
 use Rattle.hls_accounts.specs.Accounts.{accounts_of, idle_of}
 use Rattle.hls_accounts.specs.Agrees.{accounts_in, idle_in}
 use Rattle.hls_accounts.proofs.Agreements.{accounts_told, idle_told}
-use Rattle.hls_core.specs.Cores.{AreNoted, NoneWithin, IsCoreOf, Runs}
+use Rattle.hls_core.specs.Cores.{AreNoted, NoneWithin, IsUpTo, IsCoreOf, Runs}
 use Rattle.hls_core.specs.declared.cores.Core.{Core}
 use Rattle.hls_core.proofs.Items.{ahead_next, none_left, all_told}
 use Rattle.hls_core.proofs.Running.{runs_on}
@@ -114,6 +117,52 @@ module _ {V W : Type 0} {P : V → Type 0} {Q : W → Type 0}
   core_small c s given boxes most n is few le =
       let own = ap (λ (x : Scenario). x.horizon) is.scenario in
       let within = is.within.horizon.1 in omega (arith, own, le, few, within)
+
+  pub core_within : (c : Core V W P Q X) (s : Scenario) (given : ℕ) (boxes : Boxes) (most : ℕ)
+      → IsCoreOf seen c s given boxes → c.journal.ticks + most ≤ c.scenario.horizon → most ≤ always
+  core_within c s given boxes most is le =
+      let own = ap (λ (x : Scenario). x.horizon) is.scenario in
+      let within = is.within.horizon.1 in omega (arith, own, le, within)
+
+  -- where ticks pass up to the next command at most, as many as nothing changes in, nothing happens in them
+  pub core_leap : (c : Core V W P Q X) (s : Scenario) (given : ℕ) (boxes : Boxes) (end most n : ℕ)
+      (is : IsCoreOf seen c s given boxes) → NoneWithin c.scenario.items c.agenda c.journal.ticks most
+      → c.journal.ticks + most ≤ end → end ≤ c.scenario.horizon
+      → IsUpTo c.scenario.items c.agenda end (c.journal.ticks + most) → n ≤ most
+      → ((h : Hierarchy) → MayElapse seen c.tree c.bursts c.stays c.journal most h → IsStretch h most n)
+      → IsLeapTo s c.agenda end (state start is.steps) n
+  unfolding core_may_elapse
+  core_leap c s given boxes end most n is none le early next few stretches =
+      let h : Hierarchy = state start is.steps in
+      let now : h.now ≡ c.journal.ticks =
+      state_now (told s.items c.depth c.journal) is.steps start (answered_by s.items c.journal.answers.items)
+      is.run.tells in
+      let items = ap (λ (x : Scenario). slice_get x.items c.agenda) is.scenario in
+      let stretch = stretches h (core_may_elapse c s given boxes most is (omega (arith, le, early))).is in
+      let comes : (n < most) ⊎ (most ≤ n) → Comes s c.agenda end h stretch.masks stretch.path n =
+      λ which. elim which [
+        | inl less ↦ at_change (stretch.change less)
+        | inr whole ↦ elim (cases_lt (c.journal.ticks + most) end) [
+          | inl before ↦
+              let command = next before in
+              let tick = command.2 in
+              at_command command.0 (sym items ∙ command.1) (omega (arith, now, tick, whole, few))
+          | inr late ↦ at_end (omega (arith, now, le, late, whole, few))
+        ]
+      ] in
+      record {
+        asking = stretch.asking;
+        masks = stretch.masks;
+        path = stretch.path;
+        can = stretch.can;
+        comes = comes (cases_lt n most);
+        first = λ sooner c. elim c [
+          | at_end at ↦ omega (arith, now, le, few, at)
+          | at_command item there at ↦
+              let clear = none item (items ∙ there) in omega (arith, now, clear, few, at)
+          | at_change changes ↦ stretch.first sooner changes
+        ];
+      }
 
   pub path_short : (c : Core V W P Q X) (s : Scenario) (given : ℕ) (boxes : Boxes)
       (new : Rattle.hls_tree.specs.declared.tree.Tree.Tree V P)

@@ -133,6 +133,28 @@ first_is now (x ∷ items) zero item there lt =
     (lt-ltb now x.tick (subst (λ (y : Item). now < y.tick) (sym same) lt)) ∙ ap (λ (y : Item). Some y.tick) same
 first_is now (x ∷ items) (suc place) item there lt = first_is now items place item there lt
 
+first_none : (now : ℕ) (items : List Item) (place : ℕ) → slice_get items place ≡ None
+    → first_tick_after now (drop place items) ≡ None
+first_none now [] zero none = refl
+first_none now [] (suc place) none = refl
+first_none now (x ∷ items) zero none = absurd cc
+first_none now (x ∷ items) (suc place) none = first_none now items place none
+
+-- the next tick that is found is that of the next command
+pub next_is : (items : List Item) (place own now t : ℕ) (next : Option ℕ) → NoneDue items place own → now ≡ own
+    → next ≡ first_tick_after now (drop place items) → next ≡ Some t
+    → (item : Item) × (slice_get items place ≡ Some item) × (item.tick ≡ t)
+next_is items place own now t next none at is found = by (slice_get items place) refl
+  where
+    by : (o : Option Item) → slice_get items place ≡ o
+        → (item : Item) × (slice_get items place ≡ Some item) × (item.tick ≡ t)
+    by None there = absurd (let no : None ≡ Some t = sym (first_none now items place there) ∙ sym is ∙ found in cc)
+    by (Some item) there =
+        let lt = none item there in
+        let same : Some item.tick ≡ Some t =
+        sym (first_is now items place item there (omega (arith, lt, at))) ∙ sym is ∙ found in
+        (item, there, cc)
+
 -- the next command is not due before its tick
 pub none_within : (items : List Item) (place own now ticks : ℕ) (next : Option ℕ) → NoneDue items place own
     → now ≡ own → next ≡ first_tick_after now (drop place items) → ((t : ℕ) → next ≡ Some t → now + ticks ≤ t)

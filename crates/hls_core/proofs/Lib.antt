@@ -7,6 +7,7 @@ pub mod Opened
 pub mod Items
 pub mod Going
 pub mod Elapsing
+pub mod Stretches
 pub mod Running
 pub mod Ended
 pub mod Standings

@@ -39,6 +39,11 @@ NoneDue items place now = (item : Item) → slice_get items place ≡ Some item 
 abbrev pub NoneWithin : List Item → (place now ticks : ℕ) → Type 0
 NoneWithin items place now ticks = (item : Item) → slice_get items place ≡ Some item → now + ticks ≤ item.tick
 
+-- the tick of the next command, or the end if that is sooner
+abbrev pub IsUpTo : List Item → (place end tick : ℕ) → Type 0
+IsUpTo items place end tick =
+    tick < end → (item : Item) × (slice_get items place ≡ Some item) × (item.tick ≡ tick)
+
 -- V and P are what the checker knows a box by, and W, Q and X a rule
 module _ {V W : Type 0} {P : V → Type 0} {Q : W → Type 0}
     {X : Mut ((x : W) × Q x) (Guarantee × (Guarantee × Unit {0})) (Option Guarantee)} where

@@ -1,5 +1,6 @@
 pub mod Bursts
 pub mod Left
+pub mod Leaps
 pub mod Marks
 pub mod Standing
 pub mod Cores

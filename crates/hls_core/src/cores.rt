@@ -46,7 +46,10 @@ fn depth_in_force(given: u8, own: Option<u8>) -> u8
 
 impl Core {
     ghost use Rattle.hls_manager.specs.Outcomes.{boxes_in};
+    ghost use Rattle.hls_machine.specs.Hierarchy.{start};
+    ghost use Rattle.hls_machine.specs.Steps.{state};
     ghost use Rattle.hls_core.specs.Cores.{IsCoreOf, Runs, NoneDue};
+    ghost use Rattle.hls_core.specs.Leaps.{IsLeap, IsLeapTo};
     ghost use Rattle.hls_core.specs.Readings.{scenario_of, now_of, next_of, answers_of, HasOneMore};
 
     /// Begins with a scenario, of which nothing was carried out. The scenario's own depth wins over the one
@@ -134,9 +137,9 @@ impl Core {
         self.pass_ticks(1);
     }
 
-    /// Lets ticks pass, once the commands of the present tick have their answers: as many as pass with one path before
-    /// the next command and before the burst of who is served is used up, as far as the schedulers can tell. Tells how
-    /// many they are: one or more.
+    /// Lets ticks pass, once the commands of the present tick have their answers: as many as nothing happens in, up to
+    /// the next command, the horizon, the end of the burst of who is served, or the first tick in which a scheduler may
+    /// ask otherwise or serve another. Tells how many they are: one or more.
     pub fn leap(&mut self) -> u32
         requires runs { Runs seen self.old }
         requires none_due { NoneDue self.old.scenario.items self.old.agenda self.old.journal.ticks }
@@ -144,11 +147,33 @@ impl Core {
         ensures is { (s : Scenario) (given : ℕ) (boxes : Boxes) → IsCoreOf seen self.old s given boxes →
             IsCoreOf seen self.new s given boxes }
         ensures some { 0 < result }
+        ensures leap { (s : Scenario) (given : ℕ) (boxes : Boxes) → (is : IsCoreOf seen self.old s given boxes) →
+            IsLeap s (next_of self.old) (state start is.steps) result }
         ensures ticks { self.new.journal.ticks ≡ self.old.journal.ticks + result }
         ensures scenario { self.new.scenario ≡ self.old.scenario }
         ensures agenda { self.new.agenda ≡ self.old.agenda }
     {
-        let most = self.ticks_ahead();
+        let horizon = self.scenario.horizon;
+        self.leap_to(horizon)
+    }
+
+    /// Lets ticks pass as `leap` does, but none from the tick `end` on.
+    pub fn leap_to(&mut self, end: u32) -> u32
+        requires runs { Runs seen self.old }
+        requires none_due { NoneDue self.old.scenario.items self.old.agenda self.old.journal.ticks }
+        requires early { self.old.journal.ticks < end }
+        requires within { end ≤ self.old.scenario.horizon }
+        ensures is { (s : Scenario) (given : ℕ) (boxes : Boxes) → IsCoreOf seen self.old s given boxes →
+            IsCoreOf seen self.new s given boxes }
+        ensures some { 0 < result }
+        ensures within { self.new.journal.ticks ≤ end }
+        ensures leap { (s : Scenario) (given : ℕ) (boxes : Boxes) → (is : IsCoreOf seen self.old s given boxes) →
+            IsLeapTo s (next_of self.old) end (state start is.steps) result }
+        ensures ticks { self.new.journal.ticks ≡ self.old.journal.ticks + result }
+        ensures scenario { self.new.scenario ≡ self.old.scenario }
+        ensures agenda { self.new.agenda ≡ self.old.agenda }
+    {
+        let most = self.ticks_ahead(end);
         self.pass_ticks(most)
     }
 

@@ -8,7 +8,9 @@ use hls_sched::Scheduler;
 use std::alloc::AllocError;
 
 impl Core {
-    ghost use Rattle.hls_core.specs.Cores.{NoneDue, NoneWithin};
+    ghost use Rattle.hls_machine.specs.Hierarchy.{Hierarchy};
+    ghost use Rattle.hls_core.specs.Cores.{NoneDue, NoneWithin, IsUpTo};
+    ghost use Rattle.hls_core.specs.Inside.Elapses.{MayElapse, IsStretch};
     ghost use Rattle.hls_core.specs.Inside.Sparing.{MayGoOn, GoesOn, StaysOn};
 
     /// Carries the next command out that is due, and tells whether one was. Where memory is wanting the
@@ -46,24 +48,24 @@ impl Core {
         Ok(true)
     }
 
-    /// How many ticks there are up to the next command, or else up to the horizon.
-    pub(crate) fn ticks_ahead(&self) -> u32
+    /// How many ticks there are up to the next command, or up to the end if that is sooner.
+    pub(crate) fn ticks_ahead(&self, end: u32) -> u32
         requires none_due { NoneDue self.now.scenario.items self.now.agenda self.now.journal.ticks }
-        requires early { self.now.journal.ticks < self.now.scenario.horizon }
+        requires early { self.now.journal.ticks < end }
         ensures some { 0 < result }
         ensures none_due { NoneWithin self.now.scenario.items self.now.agenda self.now.journal.ticks result }
-        ensures early { self.now.journal.ticks + result ≤ self.now.scenario.horizon }
+        ensures within { self.now.journal.ticks + result ≤ end }
+        ensures next { IsUpTo self.now.scenario.items self.now.agenda end (self.now.journal.ticks + result) }
     {
         let now = self.journal.ticks();
-        let horizon = self.scenario.horizon;
         match self.agenda.next_after(&self.scenario, now) {
-            Some(tick) => tick.min(horizon) - now,
-            None => horizon - now,
+            Some(tick) => tick.min(end) - now,
+            None => end - now,
         }
     }
 
-    /// Lets ticks pass, one or more and at most so many, in which no command is due and the grant stays. Tells how
-    /// many they are.
+    /// Lets ticks pass, in which no command is due: as many as the grant stays for, but at most so many. Tells how many
+    /// they are.
     pub(crate) fn pass_ticks(&mut self, most: u32) -> u32
         requires may { MayGoOn seen self.old }
         requires some { 0 < most }
@@ -73,6 +75,8 @@ impl Core {
         ensures answers { self.new.journal.answers ≡ self.old.journal.answers }
         ensures some { 0 < result }
         ensures most { result ≤ most }
+        ensures stretch { (h : Hierarchy) → MayElapse seen self.old.tree self.old.bursts self.old.stays
+            self.old.journal most h → IsStretch h most result }
         ensures ticks { self.new.journal.ticks ≡ self.old.journal.ticks + result }
         ensures scenario { self.new.scenario ≡ self.old.scenario }
         ensures agenda { self.new.agenda ≡ self.old.agenda }
@@ -102,7 +106,8 @@ impl Core {
         ensures agenda { self.new.agenda ≡ self.old.agenda }
     {
         if self.journal.is_steady() {
-            let most = self.ticks_ahead();
+            let horizon = self.scenario.horizon;
+            let most = self.ticks_ahead(horizon);
             self.pass_ticks(most)
         } else {
             self.pass_ticks(1)

@@ -1,13 +1,15 @@
 // Ticks.
-ghost use Rattle.std.specs.Prelude.{◌≡◌, ◌≤◌, ◌<◌, ◌+◌, ℕ, ◌-◌, Bool, Option, true, false, Some, length};
+ghost use Rattle.std.specs.Prelude.{◌≡◌, ◌≤◌, ◌<◌, ◌+◌, ℕ, ◌-◌, ◌⊎◌, Bool, Option, true, false, length};
 ghost use Rattle.std.specs.Prelude.{option_map, if◌then◌else◌};
+ghost use Rattle.hls_kinds.specs.Stands.{always};
 ghost use Rattle.hls_machine.specs.Hierarchy.{Hierarchy, is_just};
 ghost use Rattle.hls_machine.specs.Steps.{Path as Way};
-ghost use Rattle.hls_tree_nodes.specs.Leapt.{StandsIn, stands_in, later, MayLeap};
+ghost use Rattle.hls_tree_nodes.specs.Leapt.{StandsIn, StandsJust, stands_in, later, MayLeap};
 ghost use Rattle.hls_tree_nodes.specs.Views.{boxed, shown_at, choice_at};
 ghost use Rattle.hls_tree.specs.Trees.{IsTreeOf, Any, HasPassed, PassesBy, Stands, ready_of};
 ghost use Rattle.hls_core.specs.Bursts.{left_in, ends_within};
-ghost use Rattle.hls_core.specs.Inside.Elapses.{IsThreadOrNone, IsWithin, IsAfter, MayElapse, Elapses};
+ghost use Rattle.hls_core.specs.Inside.Elapses.{IsThreadOrNone, IsWithin, IsRest, IsAfter};
+ghost use Rattle.hls_core.specs.Inside.Elapses.{MayElapse, Elapses, IsStretch};
 
 use crate::bursts::Bursts;
 use crate::ways::way_of;
@@ -19,8 +21,9 @@ use hls_tree::{NodeId, Tree};
 
 /// How many ticks of its burst are left of the thread that is granted, and else so many.
 fn rest_of(bursts: &Bursts, thread: &Option<NodeId>, most: u32) -> u32
-    ensures within { (k left : ℕ) → thread.now ≡ Some k → left_in bursts.now k ≡ Some left → result ≤ left }
-    ensures least { result ≤ most }
+    ensures burst { IsWithin (left_in bursts.now) thread.now result }
+    ensures most { result ≤ most }
+    ensures attained { result < most → IsRest (left_in bursts.now) thread.now result }
 {
     let Some(id) = thread else {
         return most;
@@ -31,20 +34,25 @@ fn rest_of(bursts: &Bursts, thread: &Option<NodeId>, most: u32) -> u32
     }
 }
 
-/// For how many ticks the present grant stands, at most so many: who is granted has as many left of its burst, or it
-/// is one tick alone.
+/// For how many ticks the present grant stands, at most so many: for as many as each scheduler stands, and who is
+/// granted has left of its burst.
 fn standing(tree: &Tree, bursts: &Bursts, thread: &Option<NodeId>, most: u32) -> u32
     requires tree { Stands seen tree.now Any }
     requires some { 0 < most }
+    requires within { most ≤ always }
+    requires lasting { IsWithin (left_in bursts.now) thread.now 1 }
     ensures some { 0 < result }
     ensures most { result ≤ most }
+    ensures attained { result < most →
+        StandsJust (shown_at (boxed seen) tree.now.nodes) (choice_at (boxed choice) tree.now.nodes) result ⊎
+        IsRest (left_in bursts.now) thread.now result }
     ensures least { (k : ℕ) → result ≤ stands_in (choice_at (boxed choice) tree.now.nodes k)
         (shown_at (boxed seen) tree.now.nodes k) }
     ensures law { (k : ℕ) → StandsIn result (choice_at (boxed choice) tree.now.nodes k)
         (shown_at (boxed seen) tree.now.nodes k) }
     ensures burst { IsWithin (left_in bursts.now) thread.now result }
 {
-    rest_of(bursts, thread, tree.stands().min(most)).max(1)
+    rest_of(bursts, thread, tree.stands().min(most))
 }
 
 /// Lets so many ticks pass, in which each scheduler stands.
@@ -94,7 +102,7 @@ pub struct Leap {
     pub ticks: u32,
 }
 
-/// Lets ticks pass, one or more and at most so many, in which the grant stays, and tells its path.
+/// Lets ticks pass, as many as the grant stays for but at most so many, and tells its path.
 pub fn elapse(
     tree: &mut Tree,
     bursts: &mut Bursts,
@@ -105,8 +113,11 @@ pub fn elapse(
     requires stands { Stands seen tree.old (MayElapse seen tree.old bursts.old stays.old journal.now most) }
     requires few { length journal.now.names.keys ≤ 65536 }
     requires some { 0 < most }
+    requires within { most ≤ always }
     ensures elapses { (h : Hierarchy) → MayElapse seen tree.old bursts.old stays.old journal.now most h →
         Elapses seen tree.new bursts.new stays.new journal.now h result.path result.ticks }
+    ensures stretch { (h : Hierarchy) → MayElapse seen tree.old bursts.old stays.old journal.now most h →
+        IsStretch h most result.ticks }
     ensures some { 0 < result.ticks }
     ensures most { result.ticks ≤ most }
     ensures horizon { tree.new.horizon ≡ tree.old.horizon }

@@ -8,7 +8,7 @@ use Rattle.std.proofs.lemmas.Option.{slice_get_within}
 use Rattle.hls_kinds.specs.Stands.{always}
 use Rattle.hls_tree_nodes.specs.Shown.{Shown, What, Scheduler, is_sched}
 use Rattle.hls_tree_nodes.specs.Shown as shown
-use Rattle.hls_tree_nodes.specs.Leapt.{StandsIn, StandsWhat, stands_in, stands_what}
+use Rattle.hls_tree_nodes.specs.Leapt.{StandsIn, StandsWhat, StandsJust, stands_in, stands_what}
 use Rattle.hls_tree_nodes.specs.TreeOf.{IsRoll, IsOn}
 use Rattle.hls_tree_nodes.proofs.Leaps.{fewer}
 
@@ -19,12 +19,14 @@ pub record StandsFor (n : ℕ) (choice : Option ℕ) (o : Option Shown) : Type 0
 -- so far, up to a place of the list
 pub record AllStand (s : ℕ → Option Shown) (choices : ℕ → Option ℕ) (l : List ℕ) (at n : ℕ) : Type 0 where
   pub each : (i k : ℕ) → i < at → slice_get l i ≡ Some k → StandsFor n (choices k) (s k)
+  pub attained : n < always → StandsJust s choices n
   pub some : 0 < n
   pub within : n ≤ always
 
 pub none_stand : (s : ℕ → Option Shown) (choices : ℕ → Option ℕ) (l : List ℕ) → AllStand s choices l 0 always
 none_stand s choices l = record {
   each = λ i k lt. absurd (omega (arith, lt));
+  attained = λ less. absurd (omega (arith, less));
   some = omega arith;
   within = omega arith;
 }
@@ -50,6 +52,13 @@ one_more s choices l at n key one next all here is some law min_is =
             subst (λ j. StandsFor next (choices j) (s j)) key_is
             (lower one next (choices key) (s key) (omega (arith, min_is))
             (record { least = omega (arith, is); law = law }))
+      ];
+      attained = λ less. elim (cases_lt n one) [
+        | inl old ↦
+            let same : n ≡ next = omega (arith, old, min_is) in
+            subst (StandsJust s choices) same (all.attained (omega (arith, same, less)))
+        | inr new ↦
+            let same : one ≡ next = omega (arith, new, min_is) in record { node = key; is = sym is ∙ same }
       ];
       some = omega (arith, min_is, some, before);
       within = omega (arith, min_is, within);

@@ -33,6 +33,11 @@ abbrev pub stands_in : Option ℕ → Option Shown → ℕ
 stands_in choice None = always
 stands_in choice (Some s) = stands_what choice s.what
 
+-- one of these nodes stands for just so many ticks
+pub record StandsJust (s : ℕ → Option Shown) (choices : ℕ → Option ℕ) (n : ℕ) : Type 0 where
+  pub node : ℕ
+  pub is : stands_in (choices node) (s node) ≡ n
+
 -- a hierarchy after n such ticks
 abbrev pub later : Hierarchy → (asking : ℕ → Bool) → (slots : ℕ → ℕ) → Option Path → ℕ → Hierarchy
 later h asking slots path zero = h

@@ -15,7 +15,7 @@ ghost use Rattle.hls_tree_nodes.specs.TreeOf.{IsLaid, IsRanked, IsAlike, IsTelli
 ghost use Rattle.hls_tree_nodes.specs.TreeOf.{Passed, Tells, NoScheduler, IsNew, IsOn, IsRoll, AllFrom, AllUpTo, Each};
 ghost use Rattle.hls_tree_nodes.specs.TreeOf.{AreTold};
 ghost use Rattle.hls_kinds.specs.Stands.{always};
-ghost use Rattle.hls_tree_nodes.specs.Leapt.{post_leapt, stands_in, StandsIn};
+ghost use Rattle.hls_tree_nodes.specs.Leapt.{post_leapt, stands_in, StandsIn, StandsJust};
 
 use crate::node::same_place;
 use crate::{Changed, Node, NodeId, Place, Role, Route, TakenSeat};
@@ -627,11 +627,12 @@ pub fn leap_all(nodes: &mut Slab<Node>, schedulers: &[NodeId], ticks: u32)
     }
 }
 
-/// For how many ticks all schedulers stand.
+/// For how many ticks all schedulers stand: for as many as the one that stands the shortest.
 pub fn stands_all(nodes: &Slab<Node>, schedulers: &[NodeId]) -> u32
     requires roll { IsRoll (shown_at seen nodes.now) schedulers.now }
     requires posted { (k : ℕ) → PostedIn (shown_at seen nodes.now k) }
     ensures least { (k : ℕ) → result ≤ stands_in (choice_at choice nodes.now k) (shown_at seen nodes.now k) }
+    ensures attained { result < always → StandsJust (shown_at seen nodes.now) (choice_at choice nodes.now) result }
     ensures law { (k : ℕ) → StandsIn result (choice_at choice nodes.now k) (shown_at seen nodes.now k) }
     ensures some { 0 < result }
     ensures within { result ≤ always }

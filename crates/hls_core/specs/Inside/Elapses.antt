@@ -17,6 +17,7 @@ use Rattle.hls_core_journal.specs.Kept.{IsWayOrIdle}
 use Rattle.hls_core_journal.specs.Ways.{names_by}
 use Rattle.hls_core.specs.Bursts.{left_in}
 use Rattle.hls_core.specs.Left.{IsLeft}
+use Rattle.hls_core.specs.Leaps.{Changes}
 use Rattle.hls_core.specs.Standing.{IsAt}
 use Rattle.hls_core.specs.Cores.{AreNoted}
 use Rattle.hls_core.specs.declared.bursts.Bursts.{Bursts}
@@ -25,9 +26,24 @@ abbrev pub IsThreadOrNone : Hierarchy → Option ℕ → Type 0
 IsThreadOrNone h None = Unit {0}
 IsThreadOrNone h (Some k) = IsThread (h.nodes k)
 
--- where there is more than one tick, who is served has as many left of its burst, if it has one
+-- who is served has as many ticks left of its burst, if it has one
 abbrev pub IsWithin : (left : ℕ → Option ℕ) → (thread : Option ℕ) → (ticks : ℕ) → Type 0
-IsWithin left thread ticks = (k rest : ℕ) → thread ≡ Some k → left k ≡ Some rest → 1 < ticks → ticks ≤ rest
+IsWithin left thread ticks = (k rest : ℕ) → thread ≡ Some k → left k ≡ Some rest → ticks ≤ rest
+
+-- and just as many
+pub record IsRest (left : ℕ → Option ℕ) (thread : Option ℕ) (ticks : ℕ) : Type 0 where
+  pub node : ℕ
+  pub served : thread ≡ Some node
+  pub rest : left node ≡ Some ticks
+
+-- So many ticks, unless a change comes sooner: then as many as nothing changes in.
+pub record IsStretch (h : Hierarchy) (most ticks : ℕ) : Type 0 where
+  pub asking : ℕ → Bool
+  pub masks : ℕ → ℕ
+  pub path : Option steps.Path
+  pub can : Can h (Elapse asking masks path)
+  pub change : ticks < most → Changes h masks path ticks
+  pub first : (sooner : ℕ) → Changes h masks path sooner → ticks ≤ sooner
 
 -- V and P are what the checker knows a box by
 module _ {V : Type 0} {P : V → Type 0} where

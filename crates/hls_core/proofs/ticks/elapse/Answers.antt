@@ -1,4 +1,5 @@
 use Rattle.hls_core.proofs.Elapsing.{passed_stands, passed_any, leap_stands, turned_stands, count_stands, elapses}
+use Rattle.hls_core.proofs.Stretches.{passed_lasts, tree_stretch}
 use Rattle.hls_core.proofs.ticks.elapse.Goals as goal
 
 pub way_of-path-requires-clause-stands : goal.way_of-path-requires-clause-stands
@@ -11,6 +12,12 @@ pub standing-ticks-requires-clause-tree : goal.standing-ticks-requires-clause-tr
 standing-ticks-requires-clause-tree g c =
     passed_any _ (λ z. (goal.Scheduler-dyn g z).choice z.1) c.args.tree.now c.pass.new.self c.args.bursts.now
     c.args.stays.now c.args.journal.now c.args.most c.requires.stands c.pass.ensures.tree
+
+pub standing-ticks-requires-clause-lasting : goal.standing-ticks-requires-clause-lasting
+standing-ticks-requires-clause-lasting g c =
+    passed_lasts _ (λ z. (goal.Scheduler-dyn g z).choice z.1) c.args.tree.now c.pass.new.self c.args.bursts.now
+    c.args.stays.now c.args.journal.now c.args.most c.current-thread.result c.pass.ensures.tree c.pass.ensures.passes
+    c.current-thread.ensures.none c.current-thread.ensures.some c.requires.stands
 
 pub advance-requires-clause-stands : goal.advance-requires-clause-stands
 advance-requires-clause-stands g c =
@@ -73,3 +80,10 @@ returns-clause-elapses g c =
       ready = c.serve.ensures.flags;
       left = c.serve.ensures.left;
     }) c.tick.new.self c.way_of-path.result c.standing-ticks.ensures.most c.way_of-path.ensures c.tick.ensures
+
+pub returns-clause-stretch : goal.returns-clause-stretch
+returns-clause-stretch g c =
+    tree_stretch _ (λ z. (goal.Scheduler-dyn g z).choice z.1) c.args.tree.now c.pass.new.self c.args.bursts.now
+    c.args.stays.now c.args.journal.now c.args.most c.current-thread.result c.pass.ensures.tree c.pass.ensures.passes
+    c.current-thread.ensures.none c.current-thread.ensures.some c.standing-ticks.result c.requires.within
+    c.standing-ticks.ensures.least c.standing-ticks.ensures.burst c.standing-ticks.ensures.attained

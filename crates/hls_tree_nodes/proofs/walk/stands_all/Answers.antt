@@ -31,6 +31,9 @@ returns-clause-law g c = λ k. (all_stand
     (choice_at (λ b. (goal.Scheduler-dyn g (b.vtable, b.value)).choice b.value) c.args.nodes.now)
     _ _ _ c.requires.roll (omega (arith, c.loop-id-test.false)) c.loop-id.invariant k).law
 
+pub returns-clause-attained : goal.returns-clause-attained
+returns-clause-attained g c = c.loop-id.invariant.attained
+
 pub returns-clause-some : goal.returns-clause-some
 returns-clause-some g c = c.loop-id.invariant.some
 

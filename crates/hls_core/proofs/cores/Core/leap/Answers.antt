@@ -1,9 +1,11 @@
-use Rattle.hls_core.proofs.Sparing.{whole_goes_on, whole_stays}
+use Rattle.std.proofs.Common.{ap, subst}
+use Rattle.hls_scenario.specs.declared.scenario.Scenario.{Scenario}
+use Rattle.hls_machine.specs.Hierarchy.{start}
+use Rattle.hls_machine.specs.Steps.{state}
+use Rattle.hls_core.specs.Leaps.{IsLeapTo}
 use Rattle.hls_core.proofs.cores.Core.leap.Goals as goal
 
-pub pass_ticks-requires-clause-may : goal.pass_ticks-requires-clause-may
-pass_ticks-requires-clause-may g c = whole_goes_on _ c.args.self.now c.requires.runs
-
-pub returns-clause-is : goal.returns-clause-is
-returns-clause-is g c = λ s given boxes is.
-    whole_stays _ c.args.self.now _ s given boxes c.pass_ticks.ensures.is c.pass_ticks.ensures.answers is
+pub returns-clause-leap : goal.returns-clause-leap
+returns-clause-leap g c = λ s given boxes is.
+    subst (λ end. IsLeapTo s c.args.self.now.agenda end (state start is.steps) c.leap_to.result)
+    (ap (λ (x : Scenario). x.horizon) is.scenario) (c.leap_to.ensures.leap s given boxes is)

@@ -1,6 +1,7 @@
 use Rattle.std.proofs.Common.{refl}
 use Rattle.hls_core.specs.Inside.Sparing.{keeping}
-use Rattle.hls_core.proofs.Ended.{core_may_elapse, core_few, core_may_tick, core_small, path_short, ticks_on}
+use Rattle.hls_core.proofs.Ended.{core_may_elapse, core_few, core_within, core_may_tick, core_small}
+use Rattle.hls_core.proofs.Ended.{path_short, ticks_on}
 use Rattle.hls_core.proofs.Sparing.{stands_spared, elapses_kept, tick_spared, ticked_kept}
 use Rattle.hls_core.proofs.Sparing.{ticked_answers, ticked_ticks}
 use Rattle.hls_core.proofs.cores.Core.pass_ticks.Goals as goal
@@ -17,6 +18,11 @@ pub elapse-path-requires-clause-few : goal.elapse-path-requires-clause-few
 elapse-path-requires-clause-few g c =
     let may = c.requires.may in
     core_few _ (keeping may.answers c.args.self.now) may.s may.given may.boxes may.is
+
+pub elapse-path-requires-clause-within : goal.elapse-path-requires-clause-within
+elapse-path-requires-clause-within g c =
+    let may = c.requires.may in
+    core_within _ (keeping may.answers c.args.self.now) may.s may.given may.boxes c.args.most may.is c.requires.early
 
 pub leap-requires-clause-may : goal.leap-requires-clause-may
 leap-requires-clause-may g c =
