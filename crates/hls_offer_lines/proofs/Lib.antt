@@ -1,5 +1,6 @@
 pub mod Assembling
 pub mod Coverings
+pub mod Distinct
 pub mod HardOnes
 pub mod Offering
 pub mod Placing
