@@ -1,6 +1,8 @@
 pub mod Assembling
 pub mod Coverings
+pub mod Distinct
 pub mod HardOnes
+pub mod Offering
 pub mod Placing
 pub mod Pushes
 pub mod Reserving

@@ -44,7 +44,7 @@ no-pairs R xs is = subst (λ v. AllPairs R v) (sym is) (λ i j d less within. ab
 
 -- ---- one more, if there is one
 
-in-option : {X : Type 0} (found : Option X) (g : X) → Contains (option_to_list found) g → found ≡ Some g
+pub in-option : {X : Type 0} (found : Option X) (g : X) → Contains (option_to_list found) g → found ≡ Some g
 in-option None g has = absurd (none-in g has)
 in-option (Some y) g has = ap Some (sym (one-in y g has))
 

@@ -145,3 +145,8 @@ pub record AreOffers (seat : Seat) (list : Option (List ℕ)) (lines : List Guar
 abbrev pub ArePeriodsAsked : Option (List ℕ) → Type 0
 ArePeriodsAsked None = Unit {0}
 ArePeriodsAsked (Some periods) = Each (λ y. y ≤ 20000) periods
+
+-- the periods of a list, if there is one, rise
+abbrev pub IsRising : Option (List ℕ) → Type 0
+IsRising None = Unit {0}
+IsRising (Some periods) = AllPairs (λ y later. y < later) periods

@@ -2,6 +2,7 @@
 #![tactic(auto)]
 
 mod hard;
+pub mod laws;
 mod lending;
 mod lines;
 mod periods;
