@@ -3,5 +3,7 @@
 
 mod cells;
 mod margins;
+mod trees;
 
 pub use margins::write_margins;
+pub use trees::write_tree;

@@ -1,0 +1,4 @@
+pub mod Places
+pub mod Standings
+pub mod Hierarchies
+pub mod Inside

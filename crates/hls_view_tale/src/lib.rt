@@ -1,0 +1,17 @@
+//! What a report tells of the hierarchy: who sits where at a tick, and in which order their stays began.
+#![tactic(auto)]
+
+mod hierarchy;
+mod label;
+mod members;
+mod moving;
+mod place;
+mod seats;
+mod standing;
+mod tale;
+mod walking;
+
+pub use hierarchy::{Hierarchy, hierarchy_at};
+pub use label::Label;
+pub use place::Place;
+pub use standing::Standing;

@@ -1,0 +1,5 @@
+mod Askings
+mod Lines
+mod Runs
+mod Slices
+mod Ways

@@ -1,0 +1,5 @@
+pub mod Stays
+pub mod Derived
+pub mod Activities
+pub mod Scenes
+pub mod Inside
