@@ -1,0 +1,9 @@
+pub mod Beginnings
+pub mod Reaching
+pub mod Spelling
+pub mod PathLaws
+pub mod Selves
+pub mod RowLaws
+pub mod LeafLaws
+pub mod OneLeaf
+pub mod FactLaws

@@ -1,0 +1,138 @@
+-- A label reads as itself, and so does a way.
+use Rattle.std.proofs.Common.{◌≡◌, ℕ, List, [], ◌∷◌, true, false, refl, ap, sym, subst, ◌∙◌, ◌&&◌, Bool, arith}
+use Rattle.std.specs.Str.{bytes_eq}
+use Rattle.std.proofs.lemmas.Grind.{common_steps}
+use Rattle.hls_text.specs.Lines.{Text}
+use Rattle.hls_chron.specs.declared.plain.Terms.{Terms}
+use Rattle.hls_chron.specs.declared.plain.Terms.TheVariants as t
+use Rattle.hls_chron.specs.declared.plain.Config.{Config}
+use Rattle.hls_chron.specs.declared.plain.Config.TheVariants as k
+use Rattle.hls_chron.specs.contracts.plain.TermsPartialEq.TheImpl as terms
+use Rattle.hls_chron.specs.contracts.plain.ConfigPartialEq.TheImpl as configs
+use Rattle.hls_guarantee.specs.declared.Guarantee.{Guarantee}
+use Rattle.hls_guarantee.specs.contracts.GuaranteePartialEq.TheImpl as guarantees
+use Rattle.hls_audit_clauses.specs.declared.member.Sort.{Sort}
+use Rattle.hls_audit_clauses.specs.declared.member.Sort.TheVariants.{Scheduler, Thread}
+use Rattle.hls_audit_clauses.specs.contracts.member.SortPartialEq.TheImpl as sorts
+use Rattle.hls_rules.proofs.Equal.{equal-self, equal-same}
+use Rattle.hls_audit_stays.proofs.Names.{bytes_self, bytes_back, bytes_same}
+use Rattle.hls_view_tale.specs.declared.label.Label.{Label}
+use Rattle.hls_view_lanes.specs.Likeness.{is_like, begins, is_same}
+
+terms-self : (s : Terms) → terms.eq-value.it s s ≡ true
+terms-self t.Cpu = refl
+terms-self (t.Prio n) = grind (arith, common_steps)
+terms-self (t.Res hard x y) = grind (arith, common_steps)
+terms-self (t.Weight n) = grind (arith, common_steps)
+terms-self (t.Slots n) = grind (arith, common_steps)
+terms-self t.Turn = refl
+terms-self t.Sole = refl
+
+config-self : (c : Config) → configs.eq-value.it c c ≡ true
+config-self k.Cpu = refl
+config-self k.Fp = refl
+config-self k.Edf = refl
+config-self (k.Sfq total most) = grind (arith, common_steps)
+config-self (k.Rr quantum) = grind (arith, common_steps)
+config-self (k.Wheel frame) = grind (arith, common_steps)
+config-self (k.Join ports) = grind (arith, common_steps)
+
+sort-self : (s : Sort) → sorts.eq-value.it s s ≡ true
+sort-self (Scheduler config) = config-self config
+sort-self Thread = refl
+
+four : (a b c d : Bool) → a ≡ true → b ≡ true → c ≡ true → d ≡ true → (a && b && c && d) ≡ true
+four true true true d ea eb ec ed = ed
+four true true false d ea eb ec ed = ec
+four true false c d ea eb ec ed = eb
+four false b c d ea eb ec ed = ea
+
+like-self : (l : Label) → is_like l l ≡ true
+like-self l =
+    four (bytes_eq l.name l.name) (sorts.eq-value.it l.sort l.sort) (terms.eq-value.it l.terms l.terms)
+    (guarantees.eq-value.it l.kept l.kept) (bytes_self l.name) (sort-self l.sort) (terms-self l.terms)
+    (equal-self l.kept)
+
+pub begins-self : (way : List Label) → begins way way ≡ true
+begins-self [] = refl
+begins-self (l ∷ way) = ap (λ b. b && begins way way) (like-self l) ∙ begins-self way
+
+pub same-self : (way : List Label) → is_same way way ≡ true
+same-self way = ap (λ b. b && begins way way) (begins-self way) ∙ begins-self way
+
+-- ---- labels that read alike
+
+terms-same : (a b : Terms) → terms.eq-value.it a b ≡ true → a ≡ b
+terms-same t.Cpu t.Cpu e = refl
+terms-same (t.Prio m) (t.Prio n) e = grind (arith, common_steps)
+terms-same (t.Res hard x y) (t.Res rigid u v) e = grind (arith, common_steps)
+terms-same (t.Weight m) (t.Weight n) e = grind (arith, common_steps)
+terms-same (t.Slots m) (t.Slots n) e = grind (arith, common_steps)
+terms-same t.Turn t.Turn e = refl
+terms-same t.Sole t.Sole e = refl
+terms-same a b e = cc
+
+config-same : (a b : Config) → configs.eq-value.it a b ≡ true → a ≡ b
+config-same k.Cpu k.Cpu e = refl
+config-same k.Fp k.Fp e = refl
+config-same k.Edf k.Edf e = refl
+config-same (k.Sfq total most) (k.Sfq other few) e = grind (arith, common_steps)
+config-same (k.Rr m) (k.Rr n) e = grind (arith, common_steps)
+config-same (k.Wheel m) (k.Wheel n) e = grind (arith, common_steps)
+config-same (k.Join m) (k.Join n) e = grind (arith, common_steps)
+config-same a b e = cc
+
+sort-same : (a b : Sort) → sorts.eq-value.it a b ≡ true → a ≡ b
+sort-same (Scheduler one) (Scheduler other) e = ap (λ (c : Config). Scheduler c) (config-same one other e)
+sort-same Thread Thread e = refl
+sort-same a b e = cc
+
+pub first-of : (a b : Bool) → (a && b) ≡ true → a ≡ true
+first-of true b e = refl
+first-of false b e = absurd (let no : false ≡ true = e in cc)
+
+pub second-of : (a b : Bool) → (a && b) ≡ true → b ≡ true
+second-of true b e = e
+second-of false b e = absurd (let no : false ≡ true = e in cc)
+
+pub record AreAlike (l m : Label) : Type 0 where
+  pub name : bytes_eq l.name m.name ≡ true
+  pub sort : l.sort ≡ m.sort
+  pub terms : l.terms ≡ m.terms
+  pub kept : l.kept ≡ m.kept
+
+pub like-parts : (l m : Label) → is_like l m ≡ true → AreAlike l m
+like-parts l m e =
+    let n = bytes_eq l.name m.name in
+    let s = sorts.eq-value.it l.sort m.sort in
+    let t = terms.eq-value.it l.terms m.terms in
+    let g = guarantees.eq-value.it l.kept m.kept in
+    let three = first-of (n && s && t) g e in
+    let two = first-of (n && s) t three in
+    record {
+      name = first-of n s two;
+      sort = sort-same l.sort m.sort (second-of n s two);
+      terms = terms-same l.terms m.terms (second-of (n && s) t three);
+      kept = equal-same l.kept m.kept (second-of (n && s && t) g e);
+    }
+
+pub like-turned : (l m : Label) → is_like l m ≡ true → is_like m l ≡ true
+like-turned l m e =
+    let alike = like-parts l m e in
+    four (bytes_eq m.name l.name) (sorts.eq-value.it m.sort l.sort) (terms.eq-value.it m.terms l.terms)
+    (guarantees.eq-value.it m.kept l.kept)
+    (bytes_back m.name l.name ∙ alike.name)
+    (subst (λ (s : Sort). sorts.eq-value.it m.sort s ≡ true) (sym alike.sort) (sort-self m.sort))
+    (subst (λ (s : Terms). terms.eq-value.it m.terms s ≡ true) (sym alike.terms) (terms-self m.terms))
+    (subst (λ (g : Guarantee). guarantees.eq-value.it m.kept g ≡ true) (sym alike.kept) (equal-self m.kept))
+
+pub like-through : (l m n : Label) → is_like l m ≡ true → is_like m n ≡ true → is_like l n ≡ true
+like-through l m n e f =
+    let one = like-parts l m e in
+    let two = like-parts m n f in
+    four (bytes_eq l.name n.name) (sorts.eq-value.it l.sort n.sort) (terms.eq-value.it l.terms n.terms)
+    (guarantees.eq-value.it l.kept n.kept)
+    (ap (λ (x : Text). bytes_eq x n.name) (bytes_same l.name m.name one.name) ∙ two.name)
+    (ap (λ (s : Sort). sorts.eq-value.it s n.sort) (one.sort ∙ two.sort) ∙ sort-self n.sort)
+    (ap (λ (s : Terms). terms.eq-value.it s n.terms) (one.terms ∙ two.terms) ∙ terms-self n.terms)
+    (ap (λ (g : Guarantee). guarantees.eq-value.it g n.kept) (one.kept ∙ two.kept) ∙ equal-self n.kept)
