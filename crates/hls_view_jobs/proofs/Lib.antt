@@ -1,0 +1,9 @@
+pub mod WordLaws
+pub mod WordsSound
+pub mod FateLaws
+pub mod StayLaws
+pub mod AdmissionLaws
+pub mod JobLaws
+pub mod LineLaws
+pub mod RunningLaws
+pub mod Orders

@@ -1,0 +1,13 @@
+use Rattle.std.proofs.Common.{take, map}
+use Rattle.hls_report_text.specs.Content.{content_of}
+use Rattle.hls_view_jobs.specs.Jobs.{AreJobs}
+use Rattle.hls_view_jobs.specs.Inside.Sources.{AreSources, life_by}
+use Rattle.hls_view_jobs.proofs.LineLaws.{of_lives}
+use Rattle.hls_view_jobs.proofs.threads.jobs_among.Given as goal
+
+abbrev pub invariant-loop-at : goal.invariant-loop-at
+invariant-loop-at l = record {
+  sources : AreSources l.report l.sources;
+  jobs : AreJobs (content_of l.report) l.name
+      (of_lives l.name (map (life_by l.report.answered) (take l.at l.threads))) l.jobs.items;
+}

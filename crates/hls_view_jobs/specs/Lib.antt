@@ -1,0 +1,6 @@
+pub mod Words
+pub mod Bounds
+pub mod Jobs
+pub mod Threads
+pub mod Summaries
+pub mod Inside
