@@ -6,12 +6,12 @@ use Rattle.std.proofs.lemmas.Option.{slice_get_read}
 use Rattle.std.proofs.lemmas.List.Elements.{Contains-append_cases}
 use Rattle.hls_chron.specs.declared.plain.Config.{Config}
 use Rattle.hls_chron.specs.declared.plain.Config.TheVariants as configs
-use Rattle.hls_chron.specs.Kinds.{port_count}
+use Rattle.hls_chron.specs.Kinds.{port_count, IsPort}
 use Rattle.hls_chron.specs.Ranges.{ConfigInRange}
 use Rattle.hls_guarantee.specs.declared.Guarantee.{Guarantee}
 use Rattle.hls_guarantee.specs.declared.Guarantee.TheVariants.{All, Null, Resb, Resc}
 use Rattle.hls_guarantee.specs.Limits.{IsNarrow, IsValid}
-use Rattle.hls_guarantee.specs.Steps.{IsPort, LendsNothing}
+use Rattle.hls_guarantee.specs.Steps.{LendsNothing}
 use Rattle.hls_search_laws.proofs.Makes.{narrow-valid}
 use Rattle.hls_search.proofs.Completing.{narrow-at}
 use Rattle.hls_offer_laws.proofs.Leading.{offered}
