@@ -10,7 +10,7 @@ use Rattle.hls_report_text.specs.declared.report.Seated.{Seated}
 use Rattle.hls_report_text.specs.declared.report.Answer.{Answer}
 use Rattle.hls_report_text.specs.declared.report.Answer.TheVariants.{Done, Refused}
 use Rattle.hls_report_text.specs.declared.report.Answered.{Answered}
-use Rattle.hls_report_text.specs.WellFormed.{IsSeated, AreSeats, IsAnswer, AreAnswered}
+use Rattle.hls_report_text.specs.WellFormed.{IsSeated, AreSeats, MayAnswer, AreAnswered}
 use Rattle.hls_audit_clauses.specs.Clauses.{seats_in}
 use Rattle.hls_view_tale.specs.declared.standing.Standing.{Standing}
 use Rattle.hls_view_tree.specs.Derived.{is_line_of, tells_of, last_line, last_told, commands_of}
@@ -54,7 +54,7 @@ seats_sound : (command : Command) (seats : List Seated) → AreSeats command sea
 seats_sound command [] are = tt
 seats_sound command (s ∷ seats) are = are.1
 
-answer_sound : (command : Command) (answer : Answer) → IsAnswer command answer
+answer_sound : (command : Command) (answer : Answer) → MayAnswer command answer
     → AllByRecursion IsSeated (seats_in answer)
 answer_sound command (Done seats) is = seats_sound command seats is
 answer_sound command (Refused refusal) is = tt
