@@ -15,11 +15,11 @@ use Rattle.hls_report_text.specs.WellFormed as formed
 use Rattle.hls_sched.specs.Seen.{Seen}
 use Rattle.hls_sched.specs.GoodKit.{boxes_of, place_of}
 use Rattle.hls_sched.specs.declared.kit.Kit.{Kit}
-use Rattle.hls_tree_nodes.specs.Views.{boxed}
+use Rattle.hls_sched.specs.Boxed.{boxed}
 use Rattle.hls_machine.specs.Hierarchy.{Hierarchy, Wake, Asleep}
 use Rattle.hls_machine.specs.Steps.{Refuse, Rouse, with_wake, wake_by}
 use Rattle.hls_machine.specs.Steps as steps
-use Rattle.hls_machine.specs.Legal.{IsThread}
+use Rattle.hls_machine.specs.Legal.{IsThread, IsReached}
 use Rattle.hls_machine.specs.Lists.{IsListed}
 use Rattle.hls_accounts.specs.Tells.{HasName}
 use Rattle.hls_answers.specs.Moment.{Boxes, Moment}
@@ -32,7 +32,6 @@ use Rattle.hls_core.specs.Bursts.{left_in}
 use Rattle.hls_core.specs.declared.bursts.Bursts.{Bursts}
 use Rattle.hls_core.specs.Left.{IsLeft}
 use Rattle.hls_manager.specs.Outcomes as manager
-use Rattle.hls_machine.specs.Legal.{IsReached}
 use Rattle.hls_manager.specs.Outcomes.{boxes_in, moment}
 use Rattle.hls_manager.specs.Finds.{IsOfThread}
 use Rattle.hls_manager.proofs.Outcomes.{reached_listed}

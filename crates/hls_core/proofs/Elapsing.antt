@@ -8,8 +8,7 @@ use Rattle.std.proofs.lemmas.List.Elements.{All-nil, All-cons}
 use Rattle.hls_text.specs.Lines.{Text}
 use Rattle.hls_report_text.specs.declared.report.Path.{Path}
 use Rattle.hls_sched.specs.Seen.{Seen}
-use Rattle.hls_machine.specs.Hierarchy.{Hierarchy, Place, Processor, At, Admitted, Thread}
-use Rattle.hls_machine.specs.Hierarchy.{start, name_of}
+use Rattle.hls_machine.specs.Hierarchy.{Hierarchy, Place, Processor, At, Admitted, Thread, start, name_of}
 use Rattle.hls_machine.specs.Hierarchy.{is_ready, was_served, is_just}
 use Rattle.hls_machine.specs.Steps.{Hop, Step, Elapse, after, thread_of, hops_of, hop_at, ticked}
 use Rattle.hls_machine.specs.Steps as steps
@@ -40,7 +39,8 @@ use Rattle.hls_core.proofs.Readiness.{left_ticked, ready_ticked, still_ready}
 use Rattle.hls_core_stays.proofs.Ticked.{on_ticks}
 use Rattle.hls_tree.proofs.Chosen.{chosen_one}
 use Rattle.hls_tree_nodes.specs.Leapt.{StandsIn, MayLeap, later}
-use Rattle.hls_tree_nodes.specs.Views.{boxed, shown_at, choice_at}
+use Rattle.hls_sched.specs.Boxed.{boxed}
+use Rattle.hls_tree_nodes.specs.Views.{shown_at, choice_at}
 
 -- the thread that a walk comes to
 pub record Comes (h : Hierarchy) (k : ℕ) : Type 0 where

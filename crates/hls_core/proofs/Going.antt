@@ -19,7 +19,7 @@ use Rattle.hls_report_text.specs.WellFormed as formed
 use Rattle.hls_sched.specs.Seen.{Seen}
 use Rattle.hls_sched.specs.GoodKit.{IsGood}
 use Rattle.hls_sched.specs.declared.kit.Kit.{Kit}
-use Rattle.hls_tree_nodes.specs.Views.{boxed}
+use Rattle.hls_sched.specs.Boxed.{boxed}
 use Rattle.hls_tree.specs.Kits.{IsSameKit}
 use Rattle.hls_machine.specs.Hierarchy.{Hierarchy, start, name_of}
 use Rattle.hls_machine.specs.Steps.{Step, after, state}

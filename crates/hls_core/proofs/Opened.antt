@@ -11,7 +11,7 @@ use Rattle.hls_report_text.specs.declared.report.Answered.{Answered}
 use Rattle.hls_report_text.specs.Content.{Content}
 use Rattle.hls_sched.specs.Seen.{Seen}
 use Rattle.hls_sched.specs.GoodKit.{IsGood}
-use Rattle.hls_tree_nodes.specs.Views.{boxed}
+use Rattle.hls_sched.specs.Boxed.{boxed}
 use Rattle.hls_machine.specs.Hierarchy.{start}
 use Rattle.hls_accounts.specs.Tells.{TellsFrom}
 use Rattle.hls_answers.specs.Moment.{Boxes}

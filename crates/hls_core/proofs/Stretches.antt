@@ -11,7 +11,7 @@ use Rattle.hls_chron.specs.Ticks.{count}
 use Rattle.hls_kinds.specs.Asks.{slot_asks}
 use Rattle.hls_kinds.specs.Reservations.{deadline_at}
 use Rattle.hls_kinds.specs.Stands.{always, stands_of, to_deadlines}
-use Rattle.hls_sched.specs.Seen.{config_of, tick_row}
+use Rattle.hls_sched.specs.Seen.{config_of, tick_row, Seen}
 use Rattle.hls_machine.specs.Hierarchy.{Hierarchy, Node, Loaded, Admitted, Wake, Asleep, Awake, Awake_for}
 use Rattle.hls_machine.specs.Hierarchy.{Scheduler as LoadedScheduler, is_ready, was_served, is_just}
 use Rattle.hls_machine.specs.Steps.{Hop, Path, hop_at, hops_of, row_by, thread_of}
@@ -24,8 +24,8 @@ use Rattle.hls_tree_nodes.specs.TreeOf.{IsOf, IsPassing}
 use Rattle.hls_core.specs.Left.{IsLeft, left_of}
 use Rattle.hls_core.specs.Leaps.{Changes, of_scheduler, of_burst, stands_by}
 use Rattle.hls_core.specs.Inside.Elapses.{IsWithin, IsRest, IsStretch, MayElapse}
-use Rattle.hls_sched.specs.Seen.{Seen}
-use Rattle.hls_tree_nodes.specs.Views.{boxed, shown_at, choice_at}
+use Rattle.hls_sched.specs.Boxed.{boxed}
+use Rattle.hls_tree_nodes.specs.Views.{shown_at, choice_at}
 use Rattle.hls_tree.specs.Trees.{IsTreeOf, IsReadyOf, Stands, Passes}
 use Rattle.hls_tree.specs.declared.tree.Tree.{Tree}
 use Rattle.hls_core_stays.specs.declared.stays.Stays.{Stays}

@@ -8,7 +8,7 @@ use Rattle.hls_scenario.specs.declared.scenario.Scenario.{Scenario}
 use Rattle.hls_scenario.specs.Grammar.{IsScenario}
 use Rattle.hls_sched.specs.Seen.{Seen}
 use Rattle.hls_sched.specs.GoodKit.{IsGood}
-use Rattle.hls_tree_nodes.specs.Views.{boxed}
+use Rattle.hls_sched.specs.Boxed.{boxed}
 use Rattle.hls_machine.specs.Hierarchy.{Hierarchy, start, name_of}
 use Rattle.hls_machine.specs.Steps.{Step, state}
 use Rattle.hls_legal_report.specs.Legal.{depth_in_force, IsRun}

@@ -3,7 +3,7 @@ ghost use Rattle.std.specs.Prelude.{◌≡◌, ◌≤◌, ◌<◌, ◌+◌, ◌+
 ghost use Rattle.hls_scenario.specs.Grammar.{IsScenario};
 ghost use Rattle.hls_report_text.specs.ReportText.{head_lines, ended};
 ghost use Rattle.hls_sched.specs.GoodKit.{IsGood};
-ghost use Rattle.hls_tree_nodes.specs.Views.{boxed};
+ghost use Rattle.hls_sched.specs.Boxed.{boxed};
 ghost use Rattle.hls_manager.specs.Outcomes.{boxes_in};
 ghost use Rattle.hls_core.specs.Cores.{NoneDue};
 ghost use Rattle.hls_core.specs.Texts.{IsLegalText};

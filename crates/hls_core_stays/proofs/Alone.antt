@@ -11,7 +11,8 @@ use Rattle.hls_machine.specs.Seated.{SitsThere}
 use Rattle.hls_machine.specs.Steps.{is_thread}
 use Rattle.hls_machine.proofs.Commands.{thread_empty}
 use Rattle.hls_machine.proofs.Listings.{First, Later, in_cases, none_in}
-use Rattle.hls_tree_nodes.specs.Views.{boxed, shown_at}
+use Rattle.hls_sched.specs.Boxed.{boxed}
+use Rattle.hls_tree_nodes.specs.Views.{shown_at}
 use Rattle.hls_tree_nodes.proofs.Passes.{seats_same}
 use Rattle.hls_tree.specs.Reads.{IsSort}
 use Rattle.hls_tree.specs.Trees.{IsTreeOf, Stands, Any}

@@ -5,7 +5,7 @@ ghost use Rattle.hls_report_text.specs.WellFormed.{MayAnswer as IsWellFormed};
 ghost use Rattle.hls_sched.specs.GoodKit.{IsGood};
 ghost use Rattle.hls_machine.specs.Hierarchy.{Hierarchy};
 ghost use Rattle.hls_answers.specs.Kit.{boxes_after};
-ghost use Rattle.hls_tree_nodes.specs.Views.{boxed};
+ghost use Rattle.hls_sched.specs.Boxed.{boxed};
 ghost use Rattle.hls_tree.specs.Kits.{IsSameKit};
 ghost use Rattle.hls_tree.specs.Trees.{IsTreeOf, Stands, IsAsBefore};
 ghost use Rattle.hls_machine.specs.Legal.{IsReached};

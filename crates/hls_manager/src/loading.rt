@@ -11,7 +11,7 @@ ghost use Rattle.hls_machine.specs.Lists.{IsListed};
 ghost use Rattle.hls_answers.specs.Moment.{Moment};
 ghost use Rattle.hls_answers.specs.Answers.{IsRefused};
 ghost use Rattle.hls_answers.specs.Kit.{boxes_after};
-ghost use Rattle.hls_tree_nodes.specs.Views.{boxed};
+ghost use Rattle.hls_sched.specs.Boxed.{boxed};
 ghost use Rattle.hls_tree.specs.Kits.{IsSameKit};
 ghost use Rattle.hls_tree.specs.Trees.{IsTreeOf, Stands, IsAsBefore, Any, Loads};
 ghost use Rattle.hls_machine.specs.Legal.{IsReached};

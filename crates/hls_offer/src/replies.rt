@@ -3,7 +3,7 @@ ghost use Rattle.std.specs.Prelude.{◌≡◌, ◌≤◌, ◌<◌, ◌+◌, ℕ,
 ghost use Rattle.hls_text.specs.Lines.{lines_of};
 ghost use Rattle.hls_scenario.specs.Grammar.{IsScenario, IsScenarioText};
 ghost use Rattle.hls_sched.specs.GoodKit.{IsGood};
-ghost use Rattle.hls_tree_nodes.specs.Views.{boxed};
+ghost use Rattle.hls_sched.specs.Boxed.{boxed};
 ghost use Rattle.hls_manager.specs.Outcomes.{boxes_in};
 ghost use Rattle.hls_top.specs.Exchange.{scenario_limit};
 ghost use Rattle.hls_offer_words.specs.Table.{IsAtMost};

@@ -2,7 +2,7 @@
 ghost use Rattle.std.specs.Prelude.{◌≡◌, Some, List, IfOk, IfErr, OnOk, map, string_bytes};
 ghost use Rattle.hls_text.specs.Lines.{Text};
 ghost use Rattle.hls_sched.specs.GoodKit.{IsGood};
-ghost use Rattle.hls_tree_nodes.specs.Views.{boxed};
+ghost use Rattle.hls_sched.specs.Boxed.{boxed};
 ghost use Rattle.hls_manager.specs.Outcomes.{boxes_in};
 ghost use Rattle.hls_top.specs.Exchange.{exchange, drawn, scenario_limit};
 ghost use Rattle.hls_top.specs.Ends.{Lacks};

@@ -1,7 +1,7 @@
 // How often the boxes of a run are called while its ticks pass.
 ghost use Rattle.hls_guarantee.specs.Limits.{IsValid};
 ghost use Rattle.hls_sched.specs.GoodKit.{IsGood};
-ghost use Rattle.hls_tree_nodes.specs.Views.{boxed};
+ghost use Rattle.hls_sched.specs.Boxed.{boxed};
 
 use crate::counting::Counted;
 use hls_chron::Kind;

@@ -2,7 +2,7 @@
 ghost use Rattle.std.specs.Prelude.{◌≡◌, ◌≤◌, ◌+◌, ℕ, true, false, IfOk, OnOk};
 ghost use Rattle.hls_scenario.specs.declared.scenario.Scenario.{Scenario};
 ghost use Rattle.hls_sched.specs.GoodKit.{IsGood};
-ghost use Rattle.hls_tree_nodes.specs.Views.{boxed};
+ghost use Rattle.hls_sched.specs.Boxed.{boxed};
 ghost use Rattle.hls_answers.specs.Moment.{Boxes};
 ghost use Rattle.hls_core.specs.Cores.{IsCoreOf, Runs, NoneDue};
 

@@ -1,7 +1,7 @@
 // The boxes, the rules and the commands.
 ghost use Rattle.hls_guarantee.specs.Limits.{IsValid};
 ghost use Rattle.hls_sched.specs.GoodKit.{IsGood};
-ghost use Rattle.hls_tree_nodes.specs.Views.{boxed};
+ghost use Rattle.hls_sched.specs.Boxed.{boxed};
 
 use crate::carrying::carry_all;
 use crate::going_on::settled;

@@ -1,7 +1,7 @@
 // What is to be written at words that ask for a job.
 ghost use Rattle.std.specs.Prelude.{◌≡◌, ◌≤◌, ℕ, IfOk, IfErr, OnOk};
 ghost use Rattle.hls_sched.specs.GoodKit.{IsGood};
-ghost use Rattle.hls_tree_nodes.specs.Views.{boxed};
+ghost use Rattle.hls_sched.specs.Boxed.{boxed};
 ghost use Rattle.hls_manager.specs.Outcomes.{boxes_in};
 ghost use Rattle.hls_top.specs.Exchange.{drawn, limit};
 ghost use Rattle.hls_top.specs.Outputs.{IsOutput};

@@ -1,7 +1,7 @@
 // The report on the text of a scenario.
 ghost use Rattle.std.specs.Prelude.{◌≤◌, IfOk, length};
 ghost use Rattle.hls_sched.specs.GoodKit.{IsGood};
-ghost use Rattle.hls_tree_nodes.specs.Views.{boxed};
+ghost use Rattle.hls_sched.specs.Boxed.{boxed};
 ghost use Rattle.hls_manager.specs.Outcomes.{boxes_in};
 ghost use Rattle.hls_scenario.specs.Grammar.{IsScenarioText};
 ghost use Rattle.hls_top.specs.Exchange.{scenario_limit};

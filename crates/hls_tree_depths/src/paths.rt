@@ -2,7 +2,8 @@
 ghost use Rattle.std.specs.Prelude.{◌≡◌, ◌≢◌, ◌≤◌, ℕ, true, length, AllPairs};
 ghost use Rattle.hls_machine.specs.Hierarchy.{Hierarchy};
 ghost use Rattle.hls_machine.specs.Steps.{is_scheduler};
-ghost use Rattle.hls_tree_nodes.specs.Views.{boxed, shown_at};
+ghost use Rattle.hls_sched.specs.Boxed.{boxed};
+ghost use Rattle.hls_tree_nodes.specs.Views.{shown_at};
 ghost use Rattle.hls_tree_depths.specs.Inside.Sums.{counts_in};
 ghost use Rattle.hls_tree_depths.specs.Paths.{AreNodesOf, IsPathSum, IsGreatestSum, MaySitAt, SitsAt, one_each};
 ghost use Rattle.hls_tree_depths.specs.Paths.{fair_each};

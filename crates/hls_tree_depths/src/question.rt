@@ -1,7 +1,8 @@
 // What is asked about the paths to schedulers, and what counts there.
 ghost use Rattle.std.specs.Prelude.{◌≡◌};
 ghost use Rattle.hls_chron.specs.Kinds.{fair_queue};
-ghost use Rattle.hls_tree_nodes.specs.Views.{boxed, shown_at};
+ghost use Rattle.hls_sched.specs.Boxed.{boxed};
+ghost use Rattle.hls_tree_nodes.specs.Views.{shown_at};
 ghost use Rattle.hls_tree_depths.specs.Inside.Sums.{fair_in, count_in};
 
 use hls_chron::Config;

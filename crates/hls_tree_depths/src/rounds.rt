@@ -1,10 +1,10 @@
 // All sums, by rounds over the list of schedulers.
 ghost use Rattle.std.specs.Prelude.{◌≡◌, ◌≢◌, ◌<◌, ◌≤◌, ◌+◌, ℕ, false, length, set, slice_index, AllPairs};
 ghost use Rattle.hls_tree_nodes.specs.Shown.{seats_in};
-ghost use Rattle.hls_tree_nodes.specs.Views.{boxed, shown_at};
+ghost use Rattle.hls_sched.specs.Boxed.{boxed};
+ghost use Rattle.hls_tree_nodes.specs.Views.{shown_at};
 ghost use Rattle.hls_tree_depths.specs.Inside.Sums.{greatest_over, greatest_in, next_in, IsSettled};
-ghost use Rattle.hls_tree_depths.specs.Inside.Sums.{IsSettledTo, IsLocal};
-ghost use Rattle.hls_tree_depths.specs.Inside.Sums.{AreSums};
+ghost use Rattle.hls_tree_depths.specs.Inside.Sums.{IsSettledTo, IsLocal, AreSums};
 ghost use Rattle.hls_tree_depths.specs.Subtrees.{sum_at};
 
 use crate::question::{Moved, Question, count_of};

@@ -46,10 +46,6 @@ is_place (Some here) place = same_place here place
 
 -- V and P are what the checker knows a box by
 module _ {V : Type 0} {P : V → Type 0} where
-  -- what is said of what stands in a box, said of the box
-  abbrev pub boxed : {A : Type 0} → ((x : V) × P x → A) → DynBox V Global P → A
-  boxed f b = f (b.vtable, b.value)
-
   abbrev pub post_of : (DynBox V Global P → Seen) → Station V P → Post
   post_of show s = record { unit = show s.unit; config = s.config; mask = s.mask; granted = s.granted }
 

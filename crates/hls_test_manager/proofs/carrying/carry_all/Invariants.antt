@@ -1,6 +1,6 @@
 use Rattle.std.proofs.Common.{◌≤◌}
 use Rattle.hls_sched.specs.GoodKit.{IsGood}
-use Rattle.hls_tree_nodes.specs.Views.{boxed}
+use Rattle.hls_sched.specs.Boxed.{boxed}
 use Rattle.hls_tree.specs.Trees.{Stands}
 use Rattle.hls_test_manager.specs.Standing.{MayCarry}
 use Rattle.hls_test_manager.proofs.carrying.carry_all.Given as goal
