@@ -2,6 +2,8 @@
 #![tactic(auto)]
 
 mod cells;
+mod jobs;
 mod margins;
 
+pub use jobs::{write_jobs, write_thread_lines};
 pub use margins::write_margins;
