@@ -1,14 +1,19 @@
 -- What a view says of a report.
-use Rattle.std.specs.Prelude.{◌≡◌, List, [], ◌∷◌, ◌++◌, codes}
+use Rattle.std.specs.Prelude.{◌≡◌, List, [], ◌∷◌, ◌++◌, codes, Some, None}
 use Rattle.hls_text.specs.Lines.{Text}
 use Rattle.hls_report_text.specs.Content.{Content}
 use Rattle.hls_audit.specs.declared.auditing.Outcome.{Outcome}
 use Rattle.hls_top.specs.Summaries.{verdict}
 use Rattle.hls_view_words.specs.declared.views.View.{View}
-use Rattle.hls_view_words.specs.declared.views.View.TheVariants.{Margins}
+use Rattle.hls_view_words.specs.declared.views.View.TheVariants.{Margins, Jobs}
 use Rattle.hls_view_margins.specs.declared.margin.Margin.{Margin}
 use Rattle.hls_view_margins.specs.Margins.{AreMargins, lasting}
 use Rattle.hls_view_rows.specs.Margins.{margins_text}
+use Rattle.hls_view_jobs.specs.declared.job.Job.{Job}
+use Rattle.hls_view_jobs.specs.declared.summary.ThreadJobs.{ThreadJobs}
+use Rattle.hls_view_jobs.specs.Threads as threads
+use Rattle.hls_view_jobs.specs.Summaries.{AreLines}
+use Rattle.hls_view_rows.specs.Jobs.{lines_text, jobs_text}
 
 -- the first lines: the name of the view, and what the audit of the report comes to
 abbrev pub opening : (name : Text) → Outcome → Text
@@ -21,6 +26,20 @@ pub record ShowsMargins (c : Content) (audit : Outcome) (output : Text) : Type 0
   pub are : AreMargins c (lasting c) margins
   pub spelled : output ≡ opening (codes "margins") audit ++ margins_text margins
 
+-- a line for each thread that has a tick, in the order of their admissions
+pub record ShowsThreads (c : Content) (audit : Outcome) (output : Text) : Type 0 where
+  pub lines : List ThreadJobs
+  pub are : AreLines c (threads.lasting c) lines
+  pub spelled : output ≡ opening (codes "jobs") audit ++ lines_text lines
+
+-- a line for each job of the threads of a name, in the order of their releases
+pub record ShowsJobs (c : Content) (audit : Outcome) (name output : Text) : Type 0 where
+  pub jobs : List Job
+  pub are : threads.AreJobsOf c name jobs
+  pub spelled : output ≡ opening (codes "jobs") audit ++ (codes "thread " ++ (name ++ (10 ∷ jobs_text jobs)))
+
 -- the view of a report with this content, whose audit comes to this
 abbrev pub IsViewText : View → Content → Outcome → (output : Text) → Type 0
 IsViewText Margins c audit output = ShowsMargins c audit output
+IsViewText (Jobs None) c audit output = ShowsThreads c audit output
+IsViewText (Jobs (Some name)) c audit output = ShowsJobs c audit name output

@@ -6,16 +6,18 @@ ghost use Rattle.hls_audit.specs.declared.auditing.Outcome.TheVariants.{Kept};
 ghost use Rattle.hls_audit.specs.Audits.{IsAudit, IsTale};
 ghost use Rattle.hls_top.specs.Exchange.{report_limit};
 ghost use Rattle.hls_view.specs.Outputs.{IsSaid};
-ghost use Rattle.hls_view.specs.Texts.{opening, IsViewText};
+ghost use Rattle.hls_view.specs.Texts.{opening, ShowsMargins, ShowsThreads, ShowsJobs, IsViewText};
 
 use crate::outputs::Output;
 use hls_audit::{Outcome, audit, audit_tale};
+use hls_chron::Name;
 use hls_io::Status;
 use hls_report::{Report, ReportFault, read_report};
 use hls_text::put;
 use hls_top::{put_verdict, refusal_line, verdict_line};
+use hls_view_jobs::{jobs_of, thread_lines};
 use hls_view_margins::margins;
-use hls_view_rows::write_margins;
+use hls_view_rows::{write_jobs, write_margins, write_thread_lines};
 use hls_view_words::View;
 use std::alloc::{AllocError, Global};
 
@@ -43,6 +45,50 @@ fn put_opening(out: &mut Vec<u8>, name: &[u8], audited: Outcome) -> Result<(), A
     put(out, b"\n")
 }
 
+/// The margins of a report.
+fn margins_text(alloc: Global, report: &Report, audited: Outcome) -> Result<Vec<u8>, AllocError>
+    requires formed { IsWellFormed report.now }
+    ensures { IfOk result (λ bytes. ShowsMargins (content_of report.now) audited bytes.items) }
+{
+    let mut out = Vec::new(alloc);
+    put_opening(&mut out, b"margins", audited)?;
+    let margins = margins(alloc, report)?;
+    write_margins(alloc, &mut out, &margins)?;
+    Ok(out)
+}
+
+/// What the jobs of each thread of a report come to.
+fn threads_text(alloc: Global, report: &Report, audited: Outcome) -> Result<Vec<u8>, AllocError>
+    requires formed { IsWellFormed report.now }
+    ensures { IfOk result (λ bytes. ShowsThreads (content_of report.now) audited bytes.items) }
+{
+    let mut out = Vec::new(alloc);
+    put_opening(&mut out, b"jobs", audited)?;
+    let lines = thread_lines(alloc, report)?;
+    write_thread_lines(alloc, &mut out, &lines)?;
+    Ok(out)
+}
+
+/// The jobs of the threads of a name.
+fn jobs_text(
+    alloc: Global,
+    report: &Report,
+    audited: Outcome,
+    name: &Name,
+) -> Result<Vec<u8>, AllocError>
+    requires formed { IsWellFormed report.now }
+    ensures { IfOk result (λ bytes. ShowsJobs (content_of report.now) audited name.now bytes.items) }
+{
+    let mut out = Vec::new(alloc);
+    put_opening(&mut out, b"jobs", audited)?;
+    put(&mut out, b"thread ")?;
+    put(&mut out, name.bytes())?;
+    put(&mut out, b"\n")?;
+    let jobs = jobs_of(alloc, report, name)?;
+    write_jobs(alloc, &mut out, &jobs)?;
+    Ok(out)
+}
+
 /// The view of a report that tells a tale.
 fn view_text(
     alloc: Global,
@@ -53,15 +99,11 @@ fn view_text(
     requires formed { IsWellFormed report.now }
     ensures { IfOk result (λ bytes. IsViewText view.now (content_of report.now) audited bytes.items) }
 {
-    let mut out = Vec::new(alloc);
     match view {
-        View::Margins => {
-            put_opening(&mut out, b"margins", audited)?;
-            let margins = margins(alloc, report)?;
-            write_margins(alloc, &mut out, &margins)?;
-        }
+        View::Margins => margins_text(alloc, report, audited),
+        View::Jobs { of: None } => threads_text(alloc, report, audited),
+        View::Jobs { of: Some(name) } => jobs_text(alloc, report, audited, name),
     }
-    Ok(out)
 }
 
 /// The view of a report that was read from a text, or the line that tells why there is none.

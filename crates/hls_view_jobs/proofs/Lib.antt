@@ -7,3 +7,4 @@ pub mod JobLaws
 pub mod LineLaws
 pub mod RunningLaws
 pub mod Orders
+pub mod Promised

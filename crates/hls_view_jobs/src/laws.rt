@@ -5,11 +5,17 @@ ghost use Rattle.hls_text.specs.Lines.{Text};
 ghost use Rattle.hls_report_text.specs.declared.report.Answered.{Answered};
 ghost use Rattle.hls_report_text.specs.Content.{Content};
 ghost use Rattle.hls_report_text.specs.WellFormed.{IsContent};
+ghost use Rattle.hls_guarantee.specs.Limits.{IsValid};
+ghost use Rattle.hls_guarantee.specs.Satisfaction.{Satisfies};
+ghost use Rattle.hls_accounts.specs.declared.stay.Stay.{Stay};
+ghost use Rattle.hls_accounts.specs.Schedule.{is_served};
+ghost use Rattle.hls_view_jobs.specs.declared.job.Release.{Release};
 ghost use Rattle.hls_view_jobs.specs.declared.job.Fate.TheVariants.{Open};
 ghost use Rattle.hls_view_jobs.specs.declared.job.Job.{Job};
 ghost use Rattle.hls_view_jobs.specs.declared.summary.Summary.{Summary};
 ghost use Rattle.hls_view_jobs.specs.Words.{words_on};
-ghost use Rattle.hls_view_jobs.specs.Jobs.{releases, AreJobs};
+ghost use Rattle.hls_view_jobs.specs.Jobs.{releases, AreJobs, IsJob, stay_with};
+ghost use Rattle.hls_view_jobs.specs.Promises.{IsWithinBound};
 ghost use Rattle.hls_view_jobs.specs.Summaries.{IsSummary};
 
 /// No two jobs of a thread have a tick in common: the ticks of each lie before the release of all later ones. Here `a`
@@ -32,4 +38,14 @@ pub fn only_the_last_job_may_be_open()
 /// Each job is done, dropped or open, and exactly one of these.
 pub fn jobs_are_done_dropped_or_open()
     ensures { (jobs : List Job) (s : Summary) → IsSummary jobs s → s.done + s.dropped + s.unfinished ≡ s.jobs }
+{}
+
+/// A job with a bound is done within it, and has fewer ticks where it is not done, if the guarantee of the stay that
+/// has its ticks is kept over them.
+pub fn jobs_are_within_their_bounds()
+    ensures { (c : Content) (name : Text) (r : Release) (job : Job) (stay : Stay) (bound : ℕ) → IsValid stay.kept →
+        1 ≤ r.asked → IsJob c name r job → stay_with c name job.release job.ticks ≡ Some stay →
+        job.bound ≡ Some bound →
+        Satisfies stay.kept (is_served c.stretches name) job.release (job.release + job.ticks) →
+        IsWithinBound bound job job.fate }
 {}

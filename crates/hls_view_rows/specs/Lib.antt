@@ -1,3 +1,4 @@
 pub mod Cells
 pub mod Margins
 pub mod Trees
+pub mod Jobs

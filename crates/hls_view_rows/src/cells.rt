@@ -3,6 +3,7 @@ ghost use Rattle.std.specs.Prelude.{◌≡◌, ◌+◌, ◌-◌, ◌++◌, OnOk,
 ghost use Rattle.hls_guarantee.specs.Limits.{IsValid};
 ghost use Rattle.hls_guarantee.specs.Spelling.{fraction_text, spelling};
 ghost use Rattle.hls_view_rows.specs.Cells.{span_text, distance_text};
+ghost use Rattle.hls_view_rows.specs.Jobs.{or_dash};
 
 use hls_frac::Frac;
 use hls_guarantee::{Guarantee, write_guarantee};
@@ -16,6 +17,32 @@ pub fn number_cell(alloc: Global, number: u32) -> Result<Vec<u8>, AllocError>
     let mut cell = Vec::new(alloc);
     put_number(&mut cell, u128::from(number))?;
     Ok(cell)
+}
+
+pub fn amount_cell(alloc: Global, amount: u128) -> Result<Vec<u8>, AllocError>
+    ensures { IfOk result (λ cell. cell.items ≡ decimal amount) }
+{
+    let mut cell = Vec::new(alloc);
+    put_number(&mut cell, amount)?;
+    Ok(cell)
+}
+
+pub fn amount_or_dash(alloc: Global, amount: Option<u128>) -> Result<Vec<u8>, AllocError>
+    ensures { IfOk result (λ cell. cell.items ≡ or_dash amount) }
+{
+    match amount {
+        Some(amount) => amount_cell(alloc, amount),
+        None => word_cell(alloc, b"-"),
+    }
+}
+
+pub fn number_or_dash(alloc: Global, number: Option<u32>) -> Result<Vec<u8>, AllocError>
+    ensures { IfOk result (λ cell. cell.items ≡ or_dash number) }
+{
+    match number {
+        Some(number) => number_cell(alloc, number),
+        None => word_cell(alloc, b"-"),
+    }
 }
 
 /// A first tick and a last one.
@@ -55,6 +82,14 @@ fn put_fraction(cell: &mut Vec<u8>, fraction: &Frac) -> Result<(), AllocError>
     }
     put(cell, b"/")?;
     put_number(cell, fraction.den)
+}
+
+pub fn fraction_cell(alloc: Global, fraction: &Frac) -> Result<Vec<u8>, AllocError>
+    ensures { IfOk result (λ cell. cell.items ≡ fraction_text fraction.now) }
+{
+    let mut cell = Vec::new(alloc);
+    put_fraction(&mut cell, fraction)?;
+    Ok(cell)
 }
 
 pub fn distance_cell(alloc: Global, distance: &Distance) -> Result<Vec<u8>, AllocError>

@@ -1,8 +1,11 @@
 // What the words of a command line ask for.
+use hls_chron::Name;
 
 /// What is to be shown of a report.
-#[derive(Clone, Copy, Debug, PartialEq, Eq)]
+#[derive(Clone, Copy, Debug)]
 pub enum View {
     /// A line for each stay: how near it came to its guarantee and its cap.
     Margins,
+    /// A line for each thread, or for each job of the threads of one name.
+    Jobs { of: Option<Name> },
 }
