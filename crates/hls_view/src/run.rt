@@ -47,7 +47,11 @@ pub fn view_run<S: Source, K: Sink>(
 {
     match asked_for(alloc, words) {
         Ok(Some(view)) => answer(alloc, &view, source, sink),
-        Ok(None) => say(sink, b"usage: hlsview margins\n", Status::Usage),
+        Ok(None) => say(
+            sink,
+            b"usage: hlsview margins | tree [--at T]\n",
+            Status::Usage,
+        ),
         Err(AllocError) => Status::Memory,
     }
 }

@@ -1,21 +1,22 @@
 // The view of the text of a report.
-ghost use Rattle.std.specs.Prelude.{◌≡◌, ◌≤◌, ◌∷◌, ◌++◌, [], IfOk, OnOk, codes, length};
+ghost use Rattle.std.specs.Prelude.{◌≡◌, ◌≤◌, ◌<◌, ◌∷◌, ◌++◌, [], IfOk, OnOk, codes, length};
 ghost use Rattle.hls_report_text.specs.Content.{content_of};
 ghost use Rattle.hls_report_text.specs.WellFormed.{IsReportText, IsWellFormed};
 ghost use Rattle.hls_audit.specs.declared.auditing.Outcome.TheVariants.{Kept};
 ghost use Rattle.hls_audit.specs.Audits.{IsAudit, IsTale};
 ghost use Rattle.hls_top.specs.Exchange.{report_limit};
 ghost use Rattle.hls_view.specs.Outputs.{IsSaid};
-ghost use Rattle.hls_view.specs.Texts.{opening, IsViewText};
+ghost use Rattle.hls_view.specs.Texts.{opening, name_line, tick_line, audit_line, opening_at};
+ghost use Rattle.hls_view.specs.Texts.{shows_tree, tick_shown, ShowsMargins, IsViewText};
 
 use crate::outputs::Output;
 use hls_audit::{Outcome, audit, audit_tale};
 use hls_io::Status;
 use hls_report::{Report, ReportFault, read_report};
-use hls_text::put;
+use hls_text::{put, put_number};
 use hls_top::{put_verdict, refusal_line, verdict_line};
 use hls_view_margins::margins;
-use hls_view_rows::write_margins;
+use hls_view_rows::{write_margins, write_tree};
 use hls_view_words::View;
 use std::alloc::{AllocError, Global};
 
@@ -43,6 +44,91 @@ fn put_opening(out: &mut Vec<u8>, name: &[u8], audited: Outcome) -> Result<(), A
     put(out, b"\n")
 }
 
+/// The tick that is stated, or the last one where none or a later one is.
+fn tick_shown(report: &Report, at: Option<u32>) -> u32
+    requires { IsWellFormed report.now }
+    ensures is { result ≡ tick_shown (content_of report.now) at }
+    ensures within { result < report.now.horizon }
+{
+    let last = report.horizon - 1;
+    match at {
+        Some(tick) => tick.min(last),
+        None => last,
+    }
+}
+
+fn put_name_line(out: &mut Vec<u8>, name: &[u8]) -> Result<(), AllocError>
+    ensures { OnOk result (out.new.items ≡ out.old.items ++ name_line name.now) }
+{
+    put(out, b"hlsview-")?;
+    put(out, name)?;
+    put(out, b" 1\n")
+}
+
+fn put_tick_line(out: &mut Vec<u8>, report: &Report, tick: u32) -> Result<(), AllocError>
+    ensures { OnOk result (out.new.items ≡ out.old.items ++ tick_line (content_of report.now) tick) }
+{
+    put(out, b"tick ")?;
+    put_number(out, u128::from(tick))?;
+    put(out, b" of ")?;
+    put_number(out, u128::from(report.horizon))?;
+    put(out, b"\n")
+}
+
+fn put_audit_line(out: &mut Vec<u8>, audited: Outcome) -> Result<(), AllocError>
+    ensures { OnOk result (out.new.items ≡ out.old.items ++ audit_line audited) }
+{
+    put(out, b"audit ")?;
+    put_verdict(out, audited)?;
+    put(out, b"\n")
+}
+
+/// Appends the first lines of a view of one tick.
+fn put_opening_at(
+    out: &mut Vec<u8>,
+    name: &[u8],
+    report: &Report,
+    tick: u32,
+    audited: Outcome,
+) -> Result<(), AllocError>
+    ensures { OnOk result (out.new.items
+        ≡ out.old.items ++ opening_at name.now (content_of report.now) tick audited) }
+{
+    put_name_line(out, name)?;
+    put_tick_line(out, report, tick)?;
+    put_audit_line(out, audited)
+}
+
+/// The hierarchy at the tick that is stated.
+fn tree_text(
+    alloc: Global,
+    report: &Report,
+    audited: Outcome,
+    at: Option<u32>,
+) -> Result<Vec<u8>, AllocError>
+    requires formed { IsWellFormed report.now }
+    ensures { IfOk result (λ bytes. bytes.items
+        ≡ shows_tree (content_of report.now) (tick_shown (content_of report.now) at) audited) }
+{
+    let mut out = Vec::new(alloc);
+    let tick = tick_shown(report, at);
+    put_opening_at(&mut out, b"tree", report, tick, audited)?;
+    write_tree(alloc, &mut out, report, tick)?;
+    Ok(out)
+}
+
+/// The margins of all stays.
+fn margins_text(alloc: Global, report: &Report, audited: Outcome) -> Result<Vec<u8>, AllocError>
+    requires formed { IsWellFormed report.now }
+    ensures { IfOk result (λ bytes. ShowsMargins (content_of report.now) audited bytes.items) }
+{
+    let mut out = Vec::new(alloc);
+    put_opening(&mut out, b"margins", audited)?;
+    let margins = margins(alloc, report)?;
+    write_margins(alloc, &mut out, &margins)?;
+    Ok(out)
+}
+
 /// The view of a report that tells a tale.
 fn view_text(
     alloc: Global,
@@ -53,15 +139,10 @@ fn view_text(
     requires formed { IsWellFormed report.now }
     ensures { IfOk result (λ bytes. IsViewText view.now (content_of report.now) audited bytes.items) }
 {
-    let mut out = Vec::new(alloc);
     match view {
-        View::Margins => {
-            put_opening(&mut out, b"margins", audited)?;
-            let margins = margins(alloc, report)?;
-            write_margins(alloc, &mut out, &margins)?;
-        }
+        View::Margins => margins_text(alloc, report, audited),
+        View::Tree { at } => tree_text(alloc, report, audited, *at),
     }
-    Ok(out)
 }
 
 /// The view of a report that was read from a text, or the line that tells why there is none.

@@ -1,9 +1,72 @@
 -- Words ask for one view at most.
-use Rattle.std.proofs.Common.{◌≡◌, List, refl}
+use Rattle.std.proofs.Common.{◌≡◌, ℕ, List, [], ◌∷◌, codes, drop, ap, sym, subst, ◌∙◌, refl, inl, inr, get_or}
+use Rattle.std.proofs.Common.{arith}
+use Rattle.std.specs.Prelude.{decimal, Option, Some, None}
+use Rattle.std.proofs.lemmas.Fmt.{decimal_injective}
 use Rattle.hls_text.specs.Lines.{Text}
-use Rattle.hls_view_words.specs.Table.{IsView}
+use Rattle.hls_view_words.specs.Table.{StatesTick, HasTick, MayTick, IsView}
 use Rattle.hls_view_words.specs.declared.views.View.{View}
-use Rattle.hls_view_words.specs.declared.views.View.TheVariants.{Margins}
+use Rattle.hls_view_words.specs.declared.views.View.TheVariants.{Margins, Tree}
+
+empty_not : (word : Text) (words : List Text) → [] ≡ word ∷ words → ⊥
+empty_not word words e = absurd cc
+
+one_not_two : (first second third : Text) → first ∷ second ∷ [] ≡ third ∷ [] → ⊥
+one_not_two first second third e = absurd cc
+
+second_of : (first second third fourth : Text) → first ∷ second ∷ [] ≡ third ∷ fourth ∷ [] → second ≡ fourth
+second_of first second third fourth e = cc
+
+only_of : (first second : Text) → first ∷ [] ≡ second ∷ [] → first ≡ second
+only_of first second e = cc
+
+first_of_words : (first second : Text) (options others : List Text) → first ∷ options ≡ second ∷ others
+    → first ≡ second
+first_of_words first second options others e = cc
+
+rest_of_words : (first second : Text) (options others : List Text) → first ∷ options ≡ second ∷ others
+    → options ≡ others
+rest_of_words first second options others e = cc
+
+-- ---- ticks
+
+same_text : (options : List Text) (one two : ℕ) → StatesTick options one → StatesTick options two
+    → decimal one ≡ decimal two
+same_text options one two (inl a) (inl b) = second_of _ _ _ _ (sym a ∙ b)
+same_text options one two (inl a) (inr b) = absurd (one_not_two _ _ _ (sym a ∙ b))
+same_text options one two (inr a) (inl b) = absurd (one_not_two _ _ _ (sym b ∙ a))
+same_text options one two (inr a) (inr b) = ap (λ (t : Text). drop 5 t) (only_of _ _ (sym a ∙ b))
+
+same_tick : (options : List Text) (one two : ℕ) → HasTick options one → HasTick options two → one ≡ two
+same_tick options one two (small, a) (least, b) =
+    decimal_injective one two (omega (arith, small)) (omega (arith, least)) (same_text options one two a b)
+
+states_some : (tick : ℕ) → StatesTick [] tick → ⊥
+states_some tick (inl e) = empty_not _ _ e
+states_some tick (inr e) = empty_not _ _ e
+
+same_at : (options others : List Text) (one two : Option ℕ) → options ≡ others → MayTick options one
+    → MayTick others two → one ≡ two
+same_at options others None None same a b = refl
+same_at options others (Some one) None same a b =
+    absurd (states_some one (subst (λ (o : List Text). StatesTick o one) (same ∙ b) a.1))
+same_at options others None (Some two) same a b =
+    absurd (states_some two (subst (λ (o : List Text). StatesTick o two) (sym same ∙ a) b.1))
+same_at options others (Some one) (Some two) same a b =
+    ap (λ (tick : ℕ). Some tick) (same_tick others one two
+    (subst (λ (o : List Text). HasTick o one) same a) b)
+
+-- the first words differ
+apart : (options : List Text) → codes "margins" ∷ [] ≡ codes "tree" ∷ options → ⊥
+apart options e =
+    let same : 109 ≡ 116 = ap (λ (word : Text). get_or word 0 0)
+    (first_of_words (codes "margins") (codes "tree") [] options e) in
+    omega (arith, same)
 
 pub same_view : (words : List Text) (one two : View) → IsView words one → IsView words two → one ≡ two
 same_view words Margins Margins a b = refl
+same_view words Margins (Tree at) a (options, is, has) = absurd (apart options (sym a ∙ is))
+same_view words (Tree at) Margins (options, is, has) b = absurd (apart options (sym b ∙ is))
+same_view words (Tree one) (Tree two) (options, is, has) (others, also, hold) =
+    ap (λ (at : Option ℕ). Tree at) (same_at options others one two
+    (rest_of_words (codes "tree") (codes "tree") options others (sym is ∙ also)) has hold)

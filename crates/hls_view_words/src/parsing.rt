@@ -3,12 +3,12 @@ ghost use Rattle.std.specs.Prelude.{◌≡◌, IfOk, IfErr, map, string_bytes, f
 ghost use Rattle.clap.specs.declared.builder.command.Command.TheViews.{out-Command};
 ghost use Rattle.clap.specs.Words.{kind_of, app_of};
 ghost use Rattle.hls_view_words.specs.Table.{IsView, IsNoView};
-ghost use Rattle.hls_view_words.specs.Inside.Commands.{margins, bare, hlsview};
+ghost use Rattle.hls_view_words.specs.Inside.Commands.{margins, tree, bare, hlsview};
 
 use crate::View;
 use crate::table::listed;
 use clap::error::ErrorKind;
-use clap::{ArgMatches, Command, Error};
+use clap::{Arg, ArgAction, ArgMatches, Command, Error};
 use std::alloc::{AllocError, Global};
 
 fn margins_command<'a>(alloc: Global) -> Command<'a>
@@ -16,6 +16,15 @@ fn margins_command<'a>(alloc: Global) -> Command<'a>
     ensures local { (out-Command result).has_globals ≡ false }
 {
     Command::new(alloc, "margins").disable_help_flag(true)
+}
+
+fn tree_command<'a>(alloc: Global) -> Result<Command<'a>, AllocError>
+    ensures app { IfOk result (λ c. app_of c ≡ tree) }
+    ensures local { IfOk result (λ c. (out-Command c).has_globals ≡ false) }
+{
+    let tick = Arg::new(alloc, "at").long("at").action(ArgAction::Set);
+    let bare = Command::new(alloc, "tree").disable_help_flag(true);
+    bare.arg(tick)
 }
 
 fn bare_command<'a>(alloc: Global) -> Command<'a>
@@ -32,7 +41,9 @@ fn bare_command<'a>(alloc: Global) -> Command<'a>
 fn hlsview_command<'a>(alloc: Global) -> Result<Command<'a>, AllocError>
     ensures { IfOk result (λ c. app_of c ≡ hlsview) }
 {
-    bare_command(alloc).subcommand(margins_command(alloc))
+    bare_command(alloc)
+        .subcommand(margins_command(alloc))?
+        .subcommand(tree_command(alloc)?)
 }
 
 /// What clap makes of the words. It refuses none of the table but for want of memory.

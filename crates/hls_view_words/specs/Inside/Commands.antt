@@ -1,13 +1,20 @@
 -- What clap is told of the command line.
-use Rattle.std.specs.Prelude.{codes, true}
-use Rattle.clap.specs.Words.{App, Text, new_app, with_subcommand}
+use Rattle.std.specs.Prelude.{codes, true, Some}
+use Rattle.clap.specs.Words.{App, Rule, Text, new_app, new_rule, with_rule, with_subcommand}
 use Rattle.clap.specs.Simple.{on_top}
+use Rattle.clap.specs.declared.builder.ArgAction.TheVariants.{Set}
+
+abbrev pub at : Rule
+at = record (new_rule (codes "at")) { long = Some (codes "at"); action = Some Set }
 
 abbrev pub leaf : Text → App
 leaf name = on_top (λ s. record s { disable_help_flag = true }) (new_app name)
 
 abbrev pub margins : App
 margins = leaf (codes "margins")
+
+abbrev pub tree : App
+tree = with_rule (leaf (codes "tree")) at
 
 abbrev pub bare : App
 bare = on_top (λ s. record s {
@@ -18,4 +25,4 @@ bare = on_top (λ s. record s {
 }) (new_app (codes "hlsview"))
 
 abbrev pub hlsview : App
-hlsview = with_subcommand bare margins.top
+hlsview = with_subcommand (with_subcommand bare margins.top) tree.top

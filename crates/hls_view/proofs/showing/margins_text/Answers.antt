@@ -1,5 +1,5 @@
 use Rattle.hls_view.proofs.Promised.{can_be_told}
-use Rattle.hls_view.proofs.showing.view_text.Goals as goal
+use Rattle.hls_view.proofs.showing.margins_text.Goals as goal
 
 pub write_margins-requires : goal.write_margins-requires
 write_margins-requires c =
