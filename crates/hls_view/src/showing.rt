@@ -1,23 +1,24 @@
 // The view of the text of a report.
-ghost use Rattle.std.specs.Prelude.{◌≡◌, ◌≤◌, ◌∷◌, ◌++◌, [], IfOk, OnOk, codes, length};
+ghost use Rattle.std.specs.Prelude.{◌≡◌, ◌≤◌, ◌∷◌, ◌++◌, [], IfOk, OnOk, codes, length, ◌<◌};
 ghost use Rattle.hls_report_text.specs.Content.{content_of};
 ghost use Rattle.hls_report_text.specs.WellFormed.{IsReportText, IsWellFormed};
 ghost use Rattle.hls_audit.specs.declared.auditing.Outcome.TheVariants.{Kept};
 ghost use Rattle.hls_audit.specs.Audits.{IsAudit, IsTale};
 ghost use Rattle.hls_top.specs.Exchange.{report_limit};
 ghost use Rattle.hls_view.specs.Outputs.{IsSaid};
-ghost use Rattle.hls_view.specs.Texts.{opening, ShowsMargins, ShowsThreads, ShowsJobs, IsViewText};
+ghost use Rattle.hls_view.specs.Texts.{opening, name_line, tick_line, audit_line, opening_at};
+ghost use Rattle.hls_view.specs.Texts.{shows_tree, tick_shown, ShowsMargins, ShowsThreads, ShowsJobs, IsViewText};
 
 use crate::outputs::Output;
 use hls_audit::{Outcome, audit, audit_tale};
 use hls_chron::Name;
 use hls_io::Status;
 use hls_report::{Report, ReportFault, read_report};
-use hls_text::put;
+use hls_text::{put, put_number};
 use hls_top::{put_verdict, refusal_line, verdict_line};
 use hls_view_jobs::{jobs_of, thread_lines};
 use hls_view_margins::margins;
-use hls_view_rows::{write_jobs, write_margins, write_thread_lines};
+use hls_view_rows::{write_jobs, write_margins, write_thread_lines, write_tree};
 use hls_view_words::View;
 use std::alloc::{AllocError, Global};
 
@@ -54,6 +55,79 @@ fn margins_text(alloc: Global, report: &Report, audited: Outcome) -> Result<Vec<
     put_opening(&mut out, b"margins", audited)?;
     let margins = margins(alloc, report)?;
     write_margins(alloc, &mut out, &margins)?;
+    Ok(out)
+}
+
+/// The tick that is stated, or the last one where none or a later one is.
+fn tick_shown(report: &Report, at: Option<u32>) -> u32
+    requires { IsWellFormed report.now }
+    ensures is { result ≡ tick_shown (content_of report.now) at }
+    ensures within { result < report.now.horizon }
+{
+    let last = report.horizon - 1;
+    match at {
+        Some(tick) => tick.min(last),
+        None => last,
+    }
+}
+
+fn put_name_line(out: &mut Vec<u8>, name: &[u8]) -> Result<(), AllocError>
+    ensures { OnOk result (out.new.items ≡ out.old.items ++ name_line name.now) }
+{
+    put(out, b"hlsview-")?;
+    put(out, name)?;
+    put(out, b" 1\n")
+}
+
+fn put_tick_line(out: &mut Vec<u8>, report: &Report, tick: u32) -> Result<(), AllocError>
+    ensures { OnOk result (out.new.items ≡ out.old.items ++ tick_line (content_of report.now) tick) }
+{
+    put(out, b"tick ")?;
+    put_number(out, u128::from(tick))?;
+    put(out, b" of ")?;
+    put_number(out, u128::from(report.horizon))?;
+    put(out, b"\n")
+}
+
+fn put_audit_line(out: &mut Vec<u8>, audited: Outcome) -> Result<(), AllocError>
+    ensures { OnOk result (out.new.items ≡ out.old.items ++ audit_line audited) }
+{
+    put(out, b"audit ")?;
+    put_verdict(out, audited)?;
+    put(out, b"\n")
+}
+
+/// Appends the first lines of a view of one tick.
+fn put_opening_at(
+    out: &mut Vec<u8>,
+    name: &[u8],
+    report: &Report,
+    tick: u32,
+    audited: Outcome,
+) -> Result<(), AllocError>
+    ensures { OnOk result (out.new.items
+        ≡ out.old.items ++ opening_at name.now (content_of report.now) tick audited) }
+{
+    put_name_line(out, name)?;
+    put_tick_line(out, report, tick)?;
+    put_audit_line(out, audited)
+}
+
+/// The hierarchy at the tick that is stated.
+fn tree_text(
+    alloc: Global,
+    report: &Report,
+    audited: Outcome,
+    at: Option<u32>,
+) -> Result<Vec<u8>, AllocError>
+    requires formed { IsWellFormed report.now }
+    ensures { IfOk result (λ bytes. bytes.items
+        ≡ shows_tree (content_of report.now) (tick_shown (content_of report.now) at) audited) }
+{
+    let mut out = Vec::new(alloc);
+    let tick = tick_shown(report, at);
+    put_opening_at(&mut out, b"tree", report, tick, audited)?;
+    write_tree(alloc, &mut out, report, tick)?;
     Ok(out)
 }
 
@@ -101,6 +175,7 @@ fn view_text(
 {
     match view {
         View::Margins => margins_text(alloc, report, audited),
+        View::Tree { at } => tree_text(alloc, report, audited, *at),
         View::Jobs { of: None } => threads_text(alloc, report, audited),
         View::Jobs { of: Some(name) } => jobs_text(alloc, report, audited, name),
     }

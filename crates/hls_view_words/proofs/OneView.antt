@@ -1,11 +1,12 @@
 -- Words ask for one view at most.
-use Rattle.std.proofs.Common.{◌≡◌, List, [], ◌∷◌, codes, drop, ap, sym, subst, ◌∙◌, refl, inl, inr, get_or}
+use Rattle.std.proofs.Common.{◌≡◌, ℕ, List, [], ◌∷◌, codes, drop, ap, sym, subst, ◌∙◌, refl, inl, inr, get_or}
 use Rattle.std.proofs.Common.{arith}
-use Rattle.std.specs.Prelude.{Option, Some, None}
+use Rattle.std.specs.Prelude.{decimal, Option, Some, None}
+use Rattle.std.proofs.lemmas.Fmt.{decimal_injective}
 use Rattle.hls_text.specs.Lines.{Text}
-use Rattle.hls_view_words.specs.Table.{StatesName, MayName, IsView}
+use Rattle.hls_view_words.specs.Table.{StatesTick, HasTick, MayTick, StatesName, MayName, IsView}
 use Rattle.hls_view_words.specs.declared.views.View.{View}
-use Rattle.hls_view_words.specs.declared.views.View.TheVariants.{Margins, Jobs}
+use Rattle.hls_view_words.specs.declared.views.View.TheVariants.{Margins, Tree, Jobs}
 
 empty_not : (word : Text) (words : List Text) → [] ≡ word ∷ words → ⊥
 empty_not word words e = absurd cc
@@ -27,37 +28,91 @@ rest_of_words : (first second : Text) (options others : List Text) → first ∷
     → options ≡ others
 rest_of_words first second options others e = cc
 
+-- ---- ticks
+
+same_text : (options : List Text) (one two : ℕ) → StatesTick options one → StatesTick options two
+    → decimal one ≡ decimal two
+same_text options one two (inl a) (inl b) = second_of _ _ _ _ (sym a ∙ b)
+same_text options one two (inl a) (inr b) = absurd (one_not_two _ _ _ (sym a ∙ b))
+same_text options one two (inr a) (inl b) = absurd (one_not_two _ _ _ (sym b ∙ a))
+same_text options one two (inr a) (inr b) = ap (λ (t : Text). drop 5 t) (only_of _ _ (sym a ∙ b))
+
+same_tick : (options : List Text) (one two : ℕ) → HasTick options one → HasTick options two → one ≡ two
+same_tick options one two (small, a) (least, b) =
+    decimal_injective one two (omega (arith, small)) (omega (arith, least)) (same_text options one two a b)
+
+ticks_some : (tick : ℕ) → StatesTick [] tick → ⊥
+ticks_some tick (inl e) = empty_not _ _ e
+ticks_some tick (inr e) = empty_not _ _ e
+
+same_at : (options others : List Text) (one two : Option ℕ) → options ≡ others → MayTick options one
+    → MayTick others two → one ≡ two
+same_at options others None None same a b = refl
+same_at options others (Some one) None same a b =
+    absurd (ticks_some one (subst (λ (o : List Text). StatesTick o one) (same ∙ b) a.1))
+same_at options others None (Some two) same a b =
+    absurd (ticks_some two (subst (λ (o : List Text). StatesTick o two) (sym same ∙ a) b.1))
+same_at options others (Some one) (Some two) same a b =
+    ap (λ (tick : ℕ). Some tick) (same_tick others one two
+    (subst (λ (o : List Text). HasTick o one) same a) b)
+
+-- ---- names
+
 same_name : (options : List Text) (one two : Text) → StatesName options one → StatesName options two → one ≡ two
 same_name options one two (inl a) (inl b) = second_of _ _ _ _ (sym a ∙ b)
 same_name options one two (inl a) (inr b) = absurd (one_not_two _ _ _ (sym a ∙ b))
 same_name options one two (inr a) (inl b) = absurd (one_not_two _ _ _ (sym b ∙ a))
 same_name options one two (inr a) (inr b) = ap (λ (t : Text). drop 5 t) (only_of _ _ (sym a ∙ b))
 
-states_some : (name : Text) → StatesName [] name → ⊥
-states_some name (inl e) = empty_not _ _ e
-states_some name (inr e) = empty_not _ _ e
+names_some : (name : Text) → StatesName [] name → ⊥
+names_some name (inl e) = empty_not _ _ e
+names_some name (inr e) = empty_not _ _ e
 
 same_of : (options others : List Text) (one two : Option Text) → options ≡ others → MayName options one
     → MayName others two → one ≡ two
 same_of options others None None same a b = refl
 same_of options others (Some one) None same a b =
-    absurd (states_some one (subst (λ (o : List Text). StatesName o one) (same ∙ b) a.1))
+    absurd (names_some one (subst (λ (o : List Text). StatesName o one) (same ∙ b) a.1))
 same_of options others None (Some two) same a b =
-    absurd (states_some two (subst (λ (o : List Text). StatesName o two) (sym same ∙ a) b.1))
+    absurd (names_some two (subst (λ (o : List Text). StatesName o two) (sym same ∙ a) b.1))
 same_of options others (Some one) (Some two) same a b =
     ap (λ (name : Text). Some name) (same_name others one two
     (subst (λ (o : List Text). StatesName o one) same a.1) b.1)
 
 -- the first words differ
-apart : (options : List Text) → codes "margins" ∷ [] ≡ codes "jobs" ∷ options → ⊥
-apart options e =
-    let same : 109 ≡ 106 = ap (λ (word : Text). get_or word 0 0) (first_of_words (codes "margins") (codes "jobs") [] options e) in
+letters : (first second : Text) (options others : List Text) → first ∷ options ≡ second ∷ others
+    → get_or first 0 0 ≡ get_or second 0 0
+letters first second options others e =
+    ap (λ (word : Text). get_or word 0 0) (first_of_words first second options others e)
+
+not_tree : (options : List Text) → codes "margins" ∷ [] ≡ codes "tree" ∷ options → ⊥
+not_tree options e =
+    let same : 109 ≡ 116 = letters (codes "margins") (codes "tree") [] options e in
+    omega (arith, same)
+
+not_jobs : (options : List Text) → codes "margins" ∷ [] ≡ codes "jobs" ∷ options → ⊥
+not_jobs options e =
+    let same : 109 ≡ 106 = letters (codes "margins") (codes "jobs") [] options e in
+    omega (arith, same)
+
+tree_not_jobs : (options others : List Text) → codes "tree" ∷ options ≡ codes "jobs" ∷ others → ⊥
+tree_not_jobs options others e =
+    let same : 116 ≡ 106 = letters (codes "tree") (codes "jobs") options others e in
     omega (arith, same)
 
 pub same_view : (words : List Text) (one two : View) → IsView words one → IsView words two → one ≡ two
 same_view words Margins Margins a b = refl
-same_view words Margins (Jobs of) a (options, is, has) = absurd (apart options (sym a ∙ is))
-same_view words (Jobs of) Margins (options, is, has) b = absurd (apart options (sym b ∙ is))
+same_view words Margins (Tree at) a (options, is, has) = absurd (not_tree options (sym a ∙ is))
+same_view words (Tree at) Margins (options, is, has) b = absurd (not_tree options (sym b ∙ is))
+same_view words Margins (Jobs of) a (options, is, has) = absurd (not_jobs options (sym a ∙ is))
+same_view words (Jobs of) Margins (options, is, has) b = absurd (not_jobs options (sym b ∙ is))
+same_view words (Tree at) (Jobs of) (options, is, has) (others, also, hold) =
+    absurd (tree_not_jobs options others (sym is ∙ also))
+same_view words (Jobs of) (Tree at) (options, is, has) (others, also, hold) =
+    absurd (tree_not_jobs others options (sym also ∙ is))
+same_view words (Tree one) (Tree two) (options, is, has) (others, also, hold) =
+    ap (λ (at : Option ℕ). Tree at) (same_at options others one two
+    (rest_of_words (codes "tree") (codes "tree") options others (sym is ∙ also)) has hold)
 same_view words (Jobs one) (Jobs two) (options, is, has) (others, also, hold) =
     ap (λ (of : Option Text). Jobs of) (same_of options others one two
     (rest_of_words (codes "jobs") (codes "jobs") options others (sym is ∙ also)) has hold)

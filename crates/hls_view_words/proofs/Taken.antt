@@ -1,20 +1,56 @@
 -- Clap takes the words of the table.
 use Rattle.std.proofs.Common.{codes, true, List, [], ◌∷◌, ◌++◌, ◌≡◌, ℕ, ◌≤◌, ◌<◌, ◌+◌, ◌-◌, suc, zero, arith}
 use Rattle.std.proofs.Common.{inl, inr, refl, ◌⊎◌}
-use Rattle.std.specs.Prelude.{nat_le, Option, Some, None}
+use Rattle.std.specs.Prelude.{decimal, nat_le, Option, Some, None}
 use Rattle.std.proofs.lemmas.Bool.{leb-true}
 use Rattle.clap.specs.Words.{Text, takes}
 use Rattle.clap.proofs.OnLiterals.{clap_on_literals}
 use Rattle.hls_text.proofs.NumberLaws.{and_left, and_right}
 use Rattle.hls_chron.specs.Name.{IsName, is_letter}
-use Rattle.hls_view_words.specs.Table.{MayName, IsView}
+use Rattle.hls_view_words.specs.Table.{MayTick, MayName, IsView}
 use Rattle.hls_view_words.specs.Inside.Commands.{hlsview}
 use Rattle.hls_view_words.specs.declared.views.View.{View}
-use Rattle.hls_view_words.specs.declared.views.View.TheVariants.{Margins, Jobs}
+use Rattle.hls_view_words.specs.declared.views.View.TheVariants.{Margins, Tree, Jobs}
+use Rattle.hls_view_words.proofs.Digits.{tick_is_digits}
 
 takes_margins : takes hlsview (codes "margins" ∷ []) ≡ true
 unfolding clap_on_literals
 takes_margins = refl
+
+-- ---- tree: a word that begins with a digit is no option
+
+takes_tree : takes hlsview (codes "tree" ∷ []) ≡ true
+unfolding clap_on_literals
+takes_tree = refl
+
+takes_tick_is : (v : Text) → takes hlsview (codes "tree" ∷ (codes "--at=" ++ v) ∷ []) ≡ true
+unfolding clap_on_literals
+takes_tick_is v = refl
+
+takes_digit : (k : ℕ) (rest : Text) → k ≤ 9
+    → takes hlsview (codes "tree" ∷ codes "--at" ∷ ((48 + k) ∷ rest) ∷ []) ≡ true
+unfolding clap_on_literals
+takes_digit zero rest le = refl
+takes_digit (suc zero) rest le = refl
+takes_digit (suc (suc zero)) rest le = refl
+takes_digit (suc (suc (suc zero))) rest le = refl
+takes_digit (suc (suc (suc (suc zero)))) rest le = refl
+takes_digit (suc (suc (suc (suc (suc zero))))) rest le = refl
+takes_digit (suc (suc (suc (suc (suc (suc zero)))))) rest le = refl
+takes_digit (suc (suc (suc (suc (suc (suc (suc zero))))))) rest le = refl
+takes_digit (suc (suc (suc (suc (suc (suc (suc (suc zero)))))))) rest le = refl
+takes_digit (suc (suc (suc (suc (suc (suc (suc (suc (suc zero))))))))) rest le = refl
+takes_digit (suc (suc (suc (suc (suc (suc (suc (suc (suc (suc k)))))))))) rest le = absurd (omega arith)
+
+takes_tick : (options : List Text) (at : Option ℕ) → MayTick options at
+    → takes hlsview (codes "tree" ∷ options) ≡ true
+takes_tick options None is = rw is takes_tree
+takes_tick options (Some tick) (small, inl apart) =
+    let d = tick_is_digits tick small in
+    rw (apart, d.is) (takes_digit d.first d.rest d.small)
+takes_tick options (Some tick) (small, inr joined) = rw joined (takes_tick_is (decimal tick))
+
+-- ---- jobs
 
 takes_jobs : takes hlsview (codes "jobs" ∷ []) ≡ true
 unfolding clap_on_literals
@@ -42,7 +78,8 @@ takes_early (suc (suc (suc (suc (suc (suc (suc (suc (suc zero))))))))) rest lt =
 takes_early (suc (suc (suc (suc (suc (suc (suc (suc (suc (suc zero)))))))))) rest lt = refl
 takes_early (suc (suc (suc (suc (suc (suc (suc (suc (suc (suc (suc zero))))))))))) rest lt = refl
 takes_early (suc (suc (suc (suc (suc (suc (suc (suc (suc (suc (suc (suc zero)))))))))))) rest lt = refl
-takes_early (suc (suc (suc (suc (suc (suc (suc (suc (suc (suc (suc (suc (suc k))))))))))))) rest lt = absurd (omega arith)
+takes_early (suc (suc (suc (suc (suc (suc (suc (suc (suc (suc (suc (suc (suc k))))))))))))) rest lt =
+    absurd (omega arith)
 
 takes_late : (k : ℕ) (rest : Text) → k < 13
     → takes hlsview (codes "jobs" ∷ codes "--of" ∷ ((110 + k) ∷ rest) ∷ []) ≡ true
@@ -60,7 +97,8 @@ takes_late (suc (suc (suc (suc (suc (suc (suc (suc (suc zero))))))))) rest lt = 
 takes_late (suc (suc (suc (suc (suc (suc (suc (suc (suc (suc zero)))))))))) rest lt = refl
 takes_late (suc (suc (suc (suc (suc (suc (suc (suc (suc (suc (suc zero))))))))))) rest lt = refl
 takes_late (suc (suc (suc (suc (suc (suc (suc (suc (suc (suc (suc (suc zero)))))))))))) rest lt = refl
-takes_late (suc (suc (suc (suc (suc (suc (suc (suc (suc (suc (suc (suc (suc k))))))))))))) rest lt = absurd (omega arith)
+takes_late (suc (suc (suc (suc (suc (suc (suc (suc (suc (suc (suc (suc (suc k))))))))))))) rest lt =
+    absurd (omega arith)
 
 split : (b n : ℕ) → (b < n) ⊎ (n ≤ b)
 split b zero = inr (omega arith)
@@ -95,4 +133,5 @@ takes_options options (Some name) (named, inr joined) = rw joined (takes_joined 
 
 pub takes_view : (words : List Text) (view : View) → IsView words view → takes hlsview words ≡ true
 takes_view words Margins is = rw is takes_margins
+takes_view words (Tree at) (options, is, has) = rw is (takes_tick options at has)
 takes_view words (Jobs of) (options, is, has) = rw is (takes_options options of has)

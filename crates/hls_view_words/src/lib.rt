@@ -2,8 +2,10 @@
 #![tactic(auto)]
 
 pub mod laws;
+mod names;
 mod parsing;
 mod table;
+mod ticks;
 mod views;
 
 pub use parsing::asked_for;

@@ -3,7 +3,7 @@ ghost use Rattle.std.specs.Prelude.{◌≡◌, IfOk, IfErr, map, string_bytes, f
 ghost use Rattle.clap.specs.declared.builder.command.Command.TheViews.{out-Command};
 ghost use Rattle.clap.specs.Words.{kind_of, app_of};
 ghost use Rattle.hls_view_words.specs.Table.{IsView, IsNoView};
-ghost use Rattle.hls_view_words.specs.Inside.Commands.{margins, jobs, bare, hlsview};
+ghost use Rattle.hls_view_words.specs.Inside.Commands.{margins, jobs, tree, bare, hlsview};
 
 use crate::View;
 use crate::table::listed;
@@ -16,6 +16,15 @@ fn margins_command<'a>(alloc: Global) -> Command<'a>
     ensures local { (out-Command result).has_globals ≡ false }
 {
     Command::new(alloc, "margins").disable_help_flag(true)
+}
+
+fn tree_command<'a>(alloc: Global) -> Result<Command<'a>, AllocError>
+    ensures app { IfOk result (λ c. app_of c ≡ tree) }
+    ensures local { IfOk result (λ c. (out-Command c).has_globals ≡ false) }
+{
+    let tick = Arg::new(alloc, "at").long("at").action(ArgAction::Set);
+    let bare = Command::new(alloc, "tree").disable_help_flag(true);
+    bare.arg(tick)
 }
 
 fn jobs_command<'a>(alloc: Global) -> Result<Command<'a>, AllocError>
@@ -43,6 +52,7 @@ fn hlsview_command<'a>(alloc: Global) -> Result<Command<'a>, AllocError>
 {
     bare_command(alloc)
         .subcommand(margins_command(alloc))?
+        .subcommand(tree_command(alloc)?)?
         .subcommand(jobs_command(alloc)?)
 }
 

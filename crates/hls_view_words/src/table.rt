@@ -1,42 +1,21 @@
 // The table of words.
-ghost use Rattle.std.specs.Prelude.{◌≡◌, codes, map, string_bytes, IfSome, IsNone, ◌∷◌, ◌++◌};
-ghost use Rattle.hls_text.specs.Lines.{Text};
-ghost use Rattle.hls_chron.specs.Name.{IsName};
-ghost use Rattle.hls_view_words.specs.Table.{NamesOne, MayName, IsView, IsNoView};
+ghost use Rattle.std.specs.Prelude.{codes, map, string_bytes, IfSome, IsNone, ◌∷◌};
+ghost use Rattle.hls_view_words.specs.Table.{IsView, IsNoView};
 
 use crate::View;
-use hls_chron::Name;
+use crate::names::name_in;
+use crate::ticks::tick_in;
 
-/// The name that one word after `jobs` states.
-fn stated_in(word: &str) -> Option<Name>
-    ensures found { IfSome result (λ name. IsName name × (word.now ≡ codes "--of=" ++ name)) }
-    ensures none { IsNone result → (name : Text) → IsName name → word.now ≡ codes "--of=" ++ name → ⊥ }
+/// What the words after `tree` ask for.
+fn tree_of(words: &[String]) -> Option<View>
+    ensures found { IfSome result (λ view. IsView (codes "tree" ∷ map string_bytes words.now) view) }
+    ensures none { IsNone result → IsNoView (codes "tree" ∷ map string_bytes words.now) }
 {
-    Name::read(word.strip_prefix("--of=")?.as_bytes())
-}
-
-/// The name that two words after `jobs` state.
-fn stated_by(option: &str, word: &str) -> Option<Name>
-    ensures found { IfSome result (λ name. IsName name × (option.now ≡ codes "--of") × (word.now ≡ name)) }
-    ensures none { IsNone result → (name : Text) → IsName name → option.now ≡ codes "--of" → word.now ≡ name → ⊥ }
-{
-    if option == "--of" {
-        Name::read(word.as_bytes())
-    } else {
-        None
+    if words.is_empty() {
+        return Some(View::Tree { at: None });
     }
-}
-
-/// The name that some words after `jobs` state.
-fn name_in(words: &[String]) -> Option<Name>
-    ensures found { IfSome result (NamesOne (map string_bytes words.now)) }
-    ensures none { IsNone result → (name : Text) → ¬ NamesOne (map string_bytes words.now) name }
-{
-    match words {
-        [word] => stated_in(word.as_str()),
-        [option, word] => stated_by(option.as_str(), word.as_str()),
-        _ => None,
-    }
+    let tick = tick_in(words)?;
+    Some(View::Tree { at: Some(tick) })
 }
 
 /// What the words after `jobs` ask for.
@@ -59,6 +38,7 @@ pub fn listed(words: &[String]) -> Option<View>
     let (first, options) = words.split_first()?;
     match first.as_str() {
         "margins" if options.is_empty() => Some(View::Margins),
+        "tree" => tree_of(options),
         "jobs" => jobs_of(options),
         _ => None,
     }

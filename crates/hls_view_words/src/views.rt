@@ -6,6 +6,8 @@ use hls_chron::Name;
 pub enum View {
     /// A line for each stay: how near it came to its guarantee and its cap.
     Margins,
+    /// A line for each place of the hierarchy at a tick, and what is told of it; `None` for the last tick.
+    Tree { at: Option<u32> },
     /// A line for each thread, or for each job of the threads of one name.
     Jobs { of: Option<Name> },
 }

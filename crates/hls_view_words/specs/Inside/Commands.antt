@@ -4,6 +4,9 @@ use Rattle.clap.specs.Words.{App, Rule, Text, new_app, new_rule, with_rule, with
 use Rattle.clap.specs.Simple.{on_top}
 use Rattle.clap.specs.declared.builder.ArgAction.TheVariants.{Set}
 
+abbrev pub at : Rule
+at = record (new_rule (codes "at")) { long = Some (codes "at"); action = Some Set }
+
 abbrev pub of : Rule
 of = record (new_rule (codes "of")) { long = Some (codes "of"); action = Some Set }
 
@@ -12,6 +15,9 @@ leaf name = on_top (λ s. record s { disable_help_flag = true }) (new_app name)
 
 abbrev pub margins : App
 margins = leaf (codes "margins")
+
+abbrev pub tree : App
+tree = with_rule (leaf (codes "tree")) at
 
 abbrev pub jobs : App
 jobs = with_rule (leaf (codes "jobs")) of
@@ -25,4 +31,4 @@ bare = on_top (λ s. record s {
 }) (new_app (codes "hlsview"))
 
 abbrev pub hlsview : App
-hlsview = with_subcommand (with_subcommand bare margins.top) jobs.top
+hlsview = with_subcommand (with_subcommand (with_subcommand bare margins.top) tree.top) jobs.top

@@ -7,7 +7,9 @@ pub returns : goal.returns
 returns c =
     let with_margins = c.in_ok-subcommand.ensures.shape (search rules)
     ∙ ap₂ with_subcommand c.bare_command.ensures.app (ap (λ (a : App). a.top) c.margins_command.ensures.app) in
-    IfOk-weaker c.subcommand-2.result _ _ (λ r h.
-    h.shape (search rules) ∙ ap₂ with_subcommand with_margins
+    let with_tree = c.in_ok-subcommand-2.ensures.shape (search rules)
+    ∙ ap₂ with_subcommand with_margins (ap (λ (a : App). a.top) c.in_ok-tree_command.ensures.app) in
+    IfOk-weaker c.subcommand-3.result _ _ (λ r h.
+    h.shape (search rules) ∙ ap₂ with_subcommand with_tree
     (ap (λ (a : App). a.top) c.in_ok-jobs_command.ensures.app))
-    c.subcommand-2.ensures
+    c.subcommand-3.ensures
