@@ -110,6 +110,7 @@ abbrev pub ArePeriodsOf : Seat → Option (List ℕ) → (periods : List ℕ) �
 ArePeriodsOf seat None periods = AreOwnPeriods seat periods
 ArePeriodsOf seat (Some list) periods = periods ≡ list
 
+-- the lines of the periods that are asked about
 pub record AreSpans (seat : Seat) (wait : Option ℕ) (list : Option (List ℕ)) (lines : List Guarantee) : Type 0 where
   pub periods : List ℕ
   pub are : ArePeriodsOf seat list periods
@@ -122,7 +123,7 @@ abbrev pub or_nothing : List Guarantee → List Guarantee
 or_nothing [] = Null ∷ []
 or_nothing (g ∷ lines) = g ∷ lines
 
--- What can be promised, best first: every tick; hard blocks and hard windows; the shares from which all shares follow;
+-- What can be promised, best first: every tick; hard blocks and hard windows; the shares from which the others follow;
 -- the least wait; the most ticks of blocks and windows, period by period.
 pub record AreOffers (seat : Seat) (list : Option (List ℕ)) (lines : List Guarantee) : Type 0 where
   pub whole : List Guarantee

@@ -1,7 +1,6 @@
 // The most ticks of blocks and windows, period by period.
-ghost use Rattle.std.specs.Prelude.{◌≡◌, ◌≢◌, ◌≤◌, ◌<◌, ◌⊎◌, ℕ, All, IfOk, IfSome, IsFalse, IsTrue, Some};
-ghost use Rattle.hls_guarantee.specs.Limits.{IsValid};
-ghost use Rattle.hls_offer_best.specs.Best.{CanAsk, IsLeastIfAny, IsMostIfAny, formed, Gives};
+ghost use Rattle.std.specs.Prelude.{◌≡◌, ◌≤◌, ◌<◌, ◌⊎◌, ℕ, All, IfOk, IfSome, IsFalse, IsTrue, Some};
+ghost use Rattle.hls_offer_best.specs.Best.{CanAsk, IsLeastIfAny, IsMostIfAny, Gives};
 ghost use Rattle.hls_offer_best.specs.Inside.Trying.{IsFrom};
 ghost use Rattle.hls_offer_lines.specs.Lines.{
   AreOfPeriod,

@@ -2,7 +2,6 @@
 ghost use Rattle.std.specs.Prelude.{◌≡◌, ◌≢◌, ◌≤◌, ◌<◌, ◌↔◌, ℕ, All, Contains, IfOk, IsTrue, Option, Some, None, List};
 ghost use Rattle.std.specs.Prelude.{option_copied, true};
 ghost use Rattle.hls_chron.specs.Ranges.{ConfigInRange, TermsInRange};
-ghost use Rattle.hls_chron.specs.declared.plain.Terms.{Terms};
 ghost use Rattle.hls_guarantee.specs.declared.Guarantee.TheVariants.{Resb};
 ghost use Rattle.hls_offer_lines.specs.Cost.{
   ArePeriods,
@@ -12,7 +11,7 @@ ghost use Rattle.hls_offer_lines.specs.Cost.{
   IsHadOn,
   IsPeriodOf,
 };
-ghost use Rattle.hls_offer_lines.specs.Inside.Places.{NoneBelow, place_count, place_of};
+ghost use Rattle.hls_offer_lines.specs.Inside.Places.{place_count, place_of};
 
 use hls_chron::{Config, Terms};
 use hls_derive::Place;
