@@ -27,5 +27,6 @@ arrived c t tale members h formed told ordered stays places =
           (ordered
           ∙ ap (λ (ms : List Member). in_order ms tale.standing.items) tree
           ∙ ap (λ (ss : List Standing). in_order (tree_at t c.answered) ss) told.standing)
-          ∙ ap (λ (ms : List Member). below (in_order (tree_at t c.answered) (standing_at c t)) (length ms) None []) tree;
+          ∙ ap (λ (ms : List Member). below (in_order (tree_at t c.answered) (standing_at c t)) (length ms) None [])
+          tree;
     }

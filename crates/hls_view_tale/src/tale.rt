@@ -137,7 +137,8 @@ impl Tale {
         ensures tree { self.new.tree ≡ self.old.tree }
         ensures threads { self.new.threads ≡ self.old.threads }
         ensures standing { OnOk result (self.new.standing.items
-            ≡ standings.standing_after self.old.tree.items self.old.threads.items place command.now self.old.standing.items) }
+            ≡ standings.standing_after self.old.tree.items self.old.threads.items place command.now
+            self.old.standing.items) }
     {
         match command {
             Command::Load { name, .. } => begin(&mut self.standing, name, place),

@@ -69,12 +69,14 @@ pub named_found : (names : List Text) (runs : List Run) (end t : ℕ) (run : Run
 named_found names runs end t run path cover is e =
     let P : Run → Type 0 = λ (run : Run). IsPath (option_map (path_names names) run.path) in
     let whole : IsPath (option_map (path_names names) run.path) =
-    some_of P (find (is_run_of t) runs) run is (found_holds P (is_run_of t) runs (paths_in names 0 None runs end cover)) in
+    some_of P (find (is_run_of t) runs) run is
+    (found_holds P (is_run_of t) runs (paths_in names 0 None runs end cover)) in
     (subst (λ (p : Option Path). IsPath (option_map (path_names names) p)) e whole).1
 
 -- a name of a path is among those that the report has
 each_named : (names : List Text) (places : List ℕ) (at : ℕ) → at < length places
-    → AllByRecursion IsName (map (λ place. get_or names place []) places) → IsName (get_or names (get_or places at 0) [])
+    → AllByRecursion IsName (map (λ place. get_or names place []) places)
+    → IsName (get_or names (get_or places at 0) [])
 each_named names [] at lt all = absurd (omega (arith, lt))
 each_named names (first ∷ places) zero lt all = all.0
 each_named names (first ∷ places) (suc at) lt all = each_named names places at (omega (arith, lt)) all.1

@@ -1,5 +1,6 @@
 // The derivation in force of a node and a port.
-ghost use Rattle.std.specs.Prelude.{◌≡◌, ◌+◌, ℕ, drop, take, find, length, min, reverse, option_copied, option_map, IfSome};
+ghost use Rattle.std.specs.Prelude.{◌≡◌, ◌+◌, ℕ, drop, take, find, length, min, reverse, IfSome};
+ghost use Rattle.std.specs.Prelude.{option_copied, option_map};
 ghost use Rattle.hls_derive.specs.Derivation.{IsWithinGrammar};
 ghost use Rattle.hls_report_text.specs.Content.{content_of};
 ghost use Rattle.hls_report_text.specs.WellFormed.{IsWellFormed};

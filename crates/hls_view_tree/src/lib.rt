@@ -1,4 +1,4 @@
-//! What a report tells of each place of the hierarchy at a tick: since when, what becomes of it, and by which derivation.
+//! What a report tells of each place of the hierarchy at a tick: since when, what becomes of it, by which derivation.
 #![tactic(auto)]
 
 mod activity;

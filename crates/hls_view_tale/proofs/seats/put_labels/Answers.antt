@@ -15,7 +15,8 @@ loop-port-preserved c =
     let within : c.loop-port.port < length m.perches =
     subst (λ (perches : List Perch). c.loop-port.port < length perches) c.items-perch-items.ensures
     c.loop-port-test.true in
-    labels_more m c.args.above.now c.loop-port.port m.perches perch c.loop-port.labels.items c.put_label.new.labels.items
+    labels_more m c.args.above.now c.loop-port.port m.perches perch c.loop-port.labels.items
+    c.put_label.new.labels.items
     (c.args.labels.now.items ++ labels_from m c.args.above.now 0 m.perches) within here c.in_ok-put_label.ensures
     c.loop-port.invariant
 

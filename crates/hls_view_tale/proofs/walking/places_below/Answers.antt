@@ -10,7 +10,8 @@ use Rattle.hls_view_tale.proofs.walking.places_below.Goals as goal
 pub returns-then-steps-eq0 : goal.returns-then-steps-eq0
 returns-then-steps-eq0 c =
     c.new.ensures.items ∙ none_below c.args.members.now c.args.top.now
-    ∙ ap (λ n. below c.args.members.now n c.args.top.now []) (let e : 0 ≡ c.args.steps = omega (arith, c.if-steps-eq0.true) in e)
+    ∙ ap (λ n. below c.args.members.now n c.args.top.now [])
+    (let e : 0 ≡ c.args.steps = omega (arith, c.if-steps-eq0.true) in e)
 
 pub returns : goal.returns
 returns c =
