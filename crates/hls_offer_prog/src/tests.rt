@@ -4,7 +4,7 @@ use hls_io::{MemSink, MemSource, Status};
 use std::alloc::Global;
 use std::test::Fail;
 
-const USAGE: &[u8] = b"usage: hlsoffer spare [--at T] [--depth K]\n";
+const USAGE: &[u8] = b"usage: hlsoffer spare [over Y..] [--at T] [--depth K]\n";
 
 const EMPTY: &[u8] = b"hls 1\nhorizon 9\n";
 
@@ -25,11 +25,13 @@ const HELD: &[u8] = b"hls 1\n\
 #[test]
 fn answers_words_and_texts(rt: HostRuntime) -> Result<(), Fail> {
     let alloc: Global = rt.alloc();
-    let cases: [(&[&str], &[u8], Status, &[u8]); 12] = [
+    let cases: [(&[&str], &[u8], Status, &[u8]); 14] = [
         (&[], ROOT, Status::Usage, USAGE),
         (&["spare", "now"], ROOT, Status::Usage, USAGE),
         (&["spare", "--depth", "7"], ROOT, Status::Usage, USAGE),
         (&["spare", "--depth=3"], ROOT, Status::Usage, USAGE),
+        (&["spare", "over"], ROOT, Status::Usage, USAGE),
+        (&["spare", "over", "3", "3"], ROOT, Status::Usage, USAGE),
         (
             &["spare", "--depth", "3", "--at", "0"],
             ROOT,
@@ -68,10 +70,10 @@ fn answers_words_and_texts(rt: HostRuntime) -> Result<(), Fail> {
             b"hls-offer 1\ntick 5\ndepth 3\nfree root edf has ALL : parts 0\nend\n",
         ),
         (
-            &["spare", "--at", "10"],
+            &["spare", "over", "3", "10", "--at", "10"],
             HELD,
             Status::Done,
-            b"hls-offer 1\ntick 10\ndepth 3\nfree root edf has ALL : parts 66786643213290000 , res 500 1000\nend\n",
+            b"hls-offer 1\ntick 10\ndepth 3\nfree root edf has ALL : parts 66786643213290000 , res 1 3 , res 5 10\nend\n",
         ),
     ];
     for (case, (words, text, status, written)) in cases.iter().enumerate() {
