@@ -9,6 +9,7 @@ ghost use Rattle.hls_top.specs.Ends.{Lacks};
 ghost use Rattle.hls_top.specs.Says.{IsRead};
 ghost use Rattle.hls_offer_words.specs.Table.{IsAtMost, IsAsked};
 ghost use Rattle.hls_offer.specs.Ends.{Ends, IsOrderly};
+ghost use Rattle.hls_offer.specs.Musts.{MustAnswer};
 ghost use Rattle.hls_offer.specs.Inside.Readings.{IsOfSource};
 
 use crate::replies::{Reply, reply_to};
@@ -85,6 +86,8 @@ pub fn offer_run<S: Source, K: Sink>(
         (boxes_in kit) source.old source.new sink.old sink.new) result }
     ensures orderly { IsOrderly (exchange S.left S.faults K.written K.faults (map string_bytes words.now.items)
         (boxes_in kit) source.old source.new sink.old sink.new) }
+    ensures answers { MustAnswer (exchange S.left S.faults K.written K.faults (map string_bytes words.now.items)
+        (boxes_in kit) source.old source.new sink.old sink.new) result }
 {
     match asked_for(alloc, words) {
         Ok(Some(asked)) => answer(alloc, &asked, source, sink, kit, rules),

@@ -1,6 +1,6 @@
 -- Numbers that rise, as many as stand in front.
-use Rattle.std.proofs.Common.{◌≡◌, ℕ, ◌+◌, ◌≤◌, ◌<◌, List, [], ◌∷◌, ◌++◌, refl, sym, ap, ◌∙◌, arith, codes, append_assoc}
-use Rattle.std.proofs.Common.{true, false, length, subst}
+use Rattle.std.proofs.Common.{◌≡◌, ℕ, ◌+◌, ◌≤◌, List, [], ◌∷◌, ◌++◌, refl, sym, ap, ◌∙◌, arith, codes}
+use Rattle.std.proofs.Common.{true, false, subst}
 use Rattle.std.specs.Prelude.{Option, Some, None, decimal, map}
 use Rattle.std.proofs.lemmas.Fmt.{decimal_injective}
 use Rattle.hls_text.specs.Lines.{Text}

@@ -2,7 +2,7 @@
 use Rattle.std.proofs.Common.{◌≡◌, ℕ, ◌≤◌, List, [], ◌∷◌, ◌++◌, refl, sym, ap, ◌∙◌, arith, codes, subst, length}
 use Rattle.std.specs.Prelude.{Option, Some, None, Result, Ok, Err, decimal, map, IfOk, MatchOption}
 use Rattle.hls_text.specs.Lines.{Text}
-use Rattle.hls_scenario.specs.Forms.{Form, the}
+use Rattle.hls_scenario.specs.Forms.{the}
 use Rattle.hls_scenario.specs.Grammar.{IsLine}
 use Rattle.hls_lang.proofs.Fronts.{Front, front_join, front_split, line_of_front, front_of_line}
 use Rattle.hls_offer_words.specs.Table.{over_words, option_words, moment_words, tail_words, IsAtMost, ArePeriods}
@@ -147,8 +147,7 @@ spare_begins a [] asked is =
     absurd (subst (λ (q : Question). Front (question_forms q) [] behind.words) is behind.front)
 spare_begins a (t ∷ all) asked is =
     let behind = asked_behind a (t ∷ all) asked in
-    let front = subst (λ (q : Question). Front (question_forms q) (t ∷ all) behind.words) is behind.front in
-    (
+    let front = subst (λ (q : Question). Front (question_forms q) (t ∷ all) behind.words) is behind.front in (
       behind.words,
       ap (λ (x : Text). x ∷ all) front.0 ∙ ap (λ (ws : List Text). codes "spare" ∷ ws) front.1,
       behind.tail,

@@ -1,5 +1,5 @@
 -- The words that ask a question.
-use Rattle.std.specs.Prelude.{◌≡◌, ℕ, ◌+◌, ◌≤◌, List, [], ◌∷◌, ◌++◌, Option, Some, None, codes, decimal, length, map}
+use Rattle.std.specs.Prelude.{ℕ, ◌+◌, ◌≤◌, List, [], ◌∷◌, ◌++◌, Option, Some, None, codes, decimal, length, map}
 use Rattle.hls_text.specs.Lines.{Text}
 use Rattle.hls_scenario.specs.Forms.{Form, the}
 use Rattle.hls_scenario.specs.Grammar.{IsLine}

@@ -54,7 +54,7 @@ fn stated<'a>(alloc: Global, words: &'a [String], most: u32) -> Result<Option<Ov
     ensures { IfOk result (λ found. MatchOption found
         (IsNoOver most (codes "over" ∷ map string_bytes words.entry.now))
         (λ over. IsOver most (codes "over" ∷ map string_bytes words.entry.now) over.periods
-            (map string_bytes over.rest.now))) }
+        (map string_bytes over.rest.now))) }
 {
     let Taken { numbers, rest } = rising(alloc, words, most)?;
     if !may_be_stated(&numbers) {
@@ -70,7 +70,11 @@ fn stated<'a>(alloc: Global, words: &'a [String], most: u32) -> Result<Option<Ov
 ///
 /// # Errors
 /// Returns `AllocError` for want of memory.
-pub fn over_in<'a>(alloc: Global, words: &'a [String], most: u32) -> Result<Option<Over<'a>>, AllocError>
+pub fn over_in<'a>(
+    alloc: Global,
+    words: &'a [String],
+    most: u32,
+) -> Result<Option<Over<'a>>, AllocError>
     requires { most ≤ 20000 }
     ensures { IfOk result (λ found. MatchOption found (IsNoOver most (map string_bytes words.entry.now))
         (λ over. IsOver most (map string_bytes words.entry.now) over.periods (map string_bytes over.rest.now))) }

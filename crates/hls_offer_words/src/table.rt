@@ -98,7 +98,11 @@ fn most_period(question: &Question) -> u32
 }
 
 /// The question with what the words behind it state.
-fn asked_with(alloc: Global, question: Question, words: &[String]) -> Result<Option<Asked>, AllocError>
+fn asked_with(
+    alloc: Global,
+    question: Question,
+    words: &[String],
+) -> Result<Option<Asked>, AllocError>
     ensures { IfOk result (λ found. MatchOption found (IsNoTail question (map string_bytes words.now))
         (λ a. (a.question ≡ question) × IsTail a (map string_bytes words.now))) }
 {

@@ -1,5 +1,5 @@
 -- What is read of the words behind a question.
-use Rattle.std.specs.Prelude.{◌≡◌, ℕ, ◌+◌, ◌≤◌, List, [], ◌∷◌, ◌++◌, Option, codes, decimal, map}
+use Rattle.std.specs.Prelude.{◌≡◌, ℕ, ◌+◌, ◌≤◌, List, [], ◌∷◌, ◌++◌, Option, decimal, map}
 use Rattle.hls_text.specs.Lines.{Text}
 use Rattle.hls_offer_words.specs.Table.{over_words, moment_words, tail_words, IsAtMost, Rise, ArePeriods, most_period}
 use Rattle.hls_offer_words.specs.declared.asked.Question.{Question}

@@ -1,4 +1,4 @@
-use Rattle.std.proofs.Common.{◌≡◌, ◌≤◌, map, string_bytes, ap, sym, ◌∙◌, subst}
+use Rattle.std.proofs.Common.{◌≤◌, map, string_bytes, sym, subst}
 use Rattle.hls_offer_words.proofs.Rising.{rising_more, words_more}
 use Rattle.hls_offer_words.proofs.periods.rising.Goals as goal
 
