@@ -4,4 +4,5 @@ pub mod Lines
 pub mod Upto
 pub mod Reached
 pub mod Outcomes
+pub mod Musts
 pub mod Replied

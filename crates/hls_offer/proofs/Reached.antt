@@ -11,7 +11,7 @@ use Rattle.hls_machine.proofs.Lists.{run_listed}
 use Rattle.hls_machine.proofs.Seated.{run_seated}
 use Rattle.hls_tree.specs.Trees.{Stands}
 use Rattle.hls_offer_text.specs.OfferText.{free_text, head_lines}
-use Rattle.hls_offer.specs.Replies.{usual_periods, TellsLeft}
+use Rattle.hls_offer.specs.Replies.{TellsLeft}
 use Rattle.hls_offer.specs.Inside.Lines.{AddsAll}
 use Rattle.std.specs.Fn.{Mut}
 use Rattle.hls_guarantee.specs.declared.Guarantee.{Guarantee}
@@ -81,10 +81,10 @@ module _ {V W : Type 0} {P : V → Type 0} {Q : W → Type 0}
 
   -- the lines that are written there
   pub told_left : (tick : ℕ) → c.journal.ticks ≡ tick → NoneDue c.scenario.items c.agenda tick
-      → (none head lines whole : Text) → none ≡ [] → head ≡ none ++ ended (head_lines tick c.depth)
-      → AddsAll seen c.tree usual_periods head lines → whole ≡ lines ++ with_end (codes "end")
-      → TellsLeft s given boxes tick whole
-  told_left tick now due none head lines whole empty first all last = record {
+      → (periods : List ℕ) (none head lines whole : Text) → none ≡ [] → head ≡ none ++ ended (head_lines tick c.depth)
+      → AddsAll seen c.tree periods head lines → whole ≡ lines ++ with_end (codes "end")
+      → TellsLeft s given boxes tick periods whole
+  told_left tick now due periods none head lines whole empty first all last = record {
     m = moment_of;
     moment = at_tick tick now due;
     frees = all.frees;

@@ -7,17 +7,16 @@ use Rattle.hls_scenario.specs.Grammar.{IsScenarioText}
 use Rattle.hls_answers.specs.Moment.{Boxes}
 use Rattle.hls_offer_words.specs.declared.asked.Asked.{Asked}
 use Rattle.hls_offer.specs.Moments.{asked_tick, IsGoodTick}
-use Rattle.hls_offer.specs.Replies.{given_depth, TellsLeft, Replies}
+use Rattle.hls_offer.specs.Replies.{given_depth, told_periods, TellsLeft, Replies}
 
-pub replied : (a : Asked) (s : Scenario) (boxes : Boxes) (bytes output : Text) (items : List Item) (tick depth : ℕ)
-    → items ≡ s.items → tick ≡ asked_tick a.at items → depth ≡ given_depth a.depth → IsScenarioText bytes s
-    → IsGoodTick s tick → TellsLeft s depth boxes tick output → Replies a boxes bytes output
-replied a s boxes bytes output items tick depth same at deep read good tells =
+pub replied : (a : Asked) (s : Scenario) (boxes : Boxes) (bytes output : Text) (items : List Item) (tick : ℕ)
+    → items ≡ s.items → tick ≡ asked_tick a.at items → IsScenarioText bytes s → IsGoodTick s tick
+    → TellsLeft s (given_depth a.depth) boxes tick (told_periods a.periods) output → Replies a boxes bytes output
+replied a s boxes bytes output items tick same at read good tells =
     let asked : tick ≡ asked_tick a.at s.items = at ∙ ap (λ (is : List Item). asked_tick a.at is) same in
     record {
       scenario = s;
       read = read;
       good = subst (λ (t : ℕ). IsGoodTick s t) asked good;
-      tells = subst (λ (t : ℕ). TellsLeft s (given_depth a.depth) boxes t output) asked
-          (subst (λ (d : ℕ). TellsLeft s d boxes tick output) deep tells);
+      tells = subst (λ (t : ℕ). TellsLeft s (given_depth a.depth) boxes t (told_periods a.periods) output) asked tells;
     }

@@ -17,7 +17,7 @@ use Rattle.hls_offer.specs.Replies.{IsReply}
 
 -- the line that tells how the program is used
 abbrev pub usage_line : Text
-usage_line = codes "usage: hlsoffer spare [--at T] [--depth K]" ++ 10 ∷ []
+usage_line = codes "usage: hlsoffer spare [over Y..] [--at T] [--depth K]" ++ 10 ∷ []
 
 -- the words ask a question, these are all the bytes that came, they are within the limit, and this is the reply
 pub record IsOfQuestion (x : Exchange) (status : Status) (output : Text) : Type 0 where

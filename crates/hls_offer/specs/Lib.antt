@@ -3,4 +3,5 @@ pub mod Left
 pub mod Spare
 pub mod Replies
 pub mod Ends
+pub mod Musts
 pub mod Inside

@@ -20,16 +20,21 @@ usual_depth = 3
 abbrev pub given_depth : Option ℕ → ℕ
 given_depth stated = unwrap_or stated usual_depth
 
--- the periods of the reservations that are told
+-- the periods of the reservations that are told where the words state none
 abbrev pub usual_periods : List ℕ
 usual_periods = 1000 ∷ []
 
--- the lines tell what is left on each loaded scheduler, in the order of their loads, at a tick of a scenario
-pub record TellsLeft (s : Scenario) (given : ℕ) (boxes : Boxes) (tick : ℕ) (output : Text) : Type 0 where
+abbrev pub told_periods : Option (List ℕ) → List ℕ
+told_periods stated = unwrap_or stated usual_periods
+
+-- the lines tell what is left on each loaded scheduler, in the order of their loads, at a tick of a scenario, with
+-- reservations in these periods
+pub record TellsLeft (s : Scenario) (given : ℕ) (boxes : Boxes) (tick : ℕ) (periods : List ℕ) (output : Text)
+    : Type 0 where
   pub m : Moment
   pub moment : IsMoment s given boxes tick m
   pub frees : List Free
-  pub are : AreFree usual_periods m.hierarchy m.hierarchy.schedulers frees
+  pub are : AreFree periods m.hierarchy m.hierarchy.schedulers frees
   pub spelled : output ≡ answer_text tick m.depth (map free_text frees)
 
 -- they tell it of the scenario whose text the bytes are, at the tick that is asked about
@@ -37,7 +42,8 @@ pub record Replies (a : Asked) (boxes : Boxes) (bytes output : Text) : Type 0 wh
   pub scenario : Scenario
   pub read : IsScenarioText bytes scenario
   pub good : IsGoodTick scenario (asked_tick a.at scenario.items)
-  pub tells : TellsLeft scenario (given_depth a.depth) boxes (asked_tick a.at scenario.items) output
+  pub tells : TellsLeft scenario (given_depth a.depth) boxes (asked_tick a.at scenario.items)
+      (told_periods a.periods) output
 
 -- the tick cannot be asked about: the line that an answer would take is refused
 pub record RefusesTick (a : Asked) (bytes output : Text) : Type 0 where

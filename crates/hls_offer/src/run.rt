@@ -9,6 +9,7 @@ ghost use Rattle.hls_top.specs.Ends.{Lacks};
 ghost use Rattle.hls_top.specs.Says.{IsRead};
 ghost use Rattle.hls_offer_words.specs.Table.{IsAtMost, IsAsked};
 ghost use Rattle.hls_offer.specs.Ends.{Ends, IsOrderly};
+ghost use Rattle.hls_offer.specs.Musts.{MustAnswer};
 ghost use Rattle.hls_offer.specs.Inside.Readings.{IsOfSource};
 
 use crate::replies::{Reply, reply_to};
@@ -17,7 +18,7 @@ use hls_offer_words::{Asked, asked_for};
 use hls_rules::RuleBook;
 use hls_sched::{Kit, Scheduler};
 use hls_top::{say, text_from};
-use std::alloc::Global;
+use std::alloc::{AllocError, Global};
 
 /// The most bytes that are taken for the text of a scenario.
 const SCENARIO_LIMIT: usize = 4_194_304;
@@ -25,14 +26,14 @@ const SCENARIO_LIMIT: usize = 4_194_304;
 /// Reads a scenario, and makes what is to be written about it.
 fn reply_of<S: Source>(
     alloc: Global,
-    asked: Asked,
+    asked: &Asked,
     source: &mut S,
     kit: Kit,
     rules: RuleBook,
 ) -> Result<Reply, ReadError>
-    requires depth { IsAtMost 6 asked.depth }
+    requires depth { IsAtMost 6 asked.now.depth }
     requires good { IsGood (boxed seen) kit }
-    ensures is { IfOk result (λ reply. IsOfSource asked (boxes_in kit)
+    ensures is { IfOk result (λ reply. IsOfSource asked.now (boxes_in kit)
         (drawn S.left S.faults source.old source.new) reply.status reply.bytes.items) }
     ensures quiet { OnOk result (S.faults source.new ≡ S.faults source.old) }
     ensures lacks { IfErr result (λ error. Lacks error (Some scenario_limit)
@@ -46,17 +47,17 @@ fn reply_of<S: Source>(
 /// Answers a question about a scenario.
 fn answer<S: Source, K: Sink>(
     alloc: Global,
-    asked: Asked,
+    asked: &Asked,
     source: &mut S,
     sink: &mut K,
     kit: Kit,
     rules: RuleBook,
 ) -> Status
-    requires depth { IsAtMost 6 asked.depth }
+    requires depth { IsAtMost 6 asked.now.depth }
     requires good { IsGood (boxed seen) kit }
-    ensures ends { (words : List Text) → IsAsked words asked → Ends (exchange S.left S.faults K.written K.faults words
+    ensures ends { (words : List Text) → IsAsked words asked.now → Ends (exchange S.left S.faults K.written K.faults words
         (boxes_in kit) source.old source.new sink.old sink.new) result }
-    ensures orderly { (words : List Text) → IsAsked words asked → IsOrderly (exchange S.left S.faults K.written K.faults
+    ensures orderly { (words : List Text) → IsAsked words asked.now → IsOrderly (exchange S.left S.faults K.written K.faults
         words (boxes_in kit) source.old source.new sink.old sink.new) }
 {
     match reply_of(alloc, asked, source, kit, rules) {
@@ -85,13 +86,16 @@ pub fn offer_run<S: Source, K: Sink>(
         (boxes_in kit) source.old source.new sink.old sink.new) result }
     ensures orderly { IsOrderly (exchange S.left S.faults K.written K.faults (map string_bytes words.now.items)
         (boxes_in kit) source.old source.new sink.old sink.new) }
+    ensures answers { MustAnswer (exchange S.left S.faults K.written K.faults (map string_bytes words.now.items)
+        (boxes_in kit) source.old source.new sink.old sink.new) result }
 {
-    match asked_for(words) {
-        Some(asked) => answer(alloc, asked, source, sink, kit, rules),
-        None => say(
+    match asked_for(alloc, words) {
+        Ok(Some(asked)) => answer(alloc, &asked, source, sink, kit, rules),
+        Ok(None) => say(
             sink,
-            b"usage: hlsoffer spare [--at T] [--depth K]\n",
+            b"usage: hlsoffer spare [over Y..] [--at T] [--depth K]\n",
             Status::Usage,
         ),
+        Err(AllocError) => Status::Memory,
     }
 }

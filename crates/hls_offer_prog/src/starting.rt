@@ -6,6 +6,7 @@ ghost use Rattle.hls_sched.specs.Boxed.{boxed};
 ghost use Rattle.hls_manager.specs.Outcomes.{boxes_in};
 ghost use Rattle.hls_top.specs.Exchange.{exchange};
 ghost use Rattle.hls_offer.specs.Ends.{Ends, IsOrderly};
+ghost use Rattle.hls_offer.specs.Musts.{MustAnswer};
 ghost use Rattle.hls_prog_start.specs.FullKit.{full_kit};
 
 use hls_chron::Kind;
@@ -101,6 +102,8 @@ pub fn start<S: Source, K: Sink>(
         source.old source.new sink.old sink.new) result }
     ensures orderly { IsOrderly (exchange S.left S.faults K.written K.faults (map string_bytes words.now.items)
         full_kit source.old source.new sink.old sink.new) }
+    ensures answers { MustAnswer (exchange S.left S.faults K.written K.faults (map string_bytes words.now.items)
+        full_kit source.old source.new sink.old sink.new) result }
 {
     match run_with_boxes(alloc, words, source, sink) {
         Ok(status) => status,

@@ -1,11 +1,13 @@
 -- The lines of an answer.
-use Rattle.std.specs.Prelude.{ℕ, List, [], ◌∷◌, ◌++◌, codes, decimal, flat_map}
+use Rattle.std.specs.Prelude.{ℕ, List, [], ◌∷◌, ◌++◌, codes, decimal, flat_map, Option, Some, None}
 use Rattle.hls_text.specs.Lines.{Text}
 use Rattle.hls_chron.specs.declared.plain.Config.{Config}
+use Rattle.hls_chron.specs.declared.plain.Terms.{Terms}
 use Rattle.hls_guarantee.specs.declared.Guarantee.{Guarantee}
 use Rattle.hls_guarantee.specs.Spelling.{spelling}
-use Rattle.hls_scenario.specs.Forms.{spaced, config_forms}
-use Rattle.hls_report_text.specs.ReportText.{two_words, span_text, ended}
+use Rattle.hls_scenario.specs.Forms.{spaced, config_forms, terms_forms}
+use Rattle.hls_report_text.specs.declared.refusal.Refusal.{Refusal}
+use Rattle.hls_report_text.specs.ReportText.{two_words, span_text, ended, refusal_text}
 use Rattle.hls_offer_text.specs.declared.left.Span.{Span}
 use Rattle.hls_offer_text.specs.declared.left.Fit.{Fit}
 use Rattle.hls_offer_text.specs.declared.left.Left.{Left}
@@ -46,6 +48,18 @@ pub record Free : Type 0 where
 abbrev pub free_text : Free → Text
 free_text f = codes "free " ++ (f.name ++ (spaced (config_forms f.config)
     ++ (codes " has " ++ (guarantees_text f.haves ++ (codes " : " ++ left_text f.left)))))
+
+-- ---- what cannot be had
+
+-- the terms that are told, if any are
+abbrev pub stated_terms_text : Option Terms → Text
+stated_terms_text None = []
+stated_terms_text (Some its) = spaced (terms_forms its)
+
+-- on a scheduler, with these terms if they are told, nothing can be had, and this is why
+abbrev pub refused_text : (scheduler : Text) → Option Terms → Refusal → Text
+refused_text scheduler its refusal = codes "no " ++ (scheduler ++ (stated_terms_text its
+    ++ (codes " : " ++ refusal_text refusal)))
 
 -- ---- the whole
 

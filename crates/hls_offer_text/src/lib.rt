@@ -2,7 +2,9 @@
 #![tactic(auto)]
 
 mod left;
+mod requests;
 mod writing;
 
 pub use left::{Fit, Left, Span};
+pub use requests::{put_refused, put_request};
 pub use writing::{put_end, put_free, put_head};

@@ -149,7 +149,7 @@ fn put_fits(out: &mut Vec<u8>, fits: &[Fit]) -> Result<(), AllocError>
 }
 
 /// Appends words and a number behind them.
-fn put_counted(out: &mut Vec<u8>, words: &[u8], number: u128) -> Result<(), AllocError>
+pub fn put_counted(out: &mut Vec<u8>, words: &[u8], number: u128) -> Result<(), AllocError>
     ensures { OnOk result (out.new.items ≡ out.old.items ++ (words.now ++ decimal number)) }
 {
     put(out, words)?;

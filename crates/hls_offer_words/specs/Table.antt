@@ -1,7 +1,20 @@
 -- The words that ask a question.
-use Rattle.std.specs.Prelude.{◌≡◌, ℕ, ◌≤◌, List, [], ◌∷◌, ◌++◌, Option, Some, None, codes, decimal}
+use Rattle.std.specs.Prelude.{ℕ, ◌+◌, ◌≤◌, List, [], ◌∷◌, ◌++◌, Option, Some, None, codes, decimal, length, map}
 use Rattle.hls_text.specs.Lines.{Text}
+use Rattle.hls_scenario.specs.Forms.{Form, the}
+use Rattle.hls_scenario.specs.Grammar.{IsLine}
+use Rattle.hls_offer_words.specs.declared.asked.Question.{Question}
+use Rattle.hls_offer_words.specs.declared.asked.Question.TheVariants.{Spare}
 use Rattle.hls_offer_words.specs.declared.asked.Asked.{Asked}
+
+-- the words of a question up to its periods
+abbrev pub question_forms : Question → List Form
+question_forms Spare = the (codes "spare") ∷ []
+
+-- the periods of the reservations that are told, or none
+abbrev pub over_words : Option (List ℕ) → List Text
+over_words None = []
+over_words (Some periods) = codes "over" ∷ map decimal periods
 
 -- an option that may be left out, and its number
 abbrev pub option_words : (option : Text) → Option ℕ → List Text
@@ -9,17 +22,36 @@ option_words option None = []
 option_words option (Some n) = option ∷ decimal n ∷ []
 
 -- the words behind the question itself: its tick, and behind that its depth
-abbrev pub moment_words : Asked → List Text
-moment_words a = option_words (codes "--at") a.at ++ option_words (codes "--depth") a.depth
+abbrev pub moment_words : (at depth : Option ℕ) → List Text
+moment_words at depth = option_words (codes "--at") at ++ option_words (codes "--depth") depth
+
+abbrev pub tail_words : Asked → List Text
+tail_words a = over_words a.periods ++ moment_words a.at a.depth
+
+abbrev pub asked_forms : Asked → List Form
+asked_forms a = question_forms a.question ++ map (λ word. the word) (tail_words a)
 
 -- a number that is stated is at most so great
 abbrev pub IsAtMost : (most : ℕ) → Option ℕ → Type 0
 IsAtMost most None = Unit {0}
 IsAtMost most (Some n) = n ≤ most
 
+-- the numbers rise strictly, from one on and up to the most
+abbrev pub Rise : (from most : ℕ) → List ℕ → Type 0
+Rise from most [] = Unit {0}
+Rise from most (n ∷ ns) = (from ≤ n) × (n ≤ most) × Rise (n + 1) most ns
+
+abbrev pub ArePeriods : (most : ℕ) → Option (List ℕ) → Type 0
+ArePeriods most None = Unit {0}
+ArePeriods most (Some periods) = (1 ≤ length periods) × (length periods ≤ 64) × Rise 1 most periods
+
+abbrev pub most_period : Question → ℕ
+most_period Spare = 10000
+
 -- the words ask for this
 pub record IsAsked (words : List Text) (a : Asked) : Type 0 where
-  pub words_are : words ≡ codes "spare" ∷ moment_words a
+  pub words_are : IsLine (asked_forms a) words
+  pub periods : ArePeriods (most_period a.question) a.periods
   pub tick : IsAtMost 99999 a.at
   pub depth : IsAtMost 6 a.depth
 

@@ -1,8 +1,20 @@
 // What the words of a question ask for.
 
-/// A question about what is left on each scheduler, and of which moment it is asked.
+use hls_chron::List;
+
+/// What is asked.
 #[derive(Clone, Copy, Debug, PartialEq, Eq)]
+pub enum Question {
+    /// What is left on each scheduler.
+    Spare,
+}
+
+/// A question, and of which moment it is asked.
+#[derive(Debug, Drop)]
 pub struct Asked {
+    pub question: Question,
+    /// The periods of the reservations that are told, in ticks, where they are stated: 1 to 64 numbers that rise.
+    pub periods: Option<List<u32>>,
     /// The tick, 0 to 99999; where there is none, that of the scenario's last command.
     pub at: Option<u32>,
     /// The most conversions of a derivation, 0 to 6, where the scenario states none itself.

@@ -2,7 +2,9 @@
 #![tactic(auto)]
 
 mod asked;
+mod numbers;
+mod periods;
 mod table;
 
-pub use asked::Asked;
+pub use asked::{Asked, Question};
 pub use table::asked_for;

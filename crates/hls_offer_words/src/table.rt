@@ -1,10 +1,14 @@
 // The table of words.
 ghost use Rattle.std.specs.Prelude.{◌≡◌, ◌≤◌, ℕ, Option, codes, decimal, map, string_bytes, IfSome, IsNone};
-ghost use Rattle.hls_offer_words.specs.Table.{option_words, moment_words, IsAtMost, IsAsked, IsNotAsked};
-ghost use Rattle.hls_offer_words.specs.declared.asked.Asked.{Asked as AskedSeen};
+ghost use Rattle.std.specs.Prelude.{◌∷◌, List, IfOk, MatchOption};
+ghost use Rattle.hls_text.specs.Lines.{Text};
+ghost use Rattle.hls_offer_words.specs.Table.{option_words, moment_words, IsAtMost, most_period, IsAsked, IsNotAsked};
+ghost use Rattle.hls_offer_words.specs.Inside.Readings.{IsTail, IsNoTail};
 
-use crate::Asked;
-use hls_text::decimal_number;
+use crate::numbers::number_to;
+use crate::periods::over_in;
+use crate::{Asked, Question};
+use std::alloc::{AllocError, Global};
 
 /// The greatest tick that can be asked about.
 const MOST_TICK: u32 = 99_999;
@@ -12,15 +16,14 @@ const MOST_TICK: u32 = 99_999;
 /// The most conversions of a derivation.
 const MOST_DEPTH: u32 = 6;
 
-/// The number of at most so much that a word spells.
-fn number_to(word: &str, most: u32) -> Option<u32>
-    ensures found { IfSome result (λ n. (n ≤ most) × (word.now ≡ decimal n)) }
-    ensures none { IsNone result → (n : ℕ) → n ≤ most → word.now ≡ decimal n → ⊥ }
-{
-    match decimal_number(word.as_bytes()) {
-        Some(n) if n <= u128::from(most) => Some(n as u32),
-        _ => None,
-    }
+/// The longest period of a reservation that is told, in ticks.
+const MOST_PERIOD: u32 = 10_000;
+
+/// The moment that is asked about.
+#[derive(Clone, Copy)]
+struct Moment {
+    at: Option<u32>,
+    depth: Option<u8>,
 }
 
 /// The tick that two words state.
@@ -65,34 +68,80 @@ fn depth_in(words: &[String]) -> Option<Option<u8>>
 }
 
 /// The tick and the depth that the last words state.
-fn moment_in(words: &[String]) -> Option<Asked>
-    ensures found { IfSome result (λ a. IsAtMost 99999 a.at × IsAtMost 6 a.depth ×
-        (map string_bytes words.now ≡ moment_words a)) }
-    ensures none { IsNone result → (a : AskedSeen) → IsAtMost 99999 a.at → IsAtMost 6 a.depth →
-        map string_bytes words.now ≡ moment_words a → ⊥ }
+fn moment_in(words: &[String]) -> Option<Moment>
+    ensures found { IfSome result (λ m. IsAtMost 99999 m.at × IsAtMost 6 m.depth ×
+        (map string_bytes words.now ≡ moment_words m.at m.depth)) }
+    ensures none { IsNone result → (at depth : Option ℕ) → IsAtMost 99999 at → IsAtMost 6 depth →
+        map string_bytes words.now ≡ moment_words at depth → ⊥ }
 {
     if let [option, word, rest @ ..] = words {
         if let Some(tick) = tick_by(option.as_str(), word.as_str()) {
-            return Some(Asked {
+            return Some(Moment {
                 at: Some(tick),
                 depth: depth_in(rest)?,
             });
         }
     }
-    Some(Asked {
+    Some(Moment {
         at: None,
         depth: depth_in(words)?,
     })
 }
 
-/// What the words ask for, or `None` where they ask for nothing that the program knows.
-pub fn asked_for(words: &[String]) -> Option<Asked>
-    ensures found { IfSome result (λ a. IsAsked (map string_bytes words.now) a) }
-    ensures none { IsNone result → IsNotAsked (map string_bytes words.now) }
+/// The longest period that may be stated for a question.
+fn most_period(question: &Question) -> u32
+    ensures { result ≡ most_period question.now }
 {
-    let (first, rest) = words.split_first()?;
-    if first.as_str() != "spare" {
+    match question {
+        Question::Spare => MOST_PERIOD,
+    }
+}
+
+/// The question with what the words behind it state.
+fn asked_with(
+    alloc: Global,
+    question: Question,
+    words: &[String],
+) -> Result<Option<Asked>, AllocError>
+    ensures { IfOk result (λ found. MatchOption found (IsNoTail question (map string_bytes words.now))
+        (λ a. (a.question ≡ question) × IsTail a (map string_bytes words.now))) }
+{
+    let Some(over) = over_in(alloc, words, most_period(&question))? else {
+        return Ok(None);
+    };
+    let Some(Moment { at, depth }) = moment_in(over.rest) else {
+        return Ok(None);
+    };
+    Ok(Some(Asked {
+        question,
+        periods: over.periods,
+        at,
+        depth,
+    }))
+}
+
+/// The words behind a first one.
+fn words_behind<'a>(words: &'a [String], first: &str) -> Option<&'a [String]>
+    ensures found { IfSome result (λ rest. map string_bytes words.entry.now ≡ first.now ∷ map string_bytes rest.now) }
+    ensures none { IsNone result → (rest : List Text) → map string_bytes words.entry.now ≡ first.now ∷ rest → ⊥ }
+{
+    let (word, rest) = words.split_first()?;
+    if word.as_str() != first {
         return None;
     }
-    moment_in(rest)
+    Some(rest)
+}
+
+/// What the words ask for, or `None` where they ask for nothing that the program knows.
+///
+/// # Errors
+/// Returns `AllocError` for want of memory.
+pub fn asked_for(alloc: Global, words: &[String]) -> Result<Option<Asked>, AllocError>
+    ensures { IfOk result (λ found. MatchOption found (IsNotAsked (map string_bytes words.now))
+        (IsAsked (map string_bytes words.now))) }
+{
+    match words_behind(words, "spare") {
+        Some(rest) => asked_with(alloc, Question::Spare, rest),
+        None => Ok(None),
+    }
 }

@@ -1,0 +1,183 @@
+-- The words behind a question.
+use Rattle.std.proofs.Common.{◌≡◌, ℕ, ◌≤◌, List, [], ◌∷◌, ◌++◌, refl, sym, ap, ◌∙◌, arith, codes, subst, length}
+use Rattle.std.specs.Prelude.{Option, Some, None, Result, Ok, Err, decimal, map, IfOk, MatchOption}
+use Rattle.hls_text.specs.Lines.{Text}
+use Rattle.hls_scenario.specs.Forms.{the}
+use Rattle.hls_scenario.specs.Grammar.{IsLine}
+use Rattle.hls_lang.proofs.Fronts.{Front, front_join, front_split, line_of_front, front_of_line}
+use Rattle.hls_offer_words.specs.Table.{over_words, option_words, moment_words, tail_words, IsAtMost, ArePeriods}
+use Rattle.hls_offer_words.specs.Table.{most_period, question_forms, asked_forms, IsAsked, IsNotAsked}
+use Rattle.hls_offer_words.specs.Inside.Readings.{AreFirst, IsOver, IsNoOver, IsTail, IsNoTail}
+use Rattle.hls_offer_words.specs.declared.asked.Question.{Question}
+use Rattle.hls_offer_words.specs.declared.asked.Question.TheVariants.{Spare}
+use Rattle.hls_offer_words.specs.declared.asked.Asked.{Asked}
+use Rattle.hls_offer_words.proofs.Rising.{heads, rests, no_empty, words_apart, moment_no_number, only_first}
+
+-- ---- words as they are
+
+pub plain_line : (texts : List Text) → IsLine (map (λ (word : Text). the word) texts) texts
+plain_line [] = tt
+plain_line (t ∷ texts) = (refl, plain_line texts)
+
+pub plain_words : (texts words : List Text) → IsLine (map (λ (word : Text). the word) texts) words → words ≡ texts
+plain_words [] [] line = refl
+plain_words [] (w ∷ words) line = absurd line
+plain_words (t ∷ texts) [] line = absurd line
+plain_words (t ∷ texts) (w ∷ words) line =
+    ap (λ (x : Text). x ∷ words) line.0 ∙ ap (λ (ws : List Text). t ∷ ws) (plain_words texts words line.1)
+
+-- ---- periods
+
+-- no moment begins with the word of periods
+depth_no_over : (depth : Option ℕ) (more : List Text) → option_words (codes "--depth") depth ≡ codes "over" ∷ more → ⊥
+depth_no_over None more e = no_empty (codes "over") more e
+depth_no_over (Some d) more e =
+    words_apart 45 111 (codes "-depth") (codes "ver") (λ (n : 45 ≡ 111). omega (arith, n))
+    (heads (codes "--depth") (codes "over") (decimal d ∷ []) more e)
+
+moment_no_over : (at depth : Option ℕ) (more : List Text) → moment_words at depth ≡ codes "over" ∷ more → ⊥
+moment_no_over None depth more e = depth_no_over depth more e
+moment_no_over (Some at) depth more e =
+    words_apart 45 111 (codes "-at") (codes "ver") (λ (n : 45 ≡ 111). omega (arith, n))
+    (heads (codes "--at") (codes "over") (decimal at ∷ option_words (codes "--depth") depth) more e)
+
+-- words of which the first is another state none
+pub unstated : (most : ℕ) (words : List Text) → ((more : List Text) → words ≡ codes "over" ∷ more → ⊥)
+    → IsOver most words None words
+unstated most words other = record { within = tt; words_are = refl; only = by }
+  where
+    by : (others : Option (List ℕ)) (at depth : Option ℕ) → ArePeriods most others
+        → words ≡ over_words others ++ moment_words at depth → words ≡ moment_words at depth
+    by None at depth within e = e
+    by (Some periods) at depth within e = absurd (other (map decimal periods ++ moment_words at depth) e)
+
+-- the numbers behind the word are the periods, where there are as many as there may be
+pub stated_over : (most : ℕ) (words : List Text) (numbers : List ℕ) (rest : List Text) → most ≤ 20000
+    → AreFirst 1 most words numbers rest → 1 ≤ length numbers → length numbers ≤ 64
+    → IsOver most (codes "over" ∷ words) (Some numbers) rest
+stated_over most words numbers rest le first some few = record {
+  within = (some, few, first.rise);
+  words_are = ap (λ (ws : List Text). codes "over" ∷ ws) first.words_are;
+  only = by;
+}
+  where
+    by : (others : Option (List ℕ)) (at depth : Option ℕ) → ArePeriods most others
+        → codes "over" ∷ words ≡ over_words others ++ moment_words at depth → rest ≡ moment_words at depth
+    by None at depth within e = absurd (moment_no_over at depth words (sym e))
+    by (Some periods) at depth within e =
+        (only_first 1 most words numbers rest periods (moment_words at depth) le first within.2
+        (rests (codes "over") (codes "over") words (map decimal periods ++ moment_words at depth) e)
+        (λ n more small same. moment_no_number at depth n more small same)).1
+
+-- and else they are none
+pub stated_none : (most : ℕ) (words : List Text) (numbers : List ℕ) (rest : List Text) → most ≤ 20000
+    → AreFirst 1 most words numbers rest → ((1 ≤ length numbers) → (length numbers ≤ 64) → ⊥)
+    → IsNoOver most (codes "over" ∷ words)
+stated_none most words numbers rest le first bar = by
+  where
+    by : (periods : Option (List ℕ)) (at depth : Option ℕ) → ArePeriods most periods
+        → codes "over" ∷ words ≡ over_words periods ++ moment_words at depth → ⊥
+    by None at depth within e = moment_no_over at depth words (sym e)
+    by (Some periods) at depth within e =
+        let same = (only_first 1 most words numbers rest periods (moment_words at depth) le first within.2
+        (rests (codes "over") (codes "over") words (map decimal periods ++ moment_words at depth) e)
+        (λ n more small same. moment_no_number at depth n more small same)).0 in
+        bar (subst (λ (ns : List ℕ). 1 ≤ length ns) (sym same) within.0)
+        (subst (λ (ns : List ℕ). length ns ≤ 64) (sym same) within.1)
+
+-- ---- what stands behind a question
+
+pub no_tail_over : (question : Question) (words : List Text) → IsNoOver (most_period question) words
+    → IsNoTail question words
+no_tail_over question words none a is tail =
+    none a.periods a.at a.depth (subst (λ (q : Question). ArePeriods (most_period q) a.periods) is tail.periods)
+    tail.words_are
+
+pub no_tail_moment : (question : Question) (words : List Text) (periods : Option (List ℕ)) (rest : List Text)
+    → IsOver (most_period question) words periods rest
+    → ((at depth : Option ℕ) → IsAtMost 99999 at → IsAtMost 6 depth → rest ≡ moment_words at depth → ⊥)
+    → IsNoTail question words
+no_tail_moment question words periods rest over none a is tail =
+    none a.at a.depth tail.tick tail.depth
+    (over.only a.periods a.at a.depth
+    (subst (λ (q : Question). ArePeriods (most_period q) a.periods) is tail.periods) tail.words_are)
+
+-- ---- a question with the words behind it
+
+pub asked_of : (a : Asked) (all words : List Text) → Front (question_forms a.question) all words → IsTail a words
+    → IsAsked all a
+asked_of a all words front tail = record {
+  words_are = line_of_front (asked_forms a) all
+      (front_join (question_forms a.question) (map (λ (word : Text). the word) (tail_words a)) all words [] front
+      (front_of_line (map (λ (word : Text). the word) (tail_words a)) words
+      (rw tail.words_are (plain_line (tail_words a)))));
+  periods = tail.periods;
+  tick = tail.tick;
+  depth = tail.depth;
+}
+
+pub record IsBehind (a : Asked) (all : List Text) : Type 0 where
+  pub words : List Text
+  pub front : Front (question_forms a.question) all words
+  pub tail : IsTail a words
+
+pub asked_behind : (a : Asked) (all : List Text) → IsAsked all a → IsBehind a all
+asked_behind a all asked =
+    let split = front_split (question_forms a.question) (map (λ (word : Text). the word) (tail_words a)) all []
+    (front_of_line (asked_forms a) all asked.words_are) in
+    record {
+      words = split.0;
+      front = split.1;
+      tail = record {
+        words_are = plain_words (tail_words a) split.0
+            (line_of_front (map (λ (word : Text). the word) (tail_words a)) split.0 split.2);
+        periods = asked.periods;
+        tick = asked.tick;
+        depth = asked.depth;
+      };
+    }
+
+-- ---- what is left
+
+-- the words of a question about it begin with its word
+spare_begins : (a : Asked) (all : List Text) → IsAsked all a → a.question ≡ Spare
+    → (words : List Text) × (all ≡ codes "spare" ∷ words) × IsTail a words
+spare_begins a [] asked is =
+    let behind = asked_behind a [] asked in
+    absurd (subst (λ (q : Question). Front (question_forms q) [] behind.words) is behind.front)
+spare_begins a (t ∷ all) asked is =
+    let behind = asked_behind a (t ∷ all) asked in
+    let front = subst (λ (q : Question). Front (question_forms q) (t ∷ all) behind.words) is behind.front in (
+      behind.words,
+      ap (λ (x : Text). x ∷ all) front.0 ∙ ap (λ (ws : List Text). codes "spare" ∷ ws) front.1,
+      behind.tail,
+    )
+
+pub none_asked : (all : List Text) → ((words : List Text) → all ≡ codes "spare" ∷ words → ⊥) → IsNotAsked all
+none_asked all other a asked = by a.question refl
+  where
+    by : (q : Question) → a.question ≡ q → ⊥
+    by Spare is = (let begins = spare_begins a all asked is in other begins.0 begins.1)
+
+none_spare : (all words : List Text) → all ≡ codes "spare" ∷ words → IsNoTail Spare words → IsNotAsked all
+none_spare all words is none a asked = by a.question refl
+  where
+    by : (q : Question) → a.question ≡ q → ⊥
+    by Spare e =
+        let begins = spare_begins a all asked e in
+        none a e (subst (λ (ws : List Text). IsTail a ws)
+        (rests (codes "spare") (codes "spare") begins.0 words (sym begins.1 ∙ is)) begins.2)
+
+some_spare : (all words : List Text) (a : Asked) → all ≡ codes "spare" ∷ words → a.question ≡ Spare → IsTail a words
+    → IsAsked all a
+some_spare all words a begins is tail =
+    subst (λ (ws : List Text). IsAsked ws a) (sym begins)
+    (asked_of a (codes "spare" ∷ words) words
+    (subst (λ (q : Question). Front (question_forms q) (codes "spare" ∷ words) words) (sym is) (refl, refl)) tail)
+
+pub spare_asked : {E : Type 0} (all words : List Text) (result : Result (Option Asked) E) → all ≡ codes "spare" ∷ words
+    → IfOk result (λ found. MatchOption found (IsNoTail Spare words) (λ a. (a.question ≡ Spare) × IsTail a words))
+    → IfOk result (λ found. MatchOption found (IsNotAsked all) (IsAsked all))
+spare_asked all words (Ok None) begins is = none_spare all words begins is
+spare_asked all words (Ok (Some a)) begins is = some_spare all words a begins is.0 is.1
+spare_asked all words (Err error) begins is = tt
