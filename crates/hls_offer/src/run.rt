@@ -55,10 +55,10 @@ fn answer<S: Source, K: Sink>(
 ) -> Status
     requires depth { IsAtMost 6 asked.now.depth }
     requires good { IsGood (boxed seen) kit }
-    ensures ends { (words : List Text) → IsAsked words asked.now → Ends (exchange S.left S.faults K.written K.faults words
-        (boxes_in kit) source.old source.new sink.old sink.new) result }
-    ensures orderly { (words : List Text) → IsAsked words asked.now → IsOrderly (exchange S.left S.faults K.written K.faults
-        words (boxes_in kit) source.old source.new sink.old sink.new) }
+    ensures ends { (words : List Text) → IsAsked words asked.now → Ends (exchange S.left S.faults K.written K.faults
+        words (boxes_in kit) source.old source.new sink.old sink.new) result }
+    ensures orderly { (words : List Text) → IsAsked words asked.now → IsOrderly (exchange S.left S.faults K.written
+        K.faults words (boxes_in kit) source.old source.new sink.old sink.new) }
 {
     match reply_of(alloc, asked, source, kit, rules) {
         Ok(reply) => say(sink, &reply.bytes, reply.status),
