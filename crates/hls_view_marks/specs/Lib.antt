@@ -1,0 +1,4 @@
+pub mod Numbered
+pub mod Elements
+pub mod Places
+pub mod Marks
