@@ -42,7 +42,7 @@ fn run_to(core: &mut Core, horizon: u32) -> Result<(), AllocError>
 {
     while core.now() < horizon {
         carry_out_due(core)?;
-        core.tick();
+        core.leap();
     }
     Ok(())
 }

@@ -8,17 +8,17 @@ carry_out_due-requires g c = record {
   runs = still_runs _ c.args.core.now c.loop-core.core c.loop-core.invariant.on c.requires.runs;
 }
 
-pub tick-requires-clause-runs : goal.tick-requires-clause-runs
-tick-requires-clause-runs g c =
+pub leap-requires-clause-runs : goal.leap-requires-clause-runs
+leap-requires-clause-runs g c =
     still_runs _ c.args.core.now c.carry_out_due.new.core
     (λ s given boxes is. c.in_ok-carry_out_due.ensures.is s given boxes
     (c.loop-core.invariant.on s given boxes is)) c.requires.runs
 
 pub loop-core-preserved : goal.loop-core-preserved
 loop-core-preserved g c = record {
-  on = λ s given boxes is. c.tick.ensures.is s given boxes
+  on = λ s given boxes is. c.leap.ensures.is s given boxes
       (c.in_ok-carry_out_due.ensures.is s given boxes (c.loop-core.invariant.on s given boxes is));
-  scenario = c.tick.ensures.scenario ∙ c.carry_out_due.ensures.scenario ∙ c.loop-core.invariant.scenario;
+  scenario = c.leap.ensures.scenario ∙ c.carry_out_due.ensures.scenario ∙ c.loop-core.invariant.scenario;
 }
 
 pub returns-clause-ended : goal.returns-clause-ended
