@@ -72,7 +72,7 @@ pub fn carry_to(core: &mut Core, tick: u32) -> Result<(), AllocError>
 {
     while core.now() < tick {
         carry_out_due(core)?;
-        core.tick();
+        core.leap_to(tick);
     }
     carry_out_due(core)?;
     Ok(())
