@@ -215,7 +215,7 @@ module _ {V W : Type 0} {P : V → Type 0} {Q : W → Type 0}
         ahead = λ at item le there.
             (let clear = ahead at item (omega (arith, le, agenda)) there in
             let ticks = ran.ticks in omega (arith, clear, ticks, some));
-        good = subst (Rattle.hls_sched.specs.GoodKit.IsGood (Rattle.hls_tree_nodes.specs.Views.boxed seen)) (sym kit)
+        good = subst (Rattle.hls_sched.specs.GoodKit.IsGood (Rattle.hls_sched.specs.Boxed.boxed seen)) (sym kit)
             is.good;
         left =
             ap Rattle.hls_manager.specs.Outcomes.boxes_in kit ∙ is.left
