@@ -10,6 +10,7 @@ ghost use Rattle.hls_manager.specs.Outcomes.{IsRequest};
 use crate::Core;
 use hls_manager::ask;
 use hls_report_text::Answer;
+use hls_rules::RuleBook;
 use hls_scenario::Command;
 use hls_sched::Scheduler;
 use hls_tree::Tree;
@@ -31,6 +32,13 @@ impl Core {
         ensures { result ≡ self.now.depth }
     {
         self.depth
+    }
+
+    /// The rules that derivations go by.
+    pub fn rules(&self) -> &RuleBook
+        ensures { result.now ≡ self.now.rules }
+    {
+        &self.rules
     }
 
     /// What the admission of a thread, or a move, would be answered at this moment. Nothing is carried out.

@@ -126,13 +126,14 @@ impl Core {
     /// Lets one tick pass, once the commands of the present tick have their answers.
     pub fn tick(&mut self)
         requires runs { Runs seen self.old }
-        requires none_due { NoneDue self.old.scenario.items self.old.agenda self.old.journal.ticks }
-        requires early { self.old.journal.ticks < self.old.scenario.horizon }
+        requires none_due { NoneDue (scenario_of self.old).items (next_of self.old) (now_of self.old) }
+        requires early { now_of self.old < (scenario_of self.old).horizon }
         ensures is { (s : Scenario) (given : ℕ) (boxes : Boxes) → IsCoreOf seen self.old s given boxes →
             IsCoreOf seen self.new s given boxes }
-        ensures ticks { self.new.journal.ticks ≡ self.old.journal.ticks + 1 }
-        ensures scenario { self.new.scenario ≡ self.old.scenario }
-        ensures agenda { self.new.agenda ≡ self.old.agenda }
+        ensures ticks { now_of self.new ≡ now_of self.old + 1 }
+        ensures answers { answers_of self.new ≡ answers_of self.old }
+        ensures scenario { scenario_of self.new ≡ scenario_of self.old }
+        ensures next { next_of self.new ≡ next_of self.old }
     {
         self.pass_ticks(1);
     }
@@ -142,16 +143,17 @@ impl Core {
     /// ask otherwise or serve another. Tells how many they are: one or more.
     pub fn leap(&mut self) -> u32
         requires runs { Runs seen self.old }
-        requires none_due { NoneDue self.old.scenario.items self.old.agenda self.old.journal.ticks }
-        requires early { self.old.journal.ticks < self.old.scenario.horizon }
+        requires none_due { NoneDue (scenario_of self.old).items (next_of self.old) (now_of self.old) }
+        requires early { now_of self.old < (scenario_of self.old).horizon }
         ensures is { (s : Scenario) (given : ℕ) (boxes : Boxes) → IsCoreOf seen self.old s given boxes →
             IsCoreOf seen self.new s given boxes }
         ensures some { 0 < result }
         ensures leap { (s : Scenario) (given : ℕ) (boxes : Boxes) → (is : IsCoreOf seen self.old s given boxes) →
             IsLeap s (next_of self.old) (state start is.steps) result }
-        ensures ticks { self.new.journal.ticks ≡ self.old.journal.ticks + result }
-        ensures scenario { self.new.scenario ≡ self.old.scenario }
-        ensures agenda { self.new.agenda ≡ self.old.agenda }
+        ensures ticks { now_of self.new ≡ now_of self.old + result }
+        ensures answers { answers_of self.new ≡ answers_of self.old }
+        ensures scenario { scenario_of self.new ≡ scenario_of self.old }
+        ensures next { next_of self.new ≡ next_of self.old }
     {
         let horizon = self.scenario.horizon;
         self.leap_to(horizon)
@@ -160,18 +162,19 @@ impl Core {
     /// Lets ticks pass as `leap` does, but none from the tick `end` on.
     pub fn leap_to(&mut self, end: u32) -> u32
         requires runs { Runs seen self.old }
-        requires none_due { NoneDue self.old.scenario.items self.old.agenda self.old.journal.ticks }
-        requires early { self.old.journal.ticks < end }
-        requires within { end ≤ self.old.scenario.horizon }
+        requires none_due { NoneDue (scenario_of self.old).items (next_of self.old) (now_of self.old) }
+        requires early { now_of self.old < end }
+        requires within { end ≤ (scenario_of self.old).horizon }
         ensures is { (s : Scenario) (given : ℕ) (boxes : Boxes) → IsCoreOf seen self.old s given boxes →
             IsCoreOf seen self.new s given boxes }
         ensures some { 0 < result }
-        ensures within { self.new.journal.ticks ≤ end }
+        ensures within { now_of self.new ≤ end }
         ensures leap { (s : Scenario) (given : ℕ) (boxes : Boxes) → (is : IsCoreOf seen self.old s given boxes) →
             IsLeapTo s (next_of self.old) end (state start is.steps) result }
-        ensures ticks { self.new.journal.ticks ≡ self.old.journal.ticks + result }
-        ensures scenario { self.new.scenario ≡ self.old.scenario }
-        ensures agenda { self.new.agenda ≡ self.old.agenda }
+        ensures ticks { now_of self.new ≡ now_of self.old + result }
+        ensures answers { answers_of self.new ≡ answers_of self.old }
+        ensures scenario { scenario_of self.new ≡ scenario_of self.old }
+        ensures next { next_of self.new ≡ next_of self.old }
     {
         let most = self.ticks_ahead(end);
         self.pass_ticks(most)
