@@ -7,3 +7,5 @@ pub mod RowLaws
 pub mod LeafLaws
 pub mod OneLeaf
 pub mod FactLaws
+pub mod Counting
+pub mod Turned

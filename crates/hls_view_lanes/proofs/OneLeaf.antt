@@ -1,8 +1,8 @@
 -- Each tick goes to one row that ends in a thread, or is idle; so these rows share out the ticks.
 use Rattle.std.proofs.Common.{◌≡◌, ℕ, zero, suc, ◌+◌, ◌-◌, ◌<◌, ◌≤◌, List, [], ◌∷◌, true, false, refl, ap, sym, subst}
-use Rattle.std.proofs.Common.{◌∙◌, ◌&&◌, ◌||◌, ◌⊎◌, Bool, cond, inl, inr, arith}
-use Rattle.std.specs.Prelude.{Option, Some, None, slice_get, find, option_and_then, is_none}
-use Rattle.std.specs.List.{list_any, range_with_len, sum_by, count_by}
+use Rattle.std.proofs.Common.{◌∙◌, ◌&&◌, ◌||◌, Bool, cond, inl, inr, arith}
+use Rattle.std.specs.Prelude.{Option, Some, slice_get, find, option_and_then, is_none}
+use Rattle.std.specs.List.{range_with_len, sum_by, count_by}
 use Rattle.std.proofs.lemmas.List.Sums.{sum_by-cons}
 use Rattle.hls_text.specs.Lines.{Text}
 use Rattle.hls_audit_clauses.specs.declared.member.Sort.{Sort}
@@ -14,8 +14,8 @@ use Rattle.hls_view_lanes.specs.Likeness.{is_like, begins, is_same}
 use Rattle.hls_view_lanes.specs.Rows.{ways_at, has_row, rows_of}
 use Rattle.hls_view_lanes.specs.Facts.{spells, given_at, is_through, facts, idle_facts}
 use Rattle.hls_view_lanes.specs.Standing.{AreApart}
-use Rattle.hls_view_lanes.specs.Leaves.{is_thread, is_leaf, IsDown, HasWay, IsGiven, goes_to}
-use Rattle.hls_view_lanes.proofs.Selves.{first-of, second-of, like-parts, like-turned, like-through}
+use Rattle.hls_view_lanes.specs.Leaves.{is_leaf, IsDown, IsGiven, goes_to}
+use Rattle.hls_view_lanes.proofs.Selves.{first-of, second-of, like-parts, like-through}
 use Rattle.hls_view_lanes.proofs.LeafLaws.{wrong, back, idle-alone}
 use Rattle.hls_view_lanes.proofs.RowLaws.{ways-have-rows, rows-apart}
 

@@ -1,10 +1,9 @@
 -- Rows as they come: none is lost, none stands twice, and each is a way of some tick.
 use Rattle.std.proofs.Common.{◌≡◌, ℕ, zero, suc, ◌+◌, ◌-◌, ◌<◌, ◌≤◌, List, [], ◌∷◌, ◌++◌, true, false, refl, ap, sym}
-use Rattle.std.proofs.Common.{subst, ◌∙◌, ◌&&◌, ◌||◌, ◌⊎◌, Bool, cond, length, take, drop, fold, inl, inr, arith}
+use Rattle.std.proofs.Common.{subst, ◌∙◌, ◌&&◌, ◌||◌, Bool, cond, take, drop, fold, inl, inr, arith}
 use Rattle.std.specs.Prelude.{Some, slice_get, map}
 use Rattle.std.specs.List.{list_any, insert, range_with_len, AllByRecursion}
 use Rattle.std.proofs.lemmas.Bool.{cases_eq}
-use Rattle.std.proofs.lemmas.Grind.{common_steps}
 use Rattle.std.proofs.lemmas.List.Folds.{list_any-append}
 use Rattle.hls_report_text.specs.Content.{Content}
 use Rattle.hls_view_tale.specs.declared.label.Label.{Label}

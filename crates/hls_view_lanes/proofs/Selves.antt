@@ -1,5 +1,5 @@
 -- A label reads as itself, and so does a way.
-use Rattle.std.proofs.Common.{◌≡◌, ℕ, List, [], ◌∷◌, true, false, refl, ap, sym, subst, ◌∙◌, ◌&&◌, Bool, arith}
+use Rattle.std.proofs.Common.{◌≡◌, List, [], ◌∷◌, true, false, refl, ap, sym, subst, ◌∙◌, ◌&&◌, Bool, arith}
 use Rattle.std.specs.Str.{bytes_eq}
 use Rattle.std.proofs.lemmas.Grind.{common_steps}
 use Rattle.hls_text.specs.Lines.{Text}

@@ -1,2 +1,4 @@
 pub mod Paths
 pub mod Readings
+pub mod Tallies
+pub mod Telling

@@ -26,7 +26,7 @@ pub struct Scale {
 }
 
 impl Scale {
-    ghost use Rattle.hls_view_scale.specs.Columns.{offset, column_offset, ticks_in};
+    ghost use Rattle.hls_view_scale.specs.Columns.{offset, column_offset, column_from, ticks_in};
 
     /// How far right of the first tick a tick stands.
     pub fn offset(&self, tick: u64) -> u128
@@ -60,5 +60,15 @@ impl Scale {
         let shown = u128::from(self.to) + 1 - u128::from(self.from);
         let left = shown.saturating_sub(u128::from(column) * u128::from(self.ticks));
         left.min(u128::from(self.ticks)) as u64
+    }
+
+    /// The first tick of a column, from 0.
+    pub fn column_from(&self, column: u64) -> u32
+        requires { column < self.now.columns }
+        ensures is { result ≡ column_from self.now column }
+        ensures within { result + ticks_in self.now column ≤ self.now.to + 1 }
+    {
+        let before = u128::from(column) * u128::from(self.ticks);
+        self.from + before as u32
     }
 }

@@ -1,4 +1,4 @@
-use Rattle.std.proofs.Common.{◌≡◌, ◌∙◌, ◌<◌, sym, length, arith}
+use Rattle.std.proofs.Common.{◌∙◌, ◌<◌, sym, length, arith}
 use Rattle.hls_view_lanes.proofs.Beginnings.{begins-short, begins-apart, begins-more, begins-all}
 use Rattle.hls_view_lanes.proofs.likeness.begins.Goals as goal
 

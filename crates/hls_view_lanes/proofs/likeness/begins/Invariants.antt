@@ -1,4 +1,4 @@
-use Rattle.std.proofs.Common.{◌≡◌, ◌≤◌, drop, length}
+use Rattle.std.proofs.Common.{◌≡◌, drop}
 use Rattle.hls_view_lanes.specs.Likeness.{begins}
 use Rattle.hls_view_lanes.proofs.likeness.begins.Given as goal
 

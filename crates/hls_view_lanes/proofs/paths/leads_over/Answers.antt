@@ -1,4 +1,4 @@
-use Rattle.std.proofs.Common.{◌≡◌, ◌∙◌, ◌<◌, ◌≤◌, sym, length, arith}
+use Rattle.std.proofs.Common.{sym}
 use Rattle.hls_view_lanes.proofs.Spelling.{spells-unequal}
 use Rattle.hls_view_lanes.proofs.paths.leads_over.Goals as goal
 

@@ -1,6 +1,5 @@
-use Rattle.std.proofs.Common.{◌≡◌, ◌∙◌, ◌+◌, sym, subst, ap, take}
+use Rattle.std.proofs.Common.{◌∙◌, sym, ap}
 use Rattle.hls_view_lanes.specs.Likeness.{begins}
-use Rattle.hls_view_lanes.specs.Rows.{reach}
 use Rattle.hls_view_lanes.proofs.Reaching.{reach-here, reach-past, reach-few}
 use Rattle.hls_view_lanes.proofs.rows.reach.Goals as goal
 use Rattle.hls_view_lanes.proofs.rows.reach.Goals.{then-begins, else-begins}

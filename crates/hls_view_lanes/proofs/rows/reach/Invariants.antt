@@ -1,4 +1,4 @@
-use Rattle.std.proofs.Common.{◌≡◌, ◌≤◌, take, length}
+use Rattle.std.proofs.Common.{◌≡◌, take}
 use Rattle.hls_view_lanes.specs.Rows.{reach}
 use Rattle.hls_view_lanes.proofs.rows.reach.Given as goal
 

@@ -1,4 +1,4 @@
-use Rattle.std.proofs.Common.{◌≡◌, ◌<◌, length, refl, sym, subst, Some, slice_get}
+use Rattle.std.proofs.Common.{◌<◌, length, refl, sym, subst}
 use Rattle.std.proofs.lemmas.Option.{slice_get_read}
 use Rattle.hls_report_text.specs.Content.{content_of}
 use Rattle.hls_accounts.specs.Ready.{is_ready}

@@ -1,6 +1,6 @@
 use Rattle.hls_report_text.specs.Content.{content_of}
 use Rattle.hls_view_lanes.proofs.FactLaws.{path-named}
-use Rattle.hls_view_lanes.proofs.lanes.facts_at.Goals as goal
+use Rattle.hls_view_lanes.proofs.telling.Telling.facts.Goals as goal
 
 pub given-requires-clause-named : goal.given-requires-clause-named
 given-requires-clause-named c =
