@@ -1,0 +1,4 @@
+pub mod Columns
+pub mod Happenings
+pub mod Signs
+pub mod Inside
