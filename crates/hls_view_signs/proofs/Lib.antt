@@ -5,3 +5,4 @@ pub mod DropLaws
 pub mod CommandLaws
 pub mod MomentLaws
 pub mod SignLaws
+pub mod FateLaws

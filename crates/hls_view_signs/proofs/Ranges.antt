@@ -19,7 +19,8 @@ filter_last p n =
     let one : n + 1 ≡ suc n = omega arith in
     let here : 0 + n ≡ n = omega arith in
     ap (λ k. filter p (range_with_len 0 k)) one ∙ ap (filter p) (range_last 0 n)
-    ∙ filter-append p (range_with_len 0 n) ((0 + n) ∷ []) ∙ ap (λ k. filter p (range_with_len 0 n) ++ filter p (k ∷ [])) here
+    ∙ filter-append p (range_with_len 0 n) ((0 + n) ∷ [])
+    ∙ ap (λ k. filter p (range_with_len 0 n) ++ filter p (k ∷ [])) here
 
 pub kept-next : (p : ℕ → Bool) (n : ℕ) (old new : List ℕ) → p n ≡ true → new ≡ old ++ n ∷ []
     → old ≡ filter p (range_with_len 0 n) → new ≡ filter p (range_with_len 0 (n + 1))

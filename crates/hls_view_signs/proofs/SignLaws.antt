@@ -58,8 +58,8 @@ column_is c s event row k all are =
     (λ some. in_there c s event row k all are
     (some-passes (happens_in c event row) (s.from + k * s.ticks) (ticks_in s k) some))
 
-pub columns_are_found : (c : Content) (s : Scale) (event : Event) (row : List Label) (all : List Moment) (found : List ℕ)
-    → ((k : ℕ) → is_found found k ≡ list_any (λ m. has event row m && column_of s m.tick == k) all)
+pub columns_are_found : (c : Content) (s : Scale) (event : Event) (row : List Label) (all : List Moment)
+    (found : List ℕ) → ((k : ℕ) → is_found found k ≡ list_any (λ m. has event row m && column_of s m.tick == k) all)
     → AreMoments c s all
     → filter (is_found found) (range_with_len 0 s.columns) ≡ columns_with s (happens_in c event row)
 unfolding columns_with
@@ -69,8 +69,8 @@ columns_are_found c s event row all found each are =
 
 -- ---- row by row
 
-signs_append : (c : Content) (s : Scale) (rows : List (List Label)) (all : List Signs) (row : List Label) (signs : Signs)
-    → IsSigns c s row signs → AreSigns c s rows all → AreSigns c s (rows ++ row ∷ []) (all ++ signs ∷ [])
+signs_append : (c : Content) (s : Scale) (rows : List (List Label)) (all : List Signs) (row : List Label)
+    (signs : Signs) → IsSigns c s row signs → AreSigns c s rows all → AreSigns c s (rows ++ row ∷ []) (all ++ signs ∷ [])
 signs_append c s [] [] row signs one are = (one, tt)
 signs_append c s [] (x ∷ all) row signs one are = absurd are
 signs_append c s (r ∷ rows) [] row signs one are = absurd are

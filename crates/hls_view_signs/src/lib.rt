@@ -7,6 +7,7 @@ mod commands;
 mod drops;
 mod event;
 mod happenings;
+pub mod laws;
 mod likeness;
 mod moments;
 mod signs;

@@ -73,7 +73,8 @@ fn signs_for(
     row: &[Label],
 ) -> Result<Signs, AllocError>
     requires { scale.now.to < 100000 }
-    ensures { IfOk result (λ signs. (c : Content) → AreMoments c scale.now moments.now → IsSigns c scale.now row.now signs) }
+    ensures { IfOk result (λ signs. (c : Content) → AreMoments c scale.now moments.now →
+        IsSigns c scale.now row.now signs) }
 {
     Ok(Signs {
         begins: columns_for(alloc, scale, moments, Event::Begun, row)?,

@@ -4,7 +4,8 @@ use Rattle.hls_report_text.specs.Content.{content_of}
 use Rattle.hls_view_signs.specs.Inside.Sources.{AreSources}
 use Rattle.hls_view_signs.specs.Inside.Moments.{IsPut, AreMomentsOf}
 use Rattle.hls_view_signs.proofs.MomentLaws.{moments_put, moments_left}
-use Rattle.hls_view_signs.proofs.moments.moments_of.Goals.{then-scale-tick+then-tick-scale+in_ok-put_moment, else-scale-tick}
+use Rattle.hls_view_signs.proofs.moments.moments_of.Goals.{then-scale-tick+then-tick-scale+in_ok-put_moment}
+use Rattle.hls_view_signs.proofs.moments.moments_of.Goals.{else-scale-tick}
 use Rattle.hls_view_signs.proofs.moments.moments_of.Goals.{else-scale-tick-via-then-scale-tick+else-tick-scale}
 use Rattle.hls_view_signs.proofs.moments.moments_of.Goals.{else-scale-tick-via-else-scale-tick}
 use Rattle.hls_view_signs.proofs.moments.moments_of.Goals as goal
