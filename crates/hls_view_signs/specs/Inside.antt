@@ -1,0 +1,5 @@
+pub mod Found
+pub mod Moments
+pub mod Nodes
+pub mod Sources
+pub mod Words

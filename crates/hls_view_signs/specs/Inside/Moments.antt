@@ -1,0 +1,62 @@
+-- What happens in the ticks that have commands.
+use Rattle.std.specs.Prelude.{◌≡◌, ℕ, ◌≤◌, ◌==◌, List, ◌++◌, Bool, true, map, filter}
+use Rattle.std.specs.List.{list_any, AllByRecursion}
+use Rattle.hls_report_text.specs.declared.report.Answered.{Answered}
+use Rattle.hls_report_text.specs.Content.{Content}
+use Rattle.hls_view_scale.specs.declared.scale.Scale.{Scale}
+use Rattle.hls_view_tale.specs.declared.label.Label.{Label}
+use Rattle.hls_view_tale.specs.declared.place.Place.{Place}
+use Rattle.hls_view_tale.specs.Places.{labels_of}
+use Rattle.hls_view_tale.specs.Hierarchies.{places_at}
+use Rattle.hls_view_lanes.specs.Likeness.{is_same}
+use Rattle.hls_view_signs.specs.declared.event.Event.{Event}
+use Rattle.hls_view_signs.specs.declared.event.Event.TheVariants.{Begun, Woken, Dropped}
+use Rattle.hls_view_signs.specs.declared.moments.Moment.{Moment}
+use Rattle.hls_view_signs.specs.Happenings.{happens_to}
+
+-- the ways down to the places of a tick where something happens
+abbrev pub ways_with : Content → Event → (t : ℕ) → List (List Label)
+ways_with c event t = map labels_of (filter (λ (p : Place). happens_to c t event p.label) (places_at c t))
+
+abbrev pub ways_of : Moment → Event → List (List Label)
+ways_of m Begun = m.begun
+ways_of m Woken = m.woken
+ways_of m Dropped = m.dropped
+
+pub record IsMoment (c : Content) (m : Moment) : Type 0 where
+  pub begun : m.begun ≡ ways_with c Begun m.tick
+  pub woken : m.woken ≡ ways_with c Woken m.tick
+  pub dropped : m.dropped ≡ ways_with c Dropped m.tick
+
+abbrev pub has : Event → (row : List Label) → Moment → Bool
+has event row m = list_any (is_same row) (ways_of m event)
+
+abbrev pub is_at : (t : ℕ) → Moment → Bool
+is_at t m = m.tick == t
+
+pub record IsOf (c : Content) (t : ℕ) (m : Moment) : Type 0 where
+  pub is : IsMoment c m
+  pub tick : m.tick ≡ t
+
+-- the moment of a tick is put behind others, or stood there
+pub record IsPut (c : Content) (t : ℕ) (old new : List Moment) : Type 0 where
+  pub more : List Moment
+  pub behind : new ≡ old ++ more
+  pub are : AllByRecursion (IsOf c t) more
+  pub there : list_any (is_at t) new ≡ true
+
+abbrev pub is_in : (t : ℕ) → Answered → Bool
+is_in t a = a.tick == t
+
+pub record IsShown (c : Content) (s : Scale) (m : Moment) : Type 0 where
+  pub is : IsMoment c m
+  pub begins : s.from ≤ m.tick
+  pub ends : m.tick ≤ s.to
+
+-- of each shown tick of these commands
+pub record AreMomentsOf (c : Content) (s : Scale) (answered : List Answered) (all : List Moment) : Type 0 where
+  pub are : AllByRecursion (IsShown c s) all
+  pub each : (t : ℕ) → s.from ≤ t → t ≤ s.to → list_any (is_in t) answered ≡ true → list_any (is_at t) all ≡ true
+
+abbrev pub AreMoments : Content → Scale → List Moment → Type 0
+AreMoments c s all = AreMomentsOf c s c.answered all

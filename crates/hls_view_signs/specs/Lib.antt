@@ -1,0 +1,5 @@
+pub mod Columns
+pub mod Happenings
+pub mod Fates
+pub mod Signs
+pub mod Inside

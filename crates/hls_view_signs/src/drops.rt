@@ -1,0 +1,143 @@
+// Jobs that a wake or a block drops.
+ghost use Rattle.std.specs.Prelude.{◌≡◌, ◌+◌, ◌<◌, ◌&&◌, ◌==◌, not, drop, Some, IfSome};
+ghost use Rattle.std.specs.List.{list_any};
+ghost use Rattle.hls_accounts.specs.Commands.{has_done, rouses};
+ghost use Rattle.hls_text.specs.Lines.{Text};
+ghost use Rattle.hls_report_text.specs.Content.{Content, content_of};
+ghost use Rattle.hls_report_text.specs.WellFormed.{IsWellFormed};
+ghost use Rattle.hls_audit_threads.specs.Inside.Ticks.{TellsServed};
+ghost use Rattle.hls_view_jobs.specs.Jobs.{releases, release_of};
+ghost use Rattle.hls_view_jobs.specs.declared.job.Word as spoken;
+ghost use Rattle.hls_view_jobs.specs.Words as words;
+ghost use Rattle.hls_view_signs.specs.Happenings as told;
+ghost use Rattle.hls_view_signs.specs.Inside.Words.{released};
+
+use crate::commands::behind;
+use hls_audit_spans::Spans;
+use hls_chron::Name;
+use hls_report_text::{Answer, Answered, Report};
+use hls_scenario::Command;
+use hls_view_jobs::{Sort, Word};
+
+/// What a command says of the thread that it rouses.
+fn sort_of(command: &Command) -> Sort
+    ensures { result ≡ words.sort_of command.now }
+{
+    match command {
+        Command::Wake { burst, .. } => Sort::Wakes { burst: *burst },
+        Command::Block { .. } => Sort::Blocks,
+        _ => Sort::Ends,
+    }
+}
+
+fn word_of(a: &Answered) -> Word
+    ensures { result ≡ words.word_of a.now }
+{
+    Word {
+        tick: a.tick,
+        sort: sort_of(&a.command),
+    }
+}
+
+fn is_end(sort: Sort) -> bool
+    ensures { result ≡ words.is_end sort }
+{
+    match sort {
+        Sort::Ends => true,
+        Sort::Wakes { .. } | Sort::Blocks => false,
+    }
+}
+
+/// Whether a command admits, wakes, blocks or ends the thread of a name.
+fn rouses(command: &Command, thread: &Name) -> bool
+    ensures { result ≡ rouses thread.now command.now }
+{
+    match command {
+        Command::Thread { name, .. } => name == thread,
+        Command::End { name } => name == thread,
+        Command::Wake { name, .. } => name == thread,
+        Command::Block { name } => name == thread,
+        _ => false,
+    }
+}
+
+/// Whether a command that was carried out does.
+fn has_roused(a: &Answered, name: &Name) -> bool
+    ensures { result ≡ has_done (rouses name.now) a.now }
+{
+    match &a.answer {
+        Answer::Done(_) => rouses(&a.command, name),
+        Answer::Refused(_) => false,
+    }
+}
+
+/// Whether a word is of a tick, and is no end.
+fn is_broken(word: &Word, tick: u32) -> bool
+    ensures { result ≡ (word.now.tick == tick && not (words.is_end word.now.sort)) }
+{
+    word.tick == tick && !is_end(word.sort)
+}
+
+/// Whether a word in a tick drops a job that the word before it on the thread of a name released.
+fn is_cut(served: &Spans, last: &Word, word: &Word, tick: u32) -> bool
+    requires last { last.now.tick < 100000 }
+    requires word { word.now.tick < 100000 }
+    ensures { (c : Content) (name : Text) → TellsServed c name served.now.spans.items → last.now.tick < c.horizon →
+        word.now.tick < c.horizon → result
+        ≡ list_any (told.is_dropped c tick name) (release_of last.now.tick last.now.sort (Some word.now)) }
+{
+    match last.sort {
+        Sort::Wakes { burst: Some(asked) } => {
+            let ticks = word.tick.saturating_sub(last.tick);
+            is_broken(word, tick) & (served.count(last.tick, ticks) < asked)
+        }
+        Sort::Wakes { burst: None } => false,
+        Sort::Blocks => false,
+        Sort::Ends => false,
+    }
+}
+
+/// Whether a word in a tick drops a job that the word before it, if there is one, released.
+fn is_cut_by(served: &Spans, last: Option<Word>, word: &Word, tick: u32) -> bool
+    requires last { IfSome last (λ (w : spoken.Word). w.tick < 100000) }
+    requires word { word.now.tick < 100000 }
+    ensures { (c : Content) (name : Text) → TellsServed c name served.now.spans.items →
+        IfSome last (λ (w : spoken.Word). w.tick < c.horizon) → word.now.tick < c.horizon →
+        result ≡ list_any (told.is_dropped c tick name) (released last (Some word.now)) }
+{
+    match last {
+        Some(last) => is_cut(served, &last, word, tick),
+        None => false,
+    }
+}
+
+/// Whether a wake or a block in a tick drops a job of the thread of a name that the command at a place admitted.
+pub(crate) fn is_dropped(
+    report: &Report,
+    served: &Spans,
+    tick: u32,
+    name: &Name,
+    born: usize,
+) -> bool
+    requires formed { IsWellFormed report.now }
+    requires served { TellsServed (content_of report.now) name.now served.now.spans.items }
+    ensures { result ≡ list_any (told.is_dropped (content_of report.now) tick name.now)
+        (releases (words.words_on name.now (drop (born + 1) report.now.answered))) }
+{
+    let later = behind(report.answered.items(), born);
+    let mut last = None;
+    for at in 0..later.len() {
+        let a = &later[at];
+        if has_roused(a, name) {
+            let word = word_of(a);
+            if is_cut_by(served, last, &word, tick) {
+                return true;
+            }
+            if is_end(word.sort) {
+                return false;
+            }
+            last = Some(word);
+        }
+    }
+    false
+}
