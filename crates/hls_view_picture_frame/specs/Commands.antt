@@ -1,6 +1,6 @@
 -- What was asked in the ticks shown, and what became of it.
-use Rattle.std.specs.Prelude.{ℕ, zero, suc, ◌-◌, ◌/◌, Bool, true, false, not, eqb, List, [], ◌∷◌, ◌++◌, Option, Some, None, is_some}
-use Rattle.std.specs.Prelude.{codes, decimal, filter, length, map, take}
+use Rattle.std.specs.Prelude.{ℕ, zero, suc, ◌-◌, ◌/◌, Bool, true, false, not, eqb, List, [], ◌∷◌, ◌++◌}
+use Rattle.std.specs.Prelude.{Option, Some, None, is_some, codes, decimal, filter, length, map, take}
 use Rattle.std.specs.List.{dedup}
 use Rattle.std.specs.Global.{Vec}
 use Rattle.hls_text.specs.Lines.{Text}

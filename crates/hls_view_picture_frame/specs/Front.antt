@@ -59,7 +59,8 @@ audit_words verdict threads schedulers = as_one (codes "audit " ∷ verdict ∷ 
     ∷ codes ", schedulers " ∷ decimal schedulers ∷ [])
 
 unfoldable pub command_words : (done refused : ℕ) → Text
-command_words done refused = as_one (codes "; commands done " ∷ decimal done ∷ codes ", refused " ∷ decimal refused ∷ [])
+command_words done refused =
+    as_one (codes "; commands done " ∷ decimal done ∷ codes ", refused " ∷ decimal refused ∷ [])
 
 unfoldable pub service_words : (served idle : ℕ) → Text
 service_words served idle =
