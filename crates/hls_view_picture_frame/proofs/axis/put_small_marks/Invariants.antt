@@ -1,0 +1,7 @@
+use Rattle.std.proofs.Common.{◌≡◌, ◌++◌, take, flat_map}
+use Rattle.hls_view_picture_frame.specs.Axis.{small_mark}
+use Rattle.hls_view_picture_frame.proofs.axis.put_small_marks.Given as goal
+
+abbrev pub invariant-loop-tick : goal.invariant-loop-tick
+invariant-loop-tick l =
+    l.way.items ≡ l.fn.way.items ++ flat_map (small_mark l.page l.bottom) (take l.tick-index l.ticks)

@@ -1,0 +1,4 @@
+pub mod Commands
+pub mod Front
+pub mod Style
+pub mod Axis
