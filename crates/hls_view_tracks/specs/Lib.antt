@@ -1,0 +1,3 @@
+pub mod Flame
+pub mod Commands
+pub mod Inside
