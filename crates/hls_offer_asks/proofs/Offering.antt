@@ -26,10 +26,9 @@ use Rattle.hls_offer_asks.proofs.Seatable.{not_processor, wish_seatable}
 offered_there : (m : Moment) (wish : Wish) (seat : Seat) → IsSeatFor m wish seat → (g : Guarantee) → Offers seat g
     → HasDerivation m wish g
 offered_there m wish seat is g offers =
-    subst (λ (c : Config). IsOffered (record { config = c; terms = wish.terms }) (haves_of (node_of m.hierarchy wish.on))
-    m.depth g) is.config
-    (subst (λ t. IsOffered (record { config = seat.place.config; terms = t }) (haves_of (node_of m.hierarchy wish.on))
-    m.depth g) is.terms
+    let haves = haves_of (node_of m.hierarchy wish.on) in
+    subst (λ (c : Config). IsOffered (record { config = c; terms = wish.terms }) haves m.depth g) is.config
+    (subst (λ t. IsOffered (record { config = seat.place.config; terms = t }) haves m.depth g) is.terms
     (subst (λ (l : List Guarantee). IsOffered seat.place l m.depth g) is.haves
     (subst (λ n. IsOffered seat.place seat.haves.now n g) is.depth offers)))
 

@@ -1,5 +1,6 @@
 // The cheapest terms with which a guarantee that is needed can be had.
-ghost use Rattle.std.specs.Prelude.{◌≡◌, ◌≢◌, ◌≤◌, ◌↔◌, ℕ, IfOk, IsTrue, List, None, Option, false, option_copied, true};
+ghost use Rattle.std.specs.Prelude.{◌≡◌, ◌≢◌, ◌≤◌, ◌↔◌, ℕ, IfOk, IsTrue, List, None, Option};
+ghost use Rattle.std.specs.Prelude.{false, option_copied, true};
 ghost use Rattle.hls_chron.specs.Name.{IsName};
 ghost use Rattle.hls_scenario.specs.declared.scenario.Command.{Command};
 ghost use Rattle.hls_scenario.specs.Grammar.{IsTerms};

@@ -33,7 +33,8 @@ returns-in-Some-clause-nowhere g c =
 
 pub returns-in-None-clause-is : goal.returns-in-None-clause-is
 returns-in-None-clause-is g c = λ m at.
-    subst (λ n. IsHad m c.args.need.now c.args.on.now (option_copied c.args.periods) (Refused None (NoDerivation c.args.need.now.name n)))
+    subst (λ n. IsHad m c.args.need.now c.args.on.now (option_copied c.args.periods)
+    (Refused None (NoDerivation c.args.need.now.name n)))
     (at.depth ∙ sym c.depth.ensures)
     (underived_had m at.reached c.args.need.now c.args.on.now _ (c.requires.unbarred m at)
     (subst (λ o. IsDerivedFirst m c.args.need.now c.args.on.now (option_copied c.args.periods) o) c.in-None.is
