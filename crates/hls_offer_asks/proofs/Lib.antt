@@ -1,0 +1,12 @@
+pub mod Named
+pub mod Alike
+pub mod Dues
+pub mod Asked
+pub mod Seatable
+pub mod Standing
+pub mod Offering
+pub mod Barring
+pub mod Dearer
+pub mod Trying
+pub mod Deriving
+pub mod Telling

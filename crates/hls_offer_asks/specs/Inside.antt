@@ -1,0 +1,2 @@
+pub mod Hindering
+pub mod Trying

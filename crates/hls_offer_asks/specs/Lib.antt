@@ -1,0 +1,4 @@
+pub mod Requests
+pub mod Offers
+pub mod Needs
+pub mod Inside
