@@ -11,7 +11,8 @@ use Rattle.hls_view_margins.specs.declared.margin.Spare.TheVariants.{Unjudged, O
 use Rattle.hls_view_table.specs.declared.table.Side.{Side}
 use Rattle.hls_view_table.specs.declared.table.Side.TheVariants.{Left, Right}
 use Rattle.hls_view_table.specs.Tables.{aligned}
-use Rattle.hls_view_rows.specs.Cells.{span_text, distance_text, dash}
+use Rattle.hls_view_texts.specs.Texts.{distance_text}
+use Rattle.hls_view_rows.specs.Cells.{span_text, dash}
 
 abbrev pub part_text : Part → Text
 part_text part = span_text part.from (part.from + part.ticks - 1)

@@ -4,7 +4,7 @@ use Rattle.hls_text.specs.Lines.{Text}
 use Rattle.hls_guarantee.specs.Spelling.{spelling}
 use Rattle.hls_derive.specs.declared.derivation.Derivation.{Derivation}
 use Rattle.hls_derive.specs.DerivationText.{derivation_text}
-use Rattle.hls_scenario.specs.Forms.{spaced, joined, config_forms, terms_forms}
+use Rattle.hls_scenario.specs.Forms.{joined, terms_forms}
 use Rattle.hls_report_text.specs.Content.{Content}
 use Rattle.hls_audit_clauses.specs.declared.member.Sort.{Sort}
 use Rattle.hls_audit_clauses.specs.declared.member.Sort.TheVariants.{Scheduler, Thread}
@@ -20,17 +20,18 @@ use Rattle.hls_view_tree.specs.Activities.{names_of, activity_at}
 use Rattle.hls_view_table.specs.declared.table.Side.{Side}
 use Rattle.hls_view_table.specs.declared.table.Side.TheVariants.{Left, Right}
 use Rattle.hls_view_table.specs.Tables.{aligned}
+use Rattle.hls_view_texts.specs.Texts.{sort_text}
 use Rattle.hls_view_rows.specs.Cells.{dash}
 
 -- the configuration of a scheduler, behind a blank
-abbrev pub sort_text : Sort → Text
-sort_text (Scheduler config) = spaced (config_forms config)
-sort_text Thread = []
+abbrev pub configured : Sort → Text
+configured (Scheduler config) = 32 ∷ sort_text (Scheduler config)
+configured Thread = []
 
 -- two blanks a level, and whose place it is
 abbrev pub place_text : Place → Text
 place_text place =
-    flat_map (λ (l : Label). codes "  ") (labels_of place) ++ (place.label.name ++ sort_text place.label.sort)
+    flat_map (λ (l : Label). codes "  ") (labels_of place) ++ (place.label.name ++ configured place.label.sort)
 
 abbrev pub activity_text : Activity → Text
 activity_text Served = codes "served"

@@ -1,14 +1,9 @@
 // The cells of rows, each a text.
-ghost use Rattle.std.specs.Prelude.{◌≡◌, ◌+◌, ◌-◌, ◌++◌, OnOk, IfOk, codes, decimal};
-ghost use Rattle.hls_guarantee.specs.Limits.{IsValid};
-ghost use Rattle.hls_guarantee.specs.Spelling.{fraction_text, spelling};
-ghost use Rattle.hls_view_rows.specs.Cells.{span_text, distance_text};
+ghost use Rattle.std.specs.Prelude.{◌≡◌, ◌+◌, ◌-◌, IfOk, codes, decimal};
+ghost use Rattle.hls_view_rows.specs.Cells.{span_text};
 ghost use Rattle.hls_view_rows.specs.Jobs.{or_dash};
 
-use hls_frac::Frac;
-use hls_guarantee::{Guarantee, write_guarantee};
 use hls_text::{put, put_number};
-use hls_view_margins::Distance;
 use std::alloc::{AllocError, Global};
 
 pub fn number_cell(alloc: Global, number: u32) -> Result<Vec<u8>, AllocError>
@@ -62,48 +57,6 @@ pub fn ticks_cell(alloc: Global, from: u32, ticks: u32) -> Result<Vec<u8>, Alloc
 {
     let end = u64::from(from) + u64::from(ticks);
     span_cell(alloc, from, end.saturating_sub(1))
-}
-
-pub fn guarantee_cell(alloc: Global, guarantee: &Guarantee) -> Result<Vec<u8>, AllocError>
-    requires { IsValid guarantee.now }
-    ensures { IfOk result (λ cell. cell.items ≡ spelling guarantee.now) }
-{
-    let mut cell = Vec::new(alloc);
-    write_guarantee(guarantee, &mut cell)?;
-    Ok(cell)
-}
-
-fn put_fraction(cell: &mut Vec<u8>, fraction: &Frac) -> Result<(), AllocError>
-    ensures { OnOk result (cell.new.items ≡ cell.old.items ++ fraction_text fraction.now) }
-{
-    put_number(cell, fraction.num)?;
-    if fraction.den == 1 {
-        return Ok(());
-    }
-    put(cell, b"/")?;
-    put_number(cell, fraction.den)
-}
-
-pub fn fraction_cell(alloc: Global, fraction: &Frac) -> Result<Vec<u8>, AllocError>
-    ensures { IfOk result (λ cell. cell.items ≡ fraction_text fraction.now) }
-{
-    let mut cell = Vec::new(alloc);
-    put_fraction(&mut cell, fraction)?;
-    Ok(cell)
-}
-
-pub fn distance_cell(alloc: Global, distance: &Distance) -> Result<Vec<u8>, AllocError>
-    ensures { IfOk result (λ cell. cell.items ≡ distance_text distance.now) }
-{
-    let mut cell = Vec::new(alloc);
-    match distance {
-        Distance::Above(fraction) => put_fraction(&mut cell, fraction)?,
-        Distance::Below(fraction) => {
-            put(&mut cell, b"-")?;
-            put_fraction(&mut cell, fraction)?;
-        }
-    }
-    Ok(cell)
 }
 
 pub fn word_cell(alloc: Global, word: &[u8]) -> Result<Vec<u8>, AllocError>

@@ -5,12 +5,12 @@ ghost use Rattle.hls_view_rows.specs.Jobs.{count_cells, size_cells, response_cel
 ghost use Rattle.hls_view_rows.specs.Jobs.{sort_text, dropped_cells, fate_cells, job_cells, jobs_text};
 
 use crate::cells::{
-    amount_cell, amount_or_dash, fraction_cell, number_cell, number_or_dash, span_cell, ticks_cell,
-    word_cell,
+    amount_cell, amount_or_dash, number_cell, number_or_dash, span_cell, ticks_cell, word_cell,
 };
 use hls_text::put;
 use hls_view_jobs::{Fate, Job, Responses, Sort, Summary, ThreadJobs, Word};
 use hls_view_table::{Column, Row, Side, Table, write_table};
+use hls_view_texts::fraction_text;
 use std::alloc::{AllocError, Global};
 
 /// The columns of the table of threads.
@@ -158,7 +158,7 @@ fn push_responses(
         }
         Some(r) => {
             row.push(number_cell(alloc, r.best)?)?;
-            row.push(fraction_cell(alloc, &r.mean)?)?;
+            row.push(fraction_text(alloc, &r.mean)?)?;
             row.push(number_cell(alloc, r.longest.ticks)?)?;
             row.push(ticks_cell(alloc, r.longest.release, r.longest.ticks)?)?;
         }

@@ -6,10 +6,11 @@ ghost use Rattle.hls_view_rows.specs.Cells.{dash};
 ghost use Rattle.hls_view_rows.specs.Margins.{stay_cells, spare_cells, room_cells, longest_cells, margin_cells};
 ghost use Rattle.hls_view_rows.specs.Margins.{margins_text};
 
-use crate::cells::{distance_cell, guarantee_cell, number_cell, span_cell, ticks_cell, word_cell};
+use crate::cells::{number_cell, span_cell, ticks_cell, word_cell};
 use hls_view_margins as found;
 use hls_view_margins::{Margin, Room, Spare};
 use hls_view_table::{Column, Row, Side, Table, write_table};
+use hls_view_texts::{distance_text, guarantee_text};
 use std::alloc::{AllocError, Global};
 
 /// The columns of the table of margins.
@@ -78,7 +79,7 @@ fn push_stay(alloc: Global, row: &mut Row, m: &Margin) -> Result<(), AllocError>
 {
     row.push(word_cell(alloc, m.name.bytes())?)?;
     row.push(span_cell(alloc, m.from, u64::from(m.to))?)?;
-    row.push(guarantee_cell(alloc, &m.kept)?)?;
+    row.push(guarantee_text(alloc, &m.kept)?)?;
     row.push(number_cell(alloc, m.ready)?)?;
     row.push(number_cell(alloc, m.served)?)?;
     Ok(())
@@ -101,7 +102,7 @@ fn push_spare(alloc: Global, row: &mut Row, spare: &Spare) -> Result<(), AllocEr
         Spare::Unjudged => push_unjudged(alloc, row, b"-"),
         Spare::Over => push_unjudged(alloc, row, b"over"),
         Spare::Least { part, surplus } => {
-            row.push(distance_cell(alloc, surplus)?)?;
+            row.push(distance_text(alloc, surplus)?)?;
             row.push(number_cell(alloc, part.got)?)?;
             row.push(ticks_cell(alloc, part.from, part.ticks)?)?;
             Ok(())
@@ -118,7 +119,7 @@ fn push_room(alloc: Global, row: &mut Row, room: &Option<Room>) -> Result<(), Al
             row.push(word_cell(alloc, b"-")?)?;
         }
         Some(room) => {
-            row.push(distance_cell(alloc, &room.left)?)?;
+            row.push(distance_text(alloc, &room.left)?)?;
             row.push(ticks_cell(alloc, room.part.from, room.part.ticks)?)?;
         }
     }

@@ -4,7 +4,6 @@ ghost use Rattle.std.specs.Prelude.{option_map, option_copied};
 ghost use Rattle.std.specs.List.{AllByRecursion};
 ghost use Rattle.hls_guarantee.specs.Limits.{IsValid};
 ghost use Rattle.hls_derive.specs.Derivation.{IsWithinGrammar};
-ghost use Rattle.hls_scenario.specs.Forms.{spaced, joined, config_forms, terms_forms};
 ghost use Rattle.hls_report_text.specs.declared.report.Seated as told;
 ghost use Rattle.hls_report_text.specs.Content.{Content, content_of};
 ghost use Rattle.hls_report_text.specs.WellFormed.{IsWellFormed};
@@ -16,14 +15,14 @@ ghost use Rattle.hls_view_tree.specs.Scenes.{IsScene};
 ghost use Rattle.hls_view_table.specs.Tables.{cells_of};
 ghost use Rattle.hls_view_rows.specs.Trees as trees;
 
-use crate::cells::{guarantee_cell, number_cell, word_cell};
+use crate::cells::{number_cell, word_cell};
 use hls_audit_clauses::Sort;
-use hls_chron::{Config, Terms};
 use hls_derive::write_derivation;
 use hls_report_text::{Report, Seated};
-use hls_text::{put, put_number};
+use hls_text::put;
 use hls_view_table::{Column, Row, Side, Table, write_table};
 use hls_view_tale::{Hierarchy, Place, hierarchy_at};
+use hls_view_texts::{guarantee_text, sort_text, terms_text};
 use hls_view_tree::{Activity, Scene, derivation_of, since_of};
 use std::alloc::{AllocError, Global};
 
@@ -55,43 +54,15 @@ const COLUMNS: [Column; 6] = [
     },
 ];
 
-/// A blank and a number.
-fn put_blank_number(cell: &mut Vec<u8>, number: u32) -> Result<(), AllocError>
-    ensures { OnOk result (cell.new.items ≡ cell.old.items ++ (32 ∷ decimal number)) }
-{
-    put(cell, b" ")?;
-    put_number(cell, u128::from(number))
-}
-
-fn put_config(cell: &mut Vec<u8>, config: &Config) -> Result<(), AllocError>
-    ensures { OnOk result (cell.new.items ≡ cell.old.items ++ spaced (config_forms config.now)) }
-{
-    match config {
-        Config::Cpu => Ok(()),
-        Config::Fp => put(cell, b" fp"),
-        Config::Edf => put(cell, b" edf"),
-        Config::Sfq { total, most } => {
-            put(cell, b" sfq")?;
-            put_blank_number(cell, *total)?;
-            put_blank_number(cell, *most)
-        }
-        Config::Rr { quantum } => {
-            put(cell, b" rr")?;
-            put_blank_number(cell, *quantum)
-        }
-        Config::Wheel { frame } => {
-            put(cell, b" wheel")?;
-            put_blank_number(cell, *frame)
-        }
-        Config::Join { .. } => put(cell, b" join"),
-    }
-}
-
-fn put_sort(cell: &mut Vec<u8>, sort: &Sort) -> Result<(), AllocError>
-    ensures { OnOk result (cell.new.items ≡ cell.old.items ++ trees.sort_text sort.now) }
+/// The configuration of a scheduler, behind a blank.
+fn put_sort(alloc: Global, cell: &mut Vec<u8>, sort: &Sort) -> Result<(), AllocError>
+    ensures { OnOk result (cell.new.items ≡ cell.old.items ++ trees.configured sort.now) }
 {
     match sort {
-        Sort::Scheduler { config } => put_config(cell, config),
+        Sort::Scheduler { .. } => {
+            put(cell, b" ")?;
+            put(cell, &sort_text(alloc, sort)?)
+        }
         Sort::Thread => Ok(()),
     }
 }
@@ -113,37 +84,7 @@ fn place_cell(alloc: Global, place: &Place) -> Result<Vec<u8>, AllocError>
     let mut cell = Vec::new(alloc);
     put_levels(&mut cell, place)?;
     put(&mut cell, place.label.name.bytes())?;
-    put_sort(&mut cell, &place.label.sort)?;
-    Ok(cell)
-}
-
-fn terms_cell(alloc: Global, terms: &Terms) -> Result<Vec<u8>, AllocError>
-    ensures { IfOk result (λ cell. cell.items ≡ joined (terms_forms terms.now)) }
-{
-    let mut cell = Vec::new(alloc);
-    match terms {
-        Terms::Cpu => {}
-        Terms::Prio(priority) => {
-            put(&mut cell, b"prio")?;
-            put_blank_number(&mut cell, *priority)?;
-        }
-        Terms::Res { hard, x, y } => {
-            put(&mut cell, b"res")?;
-            put_blank_number(&mut cell, *x)?;
-            put_blank_number(&mut cell, *y)?;
-            put(&mut cell, if *hard { b" hard" } else { b" soft" })?;
-        }
-        Terms::Weight(weight) => {
-            put(&mut cell, b"weight")?;
-            put_blank_number(&mut cell, *weight)?;
-        }
-        Terms::Slots(places) => {
-            put(&mut cell, b"slots")?;
-            put_blank_number(&mut cell, *places)?;
-        }
-        Terms::Turn => put(&mut cell, b"turn")?,
-        Terms::Sole => put(&mut cell, b"sole")?,
-    }
+    put_sort(alloc, &mut cell, &place.label.sort)?;
     Ok(cell)
 }
 
@@ -186,8 +127,8 @@ fn place_row(
     let derived = derivation_of(report, hierarchy, &label.name, label.port);
     let mut row = Row::new(alloc);
     row.push(place_cell(alloc, place)?)?;
-    row.push(terms_cell(alloc, &label.terms)?)?;
-    row.push(guarantee_cell(alloc, &label.kept)?)?;
+    row.push(terms_text(alloc, &label.terms)?)?;
+    row.push(guarantee_text(alloc, &label.kept)?)?;
     row.push(number_cell(alloc, since_of(report, hierarchy, &label.name))?)?;
     row.push(activity_cell(alloc, scene.activity_of(alloc, place)?)?)?;
     row.push(derived_cell(alloc, derived)?)?;

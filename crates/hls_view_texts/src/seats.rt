@@ -1,0 +1,90 @@
+// Configurations and terms as texts.
+ghost use Rattle.std.specs.Prelude.{◌≡◌, ◌∷◌, ◌++◌, OnOk, IfOk, decimal};
+ghost use Rattle.hls_scenario.specs.Forms.{joined, config_forms, terms_forms};
+ghost use Rattle.hls_view_texts.specs.Texts as texts;
+
+use hls_audit_clauses::Sort;
+use hls_chron::{Config, Terms};
+use hls_text::{put, put_number};
+use std::alloc::{AllocError, Global};
+
+/// A blank and a number.
+fn put_blank_number(text: &mut Vec<u8>, number: u32) -> Result<(), AllocError>
+    ensures { OnOk result (text.new.items ≡ text.old.items ++ (32 ∷ decimal number)) }
+{
+    put(text, b" ")?;
+    put_number(text, u128::from(number))
+}
+
+fn config_text(alloc: Global, config: &Config) -> Result<Vec<u8>, AllocError>
+    ensures { IfOk result (λ text. text.items ≡ joined (config_forms config.now)) }
+{
+    let mut text = Vec::new(alloc);
+    match config {
+        Config::Cpu => {}
+        Config::Fp => put(&mut text, b"fp")?,
+        Config::Edf => put(&mut text, b"edf")?,
+        Config::Sfq { total, most } => {
+            put(&mut text, b"sfq")?;
+            put_blank_number(&mut text, *total)?;
+            put_blank_number(&mut text, *most)?;
+        }
+        Config::Rr { quantum } => {
+            put(&mut text, b"rr")?;
+            put_blank_number(&mut text, *quantum)?;
+        }
+        Config::Wheel { frame } => {
+            put(&mut text, b"wheel")?;
+            put_blank_number(&mut text, *frame)?;
+        }
+        Config::Join { .. } => put(&mut text, b"join")?,
+    }
+    Ok(text)
+}
+
+/// The configuration of a scheduler, as a load spells it; nothing for a thread.
+///
+/// # Errors
+/// Returns `AllocError` for want of memory.
+pub fn sort_text(alloc: Global, sort: &Sort) -> Result<Vec<u8>, AllocError>
+    ensures { IfOk result (λ text. text.items ≡ texts.sort_text sort.now) }
+{
+    match sort {
+        Sort::Scheduler { config } => config_text(alloc, config),
+        Sort::Thread => Ok(Vec::new(alloc)),
+    }
+}
+
+/// The terms of a seat, as a scenario spells them; nothing at the processor.
+///
+/// # Errors
+/// Returns `AllocError` for want of memory.
+pub fn terms_text(alloc: Global, terms: &Terms) -> Result<Vec<u8>, AllocError>
+    ensures { IfOk result (λ text. text.items ≡ joined (terms_forms terms.now)) }
+{
+    let mut text = Vec::new(alloc);
+    match terms {
+        Terms::Cpu => {}
+        Terms::Prio(priority) => {
+            put(&mut text, b"prio")?;
+            put_blank_number(&mut text, *priority)?;
+        }
+        Terms::Res { hard, x, y } => {
+            put(&mut text, b"res")?;
+            put_blank_number(&mut text, *x)?;
+            put_blank_number(&mut text, *y)?;
+            put(&mut text, if *hard { b" hard" } else { b" soft" })?;
+        }
+        Terms::Weight(weight) => {
+            put(&mut text, b"weight")?;
+            put_blank_number(&mut text, *weight)?;
+        }
+        Terms::Slots(places) => {
+            put(&mut text, b"slots")?;
+            put_blank_number(&mut text, *places)?;
+        }
+        Terms::Turn => put(&mut text, b"turn")?,
+        Terms::Sole => put(&mut text, b"sole")?,
+    }
+    Ok(text)
+}
