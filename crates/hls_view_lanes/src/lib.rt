@@ -17,4 +17,5 @@ mod ways;
 
 pub use counts::Counts;
 pub use lanes::{Lanes, lanes_of, rows_between};
+pub use likeness::is_same;
 pub use tick_facts::Facts;

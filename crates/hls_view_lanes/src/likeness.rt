@@ -27,7 +27,7 @@ pub(crate) fn begins(above: &[Label], way: &[Label]) -> bool
 }
 
 /// Whether two ways read alike.
-pub(crate) fn is_same(a: &[Label], b: &[Label]) -> bool
+pub fn is_same(a: &[Label], b: &[Label]) -> bool
     ensures { result ≡ told.is_same a.now b.now }
 {
     begins(a, b) && begins(b, a)

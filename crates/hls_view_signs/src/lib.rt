@@ -8,7 +8,6 @@ mod drops;
 mod event;
 mod happenings;
 pub mod laws;
-mod likeness;
 mod moments;
 mod signs;
 mod sources;

@@ -9,10 +9,10 @@ ghost use Rattle.hls_view_signs.specs.Inside.Sources.{AreSources};
 
 use crate::event::{Asked, Event};
 use crate::happenings::{happens_if, node_at};
-use crate::likeness::is_same;
 use crate::sources::Sources;
 use hls_chron::List;
 use hls_report_text::Report;
+use hls_view_lanes::is_same;
 use hls_view_scale::Scale;
 use hls_view_tale::{Hierarchy, Label, hierarchy_at};
 use std::alloc::{AllocError, Global};

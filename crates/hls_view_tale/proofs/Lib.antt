@@ -1,4 +1,4 @@
-mod Promised
+pub mod Promised
 mod Reseated
 mod SeatLaws
 mod Stacks

@@ -13,5 +13,6 @@ mod walking;
 
 pub use hierarchy::{Hierarchy, hierarchy_at};
 pub use label::Label;
+pub use moving::firsts;
 pub use place::Place;
 pub use standing::Standing;

@@ -31,7 +31,10 @@ fn put_new(known: &mut Vec<Name>, name: &Name) -> Result<(), AllocError>
 }
 
 /// Each name where it stands first.
-fn firsts(alloc: Global, names: &[Name]) -> Result<Vec<Name>, AllocError>
+///
+/// # Errors
+/// Returns `AllocError` for want of memory.
+pub fn firsts(alloc: Global, names: &[Name]) -> Result<Vec<Name>, AllocError>
     ensures { IfOk result (λ firsts. firsts.items ≡ standings.firsts names.now) }
 {
     let mut known = Vec::new(alloc);
