@@ -6,3 +6,7 @@ pub mod Reached
 pub mod Outcomes
 pub mod Musts
 pub mod Replied
+pub mod Answered
+pub mod Formed
+pub mod Wishes
+pub mod Questions

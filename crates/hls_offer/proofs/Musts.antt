@@ -1,5 +1,5 @@
 -- The answers that must come follow from how a run ends.
-use Rattle.std.proofs.Common.{◌≡◌, ◌<◌, ◌≤◌, length, refl, ap, subst, arith, inl, inr}
+use Rattle.std.proofs.Common.{◌≡◌, ◌<◌, ◌≤◌, Bool, true, false, length, refl, ap, subst, arith, inl, inr}
 use Rattle.std.specs.Prelude.{◌⊎◌, List}
 use Rattle.hls_io.specs.declared.status.Status.{Status}
 use Rattle.hls_io.specs.declared.status.Status.TheVariants.{Done, Broken, Usage, RefusedText, ReadFault}
@@ -15,24 +15,43 @@ use Rattle.hls_top.specs.Refusing.{IsNoScenarioText}
 use Rattle.hls_top.specs.Musts.{OrMemory}
 use Rattle.hls_top.proofs.Outcomes.{read_is, not_past}
 use Rattle.hls_offer_words.specs.Table.{IsAsked, IsNotAsked}
+use Rattle.hls_offer_words.specs.declared.asked.Question.{Question}
+use Rattle.hls_offer_words.specs.declared.asked.Question.TheVariants.{Offer, Need, Spare}
 use Rattle.hls_offer_words.specs.declared.asked.Asked.{Asked}
 use Rattle.hls_offer.specs.Moments.{asked_tick, IsBadTick, IsGoodTick}
-use Rattle.hls_offer.specs.Replies.{IsReply}
+use Rattle.hls_offer.specs.Replies.{status_of, Replies, IsReply}
 use Rattle.hls_offer.specs.Ends.{IsOfQuestion, Ends}
-use Rattle.hls_offer.specs.Musts.{Came, Judges, MustAnswer}
+use Rattle.hls_offer.specs.Musts.{Came, IsAnswered, Judges, MustAnswer}
 
 -- ---- what a reply tells of its status
 
-judged : (words : List Text) (a : Asked) (boxes : Boxes) (bytes : Text) (status : Status) (output : Text)
-    (s : Scenario) → IsAsked words a → IsReply a boxes bytes status output → IsScenarioText bytes s
+-- a reply at this status answers the question
+answered_so : (q : Question) (offers : Bool) (status : Status) → status ≡ status_of q offers → IsAnswered q status
+answered_so (Offer name on terms) true status e = inl e
+answered_so (Offer name on terms) false status e = inr e
+answered_so (Need name wanted on) true status e = inl e
+answered_so (Need name wanted on) false status e = inr e
+answered_so Spare offers status e = e
+
+told_well : (words : List Text) (a : Asked) (boxes : Boxes) (bytes : Text) (status : Status) (output : Text)
+    (s : Scenario) → IsAsked words a → Replies a boxes bytes status output → IsScenarioText bytes s
     → Judges words s status
-judged words a boxes bytes Done output s asks is text =
+told_well words a boxes bytes status output s asks is text =
     let same = text_of_one bytes is.scenario s is.read text in
     record {
       asked = a;
       asks = asks;
-      status_is = inl (refl, subst (λ (t : Scenario). IsGoodTick t (asked_tick a.at t.items)) same is.good);
+      status_is = inl (
+        answered_so a.question is.tells.told.offers status is.tells.status_is,
+        subst (λ (t : Scenario). IsGoodTick t (asked_tick a.at t.items)) same is.good,
+      );
     }
+
+judged : (words : List Text) (a : Asked) (boxes : Boxes) (bytes : Text) (status : Status) (output : Text)
+    (s : Scenario) → IsAsked words a → IsReply a boxes bytes status output → IsScenarioText bytes s
+    → Judges words s status
+judged words a boxes bytes Done output s asks is text = told_well words a boxes bytes Done output s asks is text
+judged words a boxes bytes Broken output s asks is text = told_well words a boxes bytes Broken output s asks is text
 judged words a boxes bytes RefusedText output s asks (inl is) text = absurd (is.none s text)
 judged words a boxes bytes RefusedText output s asks (inr is) text =
     let same = text_of_one bytes is.scenario s is.read text in
@@ -45,7 +64,6 @@ judged words a boxes bytes RefusedText output s asks (inr is) text =
         subst (λ (t : Scenario). IsBadTick t (asked_tick a.at t.items) is.cause) same is.bad,
       );
     }
-judged words a boxes bytes Broken output s asks is text = absurd is
 judged words a boxes bytes Usage output s asks is text = absurd is
 judged words a boxes bytes ReadFault output s asks is text = absurd is
 judged words a boxes bytes WriteFault output s asks is text = absurd is
@@ -56,7 +74,7 @@ refused : (a : Asked) (boxes : Boxes) (bytes : Text) (status : Status) (output :
     → IsReply a boxes bytes status output → IsNoScenarioText bytes → status ≡ RefusedText
 refused a boxes bytes Done output is none = absurd (none is.scenario is.read)
 refused a boxes bytes RefusedText output is none = refl
-refused a boxes bytes Broken output is none = absurd is
+refused a boxes bytes Broken output is none = absurd (none is.scenario is.read)
 refused a boxes bytes Usage output is none = absurd is
 refused a boxes bytes ReadFault output is none = absurd is
 refused a boxes bytes WriteFault output is none = absurd is
@@ -86,7 +104,7 @@ comes x ReadFault h quiet a words = absurd (quiet.reads h.lacks)
 comes x WriteFault h quiet a words = absurd (quiet.writes h.write_failed)
 comes x Memory h quiet a words = inl refl
 comes x TooLong h quiet a words = inr (inl record { status_is = refl; long = h.lacks })
-comes x Broken h quiet a words = absurd h
+comes x Broken h quiet a words = inr (inr record { output = h.output; is = h.due })
 
 -- ---- line by line
 
@@ -131,7 +149,7 @@ refuses_words x ReadFault h none quiet = absurd (none h.asked h.words)
 refuses_words x TooLong h none quiet = absurd (none h.asked h.words)
 refuses_words x WriteFault h none quiet = absurd (quiet.writes h.write_failed)
 refuses_words x Memory h none quiet = inr refl
-refuses_words x Broken h none quiet = absurd h
+refuses_words x Broken h none quiet = absurd (none h.due.asked h.due.words)
 
 pub must_answer : (x : Exchange) (status : Status) → Ends x status → MustAnswer x status
 must_answer x status h = record {

@@ -42,7 +42,7 @@ writes_end : (x : Exchange) (status : Status) (output : Text) → IsDue x status
 writes_end x Done output due w = w
 writes_end x Usage output due w = w
 writes_end x RefusedText output due w = w
-writes_end x Broken output due w = absurd due.reply
+writes_end x Broken output due w = w
 writes_end x ReadFault output due w = absurd due.reply
 writes_end x WriteFault output due w = absurd due.reply
 writes_end x Memory output due w = absurd due.reply

@@ -1,5 +1,5 @@
 -- A core that stands at a tick, behind its commands, stands at the moment of the tick.
-use Rattle.std.proofs.Common.{◌≡◌, ℕ, List, refl, sym, ap, ◌∙◌, subst, arith}
+use Rattle.std.proofs.Common.{◌≡◌, ℕ, Bool, List, refl, sym, ap, ◌∙◌, subst, arith}
 use Rattle.std.proofs.Common.{[], ◌∷◌, ◌++◌, append_assoc, codes}
 use Rattle.std.specs.Prelude.{Option, map}
 use Rattle.std.proofs.lemmas.List.{append-nil}
@@ -10,9 +10,13 @@ use Rattle.hls_machine.specs.Legal.{IsReached}
 use Rattle.hls_machine.proofs.Lists.{run_listed}
 use Rattle.hls_machine.proofs.Seated.{run_seated}
 use Rattle.hls_tree.specs.Trees.{Stands}
-use Rattle.hls_offer_text.specs.OfferText.{free_text, head_lines}
-use Rattle.hls_offer.specs.Replies.{TellsLeft}
-use Rattle.hls_offer.specs.Inside.Lines.{AddsAll}
+use Rattle.hls_io.specs.declared.status.Status.{Status}
+use Rattle.hls_offer_text.specs.OfferText.{head_lines}
+use Rattle.hls_offer_words.specs.declared.asked.Asked.{Asked}
+use Rattle.hls_core.specs.Asking.{IsMomentOf}
+use Rattle.hls_offer.specs.Replies.{given_depth, status_of, Tells}
+use Rattle.hls_offer.specs.Told.{IsTold}
+use Rattle.hls_offer.specs.Inside.Told.{AddsTold}
 use Rattle.std.specs.Fn.{Mut}
 use Rattle.hls_guarantee.specs.declared.Guarantee.{Guarantee}
 use Rattle.hls_scenario.specs.declared.scenario.Scenario.{Scenario}
@@ -22,7 +26,7 @@ use Rattle.hls_machine.specs.Steps.{state}
 use Rattle.hls_answers.specs.Moment.{Boxes, Moment}
 use Rattle.hls_answers.specs.Kit.{boxes_left}
 use Rattle.hls_core_journal.specs.Told.{answered_by, told}
-use Rattle.hls_core.specs.Cores.{IsCoreOf, NoneDue}
+use Rattle.hls_core.specs.Cores.{IsCoreOf, NoneDue, Runs}
 use Rattle.hls_core.specs.declared.cores.Core.{Core}
 use Rattle.hls_core.proofs.Items.{ahead_next}
 use Rattle.hls_offer.specs.Moments.{IsMoment}
@@ -79,18 +83,41 @@ module _ {V W : Type 0} {P : V → Type 0} {Q : W → Type 0}
     is = is.at_state.reached;
   }
 
-  -- the lines that are written there
-  pub told_left : (tick : ℕ) → c.journal.ticks ≡ tick → NoneDue c.scenario.items c.agenda tick
-      → (periods : List ℕ) (none head lines whole : Text) → none ≡ [] → head ≡ none ++ ended (head_lines tick c.depth)
-      → AddsAll seen c.tree periods head lines → whole ≡ lines ++ with_end (codes "end")
-      → TellsLeft s given boxes tick periods whole
-  told_left tick now due periods none head lines whole empty first all last = record {
-    m = moment_of;
-    moment = at_tick tick now due;
-    frees = all.frees;
-    are = all.are (state start is.steps) is.at_state.tree;
-    spelled = last ∙ ap (λ (t : Text). t ++ with_end (codes "end"))
-        (all.text ∙ ap (λ (t : Text). t ++ ended (map free_text all.frees))
-        (first ∙ ap (λ (t : Text). t ++ ended (head_lines tick c.depth)) empty))
-        ∙ whole_text (head_lines tick c.depth) (map free_text all.frees) (codes "end");
+  pub is_moment : IsMomentOf seen c moment_of
+  is_moment = record {
+    tree = is.at_state.tree;
+    reached = is.at_state.reached;
+    boxes = sym is.left;
+    depth = refl;
   }
+
+  -- the answer that is written there
+  pub told_all : (a : Asked) (tick : ℕ) → given ≡ given_depth a.depth → c.journal.ticks ≡ tick
+      → NoneDue c.scenario.items c.agenda tick → (offers : Bool) (status : Status) (none head lines whole : Text)
+      → none ≡ [] → head ≡ none ++ ended (head_lines tick c.depth)
+      → ((m : Moment) → IsMomentOf seen c m
+      → AddsTold (IsTold a.question m c.journal.ticks a.periods) offers head lines)
+      → whole ≡ lines ++ with_end (codes "end") → status ≡ status_of a.question offers
+      → Tells a s boxes tick status whole
+  told_all a tick depth now due offers status none head lines whole empty first all last status_is =
+      let adds = all moment_of is_moment in
+      record {
+        m = moment_of;
+        moment = subst (λ (n : ℕ). IsMoment s n boxes tick moment_of) depth (at_tick tick now due);
+        told = adds.told;
+        is = subst (λ (n : ℕ). IsTold a.question moment_of n a.periods adds.told) now adds.is;
+        status_is = status_is ∙ ap (λ (o : Bool). status_of a.question o) adds.offers_is;
+        spelled = last ∙ ap (λ (t : Text). t ++ with_end (codes "end"))
+            (adds.text ∙ ap (λ (t : Text). t ++ ended adds.told.lines)
+            (first ∙ ap (λ (t : Text). t ++ ended (head_lines tick c.depth)) empty))
+            ∙ whole_text (head_lines tick c.depth) adds.told.lines (codes "end");
+      }
+
+module _ {V W : Type 0} {P : V → Type 0} {Q : W → Type 0}
+    {X : Mut ((x : W) × Q x) (Guarantee × (Guarantee × Unit {0})) (Option Guarantee)}
+    (seen : (x : V) × P x → Seen) (c : Core V W P Q X) where
+  pub some_moment : Runs seen c → (m : Moment) × IsMomentOf seen c m
+  some_moment runs = (
+    moment_of seen c runs.s runs.given runs.boxes runs.is,
+    is_moment seen c runs.s runs.given runs.boxes runs.is,
+  )

@@ -17,7 +17,8 @@ use Rattle.hls_offer.specs.Replies.{IsReply}
 
 -- the line that tells how the program is used
 abbrev pub usage_line : Text
-usage_line = codes "usage: hlsoffer spare [over Y..] [--at T] [--depth K]" ++ 10 ∷ []
+usage_line = codes "usage: hlsoffer offer NAME on NAME TERMS [over Y..] | need NAME as GUARANTEE [on NAME] [over Y..]"
+    ++ codes " | spare [over Y..], each [--at T] [--depth K]" ++ 10 ∷ []
 
 -- the words ask a question, these are all the bytes that came, they are within the limit, and this is the reply
 pub record IsOfQuestion (x : Exchange) (status : Status) (output : Text) : Type 0 where
@@ -65,13 +66,13 @@ pub record IsCutShort (x : Exchange) (error : ReadError) : Type 0 where
 
 abbrev pub Ends : Exchange → Status → Type 0
 Ends x Done = Writes x Done
+Ends x Broken = Writes x Broken
 Ends x Usage = Writes x Usage
 Ends x RefusedText = Writes x RefusedText
 Ends x ReadFault = IsCutShort x errors.Fault
 Ends x WriteFault = Stops x
 Ends x Memory = LacksMemory x
 Ends x TooLong = IsCutShort x errors.TooLong
-Ends x Broken = ⊥
 
 -- what holds however a run ends: whether bytes are told stays as it was, no count of faults falls, and no more is
 -- read than the words ask for

@@ -7,15 +7,16 @@ ghost use Rattle.hls_sched.specs.Boxed.{boxed};
 ghost use Rattle.hls_manager.specs.Outcomes.{boxes_in};
 ghost use Rattle.hls_top.specs.Exchange.{scenario_limit};
 ghost use Rattle.hls_offer_words.specs.Table.{IsAtMost};
-ghost use Rattle.hls_offer.specs.Replies.{given_depth, told_periods, TellsLeft, IsReply};
+ghost use Rattle.hls_offer.specs.Replies.{given_depth, status_of, Tells, IsReply};
+ghost use Rattle.hls_offer.specs.Inside.Readings.{IsAskable};
 
 use crate::moments::{asked_tick, carry_to, tick_fault};
-use crate::spare::put_spare;
+use crate::telling::put_told;
 use hls_core::Core;
 use hls_io::Status;
 use hls_lang::{Scenario, ScenarioFault, read_scenario};
 use hls_offer_text::{put_end, put_head};
-use hls_offer_words::Asked;
+use hls_offer_words::{Asked, Question};
 use hls_rules::RuleBook;
 use hls_sched::{Kit, Scheduler};
 use hls_text::next_line;
@@ -24,9 +25,6 @@ use std::alloc::{AllocError, Global};
 
 /// The depth where neither words nor scenario state one.
 const USUAL_DEPTH: u8 = 3;
-
-/// The periods of the reservations that are told where the words state none.
-const USUAL_PERIODS: &[u32] = &[1000];
 
 /// What is to be written, and the status that goes with it.
 #[derive(Drop)]
@@ -62,39 +60,39 @@ fn given_depth(asked: &Asked) -> u8
     }
 }
 
-/// The periods of the reservations that are told.
-fn told_periods(asked: &Asked) -> &[u32]
-    ensures { result.now ≡ told_periods asked.now.periods }
+/// The status, which tells whether a seat is offered.
+fn status_of(question: &Question, offers: bool) -> Status
+    ensures { result ≡ status_of question.now offers }
 {
-    match &asked.periods {
-        Some(periods) => periods.items(),
-        None => USUAL_PERIODS,
+    match question {
+        Question::Offer { .. } | Question::Need { .. } if !offers => Status::Broken,
+        _ => Status::Done,
     }
 }
 
-/// The lines that tell what is left on each loaded scheduler at a tick.
-fn tell_left(
+/// The answer to a question at a tick of a scenario.
+fn tell(
     alloc: Global,
     asked: &Asked,
     scenario: Scenario,
     tick: u32,
     kit: Kit,
     rules: RuleBook,
-) -> Result<Vec<u8>, AllocError>
+) -> Result<Reply, AllocError>
     requires scenario { IsScenario scenario }
     requires early { tick < scenario.horizon }
-    requires depth { IsAtMost 6 asked.now.depth }
+    requires asked { IsAskable asked.now }
     requires good { IsGood (boxed seen) kit }
-    ensures { IfOk result (λ bytes. TellsLeft scenario (given_depth asked.now.depth) (boxes_in kit) tick
-        (told_periods asked.now.periods) bytes.items) }
+    ensures { IfOk result (λ reply. Tells asked.now scenario (boxes_in kit) tick reply.status reply.bytes.items) }
 {
     let mut core = Core::open(alloc, scenario, given_depth(asked), kit, rules)?;
     carry_to(&mut core, tick)?;
-    let mut out = Vec::new(alloc);
-    put_head(&mut out, tick, core.depth())?;
-    put_spare(alloc, core.tree(), told_periods(asked), &mut out)?;
-    put_end(&mut out)?;
-    Ok(out)
+    let mut bytes = Vec::new(alloc);
+    put_head(&mut bytes, tick, core.depth())?;
+    let offers = put_told(alloc, &core, asked, &mut bytes)?;
+    put_end(&mut bytes)?;
+    let status = status_of(&asked.question, offers);
+    Ok(Reply { status, bytes })
 }
 
 /// What is to be written about the text of a scenario.
@@ -109,7 +107,7 @@ pub fn reply_to(
     rules: RuleBook,
 ) -> Result<Reply, AllocError>
     requires within { length text.now ≤ scenario_limit }
-    requires depth { IsAtMost 6 asked.now.depth }
+    requires asked { IsAskable asked.now }
     requires good { IsGood (boxed seen) kit }
     ensures { IfOk result (λ reply. IsReply asked.now (boxes_in kit) text.now reply.status reply.bytes.items) }
 {
@@ -134,7 +132,7 @@ fn reply_on(
 ) -> Result<Reply, AllocError>
     requires read { IsScenarioText text.now scenario }
     requires within { length text.now ≤ scenario_limit }
-    requires depth { IsAtMost 6 asked.now.depth }
+    requires asked { IsAskable asked.now }
     requires good { IsGood (boxed seen) kit }
     ensures { IfOk result (λ reply. IsReply asked.now (boxes_in kit) text.now reply.status reply.bytes.items) }
 {
@@ -144,9 +142,6 @@ fn reply_on(
             status: Status::RefusedText,
             bytes: refusal_line(alloc, count_lines(text) + 1, cause_word(cause))?,
         }),
-        None => Ok(Reply {
-            status: Status::Done,
-            bytes: tell_left(alloc, asked, scenario, tick, kit, rules)?,
-        }),
+        None => tell(alloc, asked, scenario, tick, kit, rules),
     }
 }

@@ -7,10 +7,10 @@ ghost use Rattle.hls_manager.specs.Outcomes.{boxes_in};
 ghost use Rattle.hls_top.specs.Exchange.{exchange, drawn, scenario_limit};
 ghost use Rattle.hls_top.specs.Ends.{Lacks};
 ghost use Rattle.hls_top.specs.Says.{IsRead};
-ghost use Rattle.hls_offer_words.specs.Table.{IsAtMost, IsAsked};
+ghost use Rattle.hls_offer_words.specs.Table.{IsAsked};
 ghost use Rattle.hls_offer.specs.Ends.{Ends, IsOrderly};
 ghost use Rattle.hls_offer.specs.Musts.{MustAnswer};
-ghost use Rattle.hls_offer.specs.Inside.Readings.{IsOfSource};
+ghost use Rattle.hls_offer.specs.Inside.Readings.{IsAskable, IsOfSource};
 
 use crate::replies::{Reply, reply_to};
 use hls_io::{ReadError, Sink, Source, Status};
@@ -23,6 +23,11 @@ use std::alloc::{AllocError, Global};
 /// The most bytes that are taken for the text of a scenario.
 const SCENARIO_LIMIT: usize = 4_194_304;
 
+/// How the program is used.
+const USAGE: &[u8] =
+    b"usage: hlsoffer offer NAME on NAME TERMS [over Y..] | need NAME as GUARANTEE [on NAME] [over Y..] \
+    | spare [over Y..], each [--at T] [--depth K]\n";
+
 /// Reads a scenario, and makes what is to be written about it.
 fn reply_of<S: Source>(
     alloc: Global,
@@ -31,7 +36,7 @@ fn reply_of<S: Source>(
     kit: Kit,
     rules: RuleBook,
 ) -> Result<Reply, ReadError>
-    requires depth { IsAtMost 6 asked.now.depth }
+    requires asked { IsAskable asked.now }
     requires good { IsGood (boxed seen) kit }
     ensures is { IfOk result (λ reply. IsOfSource asked.now (boxes_in kit)
         (drawn S.left S.faults source.old source.new) reply.status reply.bytes.items) }
@@ -53,7 +58,7 @@ fn answer<S: Source, K: Sink>(
     kit: Kit,
     rules: RuleBook,
 ) -> Status
-    requires depth { IsAtMost 6 asked.now.depth }
+    requires asked { IsAskable asked.now }
     requires good { IsGood (boxed seen) kit }
     ensures ends { (words : List Text) → IsAsked words asked.now → Ends (exchange S.left S.faults K.written K.faults
         words (boxes_in kit) source.old source.new sink.old sink.new) result }
@@ -69,8 +74,8 @@ fn answer<S: Source, K: Sink>(
 }
 
 /// Does all that the program does: at words that ask a question it reads a scenario from the source, carries out its
-/// commands up to the tick that is asked about, with the boxes of the kit and the rules, and writes to the sink what
-/// is left on each scheduler. No request is carried out.
+/// commands up to the tick that is asked about, with the boxes of the kit and the rules, and writes the answer to the
+/// sink. No request is carried out.
 ///
 /// The whole output is built before the first write, and writing takes no memory. Kit and rules are used up.
 pub fn offer_run<S: Source, K: Sink>(
@@ -91,11 +96,7 @@ pub fn offer_run<S: Source, K: Sink>(
 {
     match asked_for(alloc, words) {
         Ok(Some(asked)) => answer(alloc, &asked, source, sink, kit, rules),
-        Ok(None) => say(
-            sink,
-            b"usage: hlsoffer spare [over Y..] [--at T] [--depth K]\n",
-            Status::Usage,
-        ),
+        Ok(None) => say(sink, USAGE, Status::Usage),
         Err(AllocError) => Status::Memory,
     }
 }

@@ -2,10 +2,8 @@
 //! answer to standard output.
 #![tactic(auto)]
 
-mod starting;
-
-use crate::starting::start;
 use hls_io::{Status, StdSink, StdSource};
+use hls_offer_start::start;
 use std::process::ExitCode;
 use std::{env, io};
 
@@ -40,6 +38,3 @@ fn main(rt: HostRuntime) -> ExitCode {
     let status = start(alloc, &words, &mut source, &mut sink);
     ExitCode::from(status.code())
 }
-
-#[cfg(test)]
-mod tests;

@@ -6,10 +6,10 @@ use Rattle.hls_scenario.specs.Forms.{the}
 use Rattle.hls_scenario.specs.Grammar.{IsLine}
 use Rattle.hls_lang.proofs.Fronts.{Front, front_join, front_split, line_of_front, front_of_line}
 use Rattle.hls_offer_words.specs.Table.{over_words, option_words, moment_words, tail_words, IsAtMost, ArePeriods}
-use Rattle.hls_offer_words.specs.Table.{most_period, question_forms, asked_forms, IsAsked, IsNotAsked}
+use Rattle.hls_offer_words.specs.Table.{most_period, question_forms, asked_forms, IsQuestion, IsAsked, IsNotAsked}
 use Rattle.hls_offer_words.specs.Inside.Readings.{AreFirst, IsOver, IsNoOver, IsTail, IsNoTail}
+use Rattle.hls_offer_words.specs.Inside.Readings.{IsBehind, IsQuestionIn}
 use Rattle.hls_offer_words.specs.declared.asked.Question.{Question}
-use Rattle.hls_offer_words.specs.declared.asked.Question.TheVariants.{Spare}
 use Rattle.hls_offer_words.specs.declared.asked.Asked.{Asked}
 use Rattle.hls_offer_words.proofs.Rising.{heads, rests, no_empty, words_apart, moment_no_number, only_first}
 
@@ -104,80 +104,49 @@ no_tail_moment question words periods rest over none a is tail =
 
 -- ---- a question with the words behind it
 
-pub asked_of : (a : Asked) (all words : List Text) → Front (question_forms a.question) all words → IsTail a words
-    → IsAsked all a
-asked_of a all words front tail = record {
+pub asked_of : (a : Asked) (all words : List Text) → IsBehind a all words → IsAsked all a
+asked_of a all words behind = record {
   words_are = line_of_front (asked_forms a) all
-      (front_join (question_forms a.question) (map (λ (word : Text). the word) (tail_words a)) all words [] front
+      (front_join (question_forms a.question) (map (λ (word : Text). the word) (tail_words a)) all words []
+      behind.front
       (front_of_line (map (λ (word : Text). the word) (tail_words a)) words
-      (rw tail.words_are (plain_line (tail_words a)))));
-  periods = tail.periods;
-  tick = tail.tick;
-  depth = tail.depth;
+      (rw behind.tail.words_are (plain_line (tail_words a)))));
+  question = behind.within;
+  periods = behind.tail.periods;
+  tick = behind.tail.tick;
+  depth = behind.tail.depth;
 }
 
-pub record IsBehind (a : Asked) (all : List Text) : Type 0 where
-  pub words : List Text
-  pub front : Front (question_forms a.question) all words
-  pub tail : IsTail a words
-
-pub asked_behind : (a : Asked) (all : List Text) → IsAsked all a → IsBehind a all
+pub asked_behind : (a : Asked) (all : List Text) → IsAsked all a → (words : List Text) × IsBehind a all words
 asked_behind a all asked =
     let split = front_split (question_forms a.question) (map (λ (word : Text). the word) (tail_words a)) all []
-    (front_of_line (asked_forms a) all asked.words_are) in
-    record {
-      words = split.0;
-      front = split.1;
-      tail = record {
-        words_are = plain_words (tail_words a) split.0
-            (line_of_front (map (λ (word : Text). the word) (tail_words a)) split.0 split.2);
-        periods = asked.periods;
-        tick = asked.tick;
-        depth = asked.depth;
-      };
-    }
-
--- ---- what is left
-
--- the words of a question about it begin with its word
-spare_begins : (a : Asked) (all : List Text) → IsAsked all a → a.question ≡ Spare
-    → (words : List Text) × (all ≡ codes "spare" ∷ words) × IsTail a words
-spare_begins a [] asked is =
-    let behind = asked_behind a [] asked in
-    absurd (subst (λ (q : Question). Front (question_forms q) [] behind.words) is behind.front)
-spare_begins a (t ∷ all) asked is =
-    let behind = asked_behind a (t ∷ all) asked in
-    let front = subst (λ (q : Question). Front (question_forms q) (t ∷ all) behind.words) is behind.front in (
-      behind.words,
-      ap (λ (x : Text). x ∷ all) front.0 ∙ ap (λ (ws : List Text). codes "spare" ∷ ws) front.1,
-      behind.tail,
+    (front_of_line (asked_forms a) all asked.words_are) in (
+      split.0,
+      record {
+        within = asked.question;
+        front = split.1;
+        tail = record {
+          words_are = plain_words (tail_words a) split.0
+              (line_of_front (map (λ (word : Text). the word) (tail_words a)) split.0 split.2);
+          periods = asked.periods;
+          tick = asked.tick;
+          depth = asked.depth;
+        };
+      },
     )
 
-pub none_asked : (all : List Text) → ((words : List Text) → all ≡ codes "spare" ∷ words → ⊥) → IsNotAsked all
-none_asked all other a asked = by a.question refl
-  where
-    by : (q : Question) → a.question ≡ q → ⊥
-    by Spare is = (let begins = spare_begins a all asked is in other begins.0 begins.1)
-
-none_spare : (all words : List Text) → all ≡ codes "spare" ∷ words → IsNoTail Spare words → IsNotAsked all
-none_spare all words is none a asked = by a.question refl
-  where
-    by : (q : Question) → a.question ≡ q → ⊥
-    by Spare e =
-        let begins = spare_begins a all asked e in
-        none a e (subst (λ (ws : List Text). IsTail a ws)
-        (rests (codes "spare") (codes "spare") begins.0 words (sym begins.1 ∙ is)) begins.2)
-
-some_spare : (all words : List Text) (a : Asked) → all ≡ codes "spare" ∷ words → a.question ≡ Spare → IsTail a words
-    → IsAsked all a
-some_spare all words a begins is tail =
-    subst (λ (ws : List Text). IsAsked ws a) (sym begins)
-    (asked_of a (codes "spare" ∷ words) words
-    (subst (λ (q : Question). Front (question_forms q) (codes "spare" ∷ words) words) (sym is) (refl, refl)) tail)
-
-pub spare_asked : {E : Type 0} (all words : List Text) (result : Result (Option Asked) E) → all ≡ codes "spare" ∷ words
-    → IfOk result (λ found. MatchOption found (IsNoTail Spare words) (λ a. (a.question ≡ Spare) × IsTail a words))
+-- the words ask what the question with the words behind it asks
+pub question_asked : {E : Type 0} (all rest : List Text) (question : Question) (result : Result (Option Asked) E)
+    → IsQuestionIn all question rest
+    → IfOk result (λ found. MatchOption found (IsNoTail question rest) (λ a. (a.question ≡ question) × IsTail a rest))
     → IfOk result (λ found. MatchOption found (IsNotAsked all) (IsAsked all))
-spare_asked all words (Ok None) begins is = none_spare all words begins is
-spare_asked all words (Ok (Some a)) begins is = some_spare all words a begins is.0 is.1
-spare_asked all words (Err error) begins is = tt
+question_asked all rest question (Err e) known is = tt
+question_asked all rest question (Ok None) known none = λ a asked.
+    let behind = asked_behind a all asked in
+    let same = known.only a behind.0 behind.1 in
+    none a same.0 (subst (λ (ws : List Text). IsTail a ws) same.1 behind.1.tail)
+question_asked all rest question (Ok (Some a)) known is = asked_of a all rest (record {
+  within = subst IsQuestion (sym is.0) known.within;
+  front = subst (λ (q : Question). Front (question_forms q) all rest) (sym is.0) known.front;
+  tail = is.1;
+})

@@ -1,10 +1,27 @@
 // What the words of a question ask for.
 
-use hls_chron::List;
+use hls_chron::{List, Name, Terms};
+use hls_guarantee::Guarantee;
 
 /// What is asked.
-#[derive(Clone, Copy, Debug, PartialEq, Eq)]
+#[derive(Clone, Copy, Debug)]
 pub enum Question {
+    /// What can be promised to a thread that is new on a scheduler with these terms.
+    Offer {
+        /// The thread's name, which may be that of one that is admitted.
+        name: Name,
+        /// The scheduler's name.
+        on: Name,
+        terms: Terms,
+    },
+    /// By which terms, the cheapest ones, a guarantee can be had for a thread.
+    Need {
+        /// The thread's name, which may be that of one that is admitted.
+        name: Name,
+        wanted: Guarantee,
+        /// The name of the one scheduler that is asked, or `None` where each loaded one is.
+        on: Option<Name>,
+    },
     /// What is left on each scheduler.
     Spare,
 }

@@ -2,8 +2,12 @@
 #![tactic(auto)]
 
 mod asked;
+mod heads;
 mod numbers;
 mod periods;
+mod questions;
+mod seats;
+mod spelling;
 mod table;
 
 pub use asked::{Asked, Question};

@@ -1,12 +1,12 @@
 // The table of words.
 ghost use Rattle.std.specs.Prelude.{◌≡◌, ◌≤◌, ℕ, Option, codes, decimal, map, string_bytes, IfSome, IsNone};
-ghost use Rattle.std.specs.Prelude.{◌∷◌, List, IfOk, MatchOption};
-ghost use Rattle.hls_text.specs.Lines.{Text};
+ghost use Rattle.std.specs.Prelude.{IfOk, MatchOption};
 ghost use Rattle.hls_offer_words.specs.Table.{option_words, moment_words, IsAtMost, most_period, IsAsked, IsNotAsked};
 ghost use Rattle.hls_offer_words.specs.Inside.Readings.{IsTail, IsNoTail};
 
 use crate::numbers::number_to;
 use crate::periods::over_in;
+use crate::questions::question_in;
 use crate::{Asked, Question};
 use std::alloc::{AllocError, Global};
 
@@ -16,7 +16,10 @@ const MOST_TICK: u32 = 99_999;
 /// The most conversions of a derivation.
 const MOST_DEPTH: u32 = 6;
 
-/// The longest period of a reservation that is told, in ticks.
+/// The longest window or block of a guarantee that is told, in ticks.
+const MOST_WINDOW: u32 = 20_000;
+
+/// The longest period of the terms of a seat that are told, in ticks.
 const MOST_PERIOD: u32 = 10_000;
 
 /// The moment that is asked about.
@@ -93,7 +96,8 @@ fn most_period(question: &Question) -> u32
     ensures { result ≡ most_period question.now }
 {
     match question {
-        Question::Spare => MOST_PERIOD,
+        Question::Offer { .. } => MOST_WINDOW,
+        Question::Need { .. } | Question::Spare => MOST_PERIOD,
     }
 }
 
@@ -120,18 +124,6 @@ fn asked_with(
     }))
 }
 
-/// The words behind a first one.
-fn words_behind<'a>(words: &'a [String], first: &str) -> Option<&'a [String]>
-    ensures found { IfSome result (λ rest. map string_bytes words.entry.now ≡ first.now ∷ map string_bytes rest.now) }
-    ensures none { IsNone result → (rest : List Text) → map string_bytes words.entry.now ≡ first.now ∷ rest → ⊥ }
-{
-    let (word, rest) = words.split_first()?;
-    if word.as_str() != first {
-        return None;
-    }
-    Some(rest)
-}
-
 /// What the words ask for, or `None` where they ask for nothing that the program knows.
 ///
 /// # Errors
@@ -140,8 +132,9 @@ pub fn asked_for(alloc: Global, words: &[String]) -> Result<Option<Asked>, Alloc
     ensures { IfOk result (λ found. MatchOption found (IsNotAsked (map string_bytes words.now))
         (IsAsked (map string_bytes words.now))) }
 {
-    match words_behind(words, "spare") {
-        Some(rest) => asked_with(alloc, Question::Spare, rest),
-        None => Ok(None),
+    match question_in(alloc, words) {
+        Ok(Some(known)) => asked_with(alloc, known.question, known.rest),
+        Ok(None) => Ok(None),
+        Err(wanting) => Err(wanting),
     }
 }

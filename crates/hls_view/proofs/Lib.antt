@@ -2,3 +2,4 @@ pub mod Tales
 pub mod Outcomes
 pub mod Answering
 pub mod Promised
+pub mod Pictures

@@ -31,7 +31,7 @@ is_due x Usage output view words is = absurd is.said
 is_due x ReadFault output view words is = absurd is.said
 is_due x WriteFault output view words is = absurd is.said
 is_due x Memory output view words is = absurd is.said
-is_due x TooLong output view words is = absurd is.said
+is_due x TooLong output view words is = record { view = view; words = words; is = is }
 
 writes_end : (x : Viewing) (status : Status) (output : Text) → IsDue x status output → Writes x status
     → Ends x status
@@ -42,7 +42,7 @@ writes_end x RefusedText output due w = w
 writes_end x ReadFault output due w = absurd due.is.said
 writes_end x WriteFault output due w = absurd due.is.said
 writes_end x Memory output due w = absurd due.is.said
-writes_end x TooLong output due w = absurd due.is.said
+writes_end x TooLong output due w = inr w
 
 -- an output that was due was said
 pub said : (x : Viewing) (status result : Status) (output : Text) → IsDue x status output
@@ -105,4 +105,7 @@ comes x Usage h quiet view words = absurd (h.due.words view words)
 comes x ReadFault h quiet view words = absurd (quiet.reads h.lacks)
 comes x WriteFault h quiet view words = absurd (quiet.writes h.write_failed)
 comes x Memory h quiet view words = inl refl
-comes x TooLong h quiet view words = inr (inl record { status_is = refl; long = h.lacks })
+comes x TooLong h quiet view words = elim h [
+  | inl cut ↦ inr (inl record { status_is = refl; long = cut.lacks })
+  | inr w ↦ inr (inr (same_output x view w.due.view TooLong w.output words w.due.words w.due.is))
+]

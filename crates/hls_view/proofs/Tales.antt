@@ -1,6 +1,7 @@
 -- What is said of a report, by whether it tells a tale.
 use Rattle.std.proofs.Common.{◌≡◌, ℕ, ◌≤◌, ◌∷◌, [], ◌++◌, subst, ap, sym, ◌∙◌}
 use Rattle.hls_text.specs.Lines.{Text}
+use Rattle.hls_io.specs.declared.status.Status.{Status}
 use Rattle.hls_io.specs.declared.status.Status.TheVariants as statuses
 use Rattle.hls_report_text.specs.declared.report.Report.{Report}
 use Rattle.hls_report_text.specs.Content.{Content, content_of}
@@ -12,6 +13,7 @@ use Rattle.hls_top.specs.Summaries.{verdict}
 use Rattle.hls_view_words.specs.declared.views.View.{View}
 use Rattle.hls_view.specs.Texts.{IsViewText}
 use Rattle.hls_view.specs.Outputs.{IsSaid}
+use Rattle.hls_view.specs.Inside.Shown.{Says}
 
 -- a kept report tells a tale
 pub kept_tells : (c : Content) (audit : Outcome) → audit ≡ Kept → IsAudit c audit → IsTale c Kept
@@ -59,3 +61,23 @@ untold_is view bytes output report tale clause tick read is told spelled = (
     spelled = spelled ∙ ap (λ (o : Outcome). verdict o ++ 10 ∷ []) is;
   },
 )
+
+-- what is said of the tale is said of the text
+pub says_is : (view : View) (bytes output : Text) (status : Status) (report : Report) (audit tale : Outcome)
+    → IsReportText bytes report → tale ≡ Kept → IsTale (content_of report) tale → IsAudit (content_of report) audit
+    → Says view (content_of report) audit status output → IsSaid view bytes status output
+says_is view bytes output statuses.Done report audit tale read is told audited said =
+    shown_is view bytes output report audit tale read is told audited said
+says_is view bytes output statuses.TooLong report audit tale read is told audited said = record {
+  report = report;
+  read = read;
+  tale = subst (λ (o : Outcome). IsTale (content_of report) o) is told;
+  tall = said.0;
+  silent = said.1;
+}
+says_is view bytes output statuses.Broken report audit tale read is told audited said = absurd said
+says_is view bytes output statuses.Usage report audit tale read is told audited said = absurd said
+says_is view bytes output statuses.RefusedText report audit tale read is told audited said = absurd said
+says_is view bytes output statuses.ReadFault report audit tale read is told audited said = absurd said
+says_is view bytes output statuses.WriteFault report audit tale read is told audited said = absurd said
+says_is view bytes output statuses.Memory report audit tale read is told audited said = absurd said

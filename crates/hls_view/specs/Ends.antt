@@ -1,5 +1,5 @@
 -- How a run ends: each status with its cause, and what was written.
-use Rattle.std.specs.Prelude.{◌≡◌, Some}
+use Rattle.std.specs.Prelude.{◌≡◌, ◌⊎◌, Some}
 use Rattle.std.specs.Io.KnownBytes.{Appends}
 use Rattle.hls_io.specs.Bytes.{AppendsPart}
 use Rattle.hls_io.specs.Faults.{Rose}
@@ -72,4 +72,4 @@ Ends x RefusedText = Writes x RefusedText
 Ends x ReadFault = IsCutShort x errors.Fault
 Ends x WriteFault = Stops x
 Ends x Memory = LacksMemory x
-Ends x TooLong = IsCutShort x errors.TooLong
+Ends x TooLong = IsCutShort x errors.TooLong ⊎ Writes x TooLong

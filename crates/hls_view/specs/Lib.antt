@@ -4,3 +4,4 @@ pub mod Texts
 pub mod Outputs
 pub mod Ends
 pub mod Musts
+pub mod Inside

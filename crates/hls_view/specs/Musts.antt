@@ -14,6 +14,7 @@ use Rattle.hls_top.specs.Musts.{OrMemory}
 use Rattle.hls_view_words.specs.Table.{IsView, IsNoView}
 use Rattle.hls_view_words.specs.declared.views.View.{View}
 use Rattle.hls_view.specs.Viewing.{Viewing, IsFaultless}
+use Rattle.hls_view.specs.Texts.{HasManyRows}
 
 -- these words came with these bytes, and no fault was counted
 pub record Came (x : Viewing) (view : View) (bytes : Text) : Type 0 where
@@ -21,15 +22,17 @@ pub record Came (x : Viewing) (view : View) (bytes : Text) : Type 0 where
   pub told : x.source.left ≡ Some bytes
   pub faultless : IsFaultless x
 
--- the status is Done where the report tells a tale, and Broken where it tells none
-abbrev pub Judges : Status → Report → Type 0
-Judges status report = ((status ≡ Done) × IsTale (content_of report) Kept)
-    ⊎ ((status ≡ Broken) × ¬ IsTale (content_of report) Kept)
+-- The status is Done where the report tells a tale, TooLong where the view of the tale would have too many rows, and
+-- Broken where it tells none.
+abbrev pub Judges : View → Status → Report → Type 0
+Judges view status report = ((status ≡ Done) × IsTale (content_of report) Kept × ¬ HasManyRows view (content_of report))
+    ⊎ (((status ≡ TooLong) × IsTale (content_of report) Kept × HasManyRows view (content_of report))
+    ⊎ ((status ≡ Broken) × ¬ IsTale (content_of report) Kept))
 
 pub record MustAnswer (x : Viewing) (status : Status) : Type 0 where
   -- a report's text within the limit is shown, or judged to tell no tale
   pub shows : (view : View) (bytes : Text) (report : Report) → Came x view bytes → IsReportText bytes report
-      → length bytes ≤ report_limit → OrMemory status (Judges status report)
+      → length bytes ≤ report_limit → OrMemory status (Judges view status report)
   -- another text within the limit is refused
   pub refuses_text : (view : View) (bytes : Text) → Came x view bytes → IsNoReportText bytes
       → length bytes ≤ report_limit → OrMemory status (status ≡ RefusedText)

@@ -3,4 +3,5 @@ use Rattle.std.specs.Prelude.{[], ◌∷◌, ◌++◌, codes}
 use Rattle.hls_text.specs.Lines.{Text}
 
 abbrev pub usage_line : Text
-usage_line = codes "usage: hlsview margins | tree [--at T] | jobs [--of NAME]" ++ 10 ∷ []
+usage_line = codes "usage: hlsview svg [--from A] [--to B] | margins | tree [--at T]"
+    ++ codes " | jobs [--of NAME]" ++ 10 ∷ []

@@ -1,5 +1,5 @@
 // The view of the text of a report.
-ghost use Rattle.std.specs.Prelude.{◌≡◌, ◌≤◌, ◌∷◌, ◌++◌, [], IfOk, OnOk, codes, length, ◌<◌};
+ghost use Rattle.std.specs.Prelude.{◌≡◌, ◌≤◌, ◌∷◌, ◌++◌, [], IfOk, MatchOption, OnOk, codes, length, ◌<◌};
 ghost use Rattle.hls_report_text.specs.Content.{content_of};
 ghost use Rattle.hls_report_text.specs.WellFormed.{IsReportText, IsWellFormed};
 ghost use Rattle.hls_audit.specs.declared.auditing.Outcome.TheVariants.{Kept};
@@ -7,7 +7,10 @@ ghost use Rattle.hls_audit.specs.Audits.{IsAudit, IsTale};
 ghost use Rattle.hls_top.specs.Exchange.{report_limit};
 ghost use Rattle.hls_view.specs.Outputs.{IsSaid};
 ghost use Rattle.hls_view.specs.Texts.{opening, name_line, tick_line, audit_line, opening_at};
-ghost use Rattle.hls_view.specs.Texts.{shows_tree, tick_shown, ShowsMargins, ShowsThreads, ShowsJobs, IsViewText};
+ghost use Rattle.hls_view.specs.Texts.{first_shown, last_shown, shows_tree, tick_shown, HasManyRows, ShowsMargins};
+ghost use Rattle.hls_view.specs.Texts.{ShowsThreads};
+ghost use Rattle.hls_view.specs.Texts.{ShowsJobs, IsViewText};
+ghost use Rattle.hls_view.specs.Inside.Shown.{Says};
 
 use crate::outputs::Output;
 use hls_audit::{Outcome, audit, audit_tale};
@@ -16,11 +19,18 @@ use hls_io::Status;
 use hls_report::{Report, ReportFault, read_report};
 use hls_text::{put, put_number};
 use hls_top::{put_verdict, refusal_line, verdict_line};
+use hls_view_drawing::drawing_of;
 use hls_view_jobs::{jobs_of, thread_lines};
+use hls_view_lanes::lanes_of;
 use hls_view_margins::margins;
+use hls_view_picture::write_picture;
 use hls_view_rows::{write_jobs, write_margins, write_thread_lines, write_tree};
+use hls_view_scale::scale_of;
 use hls_view_words::View;
 use std::alloc::{AllocError, Global};
+
+/// With the row for idle ticks no more than 4096 are drawn.
+const MOST_ROWS: usize = 4096;
 
 /// What the audit of the first two clauses comes to, where that of all of them comes to this.
 fn tale_of(alloc: Global, report: &Report, audited: Outcome) -> Result<Outcome, AllocError>
@@ -163,21 +173,91 @@ fn jobs_text(
     Ok(out)
 }
 
-/// The view of a report that tells a tale.
+/// The first tick of a picture.
+fn first_shown(report: &Report, from: Option<u32>) -> u32
+    requires { IsWellFormed report.now }
+    ensures is { result ≡ first_shown (content_of report.now) from }
+    ensures within { result < report.now.horizon }
+{
+    match from {
+        Some(tick) => tick.min(report.horizon - 1),
+        None => 0,
+    }
+}
+
+/// The last tick of a picture.
+fn last_shown(report: &Report, from: Option<u32>, to: Option<u32>) -> u32
+    requires { IsWellFormed report.now }
+    ensures is { result ≡ last_shown (content_of report.now) from to }
+    ensures order { first_shown (content_of report.now) from ≤ result }
+    ensures within { result < report.now.horizon }
+{
+    tick_shown(report, to).max(first_shown(report, from))
+}
+
+/// The picture of the ticks that are stated, or none where it would have too many rows.
+fn picture_text(
+    alloc: Global,
+    report: &Report,
+    audited: Outcome,
+    from: Option<u32>,
+    to: Option<u32>,
+) -> Result<Option<Vec<u8>>, AllocError>
+    requires formed { IsWellFormed report.now }
+    ensures { IfOk result (λ found. MatchOption found (HasManyRows (View.Svg from to) (content_of report.now))
+        (λ bytes. IsViewText (View.Svg from to) (content_of report.now) audited bytes.items)) }
+{
+    let first = first_shown(report, from);
+    let scale = scale_of(first, last_shown(report, from, to));
+    let lanes = lanes_of(alloc, report, &scale)?;
+    if lanes.rows.len() >= MOST_ROWS {
+        return Ok(None);
+    }
+    let picture = drawing_of(alloc, report, audited, &scale, &lanes)?;
+    let mut out = Vec::new(alloc);
+    write_picture(alloc, &mut out, &picture)?;
+    Ok(Some(out))
+}
+
+/// The view of a report that tells a tale, or none where it would have too many rows.
 fn view_text(
     alloc: Global,
     view: &View,
     report: &Report,
     audited: Outcome,
-) -> Result<Vec<u8>, AllocError>
+) -> Result<Option<Vec<u8>>, AllocError>
     requires formed { IsWellFormed report.now }
-    ensures { IfOk result (λ bytes. IsViewText view.now (content_of report.now) audited bytes.items) }
+    ensures { IfOk result (λ found. MatchOption found (HasManyRows view.now (content_of report.now))
+        (λ bytes. IsViewText view.now (content_of report.now) audited bytes.items)) }
 {
     match view {
-        View::Margins => margins_text(alloc, report, audited),
-        View::Tree { at } => tree_text(alloc, report, audited, *at),
-        View::Jobs { of: None } => threads_text(alloc, report, audited),
-        View::Jobs { of: Some(name) } => jobs_text(alloc, report, audited, name),
+        View::Margins => Ok(Some(margins_text(alloc, report, audited)?)),
+        View::Tree { at } => Ok(Some(tree_text(alloc, report, audited, *at)?)),
+        View::Jobs { of: None } => Ok(Some(threads_text(alloc, report, audited)?)),
+        View::Jobs { of: Some(name) } => Ok(Some(jobs_text(alloc, report, audited, name)?)),
+        View::Svg { from, to } => picture_text(alloc, report, audited, *from, *to),
+    }
+}
+
+/// What is said of a report that tells a tale.
+fn shown(
+    alloc: Global,
+    view: &View,
+    report: &Report,
+    audited: Outcome,
+) -> Result<Output, AllocError>
+    requires formed { IsWellFormed report.now }
+    ensures { IfOk result (λ output. Says view.now (content_of report.now) audited output.status output.bytes.items) }
+{
+    match view_text(alloc, view, report, audited)? {
+        Some(bytes) => Ok(Output {
+            status: Status::Done,
+            bytes,
+        }),
+        None => Ok(Output {
+            status: Status::TooLong,
+            bytes: Vec::new(alloc),
+        }),
     }
 }
 
@@ -190,10 +270,7 @@ fn view_of(alloc: Global, view: &View, report: &Report, text: Vec<u8>) -> Result
     let audited = audit(alloc, report)?;
     let told = tale_of(alloc, report, audited)?;
     match told {
-        Outcome::Kept => Ok(Output {
-            status: Status::Done,
-            bytes: view_text(alloc, view, report, audited)?,
-        }),
+        Outcome::Kept => shown(alloc, view, report, audited),
         Outcome::Broken { .. } => Ok(Output {
             status: Status::Broken,
             bytes: verdict_line(alloc, told)?,

@@ -1,6 +1,7 @@
 //! What a report tells of the hierarchy: who sits where at a tick, and in which order their stays began.
 #![tactic(auto)]
 
+mod before;
 mod hierarchy;
 mod label;
 mod members;
@@ -11,6 +12,7 @@ mod standing;
 mod tale;
 mod walking;
 
+pub use before::standing_before;
 pub use hierarchy::{Hierarchy, hierarchy_at};
 pub use label::Label;
 pub use moving::firsts;

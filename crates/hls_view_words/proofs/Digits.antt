@@ -27,7 +27,10 @@ is_digits (b ∷ rest) some digits =
       is = ap (λ (c : ℕ). c ∷ rest) same;
     }
 
+pub number_is_digits : (number : ℕ) → number ≤ 1000000 → IsDigits (decimal number)
+number_is_digits number small =
+    is_digits (decimal number) (decimal_nonempty number (omega (arith, small)))
+    (digits_of_decimal number (omega (arith, small)))
+
 pub tick_is_digits : (tick : ℕ) → tick ≤ 99999 → IsDigits (decimal tick)
-tick_is_digits tick small =
-    is_digits (decimal tick) (decimal_nonempty tick (omega (arith, small)))
-    (digits_of_decimal tick (omega (arith, small)))
+tick_is_digits tick small = number_is_digits tick (omega (arith, small))

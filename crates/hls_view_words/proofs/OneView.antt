@@ -1,12 +1,13 @@
 -- Words ask for one view at most.
-use Rattle.std.proofs.Common.{◌≡◌, ℕ, List, [], ◌∷◌, codes, drop, ap, sym, subst, ◌∙◌, refl, inl, inr, get_or}
-use Rattle.std.proofs.Common.{arith}
+use Rattle.std.proofs.Common.{◌≡◌, ℕ, ◌+◌, List, [], ◌∷◌, codes, drop, ap, ap₂, sym, subst, ◌∙◌, refl}
+use Rattle.std.proofs.Common.{inl, inr, get_or, arith}
 use Rattle.std.specs.Prelude.{decimal, Option, Some, None}
 use Rattle.std.proofs.lemmas.Fmt.{decimal_injective}
 use Rattle.hls_text.specs.Lines.{Text}
-use Rattle.hls_view_words.specs.Table.{StatesTick, HasTick, MayTick, StatesName, MayName, IsView}
+use Rattle.hls_view_words.specs.Table.{StatesTick, HasTick, MayTick, StatesName, MayName, MaySpan, IsView}
 use Rattle.hls_view_words.specs.declared.views.View.{View}
-use Rattle.hls_view_words.specs.declared.views.View.TheVariants.{Margins, Tree, Jobs}
+use Rattle.hls_view_words.specs.declared.views.View.TheVariants.{Svg, Margins, Tree, Jobs}
+use Rattle.hls_view_words.proofs.Heading.{same_span}
 
 empty_not : (word : Text) (words : List Text) → [] ≡ word ∷ words → ⊥
 empty_not word words e = absurd cc
@@ -19,10 +20,6 @@ second_of first second third fourth e = cc
 
 only_of : (first second : Text) → first ∷ [] ≡ second ∷ [] → first ≡ second
 only_of first second e = cc
-
-first_of_words : (first second : Text) (options others : List Text) → first ∷ options ≡ second ∷ others
-    → first ≡ second
-first_of_words first second options others e = cc
 
 rest_of_words : (first second : Text) (options others : List Text) → first ∷ options ≡ second ∷ others
     → options ≡ others
@@ -79,40 +76,39 @@ same_of options others (Some one) (Some two) same a b =
     ap (λ (name : Text). Some name) (same_name others one two
     (subst (λ (o : List Text). StatesName o one) same a.1) b.1)
 
--- the first words differ
-letters : (first second : Text) (options others : List Text) → first ∷ options ≡ second ∷ others
-    → get_or first 0 0 ≡ get_or second 0 0
-letters first second options others e =
-    ap (λ (word : Text). get_or word 0 0) (first_of_words first second options others e)
+-- ---- the first word
 
-not_tree : (options : List Text) → codes "margins" ∷ [] ≡ codes "tree" ∷ options → ⊥
-not_tree options e =
-    let same : 109 ≡ 116 = letters (codes "margins") (codes "tree") [] options e in
-    omega (arith, same)
+-- by two of its letters
+abbrev letters : List Text → ℕ
+letters [] = 0
+letters (word ∷ words) = get_or word 0 0 + get_or word 2 0
 
-not_jobs : (options : List Text) → codes "margins" ∷ [] ≡ codes "jobs" ∷ options → ⊥
-not_jobs options e =
-    let same : 109 ≡ 106 = letters (codes "margins") (codes "jobs") [] options e in
-    omega (arith, same)
+abbrev letters_of : View → ℕ
+letters_of (Svg from to) = 218
+letters_of Margins = 223
+letters_of (Tree at) = 217
+letters_of (Jobs of) = 204
 
-tree_not_jobs : (options others : List Text) → codes "tree" ∷ options ≡ codes "jobs" ∷ others → ⊥
-tree_not_jobs options others e =
-    let same : 116 ≡ 106 = letters (codes "tree") (codes "jobs") options others e in
-    omega (arith, same)
+view_letters : (words : List Text) (view : View) → IsView words view → letters words ≡ letters_of view
+view_letters words (Svg from to) (options, is, has) = ap letters is
+view_letters words Margins is = ap letters is
+view_letters words (Tree at) (options, is, has) = ap letters is
+view_letters words (Jobs of) (options, is, has) = ap letters is
+
+same_letters : (words : List Text) (one two : View) → IsView words one → IsView words two
+    → letters_of one ≡ letters_of two
+same_letters words one two a b = sym (view_letters words one a) ∙ view_letters words two b
 
 pub same_view : (words : List Text) (one two : View) → IsView words one → IsView words two → one ≡ two
+same_view words (Svg from to) (Svg first last) (options, is, has) (others, also, hold) =
+    let rest = rest_of_words (codes "svg") (codes "svg") options others (sym is ∙ also) in
+    let same = same_span others from to first last (subst (λ (o : List Text). MaySpan o from to) rest has) hold in
+    ap₂ (λ (a b : Option ℕ). Svg a b) same.0 same.1
 same_view words Margins Margins a b = refl
-same_view words Margins (Tree at) a (options, is, has) = absurd (not_tree options (sym a ∙ is))
-same_view words (Tree at) Margins (options, is, has) b = absurd (not_tree options (sym b ∙ is))
-same_view words Margins (Jobs of) a (options, is, has) = absurd (not_jobs options (sym a ∙ is))
-same_view words (Jobs of) Margins (options, is, has) b = absurd (not_jobs options (sym b ∙ is))
-same_view words (Tree at) (Jobs of) (options, is, has) (others, also, hold) =
-    absurd (tree_not_jobs options others (sym is ∙ also))
-same_view words (Jobs of) (Tree at) (options, is, has) (others, also, hold) =
-    absurd (tree_not_jobs others options (sym also ∙ is))
 same_view words (Tree one) (Tree two) (options, is, has) (others, also, hold) =
     ap (λ (at : Option ℕ). Tree at) (same_at options others one two
     (rest_of_words (codes "tree") (codes "tree") options others (sym is ∙ also)) has hold)
 same_view words (Jobs one) (Jobs two) (options, is, has) (others, also, hold) =
     ap (λ (of : Option Text). Jobs of) (same_of options others one two
     (rest_of_words (codes "jobs") (codes "jobs") options others (sym is ∙ also)) has hold)
+same_view words one two a b = let same = same_letters words one two a b in absurd (omega (arith, same))

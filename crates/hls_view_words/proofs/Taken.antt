@@ -10,8 +10,9 @@ use Rattle.hls_chron.specs.Name.{IsName, is_letter}
 use Rattle.hls_view_words.specs.Table.{MayTick, MayName, IsView}
 use Rattle.hls_view_words.specs.Inside.Commands.{hlsview}
 use Rattle.hls_view_words.specs.declared.views.View.{View}
-use Rattle.hls_view_words.specs.declared.views.View.TheVariants.{Margins, Tree, Jobs}
+use Rattle.hls_view_words.specs.declared.views.View.TheVariants.{Svg, Margins, Tree, Jobs}
 use Rattle.hls_view_words.proofs.Digits.{tick_is_digits}
+use Rattle.hls_view_words.proofs.TakenSpans.{takes_span}
 
 takes_margins : takes hlsview (codes "margins" ∷ []) ≡ true
 unfolding clap_on_literals
@@ -132,6 +133,7 @@ takes_options options (Some name) (named, inl apart) = rw apart (takes_apart nam
 takes_options options (Some name) (named, inr joined) = rw joined (takes_joined name)
 
 pub takes_view : (words : List Text) (view : View) → IsView words view → takes hlsview words ≡ true
+takes_view words (Svg from to) (options, is, has) = rw is (takes_span options from to has)
 takes_view words Margins is = rw is takes_margins
 takes_view words (Tree at) (options, is, has) = rw is (takes_tick options at has)
 takes_view words (Jobs of) (options, is, has) = rw is (takes_options options of has)

@@ -3,7 +3,7 @@ use Rattle.std.specs.Prelude.{◌≡◌, ◌⊎◌, ◌≤◌, ℕ, List, [], �
 use Rattle.hls_text.specs.Lines.{Text}
 use Rattle.hls_chron.specs.Name.{IsName}
 use Rattle.hls_view_words.specs.declared.views.View.{View}
-use Rattle.hls_view_words.specs.declared.views.View.TheVariants.{Margins, Tree, Jobs}
+use Rattle.hls_view_words.specs.declared.views.View.TheVariants.{Svg, Margins, Tree, Jobs}
 
 -- a tick is stated in a word of its own, or in one word with the option
 abbrev pub StatesTick : List Text → ℕ → Type 0
@@ -29,8 +29,36 @@ abbrev pub MayName : List Text → Option Text → Type 0
 MayName words None = words ≡ []
 MayName words (Some name) = NamesOne words name
 
+-- words begin with an option that states a number, in a word of its own or in one word with the option, and go on so
+abbrev pub Heads : (option : Text) → List Text → ℕ → (rest : List Text) → Type 0
+Heads option words n rest =
+    (words ≡ option ∷ decimal n ∷ rest) ⊎ (words ≡ (option ++ (codes "=" ++ decimal n)) ∷ rest)
+
+-- the first tick, and the last one behind it or not
+abbrev pub FromFirst : List Text → Option ℕ → Option ℕ → Type 0
+FromFirst words None to = ⊥
+FromFirst words (Some from) None = (from ≤ 99999) × Heads (codes "--from") words from []
+FromFirst words (Some from) (Some to) = (from ≤ to) × (to ≤ 99999) × (rest : List Text)
+    × Heads (codes "--from") words from rest × Heads (codes "--to") rest to []
+
+-- the last tick, and the first one behind it or not
+abbrev pub ToFirst : List Text → Option ℕ → Option ℕ → Type 0
+ToFirst words from None = ⊥
+ToFirst words None (Some to) = (to ≤ 99999) × Heads (codes "--to") words to []
+ToFirst words (Some from) (Some to) = (from ≤ to) × (to ≤ 99999) × (rest : List Text)
+    × Heads (codes "--to") words to rest × Heads (codes "--from") rest from []
+
+abbrev pub StatesNone : List Text → Option ℕ → Option ℕ → Type 0
+StatesNone words None None = words ≡ []
+StatesNone words _ _ = ⊥
+
+-- the words after `svg` state no ticks, or the first, the last or both in any order
+abbrev pub MaySpan : List Text → Option ℕ → Option ℕ → Type 0
+MaySpan words from to = StatesNone words from to ⊎ (FromFirst words from to ⊎ ToFirst words from to)
+
 -- the words ask for this
 abbrev pub IsView : List Text → View → Type 0
+IsView words (Svg from to) = (options : List Text) × (words ≡ codes "svg" ∷ options) × MaySpan options from to
 IsView words Margins = words ≡ codes "margins" ∷ []
 IsView words (Tree at) = (options : List Text) × (words ≡ codes "tree" ∷ options) × MayTick options at
 IsView words (Jobs of) = (options : List Text) × (words ≡ codes "jobs" ∷ options) × MayName options of

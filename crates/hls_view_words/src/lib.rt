@@ -1,9 +1,11 @@
 //! The words of the command line of `hlsview`: the table of those that it knows, read beside `clap`.
 #![tactic(auto)]
 
+mod heads;
 pub mod laws;
 mod names;
 mod parsing;
+mod spans;
 mod table;
 mod ticks;
 mod views;

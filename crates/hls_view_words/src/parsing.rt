@@ -3,7 +3,7 @@ ghost use Rattle.std.specs.Prelude.{◌≡◌, IfOk, IfErr, map, string_bytes, f
 ghost use Rattle.clap.specs.declared.builder.command.Command.TheViews.{out-Command};
 ghost use Rattle.clap.specs.Words.{kind_of, app_of};
 ghost use Rattle.hls_view_words.specs.Table.{IsView, IsNoView};
-ghost use Rattle.hls_view_words.specs.Inside.Commands.{margins, jobs, tree, bare, hlsview};
+ghost use Rattle.hls_view_words.specs.Inside.Commands.{margins, jobs, tree, svg, bare, tables, hlsview};
 
 use crate::View;
 use crate::table::listed;
@@ -36,6 +36,16 @@ fn jobs_command<'a>(alloc: Global) -> Result<Command<'a>, AllocError>
     bare.arg(name)
 }
 
+fn svg_command<'a>(alloc: Global) -> Result<Command<'a>, AllocError>
+    ensures app { IfOk result (λ c. app_of c ≡ svg) }
+    ensures local { IfOk result (λ c. (out-Command c).has_globals ≡ false) }
+{
+    let from = Arg::new(alloc, "from").long("from").action(ArgAction::Set);
+    let to = Arg::new(alloc, "to").long("to").action(ArgAction::Set);
+    let bare = Command::new(alloc, "svg").disable_help_flag(true);
+    bare.arg(from)?.arg(to)
+}
+
 fn bare_command<'a>(alloc: Global) -> Command<'a>
     ensures app { app_of result ≡ bare }
     ensures local { (out-Command result).has_globals ≡ false }
@@ -47,13 +57,20 @@ fn bare_command<'a>(alloc: Global) -> Command<'a>
         .subcommand_required(true)
 }
 
-fn hlsview_command<'a>(alloc: Global) -> Result<Command<'a>, AllocError>
-    ensures { IfOk result (λ c. app_of c ≡ hlsview) }
+fn tables_command<'a>(alloc: Global) -> Result<Command<'a>, AllocError>
+    ensures app { IfOk result (λ c. app_of c ≡ tables) }
+    ensures local { IfOk result (λ c. (out-Command c).has_globals ≡ false) }
 {
     bare_command(alloc)
         .subcommand(margins_command(alloc))?
         .subcommand(tree_command(alloc)?)?
         .subcommand(jobs_command(alloc)?)
+}
+
+fn hlsview_command<'a>(alloc: Global) -> Result<Command<'a>, AllocError>
+    ensures { IfOk result (λ c. app_of c ≡ hlsview) }
+{
+    tables_command(alloc)?.subcommand(svg_command(alloc)?)
 }
 
 /// What clap makes of the words. It refuses none of the table but for want of memory.

@@ -4,6 +4,7 @@ ghost use Rattle.hls_view_words.specs.Table.{IsView, IsNoView};
 
 use crate::View;
 use crate::names::name_in;
+use crate::spans::span_in;
 use crate::ticks::tick_in;
 
 /// What the words after `tree` ask for.
@@ -30,6 +31,18 @@ fn jobs_of(words: &[String]) -> Option<View>
     Some(View::Jobs { of: Some(name) })
 }
 
+/// What the words after `svg` ask for.
+fn svg_of(words: &[String]) -> Option<View>
+    ensures found { IfSome result (λ view. IsView (codes "svg" ∷ map string_bytes words.now) view) }
+    ensures none { IsNone result → IsNoView (codes "svg" ∷ map string_bytes words.now) }
+{
+    let span = span_in(words)?;
+    Some(View::Svg {
+        from: span.from,
+        to: span.to,
+    })
+}
+
 /// What the words ask for, or `None` where they ask for nothing that the program knows.
 pub fn listed(words: &[String]) -> Option<View>
     ensures found { IfSome result (IsView (map string_bytes words.now)) }
@@ -37,6 +50,7 @@ pub fn listed(words: &[String]) -> Option<View>
 {
     let (first, options) = words.split_first()?;
     match first.as_str() {
+        "svg" => svg_of(options),
         "margins" if options.is_empty() => Some(View::Margins),
         "tree" => tree_of(options),
         "jobs" => jobs_of(options),

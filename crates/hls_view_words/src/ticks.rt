@@ -2,28 +2,17 @@
 ghost use Rattle.std.specs.Prelude.{◌≡◌, ◌≤◌, ◌∷◌, ◌++◌, ℕ, codes, decimal, map, string_bytes, IfSome, IsNone};
 ghost use Rattle.hls_view_words.specs.Table.{HasTick};
 
-use hls_text::decimal_number;
+use crate::heads::number_up_to;
 
 /// The last tick that a word may state.
-const LAST_TICK: u128 = 99_999;
-
-/// The tick that a text spells.
-fn tick_of(text: &[u8]) -> Option<u32>
-    ensures found { IfSome result (λ tick. (tick ≤ 99999) × (text.now ≡ decimal tick)) }
-    ensures none { IsNone result → (tick : ℕ) → tick ≤ 99999 → text.now ≡ decimal tick → ⊥ }
-{
-    match decimal_number(text) {
-        Some(tick) if tick <= LAST_TICK => Some(tick as u32),
-        _ => None,
-    }
-}
+const LAST_TICK: u32 = 99_999;
 
 /// The tick that one word after `tree` states.
 fn stated_in(word: &str) -> Option<u32>
     ensures found { IfSome result (λ tick. (tick ≤ 99999) × (word.now ≡ codes "--at=" ++ decimal tick)) }
     ensures none { IsNone result → (tick : ℕ) → tick ≤ 99999 → word.now ≡ codes "--at=" ++ decimal tick → ⊥ }
 {
-    tick_of(word.strip_prefix("--at=")?.as_bytes())
+    number_up_to(LAST_TICK, word.strip_prefix("--at=")?.as_bytes())
 }
 
 /// The tick that two words after `tree` state.
@@ -33,7 +22,7 @@ fn stated_by(option: &str, word: &str) -> Option<u32>
     ensures none { IsNone result → (tick : ℕ) → tick ≤ 99999 → option.now ≡ codes "--at" → word.now ≡ decimal tick → ⊥ }
 {
     if option == "--at" {
-        tick_of(word.as_bytes())
+        number_up_to(LAST_TICK, word.as_bytes())
     } else {
         None
     }

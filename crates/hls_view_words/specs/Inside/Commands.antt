@@ -10,6 +10,12 @@ at = record (new_rule (codes "at")) { long = Some (codes "at"); action = Some Se
 abbrev pub of : Rule
 of = record (new_rule (codes "of")) { long = Some (codes "of"); action = Some Set }
 
+abbrev pub from : Rule
+from = record (new_rule (codes "from")) { long = Some (codes "from"); action = Some Set }
+
+abbrev pub to : Rule
+to = record (new_rule (codes "to")) { long = Some (codes "to"); action = Some Set }
+
 abbrev pub leaf : Text → App
 leaf name = on_top (λ s. record s { disable_help_flag = true }) (new_app name)
 
@@ -22,6 +28,9 @@ tree = with_rule (leaf (codes "tree")) at
 abbrev pub jobs : App
 jobs = with_rule (leaf (codes "jobs")) of
 
+abbrev pub svg : App
+svg = with_rule (with_rule (leaf (codes "svg")) from) to
+
 abbrev pub bare : App
 bare = on_top (λ s. record s {
   no_binary_name = true;
@@ -30,5 +39,8 @@ bare = on_top (λ s. record s {
   subcommand_required = true;
 }) (new_app (codes "hlsview"))
 
+abbrev pub tables : App
+tables = with_subcommand (with_subcommand (with_subcommand bare margins.top) tree.top) jobs.top
+
 abbrev pub hlsview : App
-hlsview = with_subcommand (with_subcommand (with_subcommand bare margins.top) tree.top) jobs.top
+hlsview = with_subcommand tables svg.top

@@ -5,6 +5,7 @@ use Rattle.hls_top.specs.Exchange.{Exchange, exchange}
 use Rattle.hls_offer.specs.Ends.{Ends, usage_line}
 use Rattle.hls_offer.proofs.Outcomes.{said}
 use Rattle.hls_offer.proofs.Musts.{must_answer}
+use Rattle.hls_offer.proofs.Answered.{askable}
 use Rattle.hls_offer.proofs.run.offer_run.Goals as goal
 
 pub returns-in-Ok-Some-clause-ends : goal.returns-in-Ok-Some-clause-ends
@@ -46,3 +47,7 @@ returns-in-Ok-None-clause-answers g c =
     })
     refl c.say.ensures.says in
     must_answer x _ ends
+
+pub answer-requires-clause-asked : goal.answer-requires-clause-asked
+answer-requires-clause-asked g c =
+    askable _ _ (rw (c.deref.ensures.value, c.in-Ok-Some.field-0-is) at c.in-Ok-Some.ensures)

@@ -1,0 +1,6 @@
+//! All that the program `hlsoffer` does, with boxes of all kinds and the nine rules.
+#![tactic(auto)]
+
+mod starting;
+
+pub use starting::start;

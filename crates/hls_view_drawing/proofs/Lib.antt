@@ -1,0 +1,4 @@
+pub mod Ends
+pub mod Spelled
+pub mod Steps
+pub mod Drawings

@@ -1,0 +1,3 @@
+pub mod Surpluses
+pub mod Tights
+pub mod Inside
