@@ -1,6 +1,6 @@
 -- What is printed at a row, and what is drawn in it.
 use Rattle.std.specs.Prelude.{ℕ, ◌+◌, ◌-◌, ◌==◌, ◌&&◌, nat_le, List, [], ◌∷◌, ◌++◌, codes, Option, Some, None, Bool}
-use Rattle.std.specs.Prelude.{false, true}
+use Rattle.std.specs.Prelude.{true}
 use Rattle.std.specs.Prelude.{get_or, length, map, min, position, slice_get, if◌then◌else◌}
 use Rattle.std.specs.List.{range_with_len}
 use Rattle.hls_text.specs.Lines.{Text}

@@ -1,6 +1,6 @@
 -- What ran in the ticks shown.
-use Rattle.std.specs.Prelude.{ℕ, suc, ◌+◌, ◌-◌, ◌*◌, ◌==◌, ◌&&◌, nat_le, List, [], ◌∷◌, ◌++◌, codes, decimal, Bool}
-use Rattle.std.specs.Prelude.{map, flat_map, get_or, length, Some, if◌then◌else◌}
+use Rattle.std.specs.Prelude.{ℕ, ◌+◌, ◌-◌, ◌==◌, ◌&&◌, nat_le, List, [], ◌∷◌, ◌++◌, codes, decimal, Bool}
+use Rattle.std.specs.Prelude.{map, flat_map, get_or, length, if◌then◌else◌}
 use Rattle.std.specs.List.{range_with_len}
 use Rattle.hls_text.specs.Lines.{Text}
 use Rattle.hls_report_text.specs.declared.stretch.Stretch as report

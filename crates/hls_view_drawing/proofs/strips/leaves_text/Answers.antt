@@ -1,4 +1,4 @@
-use Rattle.std.proofs.Common.{◌≡◌, ◌∙◌, ◌++◌, [], ap, flat_map, arith}
+use Rattle.std.proofs.Common.{◌∙◌, ◌++◌, [], ap, flat_map, arith}
 use Rattle.std.specs.List.{range_with_len}
 use Rattle.std.proofs.lemmas.List.{get_or_read}
 use Rattle.hls_text.specs.Lines.{Text}
