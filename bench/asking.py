@@ -23,9 +23,10 @@ USAGE = 2
 
 
 def schedulers():
-    """64 schedulers: one of reservations, on which fair queues stand."""
+    """64 schedulers: one of reservations with a free seat, 31 fair queues on it, and others on these."""
     items = at_first("load root edf on cpu as ALL")
-    items += at_first(*(f"load s{number} sfq 10 4 on root res 1 100 soft as RESBS 1 100" for number in range(63)))
+    items += at_first(*(f"load s{number} sfq 10 4 on root res 1 100 soft as RESBS 1 100" for number in range(31)))
+    items += at_first(*(f"load r{number} rr 10 on s{number % 31} weight 1 as NULL" for number in range(32)))
     return scenario(items, 10)
 
 
@@ -33,11 +34,12 @@ def periods():
     return " ".join(str(20 + 7 * number) for number in range(64))
 
 
-VIEWS = [(case, words) for case in ("b", "c", "d") for words in ("margins", "jobs", "tree", "trace", "svg")]
+VIEWS = [(case, words) for case in ("b", "c", "d", "l1", "l2") for words in ("margins", "jobs", "tree", "trace", "svg")]
 
 QUESTIONS = {
     "what is left, 64 schedulers": "spare",
     "where a guarantee can be had, 64 schedulers": "need x as RESCS 1 400",
+    "where anything can be had, 64 schedulers": "need x as NULL",
     "what a seat can be promised, 64 periods": f"offer x on root res 2 50 soft over {periods()}",
 }
 

@@ -135,6 +135,51 @@ def moves_at_once(count):
     return scenario(farm("top") + [(7, "move top to root turn as NULL")] * count, 100)
 
 
+def office():
+    """Six threads with work of uneven length all along, one move, and one request that finds no room."""
+    draw = random.Random("office")
+    items = at_first(
+        "load root fp on cpu as ALL", "load real edf on root prio 0 as ALL", "load late rr 10 on root prio 1 as NULL",
+        "thread player on real res 4 33 hard as RESBH 4 33", "load desk sfq 4 2 on real res 20 40 hard as PSBE 1/2 20",
+        "thread editor on desk weight 3 as PSBE 3/8 16", "thread compiler on desk weight 1 as PSBE 1/8 6",
+        "thread mail on late turn as NULL", "thread index on late turn as NULL",
+        "thread recorder on real res 15 40 hard as RESBH 15 40", "load rest wheel 20 on root prio 5 as NULL",
+        "wake compiler")
+    more = [(tick, "wake player for 4") for tick in range(0, HORIZON, 33)]
+    for name, work, gap in (("editor", (5, 200), (50, 700)), ("mail", (1, 400), (100, 900)),
+                            ("recorder", (300, 2000), (3000, 9000))):
+        tick = draw.randint(*gap)
+        while tick < HORIZON:
+            more.append((tick, f"wake {name} for {draw.randint(*work)}"))
+            tick += draw.randint(*gap)
+    more += [(12000, "wake index"), (20000, "block index"), (50000, "wake index"), (80000, "block index"),
+             (60000, "move mail to rest slots 2 as NULL"), (70000, "thread big on real res 39 40 hard as RESBH 39 40")]
+    return scenario(items + sorted(more))
+
+
+def busy(words=20000, moved=100):
+    """256 threads on nine round robins that are woken and blocked all along, some of which move."""
+    draw = random.Random("busy")
+    items = [item for item in farm() if not item[1].startswith("wake")]
+    names = [f"t{group}_{number}" for group in range(8) for number in range(32)]
+    seats = {f"s{group}": 32 for group in range(8)}
+    homes = {name: "s" + name[1] for name in names}
+    drawn = [("word", draw.randrange(HORIZON)) for _ in range(words)] + [("move", draw.randrange(1, HORIZON))
+                                                                        for _ in range(moved)]
+    for sort, tick in sorted(drawn, key=lambda one: one[1]):
+        name = draw.choice(names)
+        free = [home for home, taken in seats.items() if taken < 32]
+        if sort == "word":
+            items.append((tick, f"block {name}" if draw.random() < 0.25 else f"wake {name} for {draw.randint(1, 8)}"))
+        elif free or seats[homes[name]]:
+            home = draw.choice(free or [homes[name]])
+            seats[homes[name]] -= 1
+            seats[home] += 1
+            homes[name] = home
+            items.append((tick, f"move {name} to {home} turn as NULL"))
+    return scenario(items)
+
+
 # Eight levels with four fair queueing schedulers and a join, and where the thread x is moved to.
 DEEP = at_first(
     "load a fp on cpu as ALL", "load b edf on a prio 0 as ALL", "load c sfq 4 2 on b res 20 40 hard as PSBE 1/2 20",
@@ -178,6 +223,8 @@ SCENARIOS = {
     "f1": ("4,000 moves above 256 threads", HORIZON, lambda: moves(4000)),
     "f2": ("20,000 of them in one tick", 100, lambda: moves_at_once(20000)),
     "g": ("20,000 requests at depth 6", HORIZON, lambda: requests(20000)),
+    "l1": ("six threads, uneven work", HORIZON, office),
+    "l2": ("256 threads, 20,000 wakes and blocks, some moves", HORIZON, busy),
 }
 
 

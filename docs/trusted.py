@@ -133,6 +133,9 @@ def unfolded(functions):
     return closure(list(started(functions)))
 
 
+# The two programs beside `hls`, each by its top call.
+BESIDE = [("What `hlsview` writes", ("hls_view", "view_run")), ("What `hlsoffer` writes", ("hls_offer", "offer_run"))]
+
 # What a reader may leave for later: a definition of the clauses, and what it is needed for.
 APART = [
     ("The clauses of an audit, for `check` and `trial`",
@@ -220,24 +223,28 @@ def wrapped(line, width=120):
     return [line[:cut], *wrapped("  " + line[cut + 1:], width)]
 
 
+def is_public(crate, function):
+    """Whether a crate has a public function of this name."""
+    return any(re.search(rf"pub fn {function}\b", it.read_text(encoding="utf-8"))
+               for it in (CRATES / crate / "src").glob("**/*.rt"))
+
+
 def laws():
-    """The functions that THEOREMS.md names, with their crates."""
+    """The functions that THEOREMS.md names, with their crates, which stand in the same row before or behind them."""
     text = (TOP / "docs" / "THEOREMS.md").read_text(encoding="utf-8")
     for row in re.findall(r"^\|.*\|$", text, re.M):
-        crate = None
-        for word in re.findall(r"`(\w+)`", row):
-            if (CRATES / word).is_dir():
-                crate = word
-            elif crate and any(re.search(rf"pub fn {word}\b", it.read_text(encoding="utf-8"))
-                               for it in (CRATES / crate / "src").glob("**/*.rt")):
-                yield crate, word
+        words = re.findall(r"`(?:\w+::)?(\w+)`", row)
+        crates = [it for it in words if (CRATES / it).is_dir()]
+        for word in words:
+            yield from ((crate, word) for crate in crates if crate != word and is_public(crate, word))
 
 
 HEADER = """# What a reader has to believe
 
 The theorems speak of the definitions below and of nothing else. `docs/trusted.py` writes this page: it lists what the
-clauses of the two public calls of the program, `hls_run` and `start`, unfold to, file by file and in reading order. What
-only private clauses cite need not be read, and neither do proofs. Types that are named here are those of the code.
+clauses of the two public calls of the program, `hls_run` and `start`, unfold to, file by file and in reading order, then
+what those of the two programs beside it do, and then those of the laws. What only private clauses cite need not be read,
+and neither do proofs. Types that are named here are those of the code.
 
 What comes first is what is promised of `run`. A reader who asks only that may stop there.
 """
@@ -273,6 +280,11 @@ def main():
     for title, found in sections([("hls_top", "hls_run"), ("hls_prog_start", "start")]):
         size = f"{len(found)} definitions, {lines_in(found)} lines."
         print(HEADER.rstrip() + f"\n\n{size}" if title is None else f"\n## {title}\n\n{size}")
+        listed(found)
+        first |= found
+    for title, call in BESIDE:
+        found = unfolded([call]) - first
+        print(f"\n## {title}, besides\n\n{len(found)} definitions, {lines_in(found)} lines.")
         listed(found)
         first |= found
     others = unfolded(dict.fromkeys(laws())) - first

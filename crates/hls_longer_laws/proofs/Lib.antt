@@ -1,4 +1,4 @@
-mod Times
+pub mod Times
 mod Further
 mod Late
 mod Windows

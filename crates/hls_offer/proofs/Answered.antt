@@ -1,7 +1,7 @@
 -- The lines of each question make what is told.
 use Rattle.std.proofs.Common.{◌≡◌, ℕ, ◌+◌, Bool, true, false, List, [], ◌∷◌, ◌++◌, Some, None, Option, refl, sym, ap}
 use Rattle.std.proofs.Common.{◌∙◌}
-use Rattle.std.proofs.Common.{subst, take, slice_get, append_assoc, inl, inr}
+use Rattle.std.proofs.Common.{take, slice_get, append_assoc, inl, inr}
 use Rattle.std.specs.Prelude.{◌||◌, map}
 use Rattle.std.specs.List.{list_any}
 use Rattle.std.proofs.lemmas.List.{take_all, take_more, append-nil}
@@ -23,7 +23,7 @@ use Rattle.hls_offer_asks.specs.Requests.{request_of}
 use Rattle.hls_offer_asks.specs.Offers.{AreLinesFor, IsShutBy}
 use Rattle.hls_offer_asks.specs.Needs.{IsHad, IsNowhereElse, wish_of}
 use Rattle.hls_offer.specs.Spare.{AreFree, told_periods}
-use Rattle.hls_offer.specs.Told.{Told, open_told, shut_told, Place, IsPlaceOf, ArePlacesOf, places_told, had_text}
+use Rattle.hls_offer.specs.Told.{open_told, shut_told, Place, IsPlaceOf, ArePlacesOf, places_told, had_text}
 use Rattle.hls_offer.specs.Told.{is_at}
 use Rattle.hls_offer.specs.Told.{at_text, IsTold}
 use Rattle.hls_offer.specs.Inside.Told.{AddsTold, AddsPlace, AddsPlaces}

@@ -1,8 +1,7 @@
 -- What a question that words can ask grants, and what is told of it.
-use Rattle.std.proofs.Common.{◌≡◌, ℕ, Bool, false, List, Option, Some, None, sym, subst, take, length, arith}
+use Rattle.std.proofs.Common.{◌≡◌, ℕ, Bool, false, List, Option, Some, None, sym, subst, length, arith}
 use Rattle.std.proofs.lemmas.List.{take_all}
 use Rattle.hls_text.specs.Lines.{Text}
-use Rattle.hls_chron.specs.Name.{IsName}
 use Rattle.hls_chron.specs.declared.plain.Terms.{Terms}
 use Rattle.hls_guarantee.specs.declared.Guarantee.{Guarantee}
 use Rattle.hls_sched.specs.Seen.{Seen}

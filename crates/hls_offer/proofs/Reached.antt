@@ -1,7 +1,7 @@
 -- A core that stands at a tick, behind its commands, stands at the moment of the tick.
 use Rattle.std.proofs.Common.{◌≡◌, ℕ, Bool, List, refl, sym, ap, ◌∙◌, subst, arith}
 use Rattle.std.proofs.Common.{[], ◌∷◌, ◌++◌, append_assoc, codes}
-use Rattle.std.specs.Prelude.{Option, map}
+use Rattle.std.specs.Prelude.{Option}
 use Rattle.std.proofs.lemmas.List.{append-nil}
 use Rattle.std.proofs.lemmas.Grind.{flat_map-append}
 use Rattle.hls_text.specs.Lines.{Text}

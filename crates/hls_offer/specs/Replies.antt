@@ -1,5 +1,5 @@
 -- What is written about the text of a scenario, and at which status.
-use Rattle.std.specs.Prelude.{◌≡◌, ℕ, ◌+◌, ◌⊎◌, Bool, List, Option, length, unwrap_or, if◌then◌else◌}
+use Rattle.std.specs.Prelude.{◌≡◌, ℕ, ◌+◌, ◌⊎◌, Bool, Option, length, unwrap_or, if◌then◌else◌}
 use Rattle.hls_io.specs.declared.status.Status.{Status}
 use Rattle.hls_io.specs.declared.status.Status.TheVariants as statuses
 use Rattle.hls_text.specs.Lines.{Text, lines_of}

@@ -1,8 +1,7 @@
 -- The lines that answer a question at a moment, and whether one of them offers a seat.
-use Rattle.std.specs.Prelude.{◌≡◌, ◌⊎◌, ℕ, ◌||◌, Bool, true, false, List, [], ◌∷◌, Option, Some, None, map}
+use Rattle.std.specs.Prelude.{◌≡◌, ◌⊎◌, ℕ, Bool, true, false, List, [], ◌∷◌, Option, Some, None, map}
 use Rattle.std.specs.List.{list_any}
 use Rattle.hls_text.specs.Lines.{Text}
-use Rattle.hls_chron.specs.declared.plain.Terms.{Terms}
 use Rattle.hls_guarantee.specs.declared.Guarantee.{Guarantee}
 use Rattle.hls_scenario.specs.declared.scenario.Command.{Command}
 use Rattle.hls_report_text.specs.declared.refusal.Refusal.{Refusal}

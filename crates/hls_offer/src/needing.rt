@@ -20,32 +20,38 @@ use hls_offer_text::put_refused;
 use hls_sched::Scheduler;
 use std::alloc::{AllocError, Global};
 
-/// Appends the line of a scheduler that tells by which terms a guarantee can be had on it, or why by none.
-/// Reservations are of these periods, or of any where no list is given. Tells whether it can be had.
+/// A guarantee that is needed, with reservations of these periods, or of any where no list is given.
+#[derive(Clone, Copy)]
+pub struct Sought<'a> {
+    pub need: Need,
+    pub periods: Option<&'a [u32]>,
+}
+
+/// Appends the line of a scheduler that tells by which terms a guarantee can be had on it, or why by none. Tells
+/// whether it can be had.
 fn put_place(
     alloc: Global,
     core: &Core,
-    need: &Need,
+    sought: &Sought<'_>,
     on: &Name,
-    periods: Option<&[u32]>,
     out: &mut Vec<u8>,
 ) -> Result<bool, AllocError>
     requires runs { Runs seen core.now }
-    requires need { IsNeed need.now }
+    requires need { IsNeed sought.now.need }
     requires on { IsName on.now }
-    requires periods { ArePeriods (option_copied periods) }
+    requires periods { ArePeriods (option_copied sought.now.periods) }
     ensures { IfOk result (λ offers. (m : Moment) → IsMomentOf seen core.now m →
-        AddsPlace m (now_of core.now) need.now on.now (option_copied periods.entry) offers
+        AddsPlace m (now_of core.now) sought.now.need on.now (option_copied sought.now.periods) offers
         out.old.items out.new.items) }
 {
-    match need_on(alloc, core, need, on, periods)? {
+    match need_on(alloc, core, &sought.need, on, sought.periods)? {
         Had::At(terms) => {
             let wish = Wish {
-                name: need.name,
+                name: sought.need.name,
                 on: *on,
                 terms,
             };
-            put_wish(core, &wish, &need.wanted, out)?;
+            put_wish(core, &wish, &sought.need.wanted, out)?;
             Ok(true)
         }
         Had::Refused { terms, refusal } => {
@@ -60,50 +66,48 @@ fn put_place(
 fn put_places(
     alloc: Global,
     core: &Core,
-    need: &Need,
-    periods: Option<&[u32]>,
+    sought: &Sought<'_>,
     out: &mut Vec<u8>,
 ) -> Result<bool, AllocError>
     requires runs { Runs seen core.now }
-    requires need { IsNeed need.now }
-    requires periods { ArePeriods (option_copied periods) }
+    requires need { IsNeed sought.now.need }
+    requires periods { ArePeriods (option_copied sought.now.periods) }
     ensures { IfOk result (λ offers. (m : Moment) → IsMomentOf seen core.now m →
-        AddsPlaces m (now_of core.now) need.now (option_copied periods.entry) (length m.hierarchy.schedulers) offers
-        out.old.items out.new.items) }
+        AddsPlaces m (now_of core.now) sought.now.need (option_copied sought.now.periods)
+        (length m.hierarchy.schedulers) offers out.old.items out.new.items) }
 {
     let tree = core.tree();
     let mut offers = false;
     for at in 0..tree.scheds() {
         let on = tree.name(tree.sched(at));
-        let here = put_place(alloc, core, need, &on, periods, out)?;
+        let here = put_place(alloc, core, sought, &on, out)?;
         offers = offers || here;
     }
     Ok(offers)
 }
 
 /// Appends the lines that tell by which terms a guarantee can be had: on one scheduler, or else on each loaded one.
-/// Reservations are of these periods, or of any where no list is given. Tells whether it can be had anywhere.
+/// Tells whether it can be had anywhere.
 ///
 /// # Errors
 /// Returns `AllocError` for want of memory.
 pub fn put_need(
     alloc: Global,
     core: &Core,
-    need: &Need,
+    sought: &Sought<'_>,
     on: Option<Name>,
-    periods: Option<&[u32]>,
     out: &mut Vec<u8>,
 ) -> Result<bool, AllocError>
     requires runs { Runs seen core.now }
-    requires need { IsNeed need.now }
+    requires need { IsNeed sought.now.need }
     requires on { IsPlace on }
-    requires periods { ArePeriods (option_copied periods) }
+    requires periods { ArePeriods (option_copied sought.now.periods) }
     ensures { IfOk result (λ offers. (m : Moment) → IsMomentOf seen core.now m → AddsTold
-        (IsTold (AsksNeed need.now.name need.now.wanted on) m (now_of core.now) (option_copied periods.entry)) offers
-        out.old.items out.new.items) }
+        (IsTold (AsksNeed sought.now.need.name sought.now.need.wanted on) m (now_of core.now)
+        (option_copied sought.now.periods)) offers out.old.items out.new.items) }
 {
     match on {
-        Some(scheduler) => put_place(alloc, core, need, &scheduler, periods, out),
-        None => put_places(alloc, core, need, periods, out),
+        Some(scheduler) => put_place(alloc, core, sought, &scheduler, out),
+        None => put_places(alloc, core, sought, out),
     }
 }

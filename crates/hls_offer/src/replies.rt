@@ -33,6 +33,20 @@ pub struct Reply {
     pub bytes: Vec<u8>,
 }
 
+/// A scenario, and the text that it was read from.
+#[derive(Drop)]
+struct Read<'a> {
+    text: &'a [u8],
+    scenario: Scenario,
+}
+
+/// A scenario, and the tick that is asked about.
+#[derive(Drop)]
+struct Point {
+    scenario: Scenario,
+    tick: u32,
+}
+
 /// How many lines a text has.
 fn count_lines(text: &[u8]) -> u32
     requires { length text.now ≤ scenario_limit }
@@ -74,17 +88,18 @@ fn status_of(question: &Question, offers: bool) -> Status
 fn tell(
     alloc: Global,
     asked: &Asked,
-    scenario: Scenario,
-    tick: u32,
+    point: Point,
     kit: Kit,
     rules: RuleBook,
 ) -> Result<Reply, AllocError>
-    requires scenario { IsScenario scenario }
-    requires early { tick < scenario.horizon }
+    requires scenario { IsScenario point.scenario }
+    requires early { point.tick < point.scenario.horizon }
     requires asked { IsAskable asked.now }
     requires good { IsGood (boxed seen) kit }
-    ensures { IfOk result (λ reply. Tells asked.now scenario (boxes_in kit) tick reply.status reply.bytes.items) }
+    ensures { IfOk result (λ reply. Tells asked.now point.scenario (boxes_in kit) point.tick reply.status
+        reply.bytes.items) }
 {
+    let Point { scenario, tick } = point;
     let mut core = Core::open(alloc, scenario, given_depth(asked), kit, rules)?;
     carry_to(&mut core, tick)?;
     let mut bytes = Vec::new(alloc);
@@ -112,7 +127,7 @@ pub fn reply_to(
     ensures { IfOk result (λ reply. IsReply asked.now (boxes_in kit) text.now reply.status reply.bytes.items) }
 {
     match read_scenario(alloc, text) {
-        Ok(scenario) => reply_on(alloc, asked, scenario, text, kit, rules),
+        Ok(scenario) => reply_on(alloc, asked, Read { text, scenario }, kit, rules),
         Err(ScenarioFault::At { line, cause }) => Ok(Reply {
             status: Status::RefusedText,
             bytes: refusal_line(alloc, line, cause_word(cause))?,
@@ -125,23 +140,24 @@ pub fn reply_to(
 fn reply_on(
     alloc: Global,
     asked: &Asked,
-    scenario: Scenario,
-    text: &[u8],
+    read: Read<'_>,
     kit: Kit,
     rules: RuleBook,
 ) -> Result<Reply, AllocError>
-    requires read { IsScenarioText text.now scenario }
-    requires within { length text.now ≤ scenario_limit }
+    requires read { IsScenarioText read.text.now read.scenario }
+    requires within { length read.text.now ≤ scenario_limit }
     requires asked { IsAskable asked.now }
     requires good { IsGood (boxed seen) kit }
-    ensures { IfOk result (λ reply. IsReply asked.now (boxes_in kit) text.now reply.status reply.bytes.items) }
+    ensures { IfOk result (λ reply. IsReply asked.now (boxes_in kit) read.entry.text.now reply.status
+        reply.bytes.items) }
 {
+    let Read { text, scenario } = read;
     let tick = asked_tick(asked.at, scenario.items.items());
     match tick_fault(&scenario, tick) {
         Some(cause) => Ok(Reply {
             status: Status::RefusedText,
             bytes: refusal_line(alloc, count_lines(text) + 1, cause_word(cause))?,
         }),
-        None => tell(alloc, asked, scenario, tick, kit, rules),
+        None => tell(alloc, asked, Point { scenario, tick }, kit, rules),
     }
 }

@@ -12,7 +12,7 @@ ghost use Rattle.hls_offer.specs.Told.{IsTold};
 ghost use Rattle.hls_offer.specs.Inside.Told.{AddsTold};
 ghost use Rattle.hls_offer.specs.Inside.Readings.{IsAskable};
 
-use crate::needing::put_need;
+use crate::needing::{Sought, put_need};
 use crate::offering::put_offer;
 use crate::spare::put_spare;
 use hls_core::Core;
@@ -65,7 +65,8 @@ pub fn put_told(
             put_offer(alloc, core, &Wish { name, on, terms }, periods, out)
         }
         Question::Need { name, wanted, on } => {
-            put_need(alloc, core, &Need { name, wanted }, on, periods, out)
+            let need = Need { name, wanted };
+            put_need(alloc, core, &Sought { need, periods }, on, out)
         }
         Question::Spare => {
             put_spare(alloc, core.tree(), told_periods(asked), out)?;

@@ -4,7 +4,7 @@ ghost use Rattle.hls_chron.specs.declared.plain.Terms.TheVariants.{Res};
 ghost use Rattle.hls_chron.specs.Ranges.{TermsInRange};
 ghost use Rattle.hls_offer_best.specs.declared.reservations.Budget.{Budget};
 ghost use Rattle.hls_offer_best.specs.Inside.Trying.{ComesFirstOf, IsHad, TriedPeriod};
-ghost use Rattle.hls_offer_best.specs.Reservations.{CanNeed, ComesFirst, IsCheapestIfAny, Meets};
+ghost use Rattle.hls_offer_best.specs.Reservations.{CanNeed, ComesFirst, IsCheapestIfAny, IsOf, Meets};
 
 use crate::seat::Seat;
 use hls_chron::{Config, Terms, parts};
@@ -46,12 +46,50 @@ pub fn cheapest(
     requires periods { All (λ y. (1 ≤ y) × (y ≤ 10000)) periods.now }
     ensures { IfOk result (λ best. IsCheapestIfAny need.now periods.now best) }
 {
-    let mut best = None;
+    let mut best = cheaper(alloc, book, need, guessed(need, periods), None)?;
     for y in periods {
         best = of_period(alloc, book, need, *y, best)?;
     }
     reservations_have_sizes(need.haves, need.depth);
     Ok(best)
+}
+
+/// The cheapest budget that may do, which mostly will, so that no other one is searched for.
+fn guessed(need: &Need<'_>, periods: &[u32]) -> Option<Budget>
+    requires can { CanNeed need.now }
+    requires periods { All (λ y. (1 ≤ y) × (y ≤ 10000)) periods.now }
+    ensures { IfSome result (λ b. IsOf periods.now b) }
+{
+    let mut best = None;
+    for y in periods {
+        best = guessed_of(need, *y, best);
+    }
+    best
+}
+
+/// The cheapest budget that may do so far, or a cheaper one of this period.
+fn guessed_of(need: &Need<'_>, y: u32, best: Option<Budget>) -> Option<Budget>
+    requires can { CanNeed need.now }
+    requires some { 1 ≤ y }
+    requires size { y ≤ 10000 }
+    ensures { (periods : List ℕ) → Contains periods y → IfSome best (λ b. IsOf periods b) →
+        IfSome result (λ b. IsOf periods b) }
+{
+    let direct = budget_of(direct_size(&need.wanted, y), y);
+    let best = lesser(direct, best);
+    let spread = budget_of(spread_size(&need.wanted, y), y);
+    lesser(spread, best)
+}
+
+/// The cheaper one of two budgets.
+fn lesser(budget: Option<Budget>, best: Option<Budget>) -> Option<Budget>
+    ensures { (periods : List ℕ) → IfSome budget (λ b. IsOf periods b) → IfSome best (λ b. IsOf periods b) →
+        IfSome result (λ b. IsOf periods b) }
+{
+    match budget {
+        Some(budget) if is_cheaper(&budget, &best) => Some(budget),
+        _ => best,
+    }
 }
 
 /// The cheapest budget so far, or a cheaper one of this period.

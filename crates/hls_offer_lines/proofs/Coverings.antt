@@ -1,7 +1,7 @@
 -- Shares that cover others: each covers itself, and what it covers it covers on.
 use Rattle.std.proofs.Common.{◌≡◌, ℕ, ◌+◌, ◌≤◌, ◌<◌, ◌⊎◌, inl, inr, Bool, List, ◌∷◌, [], ◌++◌, length, get_or, refl, sym, subst}
 use Rattle.std.proofs.Common.{below_more, arith}
-use Rattle.std.specs.Prelude.{Option, Some, None, Contains, slice_get, option_to_list, ◌↔◌, IfSome, IsNone, All as Each}
+use Rattle.std.specs.Prelude.{Option, Some, None, Contains, slice_get, option_to_list, ◌↔◌, IfSome, IsNone, All as Each, AllPairs}
 use Rattle.std.proofs.lemmas.Option.{slice_get_within, get_or_from_slice_get}
 use Rattle.hls_frac.specs.declared.Frac.{Frac}
 use Rattle.hls_guarantee.specs.declared.Guarantee.{Guarantee}
@@ -15,10 +15,11 @@ use Rattle.hls_offer_laws.specs.Offered.{IsLent, IsShareOf}
 use Rattle.hls_offer_laws.proofs.Shares.{better-converts, share-one}
 use Rattle.hls_offer_best.specs.declared.seat.Seat.{Seat}
 use Rattle.hls_offer_best.specs.Best.{Offers}
-use Rattle.hls_offer_lines.specs.Lines.{AreApart, AreTopShares, CoverAll, Covers, HasNarrowShares, IsCovered, IsOfferedShare}
-use Rattle.hls_offer_lines.specs.Inside.Listing.{AreLent, IsValidShare}
+use Rattle.hls_offer_lines.specs.Lines.{AreApart, AreInOrder, AreTopShares, CoverAll, Covers, HasNarrowShares, IsAhead}
+use Rattle.hls_offer_lines.specs.Lines.{IsCovered, IsOfferedShare}
+use Rattle.hls_offer_lines.specs.Inside.Listing.{IsValidShare}
 use Rattle.hls_offer_lines.proofs.Pushes.{pushed-cases, pushed-kept, pushed-there, pushed-pairs}
-use Rattle.hls_offer_lines.proofs.Pushes.{option-cases, option-kept, option-there, option-pairs, place-of, at-place, of-each}
+use Rattle.hls_offer_lines.proofs.Pushes.{option-cases, option-kept, option-there, option-pairs, place-of, of-each}
 
 pub share-ok : (g : Guarantee) → IsValidShare g → IsValid g
 share-ok (Psbe s d) valid = valid
@@ -113,6 +114,12 @@ with-apart tops kept more share is from free apart =
     pushed-pairs (λ one other. (Covers one other → ⊥) × (Covers other one → ⊥)) kept more share is apart
     (λ g has. (λ by. free (g, (from g has).0, by), (from g has).1))
 
+pub with-order : (seat : Seat) (tops kept more : List Guarantee) (share : Guarantee) → more ≡ kept ++ (share ∷ [])
+    → ((g : Guarantee) → Contains kept g → Contains tops g × (Covers share g → ⊥)) → AreInOrder seat kept
+    → ((g : Guarantee) → Contains tops g → IsAhead seat g share) → AreInOrder seat more
+with-order seat tops kept more share is from order ahead =
+    pushed-pairs (λ one other. IsAhead seat one other) kept more share is order (λ g has. ahead g (from g has).0)
+
 -- ---- those that one does not cover
 
 abbrev pub StandBefore : (tops : List Guarantee) → (share : Guarantee) → (more : List Guarantee) → (n : ℕ) → Type 0
@@ -170,11 +177,13 @@ each-more-share tops share top more next n found there is unless before =
     let same : top ≡ g = cc in
     subst (λ v. Contains next v ⊎ Covers share v) same (each-one share top more next found is unless))
 
-pub apart-more : (tops : List Guarantee) (share top : Guarantee) (more next : List Guarantee) (n : ℕ)
-    → (found : Option Guarantee) → slice_get tops n ≡ Some top → next ≡ more ++ option_to_list found
-    → IsUnless share top found → StandBefore tops share more n → AreApart tops → AreApart more → AreApart next
-apart-more tops share top more next n found there is unless before whole apart =
-    option-pairs (λ one other. (Covers one other → ⊥) × (Covers other one → ⊥)) more next found is apart
+-- whatever holds of each two of the shares, the earlier one first
+pub pairs-more : (R : Guarantee → Guarantee → Type 0) (tops : List Guarantee) (share top : Guarantee)
+    (more next : List Guarantee) (n : ℕ) (found : Option Guarantee) → slice_get tops n ≡ Some top
+    → next ≡ more ++ option_to_list found → IsUnless share top found → StandBefore tops share more n
+    → AllPairs R tops → AllPairs R more → AllPairs R next
+pairs-more R tops share top more next n found there is unless before whole pairs =
+    option-pairs R more next found is pairs
     (λ y new g has.
     let b = before g has in
     let within = slice_get_within tops n top there in
@@ -182,9 +191,7 @@ apart-more tops share top more next n found there is unless before whole apart =
     let left : get_or tops b.0 g ≡ g = get_or_from_slice_get tops b.0 g g b.2 in
     let right : get_or tops n g ≡ top = get_or_from_slice_get tops n top g there in
     let last : top ≡ y = top-same share top found y unless new in
-    subst (λ v. (Covers g v → ⊥) × (Covers v g → ⊥)) last
-    (subst (λ v. (Covers g v → ⊥) × (Covers v g → ⊥)) right
-    (subst (λ v. (Covers v (get_or tops n g) → ⊥) × (Covers (get_or tops n g) v → ⊥)) left pair)))
+    subst (λ v. R g v) last (subst (λ v. R g v) right (subst (λ v. R v (get_or tops n g)) left pair)))
   where
     top-same : (share top : Guarantee) (found : Option Guarantee) (y : Guarantee) → IsUnless share top found
         → found ≡ Some y → top ≡ y
@@ -199,11 +206,6 @@ pub covered-before : (tops : List Guarantee) (share : Guarantee) (n : ℕ) → l
 covered-before tops share n ended none (top, has, covers) =
     let at = place-of tops top has in
     none at.0 (let less = at.1 in omega arith) top at.2 covers
-
--- what was found of the first of what is lent
-abbrev pub CoveredBelow : Seat → (lent shares : List Guarantee) → (n : ℕ) → Type 0
-CoveredBelow seat lent shares n = (k : ℕ) → k < n → (one : Guarantee) → slice_get lent k ≡ Some one
-    → (share : Guarantee) → IsShareOf one share → IsNarrow share → Offers seat share → IsCovered shares share
 
 abbrev pub IsFound : Seat → (one : Guarantee) → Option Guarantee → Type 0
 IsFound seat one found =
@@ -228,55 +230,6 @@ found-none seat one share other is lacks = (
       let same = share-one one other share all.0 is in
       absurd (lacks (subst IsNarrow same all.1) (subst (λ v. Offers seat v) same all.2)),
 )
-
-pub found-valid : (seat : Seat) (one : Guarantee) (found : Option Guarantee) → IsFound seat one found
-    → IfSome found (λ g. IsValidShare g)
-found-valid seat one None exact = tt
-found-valid seat one (Some g) exact =
-    let is = (exact g).0 refl in share-is one g is.0 (narrow-valid g is.1)
-
-pub covered-more : (seat : Seat) (lent shares more : List Guarantee) (n : ℕ) (one : Guarantee)
-    → (found : Option Guarantee) → slice_get lent n ≡ Some one → IsFound seat one found
-    → ((g : Guarantee) → IsValidShare g → IsCovered shares g → IsCovered more g)
-    → ((g : Guarantee) → found ≡ Some g → IsCovered more g) → CoveredBelow seat lent shares n
-    → CoveredBelow seat lent more (n + 1)
-covered-more seat lent shares more n one found there exact kept itself before =
-    below_more (λ k. (other : Guarantee) → slice_get lent k ≡ Some other → (share : Guarantee)
-    → IsShareOf other share → IsNarrow share → Offers seat share → IsCovered more share) n
-    (λ k under other at share is narrow offers.
-    kept share (share-is other share is (narrow-valid share narrow)) (before k under other at share is narrow offers))
-    (λ other at share is narrow offers.
-    let same : other ≡ one = cc in
-    itself share ((exact share).1 (subst (λ v. IsShareOf v share) same is, narrow, offers)))
-
-pub from-more : (seat : Seat) (lent shares more : List Guarantee) (n : ℕ) (one : Guarantee) (found : Option Guarantee)
-    → slice_get lent n ≡ Some one → AreLent seat lent → IsFound seat one found
-    → ((g : Guarantee) → Contains more g → Contains shares g ⊎ (found ≡ Some g))
-    → ((g : Guarantee) → Contains shares g → IsOfferedShare seat g) → (g : Guarantee) → Contains more g
-    → IsOfferedShare seat g
-from-more seat lent shares more n one found there are exact from each g has =
-    elim (from g has) [
-      | inl old ↦ each g old
-      | inr new ↦ (let is = (exact g).0 new in
-          record {
-            lent = one;
-            is_lent = are.each one (at-place lent n one there);
-            is_share = is.0;
-            narrow = is.1;
-            offered = is.2;
-          })
-    ]
-
-pub top-shares : (seat : Seat) (lent shares : List Guarantee) (n : ℕ) → AreLent seat lent → length lent ≤ n
-    → ((g : Guarantee) → Contains shares g → IsOfferedShare seat g) → AreApart shares
-    → CoveredBelow seat lent shares n → AreTopShares seat shares
-top-shares seat lent shares n are ended each apart below = record {
-  each = each;
-  apart = apart;
-  cover = λ share is.
-      let at = place-of lent is.lent (are.every is.lent is.is_lent) in
-      below at.0 (let less = at.1 in omega arith) is.lent at.2 share is.is_share is.narrow is.offered;
-}
 
 -- what the laws say of shares
 abbrev pub HaveCandidates : Seat → Type 0

@@ -4,6 +4,7 @@ pub mod Distinct
 pub mod HardOnes
 pub mod Offering
 pub mod Placing
+pub mod Ports
 pub mod Pushes
 pub mod Reserving
 pub mod Rising

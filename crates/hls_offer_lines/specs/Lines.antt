@@ -48,11 +48,28 @@ AreApart shares = AllPairs (λ share other. (Covers share other → ⊥) × (Cov
 abbrev pub IsCovered : (shares : List Guarantee) → (lesser : Guarantee) → Type 0
 IsCovered shares lesser = (share : Guarantee) × Contains shares share × Covers share lesser
 
--- such shares of which none covers another, and which cover all such shares
+-- something with this share is lent through a port
+pub record IsShareAt (seat : Seat) (port : ℕ) (share : Guarantee) : Type 0 where
+  pub lent : Guarantee
+  pub is_lent : IsLent seat.place seat.haves.now lent
+  pub through : is_lent.port ≡ port
+  pub is_share : IsShareOf lent share
+
+-- the share has an earlier port than any that the later one has
+abbrev pub IsAhead : Seat → (share later : Guarantee) → Type 0
+IsAhead seat share later =
+    (port : ℕ) → IsShareAt seat port later → (earlier : ℕ) × (earlier < port) × IsShareAt seat earlier share
+
+-- the shares stand in the order of the ports
+abbrev pub AreInOrder : Seat → (shares : List Guarantee) → Type 0
+AreInOrder seat shares = AllPairs (λ share later. IsAhead seat share later) shares
+
+-- such shares of which none covers another, and which cover all such shares, in the order of the ports
 pub record AreTopShares (seat : Seat) (shares : List Guarantee) : Type 0 where
   pub each : (share : Guarantee) → Contains shares share → IsOfferedShare seat share
   pub apart : AreApart shares
   pub cover : (share : Guarantee) → IsOfferedShare seat share → IsCovered shares share
+  pub in_order : AreInOrder seat shares
 
 -- and whatever share can be promised
 abbrev pub CoverAll : Seat → (shares : List Guarantee) → Type 0
@@ -123,8 +140,8 @@ abbrev pub or_nothing : List Guarantee → List Guarantee
 or_nothing [] = Null ∷ []
 or_nothing (g ∷ lines) = g ∷ lines
 
--- What can be promised, best first: every tick; hard blocks and hard windows; the shares from which the others follow;
--- the least wait; the most ticks of blocks and windows, period by period.
+-- What can be promised, best first: every tick; hard blocks and hard windows; the shares from which the others follow,
+-- in the order of the ports; the least wait; the most ticks of blocks and windows, period by period.
 pub record AreOffers (seat : Seat) (list : Option (List ℕ)) (lines : List Guarantee) : Type 0 where
   pub whole : List Guarantee
   pub hard_blocks : List Guarantee

@@ -38,7 +38,7 @@ pub fn offered(
     let whole = whole_lines(alloc, book, seat)?;
     let lines = joined(whole, hard_lines(alloc, book, seat, &lent, Form::Blocks)?)?;
     let lines = joined(lines, hard_lines(alloc, book, seat, &lent, Form::Windows)?)?;
-    let mut lines = joined(lines, top_shares(alloc, book, seat, &lent)?)?;
+    let mut lines = joined(lines, top_shares(alloc, book, seat)?)?;
     let waiting = Waiting {
         seat: *seat,
         wait: least_wait(alloc, book, seat)?,

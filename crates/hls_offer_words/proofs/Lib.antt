@@ -4,3 +4,7 @@ pub mod Spelled
 pub mod Admitted
 pub mod Places
 pub mod Askings
+pub mod Walking
+pub mod Taking
+pub mod Standing
+pub mod Telling

@@ -1,13 +1,14 @@
 -- The words behind a question.
-use Rattle.std.proofs.Common.{◌≡◌, ℕ, ◌≤◌, List, [], ◌∷◌, ◌++◌, refl, sym, ap, ◌∙◌, arith, codes, subst, length}
-use Rattle.std.specs.Prelude.{Option, Some, None, Result, Ok, Err, decimal, map, IfOk, MatchOption}
+use Rattle.std.proofs.Common.{◌≡◌, ℕ, ◌≤◌, List, [], ◌∷◌, ◌++◌, refl, sym, ap, ◌∙◌, arith, codes, subst, length, Bool, true, false}
+use Rattle.std.specs.Prelude.{Option, Some, None, decimal, map, ◌==◌}
 use Rattle.hls_text.specs.Lines.{Text}
 use Rattle.hls_scenario.specs.Forms.{the}
 use Rattle.hls_scenario.specs.Grammar.{IsLine}
 use Rattle.hls_lang.proofs.Fronts.{Front, front_join, front_split, line_of_front, front_of_line}
-use Rattle.hls_offer_words.specs.Table.{over_words, option_words, moment_words, tail_words, IsAtMost, ArePeriods}
-use Rattle.hls_offer_words.specs.Table.{most_period, question_forms, asked_forms, IsQuestion, IsAsked, IsNotAsked}
-use Rattle.hls_offer_words.specs.Inside.Readings.{AreFirst, IsOver, IsNoOver, IsTail, IsNoTail}
+use Rattle.hls_offer_words.specs.Table.{over_words, option_words, moment_words, tail_words, ArePeriods}
+use Rattle.hls_offer_words.specs.Table.{most_period, question_forms, asked_forms, IsQuestion, IsAsked}
+use Rattle.hls_offer_words.specs.Inside.Readings.{AreFirst, IsOver, IsNoOver, IsTail, HasTail, HasNoTail}
+use Rattle.hls_offer_words.specs.Inside.Shapes.{timeless}
 use Rattle.hls_offer_words.specs.Inside.Readings.{IsBehind, IsQuestionIn}
 use Rattle.hls_offer_words.specs.declared.asked.Question.{Question}
 use Rattle.hls_offer_words.specs.declared.asked.Asked.{Asked}
@@ -88,19 +89,29 @@ stated_none most words numbers rest le first bar = by
 -- ---- what stands behind a question
 
 pub no_tail_over : (question : Question) (words : List Text) → IsNoOver (most_period question) words
-    → IsNoTail question words
-no_tail_over question words none a is tail =
-    none a.periods a.at a.depth (subst (λ (q : Question). ArePeriods (most_period q) a.periods) is tail.periods)
-    tail.words_are
+    → HasNoTail question words
+no_tail_over question words none a has =
+    none a.periods None None
+    (subst (λ (q : Question). ArePeriods (most_period q) a.periods) has.0 has.1.periods) has.1.words_are
 
-pub no_tail_moment : (question : Question) (words : List Text) (periods : Option (List ℕ)) (rest : List Text)
-    → IsOver (most_period question) words periods rest
-    → ((at depth : Option ℕ) → IsAtMost 99999 at → IsAtMost 6 depth → rest ≡ moment_words at depth → ⊥)
-    → IsNoTail question words
-no_tail_moment question words periods rest over none a is tail =
-    none a.at a.depth tail.tick tail.depth
-    (over.only a.periods a.at a.depth
-    (subst (λ (q : Question). ArePeriods (most_period q) a.periods) is tail.periods) tail.words_are)
+-- words behind the periods state nothing
+pub no_tail_more : (question : Question) (words : List Text) (periods : Option (List ℕ)) (rest : List Text)
+    → IsOver (most_period question) words periods rest → (rest ≡ [] → ⊥) → HasNoTail question words
+no_tail_more question words periods rest over some a has =
+    some (over.only a.periods None None
+    (subst (λ (q : Question). ArePeriods (most_period q) a.periods) has.0 has.1.periods) has.1.words_are)
+
+pub tail_over : (a : Asked) (words rest : List Text) → IsOver (most_period a.question) words a.periods rest → rest ≡ []
+    → HasTail a.question words a
+tail_over a words rest over none = (
+  refl,
+  record {
+    words_are = over.words_are ∙ ap (λ (ws : List Text). over_words a.periods ++ ws) none;
+    periods = over.within;
+    tick = tt;
+    depth = tt;
+  },
+)
 
 -- ---- a question with the words behind it
 
@@ -136,17 +147,36 @@ asked_behind a all asked =
     )
 
 -- the words ask what the question with the words behind it asks
-pub question_asked : {E : Type 0} (all rest : List Text) (question : Question) (result : Result (Option Asked) E)
-    → IsQuestionIn all question rest
-    → IfOk result (λ found. MatchOption found (IsNoTail question rest) (λ a. (a.question ≡ question) × IsTail a rest))
-    → IfOk result (λ found. MatchOption found (IsNotAsked all) (IsAsked all))
-question_asked all rest question (Err e) known is = tt
-question_asked all rest question (Ok None) known none = λ a asked.
-    let behind = asked_behind a all asked in
-    let same = known.only a behind.0 behind.1 in
-    none a same.0 (subst (λ (ws : List Text). IsTail a ws) same.1 behind.1.tail)
-question_asked all rest question (Ok (Some a)) known is = asked_of a all rest (record {
-  within = subst IsQuestion (sym is.0) known.within;
-  front = subst (λ (q : Question). Front (question_forms q) all rest) (sym is.0) known.front;
-  tail = is.1;
+pub asked_timeless : (all rest : List Text) (question : Question) (a : Asked) → IsQuestionIn all question rest
+    → HasTail question rest a → IsAsked all (timeless a)
+asked_timeless all rest question a known has = asked_of (timeless a) all rest (record {
+  within = subst IsQuestion (sym has.0) known.within;
+  front = subst (λ (q : Question). Front (question_forms q) all rest) (sym has.0) known.front;
+  tail = has.1;
 })
+
+pub none_timeless : (all rest : List Text) (question : Question) → IsQuestionIn all question rest
+    → HasNoTail question rest → (a : Asked) → ¬ IsAsked all (timeless a)
+none_timeless all rest question known none a asked =
+    let behind = asked_behind (timeless a) all asked in
+    let same = known.only (timeless a) behind.0 behind.1 in
+    none a (same.0, subst (λ (ws : List Text). IsTail (timeless a) ws) same.1 behind.1.tail)
+
+-- ---- whether words are left
+
+pub no_texts : {A : Type 0} (f : A → Text) (xs : List A) (b : Bool) → b ≡ (length xs == 0) → b ≡ true → map f xs ≡ []
+no_texts f [] b is none = refl
+no_texts f (x ∷ xs) b is none =
+    let same : (length (x ∷ xs) == 0) ≡ true = sym is ∙ none in
+    let zero : length (x ∷ xs) ≡ 0 = grind (arith, same) in
+    absurd (omega (arith, zero))
+
+pub some_texts : {A : Type 0} (f : A → Text) (xs : List A) (b : Bool) → b ≡ (length xs == 0) → b ≡ false
+    → map f xs ≡ [] → ⊥
+some_texts f [] b is some e = absurd cc
+some_texts f (x ∷ xs) b is some e = no_empty (f x) (map f xs) (sym e)
+
+pub empty_texts : {A : Type 0} (f : A → Text) (xs : List A) (b : Bool) → b ≡ (length xs == 0) → map f xs ≡ []
+    → b ≡ true
+empty_texts f [] b is e = is
+empty_texts f (x ∷ xs) b is e = absurd (no_empty (f x) (map f xs) (sym e))

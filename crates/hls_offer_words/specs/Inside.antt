@@ -1,2 +1,4 @@
+pub mod Commands
 pub mod Spellings
+pub mod Shapes
 pub mod Readings

@@ -101,27 +101,25 @@ fn need_in<'a>(alloc: Global, words: &'a [String]) -> Result<Option<Known<'a>>, 
     }
 }
 
-/// The question that begins the words, and the words behind it.
+/// The question that a first word and the words behind it begin, and the words behind that.
 ///
 /// # Errors
 /// Returns `AllocError` for want of memory.
-pub fn question_in<'a>(alloc: Global, words: &'a [String]) -> Result<Option<Known<'a>>, AllocError>
-    ensures { IfOk result (λ found. MatchOption found (IsNotAsked (map string_bytes words.entry.now))
-        (λ known. IsQuestionIn (map string_bytes words.entry.now) known.question (map string_bytes known.rest.now))) }
+pub fn question_in<'a>(
+    alloc: Global,
+    first: &str,
+    words: &'a [String],
+) -> Result<Option<Known<'a>>, AllocError>
+    ensures { IfOk result (λ found. MatchOption found (IsNotAsked (first.now ∷ map string_bytes words.entry.now))
+        (λ known. IsQuestionIn (first.now ∷ map string_bytes words.entry.now) known.question (map string_bytes known.rest.now))) }
 {
-    let Some((first, behind)) = words.split_first() else {
-        return Ok(None);
-    };
-    if first.as_str() == "offer" {
-        offer_in(alloc, behind)
-    } else if first.as_str() == "need" {
-        need_in(alloc, behind)
-    } else if first.as_str() == "spare" {
-        Ok(Some(Known {
+    match first {
+        "offer" => offer_in(alloc, words),
+        "need" => need_in(alloc, words),
+        "spare" => Ok(Some(Known {
             question: Question::Spare,
-            rest: behind,
-        }))
-    } else {
-        Ok(None)
+            rest: words,
+        })),
+        _ => Ok(None),
     }
 }

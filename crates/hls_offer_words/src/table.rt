@@ -1,140 +1,96 @@
-// The table of words.
-ghost use Rattle.std.specs.Prelude.{◌≡◌, ◌≤◌, ℕ, Option, codes, decimal, map, string_bytes, IfSome, IsNone};
-ghost use Rattle.std.specs.Prelude.{IfOk, MatchOption};
-ghost use Rattle.hls_offer_words.specs.Table.{option_words, moment_words, IsAtMost, most_period, IsAsked, IsNotAsked};
-ghost use Rattle.hls_offer_words.specs.Inside.Readings.{IsTail, IsNoTail};
+// The table of words: how the words of a question stand.
+ghost use Rattle.std.specs.Prelude.{◌≡◌, ◌≢◌, ◌∷◌, ℕ, List, Option, map, string_bytes, true, IfSome, IsNone};
+ghost use Rattle.hls_text.specs.Lines.{Text};
+ghost use Rattle.hls_offer_words.specs.Table.{IsAtMost, IsNotAsked, moment_words};
+ghost use Rattle.hls_offer_words.specs.Inside.Shapes.{is_plain as is_plain_word, HasShape, IsAsking, IsBehindPlain};
+ghost use Rattle.hls_offer_words.specs.Inside.Shapes.{BeginsWith, IsBehindOption, MayOption};
 
-use crate::numbers::number_to;
-use crate::periods::over_in;
-use crate::questions::question_in;
-use crate::{Asked, Question};
-use std::alloc::{AllocError, Global};
+use crate::heads::words_behind;
 
-/// The greatest tick that can be asked about.
-const MOST_TICK: u32 = 99_999;
-
-/// The most conversions of a derivation.
-const MOST_DEPTH: u32 = 6;
-
-/// The longest window or block of a guarantee that is told, in ticks.
-const MOST_WINDOW: u32 = 20_000;
-
-/// The longest period of the terms of a seat that are told, in ticks.
-const MOST_PERIOD: u32 = 10_000;
-
-/// The moment that is asked about.
-#[derive(Clone, Copy)]
-struct Moment {
-    at: Option<u32>,
-    depth: Option<u8>,
-}
-
-/// The tick that two words state.
-fn tick_by(option: &str, word: &str) -> Option<u32>
-    ensures found { IfSome result (λ tick. (tick ≤ 99999) × (option.now ≡ codes "--at") × (word.now ≡ decimal tick)) }
-    ensures none { IsNone result → (tick : ℕ) → tick ≤ 99999 → option.now ≡ codes "--at" →
-        word.now ≡ decimal tick → ⊥ }
+/// Whether a word is no option.
+fn is_plain(word: &str) -> bool
+    ensures { result ≡ is_plain_word word.now }
 {
-    if option == "--at" {
-        number_to(word, MOST_TICK)
-    } else {
-        None
+    match word.as_bytes() {
+        [letter, ..] => *letter != b'-',
+        [] => true,
     }
 }
 
-/// The depth that two words state.
-fn depth_by(option: &str, word: &str) -> Option<u8>
-    ensures found { IfSome result (λ depth. (depth ≤ 6) × (option.now ≡ codes "--depth") ×
-        (word.now ≡ decimal depth)) }
-    ensures none { IsNone result → (depth : ℕ) → depth ≤ 6 → option.now ≡ codes "--depth" →
-        word.now ≡ decimal depth → ⊥ }
+/// Whether a word asks a question.
+fn is_asking(word: &str) -> bool
+    ensures yes { result ≡ true → IsAsking word.now }
+    ensures no { result ≢ true → ¬ IsAsking word.now }
 {
-    if option == "--depth" {
-        Some(number_to(word, MOST_DEPTH)? as u8)
-    } else {
-        None
+    word == "offer" || word == "need" || word == "spare"
+}
+
+/// The words from the first option on.
+fn options_in(words: &[String]) -> &[String]
+    ensures { IsBehindPlain (map string_bytes words.entry.now) (map string_bytes result.now) }
+{
+    let mut options = words;
+    while let Some((word, rest)) = options.split_first() {
+        if !is_plain(word.as_str()) {
+            break;
+        }
+        options = rest;
+    }
+    options
+}
+
+/// The words behind an option and its value, where these words begin so.
+fn behind_option<'a>(words: &'a [String], option: &str) -> Option<&'a [String]>
+    ensures found { IfSome result (λ rest. BeginsWith option.now (map string_bytes words.entry.now)
+        (map string_bytes rest.now)) }
+    ensures none { IsNone result → (rest : List Text) →
+        ¬ BeginsWith option.now (map string_bytes words.entry.now) rest }
+{
+    let (value, rest) = words_behind(words, option)?.split_first()?;
+    if !is_plain(value.as_str()) {
+        return None;
+    }
+    Some(rest)
+}
+
+/// The words behind an option and its value, or all of them where they do not begin so.
+fn after_option<'a>(words: &'a [String], option: &str) -> &'a [String]
+    ensures { IsBehindOption option.now (map string_bytes words.entry.now) (map string_bytes result.now) }
+{
+    match behind_option(words, option) {
+        Some(rest) => rest,
+        None => words,
     }
 }
 
-/// The depth that the last words state, or that they state none.
-fn depth_in(words: &[String]) -> Option<Option<u8>>
-    ensures found { IfSome result (λ depth. IsAtMost 6 depth ×
-        (map string_bytes words.now ≡ option_words (codes "--depth") depth)) }
-    ensures none { IsNone result → (depth : Option ℕ) → IsAtMost 6 depth →
-        map string_bytes words.now ≡ option_words (codes "--depth") depth → ⊥ }
-{
-    match words {
-        [] => Some(None),
-        [option, word] => Some(Some(depth_by(option.as_str(), word.as_str())?)),
-        _ => None,
-    }
-}
-
-/// The tick and the depth that the last words state.
-fn moment_in(words: &[String]) -> Option<Moment>
-    ensures found { IfSome result (λ m. IsAtMost 99999 m.at × IsAtMost 6 m.depth ×
-        (map string_bytes words.now ≡ moment_words m.at m.depth)) }
-    ensures none { IsNone result → (at depth : Option ℕ) → IsAtMost 99999 at → IsAtMost 6 depth →
+/// Whether words may state a tick, and behind that a depth.
+fn are_options(words: &[String]) -> bool
+    ensures yes { result ≡ true → MayOption (map string_bytes words.now) }
+    ensures no { result ≢ true → (at depth : Option ℕ) → IsAtMost 99999 at → IsAtMost 6 depth →
         map string_bytes words.now ≡ moment_words at depth → ⊥ }
 {
-    if let [option, word, rest @ ..] = words {
-        if let Some(tick) = tick_by(option.as_str(), word.as_str()) {
-            return Some(Moment {
-                at: Some(tick),
-                depth: depth_in(rest)?,
-            });
-        }
+    after_option(after_option(words, "--at"), "--depth").is_empty()
+}
+
+/// Whether a first word and those behind it stand as those of a question.
+fn may_ask(first: &str, behind: &[String]) -> bool
+    ensures yes { result ≡ true → HasShape (first.now ∷ map string_bytes behind.now) }
+    ensures no { result ≢ true → IsNotAsked (first.now ∷ map string_bytes behind.now) }
+{
+    if !is_asking(first) {
+        return false;
     }
-    Some(Moment {
-        at: None,
-        depth: depth_in(words)?,
-    })
+    are_options(options_in(behind))
 }
 
-/// The longest period that may be stated for a question.
-fn most_period(question: &Question) -> u32
-    ensures { result ≡ most_period question.now }
+/// Whether words stand as those of a question. What they ask may still be nothing that the program knows.
+#[tactic(auto, using(crate::proofs::Telling::empty_not))]
+pub fn has_shape(words: &[String]) -> bool
+    ensures yes { result ≡ true → HasShape (map string_bytes words.now) }
+    ensures no { result ≢ true → IsNotAsked (map string_bytes words.now) }
 {
-    match question {
-        Question::Offer { .. } => MOST_WINDOW,
-        Question::Need { .. } | Question::Spare => MOST_PERIOD,
-    }
-}
-
-/// The question with what the words behind it state.
-fn asked_with(
-    alloc: Global,
-    question: Question,
-    words: &[String],
-) -> Result<Option<Asked>, AllocError>
-    ensures { IfOk result (λ found. MatchOption found (IsNoTail question (map string_bytes words.now))
-        (λ a. (a.question ≡ question) × IsTail a (map string_bytes words.now))) }
-{
-    let Some(over) = over_in(alloc, words, most_period(&question))? else {
-        return Ok(None);
-    };
-    let Some(Moment { at, depth }) = moment_in(over.rest) else {
-        return Ok(None);
-    };
-    Ok(Some(Asked {
-        question,
-        periods: over.periods,
-        at,
-        depth,
-    }))
-}
-
-/// What the words ask for, or `None` where they ask for nothing that the program knows.
-///
-/// # Errors
-/// Returns `AllocError` for want of memory.
-pub fn asked_for(alloc: Global, words: &[String]) -> Result<Option<Asked>, AllocError>
-    ensures { IfOk result (λ found. MatchOption found (IsNotAsked (map string_bytes words.now))
-        (IsAsked (map string_bytes words.now))) }
-{
-    match question_in(alloc, words) {
-        Ok(Some(known)) => asked_with(alloc, known.question, known.rest),
-        Ok(None) => Ok(None),
-        Err(wanting) => Err(wanting),
+    match words.split_first() {
+        Some((first, behind)) => may_ask(first.as_str(), behind),
+        None => false,
     }
 }

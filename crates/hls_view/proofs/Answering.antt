@@ -18,7 +18,7 @@ use Rattle.hls_top.proofs.Outcomes.{read_is, not_past}
 use Rattle.hls_top.proofs.Answering.{content_is}
 use Rattle.hls_view_words.specs.Table.{IsNoView}
 use Rattle.hls_view_words.specs.declared.views.View.{View}
-use Rattle.hls_view_words.specs.declared.views.View.TheVariants.{Margins, Tree, Jobs, Svg}
+use Rattle.hls_view_words.specs.declared.views.View.TheVariants.{Margins, Tree, Jobs, Svg, Trace}
 use Rattle.hls_view.specs.Viewing.{Viewing, IsFaultless}
 use Rattle.hls_view.specs.Texts.{HasManyRows, IsViewText}
 use Rattle.hls_view.specs.Outputs.{IsSaid}
@@ -41,6 +41,7 @@ few_rows (Tree at) c audit output is = λ many. absurd many
 few_rows (Jobs None) c audit output is = λ many. absurd many
 few_rows (Jobs (Some name)) c audit output is = λ many. absurd many
 few_rows (Svg from to) c audit output is = is.few
+few_rows (Trace tick) c audit output is = is.few
 
 judged : (view : View) (bytes : Text) (status : Status) (output : Text) (report : Report)
     → IsSaid view bytes status output → IsReportText bytes report → Judges view status report

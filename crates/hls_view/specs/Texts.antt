@@ -6,7 +6,7 @@ use Rattle.hls_report_text.specs.Content.{Content}
 use Rattle.hls_audit.specs.declared.auditing.Outcome.{Outcome}
 use Rattle.hls_top.specs.Summaries.{verdict}
 use Rattle.hls_view_words.specs.declared.views.View.{View}
-use Rattle.hls_view_words.specs.declared.views.View.TheVariants.{Margins, Tree, Jobs, Svg}
+use Rattle.hls_view_words.specs.declared.views.View.TheVariants.{Margins, Tree, Jobs, Svg, Trace}
 use Rattle.hls_view_margins.specs.declared.margin.Margin.{Margin}
 use Rattle.hls_view_margins.specs.Margins.{AreMargins, lasting}
 use Rattle.hls_view_rows.specs.Margins.{margins_text}
@@ -20,6 +20,9 @@ use Rattle.hls_view_lanes.specs.Rows.{rows_of}
 use Rattle.hls_view_picture_rows.specs.declared.picture.Picture.{Picture}
 use Rattle.hls_view_picture.specs.Pictures.{picture_text}
 use Rattle.hls_view_drawing.specs.Drawing.{IsDrawing}
+use Rattle.hls_view_trace.specs.declared.event.Trace as traces
+use Rattle.hls_view_trace.specs.Traces.{trace_text}
+use Rattle.hls_view_timeline.specs.Timeline.{rows_shown, IsTrace}
 use Rattle.hls_view_rows.specs.Trees.{tree_text}
 use Rattle.hls_view_rows.specs.Jobs.{lines_text, jobs_text}
 
@@ -68,7 +71,7 @@ pub record ShowsJobs (c : Content) (audit : Outcome) (name output : Text) : Type
   pub are : threads.AreJobsOf c name jobs
   pub spelled : output ≡ opening (codes "jobs") audit ++ (codes "thread " ++ (name ++ (10 ∷ jobs_text jobs)))
 
--- ---- pictures
+-- ---- pictures and traces
 
 -- the first tick of a picture: the one that is stated, or else the first of all, but none behind the last
 abbrev pub first_shown : Content → Option ℕ → ℕ
@@ -88,6 +91,7 @@ shown_rows c from to = rows_of c from (to + 1 - from)
 
 abbrev pub HasManyRows : View → Content → Type 0
 HasManyRows (Svg from to) c = IsTall (shown_rows c (first_shown c from) (last_shown c from to))
+HasManyRows (Trace tick) c = IsTall (rows_shown c)
 HasManyRows _ c = ⊥
 
 -- the picture of these ticks
@@ -100,10 +104,23 @@ pub record ShowsPicture (c : Content) (audit : Outcome) (from to : ℕ) (output 
   pub is : IsDrawing c audit scale picture
   pub spelled : output ≡ picture_text picture
 
+-- how many microseconds are shown as a tick: so many as are stated, or else one
+abbrev pub tick_length : Option ℕ → ℕ
+tick_length None = 1
+tick_length (Some length) = length
+
+-- the trace of all ticks
+pub record ShowsTrace (c : Content) (audit : Outcome) (tick : ℕ) (output : Text) : Type 0 where
+  pub few : ¬ IsTall (rows_shown c)
+  pub trace : traces.Trace
+  pub is : IsTrace c audit tick trace
+  pub spelled : output ≡ trace_text trace
+
 -- the view of a report with this content, whose audit comes to this
 abbrev pub IsViewText : View → Content → Outcome → (output : Text) → Type 0
 IsViewText Margins c audit output = ShowsMargins c audit output
 IsViewText (Tree at) c audit output = output ≡ shows_tree c (tick_shown c at) audit
 IsViewText (Svg from to) c audit output = ShowsPicture c audit (first_shown c from) (last_shown c from to) output
+IsViewText (Trace tick) c audit output = ShowsTrace c audit (tick_length tick) output
 IsViewText (Jobs None) c audit output = ShowsThreads c audit output
 IsViewText (Jobs (Some name)) c audit output = ShowsJobs c audit name output

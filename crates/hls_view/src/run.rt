@@ -49,7 +49,7 @@ pub fn view_run<S: Source, K: Sink>(
         Ok(Some(view)) => answer(alloc, &view, source, sink),
         Ok(None) => say(
             sink,
-            b"usage: hlsview svg [--from A] [--to B] | margins | tree [--at T] | jobs [--of NAME]\n",
+            b"usage: hlsview svg [--from A] [--to B] | trace [--tick U] | margins | tree [--at T] | jobs [--of NAME]\n",
             Status::Usage,
         ),
         Err(AllocError) => Status::Memory,

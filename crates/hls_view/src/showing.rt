@@ -8,6 +8,7 @@ ghost use Rattle.hls_top.specs.Exchange.{report_limit};
 ghost use Rattle.hls_view.specs.Outputs.{IsSaid};
 ghost use Rattle.hls_view.specs.Texts.{opening, name_line, tick_line, audit_line, opening_at};
 ghost use Rattle.hls_view.specs.Texts.{first_shown, last_shown, shows_tree, tick_shown, HasManyRows, ShowsMargins};
+ghost use Rattle.hls_view.specs.Texts.{tick_length};
 ghost use Rattle.hls_view.specs.Texts.{ShowsThreads};
 ghost use Rattle.hls_view.specs.Texts.{ShowsJobs, IsViewText};
 ghost use Rattle.hls_view.specs.Inside.Shown.{Says};
@@ -21,11 +22,13 @@ use hls_text::{put, put_number};
 use hls_top::{put_verdict, refusal_line, verdict_line};
 use hls_view_drawing::drawing_of;
 use hls_view_jobs::{jobs_of, thread_lines};
-use hls_view_lanes::lanes_of;
+use hls_view_lanes::{lanes_of, rows_between};
 use hls_view_margins::margins;
 use hls_view_picture::write_picture;
 use hls_view_rows::{write_jobs, write_margins, write_thread_lines, write_tree};
 use hls_view_scale::scale_of;
+use hls_view_timeline::trace_of;
+use hls_view_trace::write_trace;
 use hls_view_words::View;
 use std::alloc::{AllocError, Global};
 
@@ -219,6 +222,34 @@ fn picture_text(
     Ok(Some(out))
 }
 
+/// How many microseconds are shown as a tick.
+fn tick_length(tick: Option<u32>) -> u32
+    ensures { result ≡ tick_length tick }
+{
+    tick.unwrap_or(1)
+}
+
+/// The trace of all ticks, or none where it would have too many rows.
+fn trace_text(
+    alloc: Global,
+    report: &Report,
+    audited: Outcome,
+    tick: Option<u32>,
+) -> Result<Option<Vec<u8>>, AllocError>
+    requires formed { IsWellFormed report.now }
+    ensures { IfOk result (λ found. MatchOption found (HasManyRows (View.Trace tick) (content_of report.now))
+        (λ bytes. IsViewText (View.Trace tick) (content_of report.now) audited bytes.items)) }
+{
+    let rows = rows_between(alloc, report, 0, report.horizon)?;
+    if rows.len() >= MOST_ROWS {
+        return Ok(None);
+    }
+    let trace = trace_of(alloc, report, audited, tick_length(tick), &rows)?;
+    let mut out = Vec::new(alloc);
+    write_trace(&mut out, &trace)?;
+    Ok(Some(out))
+}
+
 /// The view of a report that tells a tale, or none where it would have too many rows.
 fn view_text(
     alloc: Global,
@@ -236,6 +267,7 @@ fn view_text(
         View::Jobs { of: None } => Ok(Some(threads_text(alloc, report, audited)?)),
         View::Jobs { of: Some(name) } => Ok(Some(jobs_text(alloc, report, audited, name)?)),
         View::Svg { from, to } => picture_text(alloc, report, audited, *from, *to),
+        View::Trace { tick } => trace_text(alloc, report, audited, *tick),
     }
 }
 

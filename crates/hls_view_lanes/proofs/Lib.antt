@@ -7,5 +7,7 @@ pub mod RowLaws
 pub mod LeafLaws
 pub mod OneLeaf
 pub mod FactLaws
+pub mod PresentLaws
+pub mod TellingLaws
 pub mod Counting
 pub mod Turned

@@ -1,43 +1,41 @@
--- The paths of a report, tick by tick, and their names.
+-- The runs of a report, tick by tick, and the names of their paths.
 use Rattle.std.proofs.Common.{◌≡◌, ℕ, zero, suc, ◌+◌, ◌<◌, ◌≤◌, List, [], ◌∷◌, ◌++◌, refl, ap, sym, subst, ◌∙◌}
 use Rattle.std.proofs.Common.{length, get_or, map, inl, inr, arith}
-use Rattle.std.specs.Prelude.{Option, None}
 use Rattle.std.specs.List.{AllByRecursion}
 use Rattle.std.proofs.lemmas.Bool.{cases_eq}
 use Rattle.std.proofs.Math.ListN.{get_or-append}
 use Rattle.std.proofs.Math.Seq.{get_or-append_seam}
 use Rattle.hls_text.specs.Lines.{Text}
 use Rattle.hls_chron.specs.Name.{IsName}
-use Rattle.hls_report_text.specs.declared.report.Path.{Path}
-use Rattle.hls_report_text.specs.Content.{Content}
-use Rattle.hls_view_lanes.specs.Inside.Paths.{IsPathOf, ArePaths}
+use Rattle.hls_report_text.specs.declared.report.Run.{Run}
+use Rattle.hls_audit.specs.Inside.Leading.{IsReached}
+use Rattle.hls_view_lanes.specs.Inside.Paths.{AreRuns}
 
 length-last : {A : Type 0} (xs : List A) (x : A) → length (xs ++ x ∷ []) ≡ length xs + 1
 length-last [] x = omega arith
 length-last (y ∷ xs) x = let more = length-last xs x in omega (arith, more)
 
-pub paths-none : (c : Content) (names : List Text) (paths : List (Option Path)) → paths ≡ []
-    → ArePaths c names 0 paths
-paths-none c names paths e = subst (ArePaths c names 0) (sym e) (record {
+pub runs-none : (runs : List Run) (all : List ℕ) → all ≡ [] → AreRuns runs 0 all
+runs-none runs all e = subst (AreRuns runs 0) (sym e) (record {
   long = refl;
   each = λ t lt. absurd (omega (arith, lt));
 })
 
-pub paths-more : (c : Content) (names : List Text) (t : ℕ) (paths more : List (Option Path)) (path : Option Path)
-    → more ≡ paths ++ path ∷ [] → ArePaths c names t paths → IsPathOf c names t path → ArePaths c names (t + 1) more
-paths-more c names t paths more path e so_far here = subst (ArePaths c names (t + 1)) (sym e) (record {
-  long = length-last paths path ∙ ap (λ n. n + 1) so_far.long;
-  each = λ i lt. elim (cases_eq i (length paths)) [
+pub runs-more : (runs : List Run) (t : ℕ) (all more : List ℕ) (at : ℕ) → more ≡ all ++ at ∷ [] → AreRuns runs t all
+    → IsReached runs (t + 1) at → AreRuns runs (t + 1) more
+runs-more runs t all more at e so_far here = subst (AreRuns runs (t + 1)) (sym e) (record {
+  long = length-last all at ∙ ap (λ n. n + 1) so_far.long;
+  each = λ i lt. elim (cases_eq i (length all)) [
     | inl same ↦
-        let is : get_or (paths ++ path ∷ []) i None ≡ path =
-        ap (λ n. get_or (paths ++ path ∷ []) n None) same ∙ get_or-append_seam paths path [] None in
+        let is : get_or (all ++ at ∷ []) i 0 ≡ at =
+        ap (λ n. get_or (all ++ at ∷ []) n 0) same ∙ get_or-append_seam all at [] 0 in
         let now : t ≡ i = sym (same ∙ so_far.long) in
-        subst (λ (p : Option Path). IsPathOf c names i p) (sym is)
-        (subst (λ n. IsPathOf c names n path) now here)
+        subst (λ n. IsReached runs (i + 1) n) (sym is)
+        (subst (λ n. IsReached runs (n + 1) at) now here)
     | inr ne ↦
-        let long = length-last paths path in
-        let less : i < length paths = omega (arith, lt, ne, long) in
-        subst (λ (p : Option Path). IsPathOf c names i p) (sym (get_or-append paths (path ∷ []) None i less))
+        let long = length-last all at in
+        let less : i < length all = omega (arith, lt, ne, long) in
+        subst (λ n. IsReached runs (i + 1) n) (sym (get_or-append all (at ∷ []) 0 i less))
         (so_far.each i less)
   ];
 })

@@ -10,6 +10,7 @@ use Rattle.hls_view_tale.specs.declared.label.Label.{Label}
 use Rattle.hls_view_lanes.specs.Likeness.{begins, is_same}
 use Rattle.hls_view_lanes.specs.Rows.{ways_at, has_row, reach, above_of, with_row, rows_of}
 use Rattle.hls_view_lanes.specs.Standing.{AreApart, IsSomeWay}
+use Rattle.hls_view_lanes.specs.Inside.Kept.{HaveRows}
 use Rattle.hls_view_lanes.proofs.Selves.{same-self}
 
 or_either : (a b p : Bool) → (a || b) ≡ true → (a || (p || b)) ≡ true
@@ -66,7 +67,7 @@ has : (rows : List (List Label)) (way : List Label) (b : Bool) → has_row rows 
 has rows way true is = is
 has rows way false is = insert_has rows (reach (above_of way) rows) way
 
-all_keep : (rows ways : List (List Label)) (other : List Label) → has_row rows other ≡ true
+pub all_keep : (rows ways : List (List Label)) (other : List Label) → has_row rows other ≡ true
     → has_row (fold with_row rows ways) other ≡ true
 all_keep rows [] other had = had
 all_keep rows (way ∷ ways) other had =
@@ -80,6 +81,25 @@ all_have rows (first ∷ ways) zero way is =
     subst (λ (w : List Label). has_row (fold with_row (with_row rows first) ways) w ≡ true) e
     (all_keep (with_row rows first) ways first (has rows first (has_row rows first) refl))
 all_have rows (first ∷ ways) (suc i) way is = all_have (with_row rows first) ways i way is
+
+-- rows that are there are not added again
+pub have-after : (rows ways : List (List Label)) → HaveRows (fold with_row rows ways) ways
+have-after rows [] = tt
+have-after rows (way ∷ ways) = (
+  all_keep (with_row rows way) ways way (has rows way (has_row rows way) refl),
+  have-after (with_row rows way) ways,
+)
+
+with-had : (rows : List (List Label)) (way : List Label) (b : Bool) → b ≡ true
+    → cond b rows (insert rows (reach (above_of way) rows) way) ≡ rows
+with-had rows way true e = refl
+with-had rows way false e = absurd (let no : false ≡ true = e in cc)
+
+pub had-before : (rows ways : List (List Label)) → HaveRows rows ways → fold with_row rows ways ≡ rows
+had-before rows [] had = refl
+had-before rows (way ∷ ways) had =
+    let same = with-had rows way (has_row rows way) had.0 in
+    ap (λ (all : List (List Label)). fold with_row all ways) same ∙ had-before rows ways had.1
 
 pub ways-have-rows : (c : Content) (from ticks t i : ℕ) (way : List Label) → t < ticks
     → slice_get (ways_at c (from + t)) i ≡ Some way → has_row (rows_of c from ticks) way ≡ true

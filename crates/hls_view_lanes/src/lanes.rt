@@ -1,22 +1,25 @@
 // The rows of a span of ticks, and in how many ticks of each column each fact holds of them.
-ghost use Rattle.std.specs.Prelude.{◌≡◌, ◌+◌, ◌-◌, ◌≤◌, ◌<◌, IfOk, OnOk, map};
+ghost use Rattle.std.specs.Prelude.{◌≡◌, ◌+◌, ◌-◌, ◌≤◌, ◌<◌, IfOk, OnOk, fold, map};
 ghost use Rattle.std.specs.List.{range_with_len};
 ghost use Rattle.hls_report_text.specs.Content.{content_of};
 ghost use Rattle.hls_report_text.specs.WellFormed.{IsWellFormed};
 ghost use Rattle.hls_view_scale.specs.Columns.{column_from, ticks_in};
-ghost use Rattle.hls_view_lanes.specs.Rows.{rows_of};
+ghost use Rattle.hls_view_tale.specs.Places.{labels_of};
+ghost use Rattle.hls_view_tale.specs.Following.{IsFollowing};
+ghost use Rattle.hls_view_lanes.specs.Rows.{rows_of, ways_at, with_row};
 ghost use Rattle.hls_view_lanes.specs.Lanes.{AreLanes};
+ghost use Rattle.hls_view_lanes.specs.Inside.Kept.{HaveRows};
 ghost use Rattle.hls_view_lanes.specs.Inside.Telling.{IsTelling, tallies};
 
 use crate::counts::{Counts, all_counts};
 use crate::rows::add_rows;
 use crate::tallies::Tally;
 use crate::telling::Telling;
-use crate::ways::ways_at;
+use crate::ways::ways_of;
 use hls_chron::List;
 use hls_report_text::Report;
 use hls_view_scale::Scale;
-use hls_view_tale::Label;
+use hls_view_tale::{Following, Label};
 use std::alloc::{AllocError, Global};
 
 /// The rows of a span of ticks, and in how many ticks of each column each fact holds of them.
@@ -26,6 +29,29 @@ pub struct Lanes {
     pub rows: Vec<List<Label>>,
     /// Of each row, and behind them of one row more, for idle ticks.
     pub counts: Vec<Counts>,
+}
+
+/// Follows a report to a tick, and adds the rows of its ways, unless they are those of the ticks before.
+fn add_rows_at(
+    alloc: Global,
+    report: &Report,
+    tick: u32,
+    following: &mut Following,
+    rows: &mut Vec<List<Label>>,
+) -> Result<(), AllocError>
+    requires formed { IsWellFormed report.now }
+    requires following { IsFollowing (content_of report.now) following.old }
+    requires have { HaveRows rows.old.items (map labels_of following.old.hierarchy.places.items) }
+    ensures following { OnOk result (IsFollowing (content_of report.now) following.new) }
+    ensures have { OnOk result (HaveRows rows.new.items (map labels_of following.new.hierarchy.places.items)) }
+    ensures rows { OnOk result (rows.new.items
+        ≡ fold with_row rows.old.items (ways_at (content_of report.now) tick)) }
+{
+    if !following.go_to(alloc, report, tick)? {
+        return Ok(());
+    }
+    let ways = ways_of(alloc, &following.hierarchy.places)?;
+    add_rows(alloc, rows, &ways)
 }
 
 /// The rows of the ticks from one on and before another: the way down to each, told by its labels from the top. The
@@ -44,9 +70,9 @@ pub fn rows_between(
     ensures { IfOk result (λ rows. rows.items ≡ rows_of (content_of report.now) from (until - from)) }
 {
     let mut rows = vec![in alloc; List::of(Vec::new(alloc))]?;
+    let mut following = Following::new(alloc);
     for tick in from..until {
-        let ways = ways_at(alloc, report, tick)?;
-        add_rows(alloc, &mut rows, &ways)?;
+        add_rows_at(alloc, report, tick, &mut following, &mut rows)?;
     }
     Ok(rows)
 }

@@ -2,17 +2,18 @@
 //! its columns somebody is there, ready below, or served through it.
 #![tactic(auto)]
 
+mod asking;
 mod counts;
 mod lanes;
 pub mod laws;
 mod likeness;
 mod paths;
+mod present;
 mod readings;
 mod rows;
 mod tallies;
 mod telling;
 mod tick_facts;
-mod waiting;
 mod ways;
 
 pub use counts::Counts;

@@ -1,4 +1,4 @@
-// The path of each tick, and the way that it names.
+// The run and the path of each tick, and the way that it names.
 ghost use Rattle.std.specs.Prelude.{◌≡◌, ◌+◌, ◌≤◌, ◌<◌, IfOk, find, option_and_then, option_copied, option_map};
 ghost use Rattle.std.specs.List.{AllByRecursion};
 ghost use Rattle.hls_chron.specs.Name.{IsName};
@@ -7,7 +7,7 @@ ghost use Rattle.hls_report_text.specs.WellFormed.{HasShort, IsWellFormed};
 ghost use Rattle.hls_accounts.specs.Schedule.{path_at};
 ghost use Rattle.hls_audit.specs.Inside.Leading.{IsReached};
 ghost use Rattle.hls_view_lanes.specs.Facts as told;
-ghost use Rattle.hls_view_lanes.specs.Inside.Paths.{AreNamed, ArePaths};
+ghost use Rattle.hls_view_lanes.specs.Inside.Paths.{AreNamed, AreRuns, path_in};
 
 use hls_chron::{List, Name};
 use hls_report_text::{Path, Report};
@@ -28,12 +28,13 @@ fn run_of(report: &Report, last: usize, tick: u32) -> usize
 }
 
 /// The path of a tick, whose run is at a place.
-fn path_of(report: &Report, at: usize, tick: u32) -> Option<Path>
+pub(crate) fn path_of(report: &Report, at: usize, tick: u32) -> Option<Path>
     requires formed { IsWellFormed report.now }
     requires reached { IsReached report.now.runs (tick + 1) at }
     ensures short { HasShort result }
     ensures path { path_at (content_of report.now).stretches tick
         ≡ option_map (path_names report.now.names) result }
+    ensures is { result ≡ path_in report.now.runs at }
 {
     match report.runs.items().get(at) {
         Some(run) => run.path,
@@ -41,22 +42,21 @@ fn path_of(report: &Report, at: usize, tick: u32) -> Option<Path>
     }
 }
 
-/// The path of each tick, from the first to the last.
+/// The place of the run of each tick, from the first to the last.
 ///
 /// # Errors
 /// Returns `AllocError` for want of memory.
-pub(crate) fn paths_of(alloc: Global, report: &Report) -> Result<Vec<Option<Path>>, AllocError>
+pub(crate) fn runs_of(alloc: Global, report: &Report) -> Result<Vec<usize>, AllocError>
     requires { IsWellFormed report.now }
-    ensures { IfOk result (λ paths.
-        ArePaths (content_of report.now) report.now.names report.now.horizon paths.items) }
+    ensures { IfOk result (λ runs. AreRuns report.now.runs report.now.horizon runs.items) }
 {
-    let mut paths = Vec::new(alloc);
+    let mut runs = Vec::new(alloc);
     let mut at = 0;
     for tick in 0..report.horizon {
         at = run_of(report, at, tick);
-        paths.push(path_of(report, at, tick))?;
+        runs.push(at)?;
     }
-    Ok(paths)
+    Ok(runs)
 }
 
 /// The names of a path.

@@ -1,32 +1,24 @@
-// What is found of a report as it is asked for: in which ticks threads are ready, and the path of each tick.
-ghost use Rattle.std.specs.Prelude.{◌≡◌, ◌<◌, ◌≤◌, ℕ, Bool, IfOk, OnOk, option_map};
-ghost use Rattle.hls_report_text.specs.Content.{content_of, path_names};
-ghost use Rattle.hls_report_text.specs.WellFormed.{HasShort, IsWellFormed};
-ghost use Rattle.hls_accounts.specs.Ready as accounts;
-ghost use Rattle.hls_accounts.specs.Schedule.{path_at};
-ghost use Rattle.hls_audit_spans.specs.Spans.{Tell};
+// What is found of a report as it is asked for: in which ticks threads are ready, and the run of each tick.
+ghost use Rattle.std.specs.Prelude.{◌≡◌, ◌+◌, ◌<◌, ◌≤◌, IfOk, OnOk};
+ghost use Rattle.hls_report_text.specs.Content.{content_of};
+ghost use Rattle.hls_report_text.specs.WellFormed.{IsWellFormed};
+ghost use Rattle.hls_audit.specs.Inside.Leading.{IsReached};
+ghost use Rattle.hls_view_lanes.specs.Inside.Present.{IsReadyAs};
 ghost use Rattle.hls_view_lanes.specs.Inside.Readings.{AreReadings};
 
-use crate::paths::paths_of;
-use hls_audit_spans::Spans;
+use crate::asking::Asking;
+use crate::paths::runs_of;
 use hls_audit_threads::{KnownThreads, Lookup};
 use hls_chron::Name;
-use hls_report_text::{Path, Report};
+use hls_report_text::Report;
+use hls_view_margins::{is_in, steady_until};
 use std::alloc::{AllocError, Global};
 
 #[derive(Drop)]
 pub(crate) struct Readings {
     pub(crate) lookup: Lookup,
     pub(crate) known: KnownThreads,
-    pub(crate) paths: Vec<Option<Path>>,
-}
-
-/// Whether a tick is one of them.
-fn is_in(ticks: &Spans, tick: u32) -> bool
-    requires few { tick < 100000 }
-    ensures { (f : ℕ → Bool) (end : ℕ) → Tell f ticks.now.spans.items end → tick < end → result ≡ f tick }
-{
-    ticks.count(tick, 1) == 1
+    pub(crate) runs: Vec<usize>,
 }
 
 impl Readings {
@@ -41,39 +33,44 @@ impl Readings {
         Ok(Readings {
             lookup: Lookup::of(alloc, report)?,
             known: KnownThreads::new(alloc),
-            paths: paths_of(alloc, report)?,
+            runs: runs_of(alloc, report)?,
         })
     }
 
-    /// Whether a thread is ready in a tick.
+    /// Whether a thread is ready in a tick, and for how long it goes on so.
     ///
     /// # Errors
     /// Returns `AllocError` for want of memory.
-    pub(crate) fn is_ready(
+    pub(crate) fn asking(
         &mut self,
         alloc: Global,
         report: &Report,
         name: &Name,
         tick: u32,
-    ) -> Result<bool, AllocError>
+    ) -> Result<Asking, AllocError>
         requires formed { IsWellFormed report.now }
         requires readings { AreReadings report.now self.old }
         requires early { tick < report.now.horizon }
         ensures readings { OnOk result (AreReadings report.now self.new) }
-        ensures ready { IfOk result (λ ready. ready ≡ accounts.is_ready (content_of report.now) name.now tick) }
+        ensures asks { IfOk result (IsReadyAs (content_of report.now) name.now) }
+        ensures since { IfOk result (λ a. a.since ≤ tick) }
+        ensures until { IfOk result (λ a. tick < a.until) }
     {
         let place = self.known.place_of(alloc, report, &self.lookup, name)?;
-        Ok(is_in(&self.known.ticks[place].ready, tick))
+        let ready = &self.known.ticks[place].ready;
+        Ok(Asking {
+            asks: is_in(ready, tick),
+            since: tick,
+            until: steady_until(ready, tick, report.horizon),
+        })
     }
 
-    /// The path of a tick.
-    pub(crate) fn path(&self, report: &Report, tick: u32) -> Option<Path>
+    /// The place of the run of a tick.
+    pub(crate) fn run(&self, report: &Report, tick: u32) -> usize
         requires readings { AreReadings report.now self.now }
         requires early { tick < report.now.horizon }
-        ensures short { HasShort result }
-        ensures path { path_at (content_of report.now).stretches tick
-            ≡ option_map (path_names report.now.names) result }
+        ensures { IsReached report.now.runs (tick + 1) result }
     {
-        self.paths[tick as usize]
+        self.runs[tick as usize]
     }
 }

@@ -1,8 +1,11 @@
 // Three facts of a row and a tick.
-ghost use Rattle.std.specs.Prelude.{◌≡◌, [], IfOk, map, None, option_copied};
+ghost use Rattle.std.specs.Prelude.{◌≡◌, ◌<◌, IfOk, map, length, option_copied, get_or, false};
+ghost use Rattle.std.specs.List.{range_with_len};
 ghost use Rattle.hls_view_lanes.specs.Facts as told;
+ghost use Rattle.hls_view_lanes.specs.Inside.Present as seen;
 
-use crate::likeness::{begins, is_same};
+use crate::likeness::begins;
+use crate::present::Present;
 use hls_chron::List;
 use hls_view_tale::Label;
 use std::alloc::{AllocError, Global};
@@ -28,51 +31,63 @@ fn is_through(row: &[Label], given: Option<&List<Label>>) -> bool
     }
 }
 
-fn is_here(row: &[Label], ways: &[List<Label>]) -> bool
-    ensures { result ≡ (told.facts_of ways.now [] None row.now).here }
-{
-    ways.iter().any(|way| is_same(row, way.items()))
-}
-
-fn is_ready(row: &[Label], waiting: &[List<Label>]) -> bool
-    ensures { result ≡ (told.facts_of [] waiting.now None row.now).ready }
-{
-    waiting.iter().any(|way| begins(row, way.items()))
-}
-
-/// The facts of a row, by the ways down of a tick, those of ready threads, and the one that the tick is given.
-pub(crate) fn facts_of(
-    row: &[Label],
-    ways: &[List<Label>],
-    waiting: &[List<Label>],
+/// Whether the way that a tick is given begins with each of these rows.
+///
+/// # Errors
+/// Returns `AllocError` for want of memory.
+pub(crate) fn all_through(
+    alloc: Global,
+    rows: &[List<Label>],
     given: Option<&List<Label>>,
-) -> Facts
-    ensures { result ≡ told.facts_of ways.now waiting.now (option_copied given.entry) row.now }
+) -> Result<Vec<bool>, AllocError>
+    ensures { IfOk result (λ all. all.items ≡ map (λ row. told.is_through row (option_copied given.entry)) rows.now) }
 {
-    Facts {
-        here: is_here(row, ways),
-        ready: is_ready(row, waiting),
-        served: is_through(row, given),
+    let mut all = Vec::new(alloc);
+    for row in rows {
+        all.push(is_through(row.items(), given))?;
+    }
+    Ok(all)
+}
+
+fn is_set(flags: &[bool], place: usize) -> bool
+    ensures { result ≡ get_or flags.now place false }
+{
+    match flags.get(place) {
+        Some(flag) => *flag,
+        None => false,
     }
 }
 
-/// The facts of each row in their order.
+/// Whether one of the flags at these places is set.
+fn any_at(flags: &[bool], places: &[usize]) -> bool
+    ensures { result ≡ seen.any_at flags.now places.now }
+{
+    places.iter().any(|place| is_set(flags, *place))
+}
+
+/// The facts of each row, by the ways that somebody has, which of them end in ready threads, and through which rows the
+/// tick goes.
 ///
 /// # Errors
 /// Returns `AllocError` for want of memory.
 pub(crate) fn all_facts(
     alloc: Global,
-    rows: &[List<Label>],
-    ways: &[List<Label>],
-    waiting: &[List<Label>],
-    given: Option<&List<Label>>,
+    present: &Present,
+    asking: &[bool],
+    through: &[bool],
 ) -> Result<Vec<Facts>, AllocError>
-    ensures { IfOk result (λ facts. facts.items
-        ≡ map (told.facts_of ways.now waiting.now (option_copied given.entry)) rows.now) }
+    requires here { length present.now.here.items ≡ length present.now.below.items }
+    requires through { length through.now ≡ length present.now.below.items }
+    ensures { IfOk result (λ facts. facts.items ≡ map (seen.facts_at present.now asking.now through.now)
+        (range_with_len 0 (length present.now.below.items))) }
 {
-    let mut facts = Vec::new(alloc);
-    for row in rows {
-        facts.push(facts_of(row.items(), ways, waiting, given))?;
+    let mut facts = Vec::with_capacity(alloc, present.below.len())?;
+    for row in 0..present.below.len() {
+        facts.push(Facts {
+            here: present.here[row],
+            ready: any_at(asking, present.below[row].items()),
+            served: through[row],
+        })?;
     }
     Ok(facts)
 }

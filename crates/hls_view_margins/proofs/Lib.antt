@@ -4,6 +4,7 @@ pub mod Runs
 pub mod Walks
 pub mod Bests
 pub mod Longest
+pub mod Turns
 pub mod Ons
 pub mod Products
 pub mod Windows

@@ -3,6 +3,7 @@ pub mod First
 pub mod Parts
 pub mod Cuts
 pub mod Rows
+pub mod Steady
 pub mod Distances
 pub mod Judged
 pub mod Rooms

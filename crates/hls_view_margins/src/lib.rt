@@ -15,5 +15,6 @@ mod spares;
 mod stays;
 
 pub use margin::{Distance, Margin, Part, Room, Row, Spare};
+pub use rows::{is_in, steady_until};
 pub use scale::{Line, Scale};
 pub use stays::margins;

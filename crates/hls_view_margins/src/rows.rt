@@ -1,15 +1,16 @@
 // Rows of ticks in which a thread is ready, or is ready and not served.
-ghost use Rattle.std.specs.Prelude.{◌≡◌, ◌+◌, ◌-◌, ◌≤◌, ◌<◌, ℕ, Bool};
+ghost use Rattle.std.specs.Prelude.{◌≡◌, ◌+◌, ◌-◌, ◌≤◌, ◌<◌, ℕ, Bool, true, false};
 ghost use Rattle.hls_audit_spans.specs.Spans.{Tell};
 ghost use Rattle.hls_view_margins.specs.Rows.{IsLongestOf};
 ghost use Rattle.hls_view_margins.specs.Inside.Tests.{counts, Since, IsLongerOf};
+ghost use Rattle.hls_view_margins.specs.Steady.{IsSteady};
 ghost use Rattle.hls_view_margins.specs.Inside.Worst.{IsTurn};
 
 use crate::margin::Row;
 use hls_audit_spans::Spans;
 
 /// Whether a tick is one of them.
-pub(crate) fn is_in(ticks: &Spans, tick: u32) -> bool
+pub fn is_in(ticks: &Spans, tick: u32) -> bool
     requires few { tick < 100000 }
     ensures { (f : ℕ → Bool) (end : ℕ) → Tell f ticks.now.spans.items end → tick < end → result ≡ f tick }
 {
@@ -47,14 +48,98 @@ fn longer(first: Option<Row>, from: u32, ticks: u32) -> Option<Row>
     }
 }
 
-/// Where the row of a test begins that ends with a tick: behind the tick, where this does not pass.
-fn since_after(since: u32, tick: u32, on: bool) -> u32
-    requires order { since ≤ tick }
-    requires few { tick < 100000 }
-    ensures order { result ≤ tick + 1 }
-    ensures since { (f : ℕ → Bool) (lo : ℕ) → on ≡ f tick → Since f lo tick since → Since f lo (tick + 1) result }
+/// The first tick that is none of them, of those from one on and before another, or else this other.
+fn turn_off(ticks: &Spans, from: u32, until: u32) -> u32
+    requires order { from ≤ until }
+    requires few { until ≤ 100000 }
+    ensures begins { from ≤ result }
+    ensures ends { result ≤ until }
+    ensures turn { (f : ℕ → Bool) (end : ℕ) → Tell f ticks.now.spans.items end → until ≤ end →
+        IsTurn f false from until result }
 {
-    if on { since } else { tick + 1 }
+    let mut low = from;
+    let mut high = until;
+    while low < high {
+        let middle = low + (high - low) / 2;
+        let through = middle + 1 - from;
+        if ticks.count(from, through) == through {
+            low = middle + 1;
+        } else {
+            high = middle;
+        }
+    }
+    low
+}
+
+/// The first tick that is one of them, of those from one on and before another, or else this other.
+fn turn_on(ticks: &Spans, from: u32, until: u32) -> u32
+    requires order { from ≤ until }
+    ensures begins { from ≤ result }
+    ensures ends { result ≤ until }
+    ensures turn { (f : ℕ → Bool) (end : ℕ) → Tell f ticks.now.spans.items end → until ≤ end →
+        IsTurn f true from until result }
+{
+    match ticks.next(from) {
+        Some(next) => next.max(from).min(until),
+        None => until,
+    }
+}
+
+/// The first tick that is one of them, or is none where `on` is false, of those from one on and before another, or else
+/// this other.
+pub(crate) fn turn(ticks: &Spans, on: bool, from: u32, until: u32) -> u32
+    requires order { from ≤ until }
+    requires few { until ≤ 100000 }
+    ensures begins { from ≤ result }
+    ensures ends { result ≤ until }
+    ensures turn { (f : ℕ → Bool) (end : ℕ) → Tell f ticks.now.spans.items end → until ≤ end →
+        IsTurn f on from until result }
+{
+    if on {
+        turn_on(ticks, from, until)
+    } else {
+        turn_off(ticks, from, until)
+    }
+}
+
+/// The first tick behind one that is none of them where this one is, or the other way round, or else an end.
+pub fn steady_until(ticks: &Spans, tick: u32, hi: u32) -> u32
+    requires early { tick < hi }
+    requires few { hi ≤ 100000 }
+    ensures later { tick < result }
+    ensures ends { result ≤ hi }
+    ensures steady { (f : ℕ → Bool) (end : ℕ) → Tell f ticks.now.spans.items end → hi ≤ end → IsSteady f tick result }
+{
+    let on = is_in(ticks, tick);
+    turn(ticks, !on, tick + 1, hi)
+}
+
+/// A tick behind one, at most an end, up to which a thread is counted as in this one.
+fn counted_until(ready: &Spans, served: &Spans, waiting: bool, tick: u32, hi: u32) -> u32
+    requires early { tick < hi }
+    requires few { hi ≤ 100000 }
+    ensures later { tick < result }
+    ensures ends { result ≤ hi }
+    ensures steady { (f g : ℕ → Bool) (end : ℕ) → Tell f ready.now.spans.items end →
+        Tell g served.now.spans.items end → hi ≤ end → IsSteady (counts waiting f g) tick result }
+{
+    let until = steady_until(ready, tick, hi);
+    if waiting & is_in(ready, tick) {
+        steady_until(served, tick, until)
+    } else {
+        until
+    }
+}
+
+/// Where the row of a test begins that ends with the last tick before one, if the ticks from another on are alike.
+fn since_after(since: u32, tick: u32, until: u32, on: bool) -> u32
+    requires order { since ≤ tick }
+    requires later { tick < until }
+    ensures order { result ≤ until }
+    ensures since { (f : ℕ → Bool) (lo : ℕ) → on ≡ f tick → IsSteady f tick until → Since f lo tick since →
+        Since f lo until result }
+{
+    if on { since } else { until }
 }
 
 /// The first of the longest rows of ticks, of those from one on and before another, in which a thread is ready, and
@@ -73,27 +158,13 @@ pub(crate) fn longest_row(
 {
     let mut longest = None;
     let mut since = lo;
-    for tick in lo..hi {
-        since = since_after(since, tick, is_counted(ready, served, waiting, tick));
-        longest = longer(longest, since, tick + 1 - since);
+    let mut tick = lo;
+    while tick < hi {
+        let on = is_counted(ready, served, waiting, tick);
+        let until = counted_until(ready, served, waiting, tick, hi);
+        since = since_after(since, tick, until, on);
+        longest = longer(longest, since, until - since);
+        tick = until;
     }
     longest
-}
-
-/// The first tick that is one of them, or is none where `on` is false, of those from one on and before another, or else
-/// this other.
-pub(crate) fn turn(ticks: &Spans, on: bool, from: u32, until: u32) -> u32
-    requires order { from ≤ until }
-    requires few { until ≤ 100000 }
-    ensures begins { from ≤ result }
-    ensures ends { result ≤ until }
-    ensures turn { (f : ℕ → Bool) (end : ℕ) → Tell f ticks.now.spans.items end → until ≤ end →
-        IsTurn f on from until result }
-{
-    for tick in from..until {
-        if is_in(ticks, tick) == on {
-            return tick;
-        }
-    }
-    until
 }

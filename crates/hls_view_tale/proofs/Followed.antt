@@ -50,7 +50,7 @@ taken all place a lt is =
     ap (λ n. take n all) (let e : place + 1 ≡ suc place = omega arith in e)
     ∙ take-suc all place a lt ∙ ap (λ (b : Answered). take place all ++ b ∷ []) (sym is)
 
-tree_next : (all : List Answered) (place : ℕ) (a : Answered) → place < length all → a ≡ get_or all place a
+pub tree_next : (all : List Answered) (place : ℕ) (a : Answered) → place < length all → a ≡ get_or all place a
     → tree_of (take (place + 1) all)
     ≡ (if is_done a.answer then after (tree_of (take place all)) a.command else tree_of (take place all))
 tree_next all place a lt is =
@@ -61,7 +61,7 @@ standing_suc : (all : List Answered) (place : ℕ)
 unfolding standing
 standing_suc all place = refl
 
-standing_next : (all : List Answered) (place : ℕ) (a : Answered) → place < length all → a ≡ get_or all place a
+pub standing_next : (all : List Answered) (place : ℕ) (a : Answered) → place < length all → a ≡ get_or all place a
     → standing all (place + 1)
     ≡ (if is_done a.answer
     then standing_after (tree_of (take place all)) (threads (take place all)) place a.command (standing all place)

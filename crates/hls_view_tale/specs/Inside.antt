@@ -1,3 +1,4 @@
+pub mod Came
 pub mod Members
 pub mod Pending
 pub mod Told

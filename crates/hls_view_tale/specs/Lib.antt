@@ -1,4 +1,5 @@
 pub mod Places
 pub mod Standings
 pub mod Hierarchies
+pub mod Following
 pub mod Inside

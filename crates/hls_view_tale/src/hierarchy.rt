@@ -1,19 +1,19 @@
 // The hierarchy at a tick.
-ghost use Rattle.std.specs.Prelude.{◌≡◌, ◌++◌, ℕ, IfOk, OnOk, option_copied};
+ghost use Rattle.std.specs.Prelude.{◌≡◌, ◌++◌, [], IfOk, None, OnOk, length, option_copied};
 ghost use Rattle.std.specs.List.{AllByRecursion};
 ghost use Rattle.hls_guarantee.specs.Limits.{IsValid};
 ghost use Rattle.hls_report_text.specs.Content.{content_of};
-ghost use Rattle.hls_report_text.specs.WellFormed.{AreAnswered, IsWellFormed};
+ghost use Rattle.hls_report_text.specs.WellFormed.{IsWellFormed};
 ghost use Rattle.hls_view_tale.specs.declared.place.Place as placed;
 ghost use Rattle.hls_view_tale.specs.Hierarchies as hierarchies;
-ghost use Rattle.hls_view_tale.specs.Inside.Told.{IsTold};
+ghost use Rattle.hls_view_tale.specs.Places.{below};
 
 use crate::members::{member_of, new_member};
 use crate::tale::Tale;
 use crate::walking::places_below;
-use crate::{Place, Standing};
+use crate::{Following, Place, Standing};
 use hls_audit_clauses::Member;
-use hls_report_text::{Answered, Report};
+use hls_report_text::Report;
 use std::alloc::{AllocError, Global};
 
 /// Who is there at a tick, by the beginning of their stays, and all places from the top down: each before those below
@@ -22,21 +22,6 @@ use std::alloc::{AllocError, Global};
 pub struct Hierarchy {
     pub standing: Vec<Standing>,
     pub places: Vec<Place>,
-}
-
-/// What the commands up to a tick and in it leave.
-fn tale_at(alloc: Global, answered: &[Answered], tick: u32) -> Result<Tale, AllocError>
-    requires { (horizon : ℕ) × AreAnswered horizon 0 answered.now }
-    ensures { IfOk result (λ tale. IsTold tale answered.now (hierarchies.came_by tick answered.now)) }
-{
-    let mut tale = Tale::new(alloc);
-    for place in 0..answered.len() {
-        if tick < answered[place].tick {
-            return Ok(tale);
-        }
-        tale.follow(alloc, answered, place)?;
-    }
-    Ok(tale)
 }
 
 fn put_member(
@@ -63,6 +48,18 @@ fn in_order(alloc: Global, tree: &[Member], all: &[Standing]) -> Result<Vec<Memb
     Ok(members)
 }
 
+/// The hierarchy that commands leave.
+pub(crate) fn hierarchy_of(alloc: Global, tale: &Tale) -> Result<Hierarchy, AllocError>
+    ensures standing { IfOk result (λ h. h.standing.items ≡ tale.now.standing.items) }
+    ensures places { IfOk result (λ h. h.places.items
+        ≡ below (hierarchies.in_order tale.now.tree.items tale.now.standing.items) (length tale.now.tree.items) None []) }
+{
+    let standing = tale.standing.to_vec(alloc)?;
+    let members = in_order(alloc, &tale.tree, &tale.standing)?;
+    let places = places_below(alloc, &members, tale.tree.len(), &None)?;
+    Ok(Hierarchy { standing, places })
+}
+
 /// The hierarchy at a tick of a report, once the commands up to it and in it were carried out.
 ///
 /// # Errors
@@ -72,11 +69,7 @@ pub fn hierarchy_at(alloc: Global, report: &Report, tick: u32) -> Result<Hierarc
     ensures is { IfOk result (hierarchies.IsHierarchy (content_of report.now) tick) }
     ensures valid { IfOk result (λ h. AllByRecursion (λ (p : placed.Place). IsValid p.label.kept) h.places.items) }
 {
-    let tale = tale_at(alloc, report.answered.items(), tick)?;
-    let members = in_order(alloc, &tale.tree, &tale.standing)?;
-    let places = places_below(alloc, &members, tale.tree.len(), &None)?;
-    Ok(Hierarchy {
-        standing: tale.standing,
-        places,
-    })
+    let mut following = Following::new(alloc);
+    following.go_to(alloc, report, tick)?;
+    Ok(following.hierarchy)
 }

@@ -2,6 +2,7 @@
 #![tactic(auto)]
 
 mod before;
+mod following;
 mod hierarchy;
 mod label;
 mod members;
@@ -13,6 +14,7 @@ mod tale;
 mod walking;
 
 pub use before::standing_before;
+pub use following::Following;
 pub use hierarchy::{Hierarchy, hierarchy_at};
 pub use label::Label;
 pub use moving::firsts;

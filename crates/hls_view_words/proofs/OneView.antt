@@ -4,10 +4,10 @@ use Rattle.std.proofs.Common.{inl, inr, get_or, arith}
 use Rattle.std.specs.Prelude.{decimal, Option, Some, None}
 use Rattle.std.proofs.lemmas.Fmt.{decimal_injective}
 use Rattle.hls_text.specs.Lines.{Text}
-use Rattle.hls_view_words.specs.Table.{StatesTick, HasTick, MayTick, StatesName, MayName, MaySpan, IsView}
+use Rattle.hls_view_words.specs.Table.{Heads, StatesTick, HasTick, MayTick, StatesName, MayName, MaySpan, MayLast, IsView}
 use Rattle.hls_view_words.specs.declared.views.View.{View}
-use Rattle.hls_view_words.specs.declared.views.View.TheVariants.{Svg, Margins, Tree, Jobs}
-use Rattle.hls_view_words.proofs.Heading.{same_span}
+use Rattle.hls_view_words.specs.declared.views.View.TheVariants.{Svg, Trace, Margins, Tree, Jobs}
+use Rattle.hls_view_words.proofs.Heading.{no_head, same_head, same_span}
 
 empty_not : (word : Text) (words : List Text) → [] ≡ word ∷ words → ⊥
 empty_not word words e = absurd cc
@@ -76,6 +76,18 @@ same_of options others (Some one) (Some two) same a b =
     ap (λ (name : Text). Some name) (same_name others one two
     (subst (λ (o : List Text). StatesName o one) same a.1) b.1)
 
+-- ---- lengths of ticks
+
+same_last : (options : List Text) (one two : Option ℕ) → MayLast options one → MayLast options two → one ≡ two
+same_last options None None a b = refl
+same_last options None (Some two) a (least, most, b) =
+    absurd (no_head _ two [] (subst (λ (o : List Text). Heads (codes "--tick") o two []) a b))
+same_last options (Some one) None (least, most, a) b =
+    absurd (no_head _ one [] (subst (λ (o : List Text). Heads (codes "--tick") o one []) b a))
+same_last options (Some one) (Some two) (least, most, a) (some, few, b) =
+    ap (λ (tick : ℕ). Some tick)
+    (same_head _ options one two [] [] (omega (arith, most)) (omega (arith, few)) a b).0
+
 -- ---- the first word
 
 -- by two of its letters
@@ -85,12 +97,14 @@ letters (word ∷ words) = get_or word 0 0 + get_or word 2 0
 
 abbrev letters_of : View → ℕ
 letters_of (Svg from to) = 218
+letters_of (Trace tick) = 213
 letters_of Margins = 223
 letters_of (Tree at) = 217
 letters_of (Jobs of) = 204
 
 view_letters : (words : List Text) (view : View) → IsView words view → letters words ≡ letters_of view
 view_letters words (Svg from to) (options, is, has) = ap letters is
+view_letters words (Trace tick) (options, is, has) = ap letters is
 view_letters words Margins is = ap letters is
 view_letters words (Tree at) (options, is, has) = ap letters is
 view_letters words (Jobs of) (options, is, has) = ap letters is
@@ -104,6 +118,10 @@ same_view words (Svg from to) (Svg first last) (options, is, has) (others, also,
     let rest = rest_of_words (codes "svg") (codes "svg") options others (sym is ∙ also) in
     let same = same_span others from to first last (subst (λ (o : List Text). MaySpan o from to) rest has) hold in
     ap₂ (λ (a b : Option ℕ). Svg a b) same.0 same.1
+same_view words (Trace one) (Trace two) (options, is, has) (others, also, hold) =
+    let rest = rest_of_words (codes "trace") (codes "trace") options others (sym is ∙ also) in
+    ap (λ (tick : Option ℕ). Trace tick)
+    (same_last others one two (subst (λ (o : List Text). MayLast o one) rest has) hold)
 same_view words Margins Margins a b = refl
 same_view words (Tree one) (Tree two) (options, is, has) (others, also, hold) =
     ap (λ (at : Option ℕ). Tree at) (same_at options others one two
@@ -112,3 +130,21 @@ same_view words (Jobs one) (Jobs two) (options, is, has) (others, also, hold) =
     ap (λ (of : Option Text). Jobs of) (same_of options others one two
     (rest_of_words (codes "jobs") (codes "jobs") options others (sym is ∙ also)) has hold)
 same_view words one two a b = let same = same_letters words one two a b in absurd (omega (arith, same))
+
+-- ---- no view has ticks of no time
+
+untold : (words : List Text) (n : ℕ) → n ≡ 0 → Heads (codes "--tick") words n [] → (tick : Option ℕ)
+    → MayLast words tick → ⊥
+untold words n none here None e = no_head _ n [] (subst (λ (o : List Text). Heads (codes "--tick") o n []) e here)
+untold words n none here (Some length) (least, most, is) =
+    let same = (same_head _ words n length [] [] (omega (arith, none)) (omega (arith, most)) here is).0 in
+    absurd (omega (arith, none, least, same))
+
+pub no_time : (words : List Text) (n : ℕ) → n ≡ 0 → Heads (codes "--tick") words n [] → (view : View)
+    → IsView (codes "trace" ∷ words) view → ⊥
+no_time words n none here (Trace tick) (options, is, has) =
+    untold words n none here tick
+    (subst (λ (o : List Text). MayLast o tick) (sym (rest_of_words (codes "trace") (codes "trace") words options is)) has)
+no_time words n none here view is =
+    let same : letters (codes "trace" ∷ words) ≡ letters_of view = view_letters (codes "trace" ∷ words) view is in
+    absurd (omega (arith, same))

@@ -7,12 +7,13 @@ use Rattle.clap.specs.Words.{Text, takes}
 use Rattle.clap.proofs.OnLiterals.{clap_on_literals}
 use Rattle.hls_text.proofs.NumberLaws.{and_left, and_right}
 use Rattle.hls_chron.specs.Name.{IsName, is_letter}
-use Rattle.hls_view_words.specs.Table.{MayTick, MayName, IsView}
+use Rattle.hls_view_words.specs.Table.{MayTick, MayName, MayLast, IsView}
 use Rattle.hls_view_words.specs.Inside.Commands.{hlsview}
 use Rattle.hls_view_words.specs.declared.views.View.{View}
-use Rattle.hls_view_words.specs.declared.views.View.TheVariants.{Svg, Margins, Tree, Jobs}
-use Rattle.hls_view_words.proofs.Digits.{tick_is_digits}
+use Rattle.hls_view_words.specs.declared.views.View.TheVariants.{Svg, Trace, Margins, Tree, Jobs}
+use Rattle.hls_view_words.proofs.Digits.{number_is_digits, tick_is_digits}
 use Rattle.hls_view_words.proofs.TakenSpans.{takes_span}
+use Rattle.hls_view_words.proofs.TwoApart.{ten, with_value}
 
 takes_margins : takes hlsview (codes "margins" ∷ []) ≡ true
 unfolding clap_on_literals
@@ -50,6 +51,31 @@ takes_tick options (Some tick) (small, inl apart) =
     let d = tick_is_digits tick small in
     rw (apart, d.is) (takes_digit d.first d.rest d.small)
 takes_tick options (Some tick) (small, inr joined) = rw joined (takes_tick_is (decimal tick))
+
+-- ---- trace
+
+takes_trace : takes hlsview (codes "trace" ∷ []) ≡ true
+unfolding clap_on_literals
+takes_trace = refl
+
+trace_joined : (v : Text) → takes hlsview (codes "trace" ∷ with_value (codes "--tick") v ∷ []) ≡ true
+unfolding clap_on_literals
+trace_joined v = refl
+
+trace_apart : (k : ℕ) (v : Text) → k ≤ 9
+    → takes hlsview (codes "trace" ∷ codes "--tick" ∷ ((48 + k) ∷ v) ∷ []) ≡ true
+unfolding clap_on_literals
+trace_apart k v le =
+    ten (λ b. takes hlsview (codes "trace" ∷ codes "--tick" ∷ (b ∷ v) ∷ []) ≡ true)
+    refl refl refl refl refl refl refl refl refl refl k le
+
+takes_last : (options : List Text) (tick : Option ℕ) → MayLast options tick
+    → takes hlsview (codes "trace" ∷ options) ≡ true
+takes_last options None is = rw is takes_trace
+takes_last options (Some tick) (least, most, inl apart) =
+    let d = number_is_digits tick most in
+    rw (apart, d.is) (trace_apart d.first d.rest d.small)
+takes_last options (Some tick) (least, most, inr joined) = rw joined (trace_joined (decimal tick))
 
 -- ---- jobs
 
@@ -134,6 +160,7 @@ takes_options options (Some name) (named, inr joined) = rw joined (takes_joined 
 
 pub takes_view : (words : List Text) (view : View) → IsView words view → takes hlsview words ≡ true
 takes_view words (Svg from to) (options, is, has) = rw is (takes_span options from to has)
+takes_view words (Trace tick) (options, is, has) = rw is (takes_last options tick has)
 takes_view words Margins is = rw is takes_margins
 takes_view words (Tree at) (options, is, has) = rw is (takes_tick options at has)
 takes_view words (Jobs of) (options, is, has) = rw is (takes_options options of has)

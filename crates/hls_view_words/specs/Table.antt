@@ -3,7 +3,7 @@ use Rattle.std.specs.Prelude.{◌≡◌, ◌⊎◌, ◌≤◌, ℕ, List, [], �
 use Rattle.hls_text.specs.Lines.{Text}
 use Rattle.hls_chron.specs.Name.{IsName}
 use Rattle.hls_view_words.specs.declared.views.View.{View}
-use Rattle.hls_view_words.specs.declared.views.View.TheVariants.{Svg, Margins, Tree, Jobs}
+use Rattle.hls_view_words.specs.declared.views.View.TheVariants.{Svg, Trace, Margins, Tree, Jobs}
 
 -- a tick is stated in a word of its own, or in one word with the option
 abbrev pub StatesTick : List Text → ℕ → Type 0
@@ -56,9 +56,15 @@ StatesNone words _ _ = ⊥
 abbrev pub MaySpan : List Text → Option ℕ → Option ℕ → Type 0
 MaySpan words from to = StatesNone words from to ⊎ (FromFirst words from to ⊎ ToFirst words from to)
 
+-- the words after `trace` state no length of a tick, or one in microseconds
+abbrev pub MayLast : List Text → Option ℕ → Type 0
+MayLast words None = words ≡ []
+MayLast words (Some length) = (1 ≤ length) × (length ≤ 1000000) × Heads (codes "--tick") words length []
+
 -- the words ask for this
 abbrev pub IsView : List Text → View → Type 0
 IsView words (Svg from to) = (options : List Text) × (words ≡ codes "svg" ∷ options) × MaySpan options from to
+IsView words (Trace tick) = (options : List Text) × (words ≡ codes "trace" ∷ options) × MayLast options tick
 IsView words Margins = words ≡ codes "margins" ∷ []
 IsView words (Tree at) = (options : List Text) × (words ≡ codes "tree" ∷ options) × MayTick options at
 IsView words (Jobs of) = (options : List Text) × (words ≡ codes "jobs" ∷ options) × MayName options of

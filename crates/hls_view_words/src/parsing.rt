@@ -3,7 +3,7 @@ ghost use Rattle.std.specs.Prelude.{◌≡◌, IfOk, IfErr, map, string_bytes, f
 ghost use Rattle.clap.specs.declared.builder.command.Command.TheViews.{out-Command};
 ghost use Rattle.clap.specs.Words.{kind_of, app_of};
 ghost use Rattle.hls_view_words.specs.Table.{IsView, IsNoView};
-ghost use Rattle.hls_view_words.specs.Inside.Commands.{margins, jobs, tree, svg, bare, tables, hlsview};
+ghost use Rattle.hls_view_words.specs.Inside.Commands.{margins, jobs, tree, svg, trace, bare, tables, hlsview};
 
 use crate::View;
 use crate::table::listed;
@@ -46,6 +46,15 @@ fn svg_command<'a>(alloc: Global) -> Result<Command<'a>, AllocError>
     bare.arg(from)?.arg(to)
 }
 
+fn trace_command<'a>(alloc: Global) -> Result<Command<'a>, AllocError>
+    ensures app { IfOk result (λ c. app_of c ≡ trace) }
+    ensures local { IfOk result (λ c. (out-Command c).has_globals ≡ false) }
+{
+    let tick = Arg::new(alloc, "tick").long("tick").action(ArgAction::Set);
+    let bare = Command::new(alloc, "trace").disable_help_flag(true);
+    bare.arg(tick)
+}
+
 fn bare_command<'a>(alloc: Global) -> Command<'a>
     ensures app { app_of result ≡ bare }
     ensures local { (out-Command result).has_globals ≡ false }
@@ -70,7 +79,9 @@ fn tables_command<'a>(alloc: Global) -> Result<Command<'a>, AllocError>
 fn hlsview_command<'a>(alloc: Global) -> Result<Command<'a>, AllocError>
     ensures { IfOk result (λ c. app_of c ≡ hlsview) }
 {
-    tables_command(alloc)?.subcommand(svg_command(alloc)?)
+    tables_command(alloc)?
+        .subcommand(svg_command(alloc)?)?
+        .subcommand(trace_command(alloc)?)
 }
 
 /// What clap makes of the words. It refuses none of the table but for want of memory.

@@ -14,8 +14,8 @@ pub struct Span {
     pub to: Option<u32>,
 }
 
-/// The one number that an option states.
-fn only(option: &str, most: u32, words: &[String]) -> Option<u32>
+/// The one number up to a greatest one that an option states, with nothing behind it.
+pub fn only(option: &str, most: u32, words: &[String]) -> Option<u32>
     ensures found { IfSome result (λ n.
         (n ≤ most) × Heads option.now (map string_bytes words.now) n []) }
     ensures none { IsNone result → (n : ℕ) → n ≤ most → ¬ Heads option.now (map string_bytes words.now) n [] }

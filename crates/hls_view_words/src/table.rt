@@ -4,7 +4,7 @@ ghost use Rattle.hls_view_words.specs.Table.{IsView, IsNoView};
 
 use crate::View;
 use crate::names::name_in;
-use crate::spans::span_in;
+use crate::spans::{only, span_in};
 use crate::ticks::tick_in;
 
 /// What the words after `tree` ask for.
@@ -43,6 +43,24 @@ fn svg_of(words: &[String]) -> Option<View>
     })
 }
 
+/// The most microseconds that may stand for a tick.
+const LONGEST_TICK: u32 = 1_000_000;
+
+/// What the words after `trace` ask for.
+fn trace_of(words: &[String]) -> Option<View>
+    ensures found { IfSome result (λ view. IsView (codes "trace" ∷ map string_bytes words.now) view) }
+    ensures none { IsNone result → IsNoView (codes "trace" ∷ map string_bytes words.now) }
+{
+    if words.is_empty() {
+        return Some(View::Trace { tick: None });
+    }
+    let tick = only("--tick", LONGEST_TICK, words)?;
+    if tick == 0 {
+        return None;
+    }
+    Some(View::Trace { tick: Some(tick) })
+}
+
 /// What the words ask for, or `None` where they ask for nothing that the program knows.
 pub fn listed(words: &[String]) -> Option<View>
     ensures found { IfSome result (IsView (map string_bytes words.now)) }
@@ -51,6 +69,7 @@ pub fn listed(words: &[String]) -> Option<View>
     let (first, options) = words.split_first()?;
     match first.as_str() {
         "svg" => svg_of(options),
+        "trace" => trace_of(options),
         "margins" if options.is_empty() => Some(View::Margins),
         "tree" => tree_of(options),
         "jobs" => jobs_of(options),

@@ -1,5 +1,5 @@
 -- What is appended to a text about a question.
-use Rattle.std.specs.Prelude.{◌≡◌, ℕ, ◌++◌, ◌||◌, Bool, List, Option, Some, map, take}
+use Rattle.std.specs.Prelude.{◌≡◌, ℕ, ◌++◌, Bool, List, Option, Some, map, take}
 use Rattle.std.specs.List.{list_any}
 use Rattle.hls_text.specs.Lines.{Text}
 use Rattle.hls_report_text.specs.ReportText.{with_end, ended}

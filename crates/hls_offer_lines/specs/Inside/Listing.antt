@@ -1,13 +1,14 @@
 -- How the lines are found, one after the other.
-use Rattle.std.specs.Prelude.{◌≡◌, ◌<◌, ℕ, true, List, Contains, All as Each}
+use Rattle.std.specs.Prelude.{◌≡◌, ◌≢◌, ◌<◌, ℕ, true, List, Contains, All as Each}
 use Rattle.hls_guarantee.specs.declared.Guarantee.{Guarantee}
-use Rattle.hls_guarantee.specs.declared.Guarantee.TheVariants.{Resb, Resc, Psbe}
-use Rattle.hls_guarantee.specs.Limits.{IsValid}
-use Rattle.hls_offer_laws.specs.Offered.{IsLent}
+use Rattle.hls_guarantee.specs.declared.Guarantee.TheVariants.{Null, Resb, Resc, Psbe}
+use Rattle.hls_guarantee.specs.Limits.{IsNarrow, IsValid}
+use Rattle.hls_offer_laws.specs.Offered.{IsLent, IsLentOf, IsShareOf}
 use Rattle.hls_offer_laws.specs.Candidates.{HasPeriod}
 use Rattle.hls_offer_best.specs.declared.seat.Seat.{Seat}
 use Rattle.hls_offer_best.specs.declared.windows.Form.{Form}
 use Rattle.hls_offer_best.specs.declared.windows.Form.TheVariants.{Blocks, Windows}
+use Rattle.hls_offer_best.specs.Best.{Offers}
 
 -- all that is lent to the seat
 pub record AreLent (seat : Seat) (all : List Guarantee) : Type 0 where
@@ -19,6 +20,15 @@ pub record AreLent (seat : Seat) (all : List Guarantee) : Type 0 where
 abbrev pub IsValidShare : Guarantee → Type 0
 IsValidShare (Psbe s d) = IsValid (Psbe s d)
 IsValidShare _ = ⊥
+
+-- the share of what a port with this lends, within the limits of a scenario, can be promised
+pub record IsOfferedThrough (seat : Seat) (have share : Guarantee) : Type 0 where
+  pub lent : Guarantee
+  pub lends : IsLentOf seat.place.config seat.place.terms have lent
+  pub some : lent ≢ Null
+  pub is_share : IsShareOf lent share
+  pub narrow : IsNarrow share
+  pub offered : Offers seat share
 
 -- a hard reservation of this form that may be offered where this is lent
 abbrev pub MayGive : Form → (lent hard : Guarantee) → Type 0

@@ -14,6 +14,7 @@ use Rattle.hls_scenario.specs.Grammar.{IsTerms, IsLine, IsItemLine}
 use Rattle.hls_lang.proofs.Fronts.{Front}
 use Rattle.hls_offer_words.specs.Table.{over_words, moment_words, tail_words, IsAtMost, Rise, ArePeriods, most_period}
 use Rattle.hls_offer_words.specs.Table.{place_forms, question_forms, IsPlace, IsQuestion}
+use Rattle.hls_offer_words.specs.Inside.Shapes.{timeless}
 use Rattle.hls_offer_words.specs.declared.asked.Question.{Question}
 use Rattle.hls_offer_words.specs.declared.asked.Asked.{Asked}
 
@@ -111,8 +112,12 @@ pub record IsTail (a : Asked) (words : List Text) : Type 0 where
   pub tick : IsAtMost 99999 a.at
   pub depth : IsAtMost 6 a.depth
 
-abbrev pub IsNoTail : Question → List Text → Type 0
-IsNoTail question words = (a : Asked) → a.question ≡ question → ¬ IsTail a words
+-- the words behind this question, where it is asked of no moment
+abbrev pub HasTail : Question → List Text → Asked → Type 0
+HasTail question words a = (a.question ≡ question) × IsTail (timeless a) words
+
+abbrev pub HasNoTail : Question → List Text → Type 0
+HasNoTail question words = (a : Asked) → ¬ HasTail question words a
 
 -- ---- questions
 

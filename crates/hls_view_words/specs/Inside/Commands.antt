@@ -16,6 +16,9 @@ from = record (new_rule (codes "from")) { long = Some (codes "from"); action = S
 abbrev pub to : Rule
 to = record (new_rule (codes "to")) { long = Some (codes "to"); action = Some Set }
 
+abbrev pub tick : Rule
+tick = record (new_rule (codes "tick")) { long = Some (codes "tick"); action = Some Set }
+
 abbrev pub leaf : Text → App
 leaf name = on_top (λ s. record s { disable_help_flag = true }) (new_app name)
 
@@ -31,6 +34,9 @@ jobs = with_rule (leaf (codes "jobs")) of
 abbrev pub svg : App
 svg = with_rule (with_rule (leaf (codes "svg")) from) to
 
+abbrev pub trace : App
+trace = with_rule (leaf (codes "trace")) tick
+
 abbrev pub bare : App
 bare = on_top (λ s. record s {
   no_binary_name = true;
@@ -43,4 +49,4 @@ abbrev pub tables : App
 tables = with_subcommand (with_subcommand (with_subcommand bare margins.top) tree.top) jobs.top
 
 abbrev pub hlsview : App
-hlsview = with_subcommand tables svg.top
+hlsview = with_subcommand (with_subcommand tables svg.top) trace.top

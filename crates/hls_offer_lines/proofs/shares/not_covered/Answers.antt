@@ -2,10 +2,10 @@ use Rattle.std.proofs.Common.{length, refl, subst, arith}
 use Rattle.std.specs.Prelude.{Contains}
 use Rattle.std.proofs.lemmas.Option.{slice_get_read}
 use Rattle.hls_guarantee.specs.declared.Guarantee.{Guarantee}
-use Rattle.hls_offer_lines.specs.Lines.{Covers}
+use Rattle.hls_offer_lines.specs.Lines.{Covers, IsAhead}
 use Rattle.hls_offer_lines.specs.Inside.Listing.{IsValidShare}
 use Rattle.hls_offer_lines.proofs.Pushes.{at-place, of-each, place-of, none-in, no-pairs}
-use Rattle.hls_offer_lines.proofs.Coverings.{stand-more, each-more-share, apart-more, unless-of}
+use Rattle.hls_offer_lines.proofs.Coverings.{stand-more, each-more-share, pairs-more, unless-of}
 use Rattle.hls_offer_lines.proofs.shares.not_covered.Goals as goal
 
 pub unless_covered-requires-clause-top : goal.unless_covered-requires-clause-top
@@ -21,6 +21,8 @@ loop-top-init c = record {
   each = λ k less. absurd (omega arith);
   apart = λ apart. no-pairs (λ (one other : Guarantee). (Covers one other → ⊥) × (Covers other one → ⊥))
       c.new-more.result.items c.new-more.ensures.items;
+  order = λ seat order. no-pairs (λ (one other : Guarantee). IsAhead seat one other) c.new-more.result.items
+      c.new-more.ensures.items;
 }
 
 pub loop-top-preserved : goal.loop-top-preserved
@@ -39,8 +41,10 @@ loop-top-preserved c =
     record {
       stand = stand-more tops share top old new n found there is unless before.stand;
       each = each-more-share tops share top old new n found there is unless before.each;
-      apart = λ whole. apart-more tops share top old new n found there is unless before.stand whole
-          (before.apart whole);
+      apart = λ whole. pairs-more (λ (one other : Guarantee). (Covers one other → ⊥) × (Covers other one → ⊥)) tops
+          share top old new n found there is unless before.stand whole (before.apart whole);
+      order = λ seat whole. pairs-more (λ (one other : Guarantee). IsAhead seat one other) tops share top old new n
+          found there is unless before.stand whole (before.order seat whole);
     }
 
 pub returns-clause-from : goal.returns-clause-from

@@ -1,10 +1,10 @@
 use Rattle.std.proofs.Common.{◌≡◌, ◌⊎◌, List, ◌∙◌, sym, subst}
 use Rattle.std.specs.Prelude.{Contains, Some, IfSome}
 use Rattle.hls_guarantee.specs.declared.Guarantee.{Guarantee}
-use Rattle.hls_offer_lines.specs.Lines.{AreApart, Covers, IsCovered}
+use Rattle.hls_offer_lines.specs.Lines.{AreApart, AreInOrder, Covers, IsCovered}
 use Rattle.hls_offer_lines.specs.Inside.Listing.{IsValidShare}
 use Rattle.hls_offer_lines.proofs.Placing.{when-false}
-use Rattle.hls_offer_lines.proofs.Coverings.{with-from, with-kept, with-itself, with-apart}
+use Rattle.hls_offer_lines.proofs.Coverings.{with-from, with-kept, with-itself, with-apart, with-order}
 use Rattle.hls_offer_lines.proofs.shares.with_share.Goals as goal
 
 pub returns-clause-from : goal.returns-clause-from
@@ -46,3 +46,18 @@ returns-clause-apart c = λ whole.
     with-apart c.args.tops.items kept c.push.new.self.items share c.in_ok-push.ensures.items from
     (λ by. when-false _ c.is_covered.result c.if-is_covered.false c.is_covered.ensures
     (subst (λ (v : List Guarantee). IsCovered v share) (sym c.deref.ensures.value) by)) (apart whole)
+
+pub returns-clause-order : goal.returns-clause-order
+returns-clause-order c = λ seat order ahead.
+    let kept = c.in_ok-more.more.items in
+    let share = c.in-Some.share in
+    let from =
+    subst (λ (v : List Guarantee). (h : Guarantee) → Contains kept h → Contains v h × (Covers share h → ⊥))
+    c.deref-2.ensures.value c.in_ok-more.ensures.from in
+    let left =
+    subst (λ (v : List Guarantee). AreInOrder seat v → AreInOrder seat kept) c.deref-2.ensures.value
+    (c.in_ok-more.ensures.order seat) order in
+    with-order seat c.args.tops.items kept c.push.new.self.items share c.in_ok-push.ensures.items from left
+    (λ g has. ahead g share has c.in-Some.is
+    (λ by. when-false _ c.is_covered.result c.if-is_covered.false c.is_covered.ensures
+    (subst (λ (v : List Guarantee). IsCovered v share) (sym c.deref.ensures.value) by)))

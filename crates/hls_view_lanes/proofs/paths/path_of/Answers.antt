@@ -1,6 +1,9 @@
-use Rattle.std.proofs.Common.{refl, ◌+◌}
+use Rattle.std.proofs.Common.{List, refl, ap, ◌∙◌, ◌+◌}
+use Rattle.std.specs.Prelude.{slice_get}
+use Rattle.hls_report_text.specs.declared.report.Run.{Run}
 use Rattle.hls_report_text.specs.Content.{content_of}
 use Rattle.hls_audit.proofs.Abreast.{path_reached, unreached, read_at}
+use Rattle.hls_view_lanes.specs.Inside.Paths.{path_if}
 use Rattle.hls_view_lanes.proofs.paths.path_of.Goals as goal
 
 pub returns-in-Some-clause-path : goal.returns-in-Some-clause-path
@@ -13,6 +16,19 @@ returns-in-Some-clause-path c =
 
 pub returns-in-None-clause-path : goal.returns-in-None-clause-path
 returns-in-None-clause-path c =
+    let r = c.args.report.now in
+    absurd (unreached r.runs c.items.result.now (c.args.tick + 1) c.args.at c.items.ensures
+    c.in-None.ensures.lookup.3 c.requires.reached)
+
+pub returns-in-Some-clause-is : goal.returns-in-Some-clause-is
+returns-in-Some-clause-is c =
+    let r = c.args.report.now in
+    ap path_if (read_at c.items.result.now c.args.at c.in-Some.run'.now c.in-Some.ensures.lookup.3.0
+    c.in-Some.ensures.lookup.1)
+    ∙ ap (λ (l : List Run). path_if (slice_get l c.args.at)) c.items.ensures
+
+pub returns-in-None-clause-is : goal.returns-in-None-clause-is
+returns-in-None-clause-is c =
     let r = c.args.report.now in
     absurd (unreached r.runs c.items.result.now (c.args.tick + 1) c.args.at c.items.ensures
     c.in-None.ensures.lookup.3 c.requires.reached)

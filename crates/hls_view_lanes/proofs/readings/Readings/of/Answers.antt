@@ -4,5 +4,5 @@ pub returns : goal.returns
 returns c = record {
   lookup = c.in_ok-of.ensures;
   known = c.new.ensures c.args.report.now;
-  paths = c.in_ok-paths_of.ensures;
+  runs = c.in_ok-runs_of.ensures;
 }

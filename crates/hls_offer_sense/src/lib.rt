@@ -1,0 +1,4 @@
+//! Words ask one question.
+#![tactic(auto)]
+
+pub mod laws;

@@ -1,0 +1,3 @@
+pub mod Strongest
+pub mod Decided
+pub mod Answering

@@ -1,0 +1,11 @@
+pub mod Saying
+pub mod Admitted
+pub mod Spending
+pub mod Readying
+pub mod Counting
+pub mod Lacking
+pub mod Windowed
+pub mod Woken
+pub mod Dropping
+pub mod Lined
+pub mod Living

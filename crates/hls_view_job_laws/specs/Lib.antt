@@ -1,0 +1,4 @@
+pub mod Jobs
+pub mod Lives
+pub mod Lines
+pub mod Clauses

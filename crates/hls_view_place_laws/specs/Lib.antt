@@ -1,0 +1,4 @@
+pub mod Tales
+pub mod Ways
+pub mod Shares
+pub mod Reading

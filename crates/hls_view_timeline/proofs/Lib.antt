@@ -1,0 +1,5 @@
+pub mod Steps
+pub mod Ports
+pub mod TickPaths
+pub mod Rows
+pub mod Accounted

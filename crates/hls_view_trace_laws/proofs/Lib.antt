@@ -1,0 +1,3 @@
+mod Prefixes
+mod Fresh
+mod FlameTicks

@@ -1,0 +1,16 @@
+//! The slices of a schedule.
+
+ghost use Rattle.std.specs.Prelude.{◌≡◌, ◌<◌, ℕ, []};
+ghost use Rattle.hls_report_text.specs.Content.{Content};
+ghost use Rattle.hls_report_text.specs.WellFormed.{IsContent};
+ghost use Rattle.hls_accounts.specs.Schedule.{path_at};
+ghost use Rattle.hls_view_trace.specs.declared.event.Place.{Place};
+ghost use Rattle.hls_view_tracks.specs.Flame.{names_in, flame};
+ghost use Rattle.hls_view_trace_laws.specs.Held.{names_at};
+
+/// The slices that hold a tick are those of the names of its path, from the outer to the inner. So just those ticks are
+/// held by so many slices, one within the other, whose path has as many names.
+pub fn slices_at_a_tick_spell_its_path()
+    ensures { (place : Place) (c : Content) (t : ℕ) → IsContent c → t < c.horizon →
+        names_at t (flame place [] c.stretches) ≡ names_in (path_at c.stretches t) }
+{}
