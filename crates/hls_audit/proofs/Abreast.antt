@@ -11,7 +11,7 @@ use Rattle.hls_report_text.specs.declared.report.Run.{Run}
 use Rattle.hls_report_text.specs.declared.stretch.Stretch.{Stretch}
 use Rattle.hls_report_text.specs.Content.{Content, path_names, stretch_of}
 use Rattle.hls_report_text.specs.WellFormed.{Cover, IsContent}
-use Rattle.hls_accounts.specs.Schedule.{path_at}
+use Rattle.hls_legal.specs.Schedule.{path_at}
 use Rattle.hls_audit_clauses.specs.declared.member.Member.{Member}
 use Rattle.hls_audit_clauses.specs.Names.{after_answer, tree_of, tree_at}
 use Rattle.hls_audit_clauses.specs.Ways.{leads_down}

@@ -10,7 +10,7 @@ use Rattle.hls_chron.specs.declared.plain.Config.{Config}
 use Rattle.hls_guarantee.specs.declared.Guarantee.{Guarantee}
 use Rattle.hls_scenario.specs.declared.scenario.Perch.{Perch}
 use Rattle.hls_report_text.specs.declared.report.Seated.{Seated}
-use Rattle.hls_answers.specs.Dues.{Due, IsSettled, AreSettled}
+use Rattle.hls_legal.specs.Dues.{Due, IsSettled, AreSettled}
 use Rattle.hls_audit_clauses.specs.declared.member.Member.{Member}
 use Rattle.hls_audit_clauses.specs.Names.{member_of, sort_of}
 use Rattle.hls_audit_clauses.specs.Dues.{config_in, due_at, dues_from, is_at, dues_on}

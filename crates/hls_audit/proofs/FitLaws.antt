@@ -21,10 +21,10 @@ use Rattle.hls_scenario.specs.declared.scenario.Command.TheVariants as said
 use Rattle.hls_scenario.specs.Grammar.{IsLoad, IsPerch, IsCommand}
 use Rattle.hls_scenario.proofs.CanonicalPrinting.{load_perches}
 use Rattle.hls_report_text.specs.declared.report.Answered.{Answered}
-use Rattle.hls_accounts.specs.Commands.{is_done}
-use Rattle.hls_accounts.proofs.GoodStays.{valid_narrow}
-use Rattle.hls_answers.specs.Moment.{new_name, old_name, spots_of}
-use Rattle.hls_answers.proofs.Unrefused.{spot_terms}
+use Rattle.hls_legal.specs.Commands.{is_done}
+use Rattle.hls_legal.proofs.GoodStays.{valid_narrow}
+use Rattle.hls_legal.specs.Moment.{new_name, old_name, spots_of}
+use Rattle.hls_legal.proofs.Unrefused.{spot_terms}
 use Rattle.hls_audit_clauses.specs.declared.member.Sort.{Sort}
 use Rattle.hls_audit_clauses.specs.declared.member.Sort.TheVariants.{Scheduler, Thread}
 use Rattle.hls_audit_clauses.specs.declared.member.Member.{Member}

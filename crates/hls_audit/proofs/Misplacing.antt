@@ -6,7 +6,7 @@ use Rattle.hls_text.specs.Lines.{Text}
 use Rattle.hls_chron.specs.declared.plain.Config.{Config}
 use Rattle.hls_scenario.specs.declared.scenario.Perch.{Perch}
 use Rattle.hls_scenario.specs.declared.scenario.Command.TheVariants.{Load, Thread, End, Unload, Move, Wake, Block}
-use Rattle.hls_accounts.specs.Under.{is_on}
+use Rattle.hls_legal.specs.Under.{is_on}
 use Rattle.hls_audit_clauses.specs.declared.member.Sort.{Sort}
 use Rattle.hls_audit_clauses.specs.declared.member.Sort.TheVariants as sorts
 use Rattle.hls_audit_clauses.specs.declared.member.Member.{Member}

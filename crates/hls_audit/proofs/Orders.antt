@@ -9,7 +9,7 @@ use Rattle.std.proofs.lemmas.List.Sums.{fold_more}
 use Rattle.std.proofs.lemmas.Option.{slice_get_read, slice_get_within, get_or_from_slice_get}
 use Rattle.hls_report_text.specs.declared.report.Answered.{Answered}
 use Rattle.hls_report_text.specs.Content.{Content}
-use Rattle.hls_accounts.specs.Commands.{is_done}
+use Rattle.hls_legal.specs.Commands.{is_done}
 use Rattle.hls_audit_clauses.specs.Misplaced.{is_misplaced}
 use Rattle.hls_audit_clauses.specs.declared.member.Member.{Member}
 use Rattle.hls_audit_clauses.specs.Names.{after_answer, tree_of}

@@ -1,6 +1,6 @@
 // Who is below a name.
 ghost use Rattle.std.specs.Prelude.{◌≡◌, ◌&&◌, IfOk};
-ghost use Rattle.hls_accounts.specs.Under.{is_on};
+ghost use Rattle.hls_legal.specs.Under.{is_on};
 ghost use Rattle.hls_audit_clauses.specs.Names as names;
 
 use crate::rising::Rising;

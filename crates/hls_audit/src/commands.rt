@@ -3,7 +3,7 @@ ghost use Rattle.std.specs.Prelude.{◌≡◌, ◌<◌, ℕ, IfOk, Decides};
 ghost use Rattle.std.specs.List.{AllByRecursion};
 ghost use Rattle.hls_report_text.specs.Content.{content_of};
 ghost use Rattle.hls_report_text.specs.WellFormed.{IsWellFormed};
-ghost use Rattle.hls_accounts.specs.Commands as said;
+ghost use Rattle.hls_legal.specs.Commands as said;
 ghost use Rattle.hls_audit_clauses.specs.Clauses.{IsMisplacedAt, IsUnderivedAt};
 ghost use Rattle.hls_audit_watch.specs.First.{FirstAt};
 ghost use Rattle.hls_audit.specs.Inside.Fits.{IsFit};

@@ -2,8 +2,8 @@
 ghost use Rattle.std.specs.Prelude.{◌≡◌, ◌+◌, Decides, is_none};
 ghost use Rattle.hls_report_text.specs.Content.{content_of};
 ghost use Rattle.hls_report_text.specs.WellFormed.{IsWellFormed};
-ghost use Rattle.hls_accounts.specs.Accounts as told;
-ghost use Rattle.hls_accounts.specs.Schedule as spelled;
+ghost use Rattle.hls_legal.specs.Accounts as told;
+ghost use Rattle.hls_legal.specs.Schedule as spelled;
 ghost use Rattle.hls_audit_clauses.specs.Clauses.{IsMiscounted};
 ghost use Rattle.hls_audit_watch.specs.First.{FirstAt};
 ghost use Rattle.hls_audit.specs.Inside.Leading.{IsReached};

@@ -3,8 +3,8 @@ ghost use Rattle.std.specs.Prelude.{◌≡◌, ◌↔◌, ◌++◌, IfOk, IsTrue
 ghost use Rattle.std.specs.List.{AllByRecursion};
 ghost use Rattle.hls_scenario.specs.Grammar.{IsCommand};
 ghost use Rattle.hls_report_text.specs.WellFormed.{IsSeated};
-ghost use Rattle.hls_accounts.specs.Tells as tells;
-ghost use Rattle.hls_answers.specs.Dues as answers;
+ghost use Rattle.hls_legal.specs.Tells as tells;
+ghost use Rattle.hls_legal.specs.Dues as answers;
 ghost use Rattle.hls_derive.specs.Derivation.{conversions, IsWithinGrammar};
 ghost use Rattle.hls_audit_clauses.specs.Dues as clause;
 ghost use Rattle.hls_audit_clauses.specs.Names.{member_of, sort_of};

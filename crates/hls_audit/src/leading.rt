@@ -3,7 +3,7 @@ ghost use Rattle.std.specs.Prelude.{◌≡◌, ◌+◌, ◌<◌, List, IfOk, Dec
 ghost use Rattle.hls_audit_clauses.specs.declared.member.Member.{Member};
 ghost use Rattle.hls_report_text.specs.Content.{content_of, path_names};
 ghost use Rattle.hls_report_text.specs.WellFormed.{HasShort, IsWellFormed};
-ghost use Rattle.hls_accounts.specs.Schedule as spelled;
+ghost use Rattle.hls_legal.specs.Schedule as spelled;
 ghost use Rattle.hls_audit_clauses.specs.Names as told;
 ghost use Rattle.hls_audit_clauses.specs.Clauses.{IsAstray};
 ghost use Rattle.hls_audit_watch.specs.First.{FirstAt};

@@ -2,7 +2,7 @@
 ghost use Rattle.std.specs.Prelude.{◌≡◌, ◌||◌, ◌&&◌, not, IfOk};
 ghost use Rattle.std.specs.List.{list_any};
 ghost use Rattle.std.specs.Str.{bytes_eq};
-ghost use Rattle.hls_accounts.specs.Under as under;
+ghost use Rattle.hls_legal.specs.Under as under;
 ghost use Rattle.hls_audit_clauses.specs.Names as names;
 ghost use Rattle.hls_audit_clauses.specs.Misplaced as clause;
 

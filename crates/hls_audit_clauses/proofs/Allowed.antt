@@ -22,15 +22,15 @@ use Rattle.hls_report_text.specs.declared.refusal.Refusal.TheVariants as refusal
 use Rattle.hls_machine.specs.Hierarchy.{Hierarchy, Node, Loaded, Admitted, name_of, seats_of}
 use Rattle.hls_machine.specs.Lists.{IsListed}
 use Rattle.hls_machine.specs.Readings.{IsUnderBy}
-use Rattle.hls_accounts.specs.Under.{is_on}
-use Rattle.hls_accounts.specs.Tells.{HasName}
-use Rattle.hls_accounts.proofs.Reached.{IsReached, listed as lists_of, seated as seated_of}
-use Rattle.hls_answers.specs.Moment.{Moment, node_of, NamesScheduler, NamesThread, NamesJoin}
-use Rattle.hls_answers.specs.Moment.{new_name, old_name, spots_of}
-use Rattle.hls_answers.specs.Refusals.{PlacesThread}
-use Rattle.hls_answers.specs.Answers.{number, RefusesCommand, RefusesPlace, Applies}
-use Rattle.hls_answers.proofs.Found.{named_there, named_is, named_found}
-use Rattle.hls_answers.proofs.Done.{unloads, IsReached as AnswersReach}
+use Rattle.hls_legal.specs.Under.{is_on}
+use Rattle.hls_legal.specs.Tells.{HasName}
+use Rattle.hls_legal.proofs.Reached.{IsReached, listed as lists_of, seated as seated_of}
+use Rattle.hls_legal.specs.Moment.{Moment, node_of, NamesScheduler, NamesThread, NamesJoin}
+use Rattle.hls_legal.specs.Moment.{new_name, old_name, spots_of}
+use Rattle.hls_legal.specs.Refusals.{PlacesThread}
+use Rattle.hls_legal.specs.Answers.{number, RefusesCommand, RefusesPlace, Applies}
+use Rattle.hls_legal.proofs.Found.{named_there, named_is, named_found}
+use Rattle.hls_legal.proofs.Done.{unloads, IsReached as AnswersReach}
 use Rattle.hls_audit_clauses.specs.declared.member.Sort.{Sort}
 use Rattle.hls_audit_clauses.specs.declared.member.Sort.TheVariants as sorts
 use Rattle.hls_audit_clauses.specs.declared.member.Member.{Member}

@@ -25,15 +25,15 @@ use Rattle.hls_machine.specs.Lists.{IsListed}
 use Rattle.hls_machine.specs.Readings.{IsUnderBy}
 use Rattle.hls_machine.specs.Seated.{SitsThere}
 use Rattle.hls_machine.proofs.Listings.{First, Later, in_cases, none_in}
-use Rattle.hls_accounts.specs.Under.{is_on}
-use Rattle.hls_accounts.specs.Tells.{HasName, IsSpot}
-use Rattle.hls_accounts.proofs.Rousings.{names_same}
-use Rattle.hls_accounts.proofs.Reached.{IsReached, listed as lists_of, seated as seated_of}
-use Rattle.hls_answers.specs.Moment.{Moment, node_of, new_name, old_name, spots_of}
-use Rattle.hls_answers.specs.Refusals.{PlacesThread, seats_taken}
-use Rattle.hls_answers.specs.Refusals as reasons
-use Rattle.hls_answers.specs.Answers.{RefusesCommand, RefusesPlace, Applies}
-use Rattle.hls_answers.proofs.Found.{named_there, named_is, found_named}
+use Rattle.hls_legal.specs.Under.{is_on}
+use Rattle.hls_legal.specs.Tells.{HasName, IsSpot}
+use Rattle.hls_legal.proofs.Rousings.{names_same}
+use Rattle.hls_legal.proofs.Reached.{IsReached, listed as lists_of, seated as seated_of}
+use Rattle.hls_legal.specs.Moment.{Moment, node_of, new_name, old_name, spots_of}
+use Rattle.hls_legal.specs.Refusals.{PlacesThread, seats_taken}
+use Rattle.hls_legal.specs.Refusals as reasons
+use Rattle.hls_legal.specs.Answers.{RefusesCommand, RefusesPlace, Applies}
+use Rattle.hls_legal.proofs.Found.{named_there, named_is, found_named}
 use Rattle.hls_audit_clauses.specs.declared.member.Sort.{Sort}
 use Rattle.hls_audit_clauses.specs.declared.member.Sort.TheVariants as sorts
 use Rattle.hls_audit_clauses.specs.declared.member.Member.{Member}

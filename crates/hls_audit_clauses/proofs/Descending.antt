@@ -11,10 +11,10 @@ use Rattle.hls_machine.specs.Hierarchy.{Hierarchy, Node, Loaded, Admitted, Place
 use Rattle.hls_machine.specs.Hierarchy.{start}
 use Rattle.hls_machine.specs.Steps.{Step, state}
 use Rattle.hls_machine.specs.Legal.{scheduler_at, IsThread, IsLegal}
-use Rattle.hls_accounts.specs.Under.{is_on}
-use Rattle.hls_accounts.specs.Tells.{HasName, IsSpot, Tells}
-use Rattle.hls_accounts.proofs.Told.{Unique}
-use Rattle.hls_accounts.proofs.Reached.{IsReached, listed as lists_of}
+use Rattle.hls_legal.specs.Under.{is_on}
+use Rattle.hls_legal.specs.Tells.{HasName, IsSpot, Tells}
+use Rattle.hls_legal.proofs.Told.{Unique}
+use Rattle.hls_legal.proofs.Reached.{IsReached, listed as lists_of}
 use Rattle.hls_audit_clauses.specs.declared.member.Member.{Member}
 use Rattle.hls_audit_clauses.specs.Names.{tree_of, member_of, sort_of, is_thread, is_thread_sort, sits_on, sits_at_cpu}
 use Rattle.hls_audit_clauses.specs.Names.{is_cpu}

@@ -2,8 +2,8 @@
 use Rattle.std.proofs.Common.{ℕ}
 use Rattle.hls_scenario.specs.declared.scenario.Scenario.{Scenario}
 use Rattle.hls_report_text.specs.Content.{Content}
-use Rattle.hls_answers.specs.Moment.{Boxes}
-use Rattle.hls_legal_report.specs.Legal.{IsLegalContent}
+use Rattle.hls_legal.specs.Moment.{Boxes}
+use Rattle.hls_legal.specs.Legal.{IsLegalContent}
 use Rattle.hls_audit_clauses.specs.Clauses.{Clause, Placed, Leading, Ready, Supplied, Capped, Derived, Counted, Fails}
 use Rattle.hls_audit_clauses.proofs.Schedules.{ready_kept, supplied_kept, capped_kept}
 use Rattle.hls_audit_clauses.proofs.Leading.{leading_kept}

@@ -10,10 +10,10 @@ use Rattle.hls_report_text.specs.WellFormed.{IsContent}
 use Rattle.hls_machine.specs.Hierarchy.{Hierarchy, Place, Processor, At, Seat, name_of, seats_of, seat_of, start}
 use Rattle.hls_machine.specs.Steps.{Step, Hop, Path}
 use Rattle.hls_machine.specs.Legal.{Walk, MayRun, IsLegal}
-use Rattle.hls_accounts.specs.Under.{is_on}
-use Rattle.hls_accounts.specs.Tells.{HasName, Names, Tells}
-use Rattle.hls_accounts.proofs.Told.{Unique}
-use Rattle.hls_accounts.proofs.Reached.{listed as lists_of}
+use Rattle.hls_legal.specs.Under.{is_on}
+use Rattle.hls_legal.specs.Tells.{HasName, Names, Tells}
+use Rattle.hls_legal.proofs.Told.{Unique}
+use Rattle.hls_legal.proofs.Reached.{listed as lists_of}
 use Rattle.hls_audit_clauses.specs.declared.member.Member.{Member}
 use Rattle.hls_audit_clauses.specs.Names.{member_of, sort_of, is_thread, is_thread_sort, sits_on, sits_at_cpu, is_cpu}
 use Rattle.hls_audit_clauses.specs.Ways.{passes, leads_on, leads_down}

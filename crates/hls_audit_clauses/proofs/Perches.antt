@@ -10,9 +10,9 @@ use Rattle.hls_scenario.specs.declared.scenario.Spot.{Spot}
 use Rattle.hls_scenario.specs.declared.scenario.Spot.TheVariants.{Cpu, Under}
 use Rattle.hls_scenario.specs.declared.scenario.Perch.{Perch}
 use Rattle.hls_machine.specs.Hierarchy.{Hierarchy, Place, Processor, At, Seat, name_of}
-use Rattle.hls_accounts.specs.Under.{is_on}
-use Rattle.hls_accounts.specs.Tells.{HasName, IsSpot, ArePerches}
-use Rattle.hls_accounts.proofs.Rousings.{names_same}
+use Rattle.hls_legal.specs.Under.{is_on}
+use Rattle.hls_legal.specs.Tells.{HasName, IsSpot, ArePerches}
+use Rattle.hls_legal.proofs.Rousings.{names_same}
 use Rattle.hls_audit_clauses.specs.declared.member.Member.{Member}
 use Rattle.hls_audit_clauses.specs.Names.{is_cpu}
 use Rattle.hls_audit_clauses.proofs.Trees.{IsMember, AreMembers}

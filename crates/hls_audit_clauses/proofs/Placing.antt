@@ -24,13 +24,13 @@ use Rattle.hls_machine.specs.Hierarchy.{seats_of, start}
 use Rattle.hls_machine.specs.Steps.{Step, Load, Admit, End, Unload, Move, Rouse, Block}
 use Rattle.hls_machine.specs.Legal.{Can, IsBelow, IsThread, CanUnload, MayMoveTo, MayTake, MayTakeAt}
 use Rattle.hls_machine.specs.Legal.{IsLegal, NotBelow}
-use Rattle.hls_accounts.specs.Under.{is_on}
-use Rattle.hls_accounts.specs.Tells.{HasName, IsSpot, ArePerches, Does, Answers, Tells}
-use Rattle.hls_accounts.specs.Commands.{is_done}
-use Rattle.hls_accounts.proofs.Told.{Unique}
-use Rattle.hls_accounts.proofs.Reached.{IsReached, listed as lists_of, seated as seated_of}
-use Rattle.hls_answers.specs.Moment.{Boxes, new_name, old_name, spots_of}
-use Rattle.hls_answers.specs.Along.{AnswersAlong}
+use Rattle.hls_legal.specs.Under.{is_on}
+use Rattle.hls_legal.specs.Tells.{HasName, IsSpot, ArePerches, Does, Answers, Tells}
+use Rattle.hls_legal.specs.Commands.{is_done}
+use Rattle.hls_legal.proofs.Told.{Unique}
+use Rattle.hls_legal.proofs.Reached.{IsReached, listed as lists_of, seated as seated_of}
+use Rattle.hls_legal.specs.Moment.{Boxes, new_name, old_name, spots_of}
+use Rattle.hls_legal.specs.Along.{AnswersAlong}
 use Rattle.hls_audit_clauses.specs.declared.member.Sort.{Sort}
 use Rattle.hls_audit_clauses.specs.declared.member.Sort.TheVariants as sorts
 use Rattle.hls_audit_clauses.specs.declared.member.Member.{Member}

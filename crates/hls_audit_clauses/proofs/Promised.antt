@@ -17,14 +17,14 @@ use Rattle.hls_scenario.proofs.CanonicalLines.{all_append}
 use Rattle.hls_report_text.specs.declared.report.Answered.{Answered}
 use Rattle.hls_report_text.specs.Content.{Content}
 use Rattle.hls_report_text.specs.WellFormed.{AreAnswered, IsContent}
-use Rattle.hls_accounts.specs.declared.stay.Stay.{Stay}
-use Rattle.hls_accounts.specs.Commands.{has_done, seats, last_seating}
-use Rattle.hls_accounts.specs.Schedule.{is_served}
-use Rattle.hls_accounts.specs.Ready.{is_ready}
-use Rattle.hls_accounts.specs.Stays.{want_in, want_of, stay_of, opened, stays_with, stays_from, stays}
-use Rattle.hls_accounts.specs.Accounts.{end_of, IsWindow, IsLongestWindow}
-use Rattle.hls_accounts.specs.Agrees.{IsKeptBy}
-use Rattle.hls_accounts.proofs.Keeping.{IsReadySince, since_first, since_next, since_anew, since_longest}
+use Rattle.hls_legal.specs.declared.stay.Stay.{Stay}
+use Rattle.hls_legal.specs.Commands.{has_done, seats, last_seating}
+use Rattle.hls_legal.specs.Schedule.{is_served}
+use Rattle.hls_legal.specs.Ready.{is_ready}
+use Rattle.hls_legal.specs.Stays.{want_in, want_of, stay_of, opened, stays_with, stays_from, stays}
+use Rattle.hls_legal.specs.Accounts.{end_of, IsWindow, IsLongestWindow}
+use Rattle.hls_legal.specs.Agrees.{IsKeptBy}
+use Rattle.hls_legal.proofs.KeepingAccounts.{IsReadySince, since_first, since_next, since_anew, since_longest}
 use Rattle.hls_audit_clauses.specs.Clauses.{Supplied, Capped, HasTick}
 use Rattle.hls_audit_clauses.specs.Kept.{IsKept}
 use Rattle.hls_audit_clauses.proofs.Decided.{satisfies_stable, satisfies_none, cap_by_ticks}

@@ -9,8 +9,8 @@ use Rattle.hls_machine.specs.Legal.{SitsOn}
 use Rattle.hls_machine.specs.Linked.{SitsBelow, SitsAt}
 use Rattle.hls_machine.specs.Readings.{IsUnderBy}
 use Rattle.hls_machine.proofs.Kept.{IsSound}
-use Rattle.hls_accounts.proofs.Depths.{lower, lower-length, lower-strict, sits_on_scheduler}
-use Rattle.hls_accounts.proofs.Reached.{IsReached, seated as seated_of, kept as kept_of}
+use Rattle.hls_legal.proofs.Depths.{lower, lower-length, lower-strict, sits_on_scheduler}
+use Rattle.hls_legal.proofs.Reached.{IsReached, seated as seated_of, kept as kept_of}
 use Rattle.hls_audit_clauses.specs.declared.member.Member.{Member}
 use Rattle.hls_audit_clauses.proofs.Trees.{AreMembers, IsTreeOf}
 

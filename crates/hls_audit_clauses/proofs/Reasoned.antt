@@ -8,11 +8,11 @@ use Rattle.hls_report_text.specs.Content.{Content}
 use Rattle.hls_machine.specs.Hierarchy.{Hierarchy, start}
 use Rattle.hls_machine.specs.Steps.{Step, state}
 use Rattle.hls_machine.specs.Legal.{IsLegal}
-use Rattle.hls_accounts.specs.Tells.{Tells}
-use Rattle.hls_accounts.proofs.Reached.{IsReached}
-use Rattle.hls_answers.specs.Moment.{Moment}
-use Rattle.hls_answers.specs.Answers.{Applies}
-use Rattle.hls_answers.proofs.Done.{IsReached as AnswersReach, reached}
+use Rattle.hls_legal.specs.Tells.{Tells}
+use Rattle.hls_legal.proofs.Reached.{IsReached}
+use Rattle.hls_legal.specs.Moment.{Moment}
+use Rattle.hls_legal.specs.Answers.{Applies}
+use Rattle.hls_legal.proofs.Done.{IsReached as AnswersReach, reached}
 use Rattle.hls_audit_clauses.specs.Names.{tree_of}
 use Rattle.hls_audit_clauses.specs.Misplaced.{is_misplaced}
 use Rattle.hls_audit_clauses.specs.Reasons.{IsOfNames}

@@ -13,17 +13,17 @@ use Rattle.hls_report_text.specs.WellFormed.{Cover, IsContent}
 use Rattle.hls_machine.specs.Hierarchy.{start}
 use Rattle.hls_machine.specs.Steps.{Step}
 use Rattle.hls_machine.specs.Legal.{IsLegal}
-use Rattle.hls_machine_supply.proofs.Runs as supply
-use Rattle.hls_accounts.specs.declared.stay.Stay.{Stay}
-use Rattle.hls_accounts.specs.Schedule.{has_tick, path_at, last_name, is_name, is_served}
-use Rattle.hls_accounts.specs.Stays.{stays}
-use Rattle.hls_accounts.specs.Accounts.{end_of}
-use Rattle.hls_accounts.specs.Tells.{Tells}
-use Rattle.hls_accounts.specs.Agrees.{IsKeptBy}
-use Rattle.hls_accounts.proofs.Rousings.{names_same}
-use Rattle.hls_accounts.proofs.Told.{is_served-at}
-use Rattle.hls_accounts.proofs.Agreements.{ran_ready}
-use Rattle.hls_accounts.proofs.Keeping.{stays_kept}
+use Rattle.hls_machine.proofs.Supply as supply
+use Rattle.hls_legal.specs.declared.stay.Stay.{Stay}
+use Rattle.hls_legal.specs.Schedule.{has_tick, path_at, last_name, is_name, is_served}
+use Rattle.hls_legal.specs.Stays.{stays}
+use Rattle.hls_legal.specs.Accounts.{end_of}
+use Rattle.hls_legal.specs.Tells.{Tells}
+use Rattle.hls_legal.specs.Agrees.{IsKeptBy}
+use Rattle.hls_legal.proofs.Rousings.{names_same}
+use Rattle.hls_legal.proofs.Told.{is_served-at}
+use Rattle.hls_legal.proofs.Agreements.{ran_ready}
+use Rattle.hls_legal.proofs.KeepingAccounts.{stays_kept}
 use Rattle.hls_audit_clauses.specs.Clauses.{RunsUnready, IsStarved, IsOverCap}
 
 -- ---- from the horizon on there is no path

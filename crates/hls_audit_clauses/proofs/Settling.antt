@@ -21,18 +21,18 @@ use Rattle.hls_machine.specs.Hierarchy.{name_of, seats_of, seat_of, haves_of, co
 use Rattle.hls_machine.specs.Steps.{Step, sitters, state}
 use Rattle.hls_machine.specs.Legal.{IsLegal}
 use Rattle.hls_machine.specs.Lists.{IsListed}
-use Rattle.hls_accounts.specs.Commands.{is_done}
-use Rattle.hls_accounts.specs.Schedule.{is_name}
-use Rattle.hls_accounts.specs.Tells.{HasName, IsSpot, terms_in, IsPerch, ArePerches, Tells}
-use Rattle.hls_accounts.proofs.Rousings.{names_differ}
-use Rattle.hls_accounts.proofs.Told.{by_name}
-use Rattle.hls_accounts.proofs.Reached.{IsReached, listed as lists_of}
-use Rattle.hls_answers.specs.Moment.{Boxes, Moment, number_of, node_of}
-use Rattle.hls_answers.specs.Answers.{IsAnswer}
-use Rattle.hls_answers.specs.Along.{AnswersAlong}
-use Rattle.hls_answers.specs.Dues.{Due, config_there, haves_there, told_name, AreSettled}
-use Rattle.hls_answers.specs.Dues as run
-use Rattle.hls_answers.proofs.Found.{found_named, named_found, named_is}
+use Rattle.hls_legal.specs.Commands.{is_done}
+use Rattle.hls_legal.specs.Schedule.{is_name}
+use Rattle.hls_legal.specs.Tells.{HasName, IsSpot, terms_in, IsPerch, ArePerches, Tells}
+use Rattle.hls_legal.proofs.Rousings.{names_differ}
+use Rattle.hls_legal.proofs.Told.{by_name}
+use Rattle.hls_legal.proofs.Reached.{IsReached, listed as lists_of}
+use Rattle.hls_legal.specs.Moment.{Boxes, Moment, number_of, node_of}
+use Rattle.hls_legal.specs.Answers.{IsAnswer}
+use Rattle.hls_legal.specs.Along.{AnswersAlong}
+use Rattle.hls_legal.specs.Dues.{Due, config_there, haves_there, told_name, AreSettled}
+use Rattle.hls_legal.specs.Dues as run
+use Rattle.hls_legal.proofs.Found.{found_named, named_found, named_is}
 use Rattle.hls_audit_clauses.specs.declared.member.Member.{Member}
 use Rattle.hls_audit_clauses.specs.Names.{tree_of, member_of, sort_of, perches_of}
 use Rattle.hls_audit_clauses.specs.Dues.{config_in, config_at, wants, haves_at, due_at, dues_from, due_under, is_at}

@@ -17,16 +17,16 @@ use Rattle.hls_machine.specs.Steps.{Step, Refuse, Load, Admit, End, Unload, Move
 use Rattle.hls_machine.specs.Steps.{state}
 use Rattle.hls_machine.specs.Steps as steps
 use Rattle.hls_machine.specs.Legal.{Can, IsLegal}
-use Rattle.hls_accounts.specs.Schedule.{path_at}
-use Rattle.hls_accounts.specs.Tells.{Answers, Names, TellsFrom, Tells}
-use Rattle.hls_accounts.proofs.ToldSteps.{each_same}
-use Rattle.hls_accounts.proofs.ToldRuns.{one_more}
-use Rattle.hls_accounts.proofs.Reached.{IsReached, reached_next, reached_start}
-use Rattle.hls_accounts.proofs.OrderRuns.{no_elapse}
-use Rattle.hls_answers.specs.Moment.{Boxes}
-use Rattle.hls_answers.specs.Answers.{IsAnswer}
-use Rattle.hls_answers.specs.Along.{AnswersAlong}
-use Rattle.hls_answers.specs.Kit.{boxes_after}
+use Rattle.hls_legal.specs.Schedule.{path_at}
+use Rattle.hls_legal.specs.Tells.{Answers, Names, TellsFrom, Tells}
+use Rattle.hls_legal.proofs.ToldSteps.{each_same}
+use Rattle.hls_legal.proofs.ToldRuns.{one_more}
+use Rattle.hls_legal.proofs.Reached.{IsReached, reached_next, reached_start}
+use Rattle.hls_legal.proofs.OrderRuns.{no_elapse}
+use Rattle.hls_legal.specs.Moment.{Boxes}
+use Rattle.hls_legal.specs.Answers.{IsAnswer}
+use Rattle.hls_legal.specs.Along.{AnswersAlong}
+use Rattle.hls_legal.specs.Kit.{boxes_after}
 use Rattle.hls_audit_clauses.specs.declared.member.Member.{Member}
 use Rattle.hls_audit_clauses.specs.Names.{after_answer, tree_of, tree_at}
 use Rattle.hls_audit_clauses.proofs.Trees.{IsTreeOf}

@@ -26,13 +26,13 @@ use Rattle.hls_machine.specs.Legal.{Can, CanUnload, IsThread, CanMove, IsNew}
 use Rattle.hls_machine.proofs.Kept.{at_same, at_other}
 use Rattle.hls_machine.proofs.Nodes.{seats-reseated}
 use Rattle.hls_machine.proofs.Listings.{contains_first, contains_filter, filter_true}
-use Rattle.hls_accounts.specs.Tells.{HasName, IsPerch, ArePerches, Answers}
-use Rattle.hls_accounts.proofs.Alike.{alike_other, alike_same, almost-roused, moved-reseated, alike-ticked}
-use Rattle.hls_accounts.proofs.Told.{Unique}
-use Rattle.hls_accounts.proofs.Depths.{sits_on_scheduler}
-use Rattle.hls_accounts.proofs.Orders.{NamesStay, kept_perches}
-use Rattle.hls_accounts.proofs.OrderSteps.{names_stay, all_stay}
-use Rattle.hls_accounts.proofs.Reached.{IsReached, listed as lists_of, seated as seated_of}
+use Rattle.hls_legal.specs.Tells.{HasName, IsPerch, ArePerches, Answers}
+use Rattle.hls_legal.proofs.Alike.{alike_other, alike_same, almost-roused, moved-reseated, alike-ticked}
+use Rattle.hls_legal.proofs.Told.{Unique}
+use Rattle.hls_legal.proofs.Depths.{sits_on_scheduler}
+use Rattle.hls_legal.proofs.Orders.{NamesStay, kept_perches}
+use Rattle.hls_legal.proofs.OrderSteps.{names_stay, all_stay}
+use Rattle.hls_legal.proofs.Reached.{IsReached, listed as lists_of, seated as seated_of}
 use Rattle.hls_audit_clauses.specs.declared.member.Sort.TheVariants as sorts
 use Rattle.hls_audit_clauses.specs.declared.member.Member.{Member}
 use Rattle.hls_audit_clauses.specs.Names.{after_answer, member_of, with_moved, without}

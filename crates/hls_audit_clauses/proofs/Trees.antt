@@ -11,11 +11,11 @@ use Rattle.hls_machine.specs.Hierarchy.{Hierarchy, Node, Loaded, Admitted, At, S
 use Rattle.hls_machine.specs.Hierarchy.{seat_of}
 use Rattle.hls_machine.specs.Steps.{sitters}
 use Rattle.hls_machine.proofs.Listings.{First, Later, in_cases, none_in, contains_first, contains_later}
-use Rattle.hls_accounts.specs.Schedule.{is_name}
-use Rattle.hls_accounts.specs.Tells.{HasName, ArePerches}
-use Rattle.hls_accounts.proofs.Rousings.{names_same}
-use Rattle.hls_accounts.proofs.Told.{Unique, by_name}
-use Rattle.hls_accounts.proofs.Orders.{kept_perches}
+use Rattle.hls_legal.specs.Schedule.{is_name}
+use Rattle.hls_legal.specs.Tells.{HasName, ArePerches}
+use Rattle.hls_legal.proofs.Rousings.{names_same}
+use Rattle.hls_legal.proofs.Told.{Unique, by_name}
+use Rattle.hls_legal.proofs.Orders.{kept_perches}
 use Rattle.hls_audit_clauses.specs.declared.member.Sort.{Sort}
 use Rattle.hls_audit_clauses.specs.declared.member.Sort.TheVariants as sorts
 use Rattle.hls_audit_clauses.specs.declared.member.Member.{Member}

@@ -9,13 +9,13 @@ use Rattle.hls_report_text.specs.declared.report.Answer.{Answer}
 use Rattle.hls_report_text.specs.declared.report.Answer.TheVariants.{Done, Refused}
 use Rattle.hls_report_text.specs.declared.report.Answered.{Answered}
 use Rattle.hls_report_text.specs.Content.{Content}
-use Rattle.hls_accounts.specs.declared.stay.Stay.{Stay}
-use Rattle.hls_accounts.specs.Commands.{is_done}
-use Rattle.hls_accounts.specs.Schedule.{path_at, last_name, is_served}
-use Rattle.hls_accounts.specs.Ready.{is_ready}
-use Rattle.hls_accounts.specs.Stays.{stays}
-use Rattle.hls_accounts.specs.Accounts.{end_of, IsLongestWindow, accounts_of, idle_of}
-use Rattle.hls_answers.specs.Dues.{AreSettled}
+use Rattle.hls_legal.specs.declared.stay.Stay.{Stay}
+use Rattle.hls_legal.specs.Commands.{is_done}
+use Rattle.hls_legal.specs.Schedule.{path_at, last_name, is_served}
+use Rattle.hls_legal.specs.Ready.{is_ready}
+use Rattle.hls_legal.specs.Stays.{stays}
+use Rattle.hls_legal.specs.Accounts.{end_of, IsLongestWindow, accounts_of, idle_of}
+use Rattle.hls_legal.specs.Dues.{AreSettled}
 use Rattle.hls_audit_clauses.specs.Names.{tree_of, tree_at}
 use Rattle.hls_audit_clauses.specs.Misplaced.{is_misplaced}
 use Rattle.hls_audit_clauses.specs.Ways.{leads_down}

@@ -13,8 +13,8 @@ use Rattle.hls_scenario.specs.declared.scenario.Spot.TheVariants.{Cpu, Under}
 use Rattle.hls_scenario.specs.declared.scenario.Perch.{Perch}
 use Rattle.hls_scenario.specs.declared.scenario.Command.{Command}
 use Rattle.hls_scenario.specs.declared.scenario.Command.TheVariants as said
-use Rattle.hls_accounts.specs.Tells.{terms_in}
-use Rattle.hls_answers.specs.Dues.{Due}
+use Rattle.hls_legal.specs.Tells.{terms_in}
+use Rattle.hls_legal.specs.Dues.{Due}
 use Rattle.hls_audit_clauses.specs.declared.member.Sort.{Sort}
 use Rattle.hls_audit_clauses.specs.declared.member.Sort.TheVariants.{Scheduler}
 use Rattle.hls_audit_clauses.specs.declared.member.Member.{Member}

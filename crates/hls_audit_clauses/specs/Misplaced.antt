@@ -6,8 +6,8 @@ use Rattle.hls_scenario.specs.declared.scenario.Spot.{Spot}
 use Rattle.hls_scenario.specs.declared.scenario.Spot.TheVariants.{Cpu, Under}
 use Rattle.hls_scenario.specs.declared.scenario.Command.{Command}
 use Rattle.hls_scenario.specs.declared.scenario.Command.TheVariants.{Thread, End, Unload, Move, Wake, Block}
-use Rattle.hls_accounts.specs.Under.{is_on}
-use Rattle.hls_answers.specs.Moment.{new_name, old_name, spots_of}
+use Rattle.hls_legal.specs.Under.{is_on}
+use Rattle.hls_legal.specs.Moment.{new_name, old_name, spots_of}
 use Rattle.hls_audit_clauses.specs.declared.member.Member.{Member}
 use Rattle.hls_audit_clauses.specs.Names.{is_there, is_scheduler, is_thread, is_join, sits_on, sits_at_cpu}
 use Rattle.hls_audit_clauses.specs.Names.{is_under}

@@ -11,8 +11,8 @@ use Rattle.hls_scenario.specs.declared.scenario.Perch.{Perch}
 use Rattle.hls_scenario.specs.declared.scenario.Command.{Command}
 use Rattle.hls_scenario.specs.declared.scenario.Command.TheVariants as said
 use Rattle.hls_report_text.specs.declared.report.Answered.{Answered}
-use Rattle.hls_accounts.specs.Commands.{is_done}
-use Rattle.hls_accounts.specs.Under.{is_on}
+use Rattle.hls_legal.specs.Commands.{is_done}
+use Rattle.hls_legal.specs.Under.{is_on}
 use Rattle.hls_audit_clauses.specs.declared.member.Sort.{Sort}
 use Rattle.hls_audit_clauses.specs.declared.member.Sort.TheVariants.{Scheduler, Thread}
 use Rattle.hls_audit_clauses.specs.declared.member.Member.{Member}

@@ -15,8 +15,8 @@ use Rattle.hls_scenario.specs.declared.scenario.Perch.{Perch}
 use Rattle.hls_scenario.specs.declared.scenario.Command.{Command}
 use Rattle.hls_scenario.specs.declared.scenario.Command.TheVariants.{Load, Thread, End, Unload, Move, Wake, Block}
 use Rattle.hls_report_text.specs.declared.report.Answered.{Answered}
-use Rattle.hls_accounts.specs.Commands.{last_seating}
-use Rattle.hls_accounts.specs.Under.{is_on, seats_on, sits_on, is_within}
+use Rattle.hls_legal.specs.Commands.{last_seating}
+use Rattle.hls_legal.specs.Under.{is_on, seats_on, sits_on, is_within}
 use Rattle.hls_audit_stays.specs.declared.places.Places.{Places}
 use Rattle.hls_audit_stays.specs.declared.seats.Seats.{Seats}
 use Rattle.hls_audit_stays.specs.Places.{place_in}

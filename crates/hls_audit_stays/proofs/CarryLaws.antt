@@ -12,14 +12,14 @@ use Rattle.hls_scenario.specs.declared.scenario.Perch.{Perch}
 use Rattle.hls_scenario.specs.declared.scenario.Command.{Command}
 use Rattle.hls_scenario.specs.declared.scenario.Command.TheVariants.{Thread, End, Move}
 use Rattle.hls_report_text.specs.declared.report.Answered.{Answered}
-use Rattle.hls_accounts.specs.declared.stay.Stay.{Stay}
-use Rattle.hls_accounts.specs.Commands.{is_done, has_done, seats, ends, last_seating}
-use Rattle.hls_accounts.specs.Under.{is_under}
-use Rattle.hls_accounts.specs.Stays.{admits, threads, opens, opened, closes, want_in, want_of}
-use Rattle.hls_accounts.specs.Stays.{stay_of, stays_with, stays, stays_from}
-use Rattle.hls_accounts.proofs.StayLaws.{stands_by, closed-nil}
-use Rattle.hls_accounts.proofs.StaySnoc.{goes_on, threads_snoc, close_by, stays_snoc}
-use Rattle.hls_accounts.proofs.Seatings.{seating_hit}
+use Rattle.hls_legal.specs.declared.stay.Stay.{Stay}
+use Rattle.hls_legal.specs.Commands.{is_done, has_done, seats, ends, last_seating}
+use Rattle.hls_legal.specs.Under.{is_under}
+use Rattle.hls_legal.specs.Stays.{admits, threads, opens, opened, closes, want_in, want_of}
+use Rattle.hls_legal.specs.Stays.{stay_of, stays_with, stays, stays_from}
+use Rattle.hls_legal.proofs.StayLaws.{stands_by, closed-nil}
+use Rattle.hls_legal.proofs.StaySnoc.{goes_on, threads_snoc, close_by, stays_snoc}
+use Rattle.hls_legal.proofs.Seatings.{seating_hit}
 use Rattle.hls_audit_stays.specs.declared.carrying.Carried.{Carried}
 use Rattle.hls_audit_stays.specs.declared.seats.Seats.{Seats}
 use Rattle.hls_audit_stays.specs.Inside.Seats.{AreSeats}

@@ -11,8 +11,8 @@ use Rattle.hls_scenario.specs.declared.scenario.Perch.{Perch}
 use Rattle.hls_scenario.specs.declared.scenario.Command.{Command}
 use Rattle.hls_scenario.specs.declared.scenario.Command.TheVariants.{Load, Thread, End, Unload, Move, Wake, Block}
 use Rattle.hls_report_text.specs.declared.report.Answered.{Answered}
-use Rattle.hls_accounts.specs.Commands.{is_done, has_done, seats, last_seating}
-use Rattle.hls_accounts.proofs.Seatings.{seating_hit, seating_miss}
+use Rattle.hls_legal.specs.Commands.{is_done, has_done, seats, last_seating}
+use Rattle.hls_legal.proofs.Seatings.{seating_hit, seating_miss}
 use Rattle.hls_audit_stays.specs.declared.places.Places.{Places}
 use Rattle.hls_audit_stays.specs.declared.seats.Seats.{Seats}
 use Rattle.hls_audit_stays.specs.Found.{command_at}

@@ -1,8 +1,8 @@
 -- Stays as they are found.
 use Rattle.std.specs.Prelude.{ℕ, List, Option, Some, None, Bool, true, nat_lt, slice_get}
 use Rattle.hls_report_text.specs.declared.report.Answered.{Answered}
-use Rattle.hls_accounts.specs.declared.stay.Stay.{Stay}
-use Rattle.hls_accounts.specs.Stays.{want_of}
+use Rattle.hls_legal.specs.declared.stay.Stay.{Stay}
+use Rattle.hls_legal.specs.Stays.{want_of}
 use Rattle.hls_audit_stays.specs.declared.found.FoundStay.{FoundStay}
 
 abbrev pub command_at : List Answered → Option ℕ → Option Answered

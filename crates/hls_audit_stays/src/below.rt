@@ -4,7 +4,7 @@ ghost use Rattle.std.specs.List.{list_any};
 ghost use Rattle.std.specs.Str.{bytes_eq};
 ghost use Rattle.hls_text.specs.Lines.{Text};
 ghost use Rattle.hls_scenario.specs.declared.scenario.Perch as asked;
-ghost use Rattle.hls_accounts.specs.Under as under;
+ghost use Rattle.hls_legal.specs.Under as under;
 ghost use Rattle.hls_audit_stays.specs.Inside.Seats.{seated, AreSeats};
 ghost use Rattle.hls_audit_stays.specs.Inside.Marks.{mark_in, next_mark, next_marks, AreBelow};
 

@@ -1,12 +1,12 @@
 // Stays as they are found.
 ghost use Rattle.std.specs.Prelude.{◌≡◌};
-ghost use Rattle.hls_accounts.specs.Stays.{want_of};
+ghost use Rattle.hls_legal.specs.Stays.{want_of};
 ghost use Rattle.hls_audit_stays.specs.Found.{stay_by, has_lasted, command_at};
 
 use crate::spells::want_in;
-use hls_accounts::Stay;
 use hls_chron::Name;
 use hls_guarantee::Guarantee;
+use hls_legal::Stay;
 use hls_report_text::Answered;
 
 /// A stay of a thread, as a `Stay` in less room: what is guaranteed for it stands in the command that seated the thread

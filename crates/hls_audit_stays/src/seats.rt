@@ -1,7 +1,7 @@
 // Who was seated where, by the commands so far.
 ghost use Rattle.std.specs.Prelude.{◌≡◌, ◌+◌, List, OnOk, Some, true, slice_get};
 ghost use Rattle.hls_report_text.specs.declared.report.Answered as report;
-ghost use Rattle.hls_accounts.specs.Commands as said;
+ghost use Rattle.hls_legal.specs.Commands as said;
 ghost use Rattle.hls_audit_stays.specs.Inside.Seats.{AreSeats};
 ghost use Rattle.hls_audit_stays.specs.Inside.Seats.{LearnsSched, LearnsSpot, LearnsSpots, LearnsSeats};
 

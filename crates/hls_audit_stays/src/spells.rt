@@ -2,7 +2,7 @@
 ghost use Rattle.std.specs.Prelude.{◌≡◌, ◌↔◌, Bool, IsTrue, get_or, false};
 ghost use Rattle.std.specs.List.{list_any};
 ghost use Rattle.std.specs.Str.{bytes_eq};
-ghost use Rattle.hls_accounts.specs.Stays.{want_in};
+ghost use Rattle.hls_legal.specs.Stays.{want_in};
 
 use hls_chron::Name;
 use hls_guarantee::Guarantee;

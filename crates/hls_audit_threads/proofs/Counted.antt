@@ -9,8 +9,8 @@ use Rattle.hls_text.specs.Lines.{Text}
 use Rattle.hls_guarantee.specs.declared.Guarantee.{Guarantee}
 use Rattle.hls_report_text.specs.declared.report.Account.{Account}
 use Rattle.hls_report_text.specs.Content.{Content}
-use Rattle.hls_accounts.specs.declared.stay.Stay.{Stay}
-use Rattle.hls_accounts.specs.Accounts.{end_of, ticks_in}
+use Rattle.hls_legal.specs.declared.stay.Stay.{Stay}
+use Rattle.hls_legal.specs.Accounts.{end_of, ticks_in}
 
 -- ---- the ticks of a stay
 

@@ -14,13 +14,13 @@ use Rattle.hls_report_text.specs.declared.report.Run.{Run}
 use Rattle.hls_report_text.specs.declared.report.Report.{Report}
 use Rattle.hls_report_text.specs.Content.{Content, content_of, path_names, stretch_of}
 use Rattle.hls_report_text.specs.WellFormed.{IsContent}
-use Rattle.hls_accounts.specs.Ready.{is_ready}
-use Rattle.hls_accounts.specs.Schedule.{has_tick, path_at, last_name, is_name, is_served}
+use Rattle.hls_legal.specs.Ready.{is_ready}
+use Rattle.hls_legal.specs.Schedule.{has_tick, path_at, last_name, is_name, is_served}
 use Rattle.hls_audit_clauses.specs.Clauses.{RunsUnready}
 use Rattle.hls_audit_watch.specs.First.{FirstAt}
 use Rattle.hls_audit_threads.specs.Inside.Unready.{IsUnready}
 use Rattle.hls_audit_threads.proofs.EachStay.{HasEarly, first_same}
-use Rattle.hls_accounts.proofs.TickLists.{path_first}
+use Rattle.hls_legal.proofs.TickLists.{path_first}
 use Rattle.hls_audit_threads.proofs.OnPaths.{path_none, path_early, last_is, no_name}
 
 -- ---- from spans of ticks

@@ -7,9 +7,9 @@ use Rattle.std.proofs.lemmas.Option.{slice_get_read, slice_get_within, get_or_fr
 use Rattle.hls_guarantee.specs.Limits.{IsValid}
 use Rattle.hls_report_text.specs.Content.{Content}
 use Rattle.hls_report_text.specs.WellFormed.{IsContent}
-use Rattle.hls_accounts.specs.declared.stay.Stay.{Stay}
-use Rattle.hls_accounts.specs.Stays.{stays}
-use Rattle.hls_accounts.specs.Accounts.{end_by, end_of}
+use Rattle.hls_legal.specs.declared.stay.Stay.{Stay}
+use Rattle.hls_legal.specs.Stays.{stays}
+use Rattle.hls_legal.specs.Accounts.{end_by, end_of}
 use Rattle.hls_report_text.specs.declared.report.Answered.{Answered}
 use Rattle.hls_audit_stays.specs.declared.found.FoundStay.{FoundStay}
 use Rattle.hls_audit_stays.specs.Found.{stay_by, is_later, lasts}

@@ -8,11 +8,11 @@ use Rattle.hls_guarantee.specs.Limits.{IsValid}
 use Rattle.hls_report_text.specs.declared.report.Answered.{Answered}
 use Rattle.hls_report_text.specs.Content.{Content}
 use Rattle.hls_report_text.specs.WellFormed.{AreAnswered, IsContent}
-use Rattle.hls_accounts.specs.declared.stay.Stay.{Stay}
-use Rattle.hls_accounts.specs.Stays.{stays}
-use Rattle.hls_accounts.specs.Accounts.{end_of}
+use Rattle.hls_legal.specs.declared.stay.Stay.{Stay}
+use Rattle.hls_legal.specs.Stays.{stays}
+use Rattle.hls_legal.specs.Accounts.{end_of}
 use Rattle.hls_audit_threads.specs.Inside.Order.{AreInOrder, IsSound}
-use Rattle.hls_accounts.proofs.GoodStays.{IsFit, IsGoodStay, answered_fit, stays_good, end_within}
+use Rattle.hls_legal.proofs.GoodStays.{IsFit, IsGoodStay, answered_fit, stays_good, end_within}
 
 all_good : (c : Content) → IsContent c → All (IsGoodStay c.horizon) (stays c.answered)
 all_good c formed = stays_good c.horizon c.answered formed.answered

@@ -8,9 +8,9 @@ use Rattle.std.proofs.lemmas.List.{length-map, take_more, map-append}
 use Rattle.std.proofs.Common.{inl, inr}
 use Rattle.hls_report_text.specs.declared.report.Account.{Account}
 use Rattle.hls_report_text.specs.Content.{Content}
-use Rattle.hls_accounts.specs.declared.stay.Stay.{Stay}
-use Rattle.hls_accounts.specs.Accounts.{end_by, end_of, account_of, accounts_of}
-use Rattle.hls_accounts.specs.Stays.{stays}
+use Rattle.hls_legal.specs.declared.stay.Stay.{Stay}
+use Rattle.hls_legal.specs.Accounts.{end_by, end_of, account_of, accounts_of}
+use Rattle.hls_legal.specs.Stays.{stays}
 use Rattle.hls_audit_stays.specs.Found.{is_later, lasts}
 use Rattle.hls_audit_stays.proofs.Lists.{filter_append, take_all}
 use Rattle.hls_audit_threads.specs.declared.stay_findings.StayFindings.{StayFindings}

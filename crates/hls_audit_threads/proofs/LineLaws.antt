@@ -15,9 +15,9 @@ use Rattle.hls_audit_spans.proofs.Growing.{tell_none, tell_wider}
 use Rattle.hls_scenario.specs.declared.scenario.Command.{Command}
 use Rattle.hls_scenario.specs.declared.scenario.Command.TheVariants.{Load, Thread, End, Unload, Move, Wake, Block}
 use Rattle.hls_report_text.specs.declared.report.Answered.{Answered}
-use Rattle.hls_accounts.specs.Commands.{has_done, rouses, last_rousing}
-use Rattle.hls_accounts.specs.Ready.{lasts, is_awake}
-use Rattle.hls_accounts.proofs.Rousings.{rousing, find-snoc_hit, find-snoc_miss}
+use Rattle.hls_legal.specs.Commands.{has_done, rouses, last_rousing}
+use Rattle.hls_legal.specs.Ready.{lasts, is_awake}
+use Rattle.hls_legal.proofs.Rousings.{rousing, find-snoc_hit, find-snoc_miss}
 use Rattle.hls_audit_threads.specs.declared.lines.Readiness.{Readiness}
 use Rattle.hls_audit_threads.specs.declared.lines.Readiness.TheVariants.{Asleep, Burst}
 use Rattle.hls_audit_threads.specs.declared.chains.Chains.{Chains}

@@ -8,8 +8,8 @@ use Rattle.hls_audit_spans.specs.Spans.{Tell}
 use Rattle.hls_report_text.specs.declared.report.Answered.{Answered}
 use Rattle.hls_report_text.specs.Content.{Content}
 use Rattle.hls_report_text.specs.WellFormed.{IsContent}
-use Rattle.hls_accounts.specs.Ready.{is_ready}
-use Rattle.hls_accounts.specs.Schedule.{is_served}
+use Rattle.hls_legal.specs.Ready.{is_ready}
+use Rattle.hls_legal.specs.Schedule.{is_served}
 use Rattle.hls_audit_threads.specs.Inside.Ticks.{TellsReady}
 use Rattle.hls_audit_threads.proofs.Formed.{command_early}
 use Rattle.hls_audit_threads.proofs.LineLaws.{awake}

@@ -13,7 +13,7 @@ use Rattle.hls_text.specs.Lines.{Text}
 use Rattle.hls_report_text.specs.declared.report.Path.{Path}
 use Rattle.hls_report_text.specs.declared.report.Run.{Run}
 use Rattle.hls_report_text.specs.Content.{path_names, stretch_of}
-use Rattle.hls_accounts.specs.Schedule.{is_name}
+use Rattle.hls_legal.specs.Schedule.{is_name}
 use Rattle.hls_audit_threads.specs.Inside.Chains.{Keys}
 use Rattle.hls_audit_threads.specs.Inside.Lookups.{AreKeys, Serves, ServesNamed}
 use Rattle.hls_audit_threads.specs.Inside.Lines.{serves}

@@ -12,14 +12,14 @@ use Rattle.hls_report_text.specs.declared.report.Run.{Run}
 use Rattle.hls_report_text.specs.declared.report.Report.{Report}
 use Rattle.hls_report_text.specs.Content.{Content, content_of, stretch_of, path_names}
 use Rattle.hls_report_text.specs.WellFormed.{Cover, IsContent}
-use Rattle.hls_accounts.specs.Schedule.{has_tick, path_at, is_served}
+use Rattle.hls_legal.specs.Schedule.{has_tick, path_at, is_served}
 use Rattle.hls_audit_threads.specs.declared.chains.Chains.{Chains}
 use Rattle.hls_audit_threads.specs.Inside.Chains.{Keys, HasKey, IsNextAt, IsNext, AreChains, next_of}
 use Rattle.hls_audit_threads.specs.Inside.Lines.{serves}
 use Rattle.hls_audit_threads.specs.Inside.Lookups.{AreKeys, Serves, ServesNamed}
 use Rattle.hls_audit_threads.specs.Inside.Ticks.{TellsServed}
 use Rattle.hls_audit_threads.proofs.EachName.{has_thread}
-use Rattle.hls_accounts.proofs.TickLists.{path_first}
+use Rattle.hls_legal.proofs.TickLists.{path_first}
 use Rattle.hls_audit_threads.proofs.OnPaths.{path_none, no_name}
 use Rattle.hls_audit_threads.proofs.RunLaws.{path_is, run_since}
 

@@ -10,9 +10,9 @@ use Rattle.hls_report_text.specs.declared.stretch.Stretch.{Stretch}
 use Rattle.hls_report_text.specs.declared.report.Path.{Path}
 use Rattle.hls_report_text.specs.Content.{Content, path_names}
 use Rattle.hls_report_text.specs.WellFormed.{Cover, IsPath, IsContent}
-use Rattle.hls_accounts.specs.Schedule.{has_tick, path_at, last_name}
-use Rattle.hls_accounts.proofs.TickLists.{path_first}
-use Rattle.hls_accounts.proofs.Paths.{last_of_path}
+use Rattle.hls_legal.specs.Schedule.{has_tick, path_at, last_name}
+use Rattle.hls_legal.proofs.TickLists.{path_first}
+use Rattle.hls_legal.proofs.Paths.{last_of_path}
 
 abbrev Way : Type 0
 Way = Option (List Text)

@@ -13,10 +13,10 @@ use Rattle.hls_audit_watch.specs.First.{IsFirstAt}
 use Rattle.hls_audit_watch.specs.Shortages.{IsShort, IsOver}
 use Rattle.hls_audit_spans.specs.Spans.{AreTicks}
 use Rattle.hls_report_text.specs.Content.{Content}
-use Rattle.hls_accounts.specs.declared.stay.Stay.{Stay}
-use Rattle.hls_accounts.specs.Accounts.{end_of}
-use Rattle.hls_accounts.specs.Ready.{is_ready}
-use Rattle.hls_accounts.specs.Schedule.{is_served}
+use Rattle.hls_legal.specs.declared.stay.Stay.{Stay}
+use Rattle.hls_legal.specs.Accounts.{end_of}
+use Rattle.hls_legal.specs.Ready.{is_ready}
+use Rattle.hls_legal.specs.Schedule.{is_served}
 use Rattle.hls_audit_threads.specs.Inside.Sites.{Starves, Exceeds}
 
 inside : (l : List Bool) (t : ℕ) → schedule_of l t ≡ true → t < length l

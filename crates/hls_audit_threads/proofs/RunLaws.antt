@@ -8,8 +8,8 @@ use Rattle.hls_report_text.specs.declared.report.Run.{Run}
 use Rattle.hls_report_text.specs.declared.stretch.Stretch.{Stretch}
 use Rattle.hls_report_text.specs.Content.{Content, path_names, stretch_of}
 use Rattle.hls_report_text.specs.WellFormed.{Cover, IsContent}
-use Rattle.hls_accounts.specs.Schedule.{has_tick, path_at}
-use Rattle.hls_accounts.proofs.TickLists.{path_first}
+use Rattle.hls_legal.specs.Schedule.{has_tick, path_at}
+use Rattle.hls_legal.proofs.TickLists.{path_first}
 
 module _ (names : List Text) where
   pub run_since : (from : ℕ) (last : Option (Option (List Text))) (runs : List Run) (end at : ℕ) (run : Run)

@@ -2,13 +2,13 @@
 ghost use Rattle.std.specs.Prelude.{◌≡◌, ◌≤◌};
 ghost use Rattle.hls_report_text.specs.Content.{content_of};
 ghost use Rattle.hls_report_text.specs.WellFormed.{IsWellFormed};
-ghost use Rattle.hls_accounts.specs.Accounts as told;
+ghost use Rattle.hls_legal.specs.Accounts as told;
 ghost use Rattle.hls_audit_threads.specs.Inside.Ticks.{TellsReady, TellsServed};
 ghost use Rattle.hls_audit_threads.specs.Inside.StayFindings.{account_if};
 
 use crate::stays::end_of;
-use hls_accounts::Stay;
 use hls_audit_spans::Spans;
+use hls_legal::Stay;
 use hls_report_text::{Account, Report};
 
 /// The account of a stay, if it has a tick.

@@ -2,7 +2,7 @@
 ghost use Rattle.std.specs.Prelude.{◌≡◌, Decides, IfOk};
 ghost use Rattle.hls_report_text.specs.Content.{content_of};
 ghost use Rattle.hls_report_text.specs.WellFormed.{IsWellFormed};
-ghost use Rattle.hls_accounts.specs.Accounts as told;
+ghost use Rattle.hls_legal.specs.Accounts as told;
 ghost use Rattle.hls_audit_clauses.specs.Clauses.{RunsUnready, IsStarved, IsOverCap};
 ghost use Rattle.hls_audit_watch.specs.First.{FirstAt};
 

@@ -1,6 +1,6 @@
 // Who is served in each run of a report, and whom each of its commands rouses.
 ghost use Rattle.std.specs.Prelude.{◌≡◌, ℕ, List, Some, true, IfOk, IfSome, slice_get};
-ghost use Rattle.hls_accounts.specs.Commands.{rouses};
+ghost use Rattle.hls_legal.specs.Commands.{rouses};
 ghost use Rattle.hls_audit_threads.specs.Inside.Lookups.{AreKeys, Serves, ServesNamed, Rouses, IsLookup};
 
 use crate::chains::Chains;

@@ -4,15 +4,15 @@ ghost use Rattle.hls_guarantee.specs.Cap.{KeepsCap};
 ghost use Rattle.hls_guarantee.specs.Limits.{IsValid};
 ghost use Rattle.hls_guarantee.specs.Satisfaction.{Satisfies};
 ghost use Rattle.hls_report_text.specs.Content.{Content};
-ghost use Rattle.hls_accounts.specs.Accounts.{end_of};
+ghost use Rattle.hls_legal.specs.Accounts.{end_of};
 ghost use Rattle.hls_audit_watch.specs.First.{FirstAt};
 ghost use Rattle.hls_audit_threads.specs.Inside.Sites.{Starves, Exceeds};
 ghost use Rattle.hls_audit_threads.specs.Inside.Ticks.{TellsReady, TellsServed};
 
-use hls_accounts::Stay;
 use hls_audit_spans::Spans;
 use hls_audit_watch::{first_over, first_short};
 use hls_guarantee::Guarantee;
+use hls_legal::Stay;
 use std::alloc::{AllocError, Global};
 
 /// Whether a guarantee promises nothing.

@@ -3,8 +3,8 @@ ghost use Rattle.std.specs.Prelude.{◌≡◌, ◌≤◌, IfOk, OnOk, None, Some
 ghost use Rattle.hls_guarantee.specs.Limits.{IsValid};
 ghost use Rattle.hls_report_text.specs.Content.{content_of};
 ghost use Rattle.hls_report_text.specs.WellFormed.{IsWellFormed};
-ghost use Rattle.hls_accounts.specs.Accounts as ends;
-ghost use Rattle.hls_accounts.specs.Stays as told;
+ghost use Rattle.hls_legal.specs.Accounts as ends;
+ghost use Rattle.hls_legal.specs.Stays as told;
 ghost use Rattle.hls_audit_stays.specs.Found.{stay_by, lasts};
 ghost use Rattle.hls_audit_clauses.specs.Clauses.{IsStarved, IsOverCap};
 ghost use Rattle.hls_audit_watch.specs.First.{FirstAt};
@@ -19,8 +19,8 @@ use crate::known_threads::{KnownThreads, ThreadTicks};
 use crate::lookup::Lookup;
 use crate::meeting::meet;
 use crate::stays::{first_excess, first_lack, sooner_of};
-use hls_accounts::Stay;
 use hls_audit_stays::FoundStay;
+use hls_legal::Stay;
 use hls_report_text::Report;
 use std::alloc::{AllocError, Global};
 

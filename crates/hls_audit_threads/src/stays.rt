@@ -3,15 +3,15 @@ ghost use Rattle.std.specs.Prelude.{◌≡◌, ◌≤◌, IfOk};
 ghost use Rattle.hls_guarantee.specs.Limits.{IsValid};
 ghost use Rattle.hls_report_text.specs.Content.{content_of};
 ghost use Rattle.hls_report_text.specs.WellFormed.{IsWellFormed};
-ghost use Rattle.hls_accounts.specs.Accounts as ends;
+ghost use Rattle.hls_legal.specs.Accounts as ends;
 ghost use Rattle.hls_audit_watch.specs.First.{FirstAt};
 ghost use Rattle.hls_audit_threads.specs.Inside.Least as least;
 ghost use Rattle.hls_audit_threads.specs.Inside.Sites.{Starves, Exceeds};
 ghost use Rattle.hls_audit_threads.specs.Inside.Ticks.{TellsReady, TellsServed};
 
 use crate::starving::{first_exceeding, first_starving};
-use hls_accounts::Stay;
 use hls_audit_spans::Spans;
+use hls_legal::Stay;
 use hls_report_text::Report;
 use std::alloc::{AllocError, Global};
 

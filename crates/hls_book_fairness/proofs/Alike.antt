@@ -4,8 +4,8 @@ use Rattle.hls_chron.specs.declared.plain.Config.TheVariants.{Sfq}
 use Rattle.hls_chron.specs.Ledger.{Ledger}
 use Rattle.hls_kinds.specs.Made.{IsMade}
 use Rattle.hls_kinds.specs.Shares.{KeepsSharesByWeight}
-use Rattle.hls_book_made.proofs.Books.{shares_made}
-use Rattle.hls_book_sfq.proofs.Runs.{keeps-shares}
+use Rattle.hls_book.proofs.Books.{shares_made}
+use Rattle.hls_book.proofs.ShareRuns.{keeps-shares}
 use Rattle.hls_book_fairness.specs.Fairness.{ServesAlike}
 
 pub serves_alike : (total most : ℕ) (b : Ledger) → IsMade (Sfq total most) b → ServesAlike b

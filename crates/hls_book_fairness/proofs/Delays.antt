@@ -15,14 +15,14 @@ use Rattle.hls_kinds.specs.Shares.{AsksThroughout}
 use Rattle.hls_kinds.specs.Tags.{share_in}
 use Rattle.hls_kinds.proofs.MarkLaws.{sits_on}
 use Rattle.hls_kinds.proofs.Sums.{sum-at}
-use Rattle.hls_book_made.proofs.Books.{shares_made}
-use Rattle.hls_book_sfq.specs.ShareBook.{KeepsShareBook}
-use Rattle.hls_book_sfq.proofs.Follows.{to_of}
-use Rattle.hls_book_sfq.proofs.Promises.{fair_asks}
-use Rattle.hls_book_sfq.proofs.Rooms.{weights-at, slot-at, fits-at}
-use Rattle.hls_book_sfq.proofs.Nexts.{share_at}
-use Rattle.hls_book_sfq.proofs.Runs.{has-share}
-use Rattle.hls_book_sfq.proofs.Windows.{given_in, served_in}
+use Rattle.hls_book.proofs.Books.{shares_made}
+use Rattle.hls_book.specs.ShareBook.{KeepsShareBook}
+use Rattle.hls_book.proofs.Follows.{to_of}
+use Rattle.hls_book.proofs.SharePromises.{fair_asks}
+use Rattle.hls_book.proofs.Rooms.{weights-at, slot-at, fits-at}
+use Rattle.hls_book.proofs.Nexts.{share_at}
+use Rattle.hls_book.proofs.ShareRuns.{has-share}
+use Rattle.hls_book.proofs.Windows.{given_in, served_in}
 use Rattle.hls_book_fairness.specs.Runs.{given_ticks, served_ticks}
 use Rattle.hls_book_fairness.specs.Delays.{IsLevel, IsGivenThroughout, KeepsDelays}
 use Rattle.hls_book_fairness.proofs.Level.{level_share}

@@ -14,16 +14,16 @@ use Rattle.hls_kinds.specs.declared.tenant.Tenant.TheVariants.{Sits}
 use Rattle.hls_kinds.specs.Tags.{unit_tag, share_in, time_by, start_tag}
 use Rattle.hls_kinds.specs.Tenants.{tenant_then}
 use Rattle.hls_kinds.proofs.Sums.{sum-le, sum-mul, sum-at}
-use Rattle.hls_book_sfq.specs.ShareBook.{KeepsShareBook}
-use Rattle.hls_book_sfq.proofs.Atoms.{ahead-most, ahead-free, together}
-use Rattle.hls_book_sfq.proofs.Follows.{At, tags_of, clock_of, asks_of, to_of, at-all, room-of, serves-at, v-next}
-use Rattle.hls_book_sfq.proofs.Follows.{tag-taken, tag-stays, churn-at}
-use Rattle.hls_book_sfq.proofs.Nexts.{v_of, share_at, f_of}
-use Rattle.hls_book_sfq.proofs.Rooms.{slot-at, taken-at}
-use Rattle.hls_book_sfq.proofs.Runs.{asked-started, sat-at}
-use Rattle.hls_book_sfq.proofs.Spans.{after_v, after_tags, span-ahead, span-own, any-tags}
-use Rattle.hls_book_sfq.proofs.Tags.{Tag, seats, ahead, ahead_in}
-use Rattle.hls_book_sfq.proofs.Windows.{given_in, served_in, Passes, AsksOn}
+use Rattle.hls_book.specs.ShareBook.{KeepsShareBook}
+use Rattle.hls_book.proofs.Atoms.{ahead-most, ahead-free, together}
+use Rattle.hls_book.proofs.Follows.{At, tags_of, clock_of, asks_of, to_of, at-all, room-of, serves-at, v-next}
+use Rattle.hls_book.proofs.Follows.{tag-taken, tag-stays, churn-at}
+use Rattle.hls_book.proofs.Nexts.{v_of, share_at, f_of}
+use Rattle.hls_book.proofs.Rooms.{slot-at, taken-at}
+use Rattle.hls_book.proofs.ShareRuns.{asked-started, sat-at}
+use Rattle.hls_book.proofs.Spans.{after_v, after_tags, span-ahead, span-own, any-tags}
+use Rattle.hls_book.proofs.Tags.{Tag, seats, ahead, ahead_in}
+use Rattle.hls_book.proofs.Windows.{given_in, served_in, Passes, AsksOn}
 
 -- no seat has more ahead of it than one step of its weight
 seat_ahead : (V v : ℕ) (tag : Tag) → (0 < tag.w → tag.w * tag.step ≡ V) → ahead 1 v tag ≤ one_if (nat_lt 0 tag.w) * V

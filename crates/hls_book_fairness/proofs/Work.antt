@@ -11,10 +11,10 @@ use Rattle.hls_chron.proofs.CountLaws.{count-none, count-push}
 use Rattle.hls_kinds.specs.Made.{IsMade}
 use Rattle.hls_kinds.specs.Slots.{sum_below}
 use Rattle.hls_kinds.proofs.Sums.{sum-zero, sum-suc, sum-eq, sum-add}
-use Rattle.hls_book_made.proofs.Books.{shares_made}
-use Rattle.hls_book_promise.proofs.PromiseLaws.{row_at-later}
-use Rattle.hls_book_sfq.specs.ShareBook.{KeepsShareBook}
-use Rattle.hls_book_sfq.proofs.Promises.{fair_asks}
+use Rattle.hls_book.proofs.Books.{shares_made}
+use Rattle.hls_book.proofs.PromiseLaws.{row_at-later}
+use Rattle.hls_book.specs.ShareBook.{KeepsShareBook}
+use Rattle.hls_book.proofs.SharePromises.{fair_asks}
 use Rattle.hls_book_fairness.specs.Runs.{given_ticks, served_ticks}
 use Rattle.hls_book_fairness.specs.Work.{LosesNoTick}
 

@@ -12,12 +12,12 @@ use Rattle.hls_kinds.specs.declared.tenant.Tenant.TheVariants.{Sits}
 use Rattle.hls_kinds.specs.Reservations.{last_replenished, deadline_after, budget_after, claim_of, claim_at, budget_in}
 use Rattle.hls_kinds.specs.Reservations.{deadline_in, budget_at, deadline_at}
 use Rattle.hls_kinds.specs.Tenants.{tenant_at, asking}
-use Rattle.hls_book_edf.specs.declared.server.Server.{Server}
-use Rattle.hls_book_edf.specs.Books.{KeepsReservations, IsReservation}
-use Rattle.hls_book_edf.specs.Recomputed.{server_within}
-use Rattle.hls_book_edf.specs.Stays.{IsPaced}
-use Rattle.hls_book_edf.proofs.Each.{seat_is}
-use Rattle.hls_book_edf.proofs.Pacing.{paced_before, paced_within, within_ahead}
+use Rattle.hls_book.specs.declared.server.Server.{Server}
+use Rattle.hls_book.specs.Books.{KeepsReservations, IsReservation}
+use Rattle.hls_book.specs.Recomputed.{server_within}
+use Rattle.hls_book.specs.Stays.{IsPaced}
+use Rattle.hls_book.proofs.Each.{seat_is}
+use Rattle.hls_book.proofs.Pacing.{paced_before, paced_within, within_ahead}
 use Rattle.hls_book_isolation.specs.Claims.{IsClaim}
 
 seat_claim : (b : Ledger) (mask slot x y since : ℕ) (hard : Bool) → tenant_at b slot ≡ Sits (Res hard x y) since

@@ -17,14 +17,14 @@ use Rattle.hls_kinds.specs.Asks.{slot_asks}
 use Rattle.hls_kinds.specs.Reservations.{claim_of}
 use Rattle.hls_kinds.specs.Tenants.{tenant_at}
 use Rattle.hls_kinds.proofs.Sums.{sum-le, sum-eq, sum-mul}
-use Rattle.hls_book_edf.specs.declared.server.Server.{Server}
-use Rattle.hls_book_edf.specs.Books.{KeepsReservations, IsGiven, IsTenant, server_of, server_at, amid_at}
-use Rattle.hls_book_edf.specs.Demand.{owed, claimed}
-use Rattle.hls_book_edf.specs.Recomputed.{server_before}
-use Rattle.hls_book_edf.specs.Servers.{replenished, claimed_by, claimed_in, parts_in, HaveRoom}
-use Rattle.hls_book_edf.proofs.Claims.{claim_is}
-use Rattle.hls_book_edf.proofs.Owed.{owed-due}
-use Rattle.hls_book_edf.proofs.Replenishing.{replenished-on, replenished-rate, replenishing-room}
+use Rattle.hls_book.specs.declared.server.Server.{Server}
+use Rattle.hls_book.specs.Books.{KeepsReservations, IsGiven, IsTenant, server_of, server_at, amid_at}
+use Rattle.hls_book.specs.Demand.{owed, claimed}
+use Rattle.hls_book.specs.Recomputed.{server_before}
+use Rattle.hls_book.specs.Servers.{replenished, claimed_by, claimed_in, parts_in, HaveRoom}
+use Rattle.hls_book.proofs.Claims.{claim_is}
+use Rattle.hls_book.proofs.Owed.{owed-due}
+use Rattle.hls_book.proofs.Replenishing.{replenished-on, replenished-rate, replenishing-room}
 use Rattle.hls_book_isolation.specs.Demand.{demand_of, demand_in, demand_at, demand}
 
 -- where it asks, all that is owed is claimed

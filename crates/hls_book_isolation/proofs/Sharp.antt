@@ -9,17 +9,17 @@ use Rattle.hls_chron.specs.Ticks.{one_if, count}
 use Rattle.hls_chron.proofs.CountLaws.{count-none, count-push, count-le}
 use Rattle.hls_chron.proofs.PartLaws.{parts-rate, parts-near}
 use Rattle.hls_kinds.specs.declared.reservations.Reservation.{Reservation}
-use Rattle.hls_book_edf.specs.declared.server.Server.{Server}
-use Rattle.hls_book_edf.specs.Demand.{owed, claimed}
-use Rattle.hls_book_edf.specs.Recomputed.{server_before, server_within}
-use Rattle.hls_book_edf.specs.Servers.{IsServer, charged, replenished, is_due, claimed_by}
-use Rattle.hls_book_edf.specs.Stays.{IsPaced, EachHard}
-use Rattle.hls_book_edf.proofs.Deadlines.{within_is, before_is}
-use Rattle.hls_book_edf.proofs.Owed.{owed-due}
-use Rattle.hls_book_edf.proofs.Pacing.{after_q, paced_before}
-use Rattle.hls_book_edf.proofs.Parts.{parts-paid}
-use Rattle.hls_book_edf.proofs.Replenishing.{replenished-off, replenished-set, replenished-kept, replenished-on}
-use Rattle.hls_book_edf.proofs.Replenishing.{replenished-rate, replenished-le}
+use Rattle.hls_book.specs.declared.server.Server.{Server}
+use Rattle.hls_book.specs.Demand.{owed, claimed}
+use Rattle.hls_book.specs.Recomputed.{server_before, server_within}
+use Rattle.hls_book.specs.Servers.{IsServer, charged, replenished, is_due, claimed_by}
+use Rattle.hls_book.specs.Stays.{IsPaced, EachHard}
+use Rattle.hls_book.proofs.Deadlines.{within_is, before_is}
+use Rattle.hls_book.proofs.Owed.{owed-due}
+use Rattle.hls_book.proofs.Pacing.{after_q, paced_before}
+use Rattle.hls_book.proofs.Parts.{parts-paid}
+use Rattle.hls_book.proofs.Replenishing.{replenished-off, replenished-set, replenished-kept, replenished-on}
+use Rattle.hls_book.proofs.Replenishing.{replenished-rate, replenished-le}
 use Rattle.hls_book_isolation.proofs.Demand.{claimed_asking}
 
 -- what is claimed is no more than what is owed

@@ -12,10 +12,10 @@ use Rattle.hls_chron.proofs.PartLaws.{parts-rate, parts-near}
 use Rattle.hls_kinds.specs.declared.reservations.Reservation.{Reservation}
 use Rattle.hls_kinds.specs.declared.tenant.Tenant.TheVariants.{Sits}
 use Rattle.hls_kinds.specs.Tenants.{tenant_at}
-use Rattle.hls_book_edf.specs.Books.{KeepsReservations, IsGiven}
-use Rattle.hls_book_edf.proofs.Each.{seat_is}
-use Rattle.hls_book_edf.proofs.Pieces.{run_satisfies}
-use Rattle.hls_book_edf.proofs.Promises.{cap-kept}
+use Rattle.hls_book.specs.Books.{KeepsReservations, IsGiven}
+use Rattle.hls_book.proofs.Each.{seat_is}
+use Rattle.hls_book.proofs.Pieces.{run_satisfies}
+use Rattle.hls_book.proofs.ServerPromises.{cap-kept}
 use Rattle.hls_book_isolation.proofs.Sharp.{sharp_cap}
 use Rattle.hls_book_isolation.specs.Isolation.{IsCapped, HasBudgets}
 

@@ -12,9 +12,9 @@ use Rattle.hls_kinds.specs.Made.{IsMade}
 use Rattle.hls_kinds.specs.Reservations.{budget_at}
 use Rattle.hls_kinds.specs.Slots.{any_below}
 use Rattle.hls_kinds.proofs.SlotLaws.{any_below-none}
-use Rattle.hls_book_edf.proofs.Choices.{and_right, and_both, above_zero}
-use Rattle.hls_book_edf.proofs.Rows.{is-slot}
-use Rattle.hls_book_made.proofs.Books.{admission_made, discipline_made}
+use Rattle.hls_book.proofs.Choices.{and_right, and_both, above_zero}
+use Rattle.hls_book.proofs.Rows.{is-slot}
+use Rattle.hls_book.proofs.Books.{admission_made, discipline_made}
 use Rattle.hls_book_isolation.specs.Claims.{SparesBudgets}
 
 -- whoever is served without budget finds none below 32 that asks with budget

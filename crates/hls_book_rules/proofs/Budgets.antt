@@ -8,11 +8,11 @@ use Rattle.hls_chron.specs.Ledger.{Ledger, now_of}
 use Rattle.hls_chron.specs.Seats.{served}
 use Rattle.hls_kinds.specs.Reservations.{deadline_after, budget_after, last_replenished}
 use Rattle.hls_kinds.specs.Tenants.{asking}
-use Rattle.hls_book_edf.specs.declared.server.Server.{Server}
-use Rattle.hls_book_edf.specs.Servers.{charged, marked, renewed, replenished as replenished_by, is_due as is_due_by}
+use Rattle.hls_book.specs.declared.server.Server.{Server}
+use Rattle.hls_book.specs.Servers.{charged, marked, renewed, replenished as replenished_by, is_due as is_due_by}
 use Rattle.hls_kinds.specs.Reservations.{asked_before}
-use Rattle.hls_book_edf.specs.Recomputed.{server_before, server_within}
-use Rattle.hls_book_edf.proofs.Deadlines.{last-zero, within_is, before_is}
+use Rattle.hls_book.specs.Recomputed.{server_before, server_within}
+use Rattle.hls_book.proofs.Deadlines.{last-zero, within_is, before_is}
 use Rattle.hls_kinds.specs.Reservations.{claim_within, claim_served, is_due, replenished}
 use Rattle.hls_book_rules.specs.Budgets.{claim_before}
 use Rattle.hls_book_rules.specs.Budgets.{KeepsBudgetRules, KeepsClaimRules}

@@ -9,8 +9,8 @@ use Rattle.hls_chron.specs.Seats.{is_slot}
 use Rattle.hls_chron.specs.Ticks.{count}
 use Rattle.hls_chron.proofs.CountLaws.{count-add, count-agree}
 use Rattle.hls_kinds.specs.Frames.{owner_at, free_below}
-use Rattle.hls_book_wheel.specs.Places.{owns_place}
-use Rattle.hls_book_wheel.proofs.OwnerLaws.{owner_at-mark, owner_at-row, owns-seated, count-taken}
+use Rattle.hls_book.specs.Places.{owns_place}
+use Rattle.hls_book.proofs.OwnerLaws.{owner_at-mark, owner_at-row, owns-seated, count-taken}
 use Rattle.hls_book_rules.specs.Places.{TakesLeast, KeepsPlaceRules}
 
 pub not_its : (owner : Option ℕ) (slot : ℕ) → owner ≢ Some slot → is_slot owner slot ≡ false

@@ -23,9 +23,9 @@ use Rattle.hls_kinds.specs.Stands.{to_rivals, tag_of_asking}
 use Rattle.hls_kinds.specs.Tags.{unit_tag, tag_step, start_tag}
 use Rattle.hls_kinds.specs.Tenants.{tenant_at, asking}
 use Rattle.hls_kinds.proofs.TenantLaws.{seated_in, seated-terms}
-use Rattle.hls_book_made.proofs.Books.{reservations_made, shares_made}
-use Rattle.hls_book_edf.specs.Books.{KeepsReservations, IsTenant}
-use Rattle.hls_book_edf.proofs.Pacing.{within_ahead}
+use Rattle.hls_book.proofs.Books.{reservations_made, shares_made}
+use Rattle.hls_book.specs.Books.{KeepsReservations, IsTenant}
+use Rattle.hls_book.proofs.Pacing.{within_ahead}
 use Rattle.hls_book_rules.specs.Stands.{OnlySeatsAsk}
 use Rattle.hls_book_rules.proofs.TagOrder.{weight_of}
 

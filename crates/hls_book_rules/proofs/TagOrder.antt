@@ -15,8 +15,8 @@ use Rattle.hls_kinds.specs.Asks.{slot_asks}
 use Rattle.hls_kinds.specs.Made.{IsMade, IsRow}
 use Rattle.hls_kinds.specs.Tags.{tag_step}
 use Rattle.hls_kinds.proofs.MadeLaws.{made_row}
-use Rattle.hls_book_made.proofs.Books.{shares_made}
-use Rattle.hls_book_sfq.specs.ShareBook.{KeepsShareBook}
+use Rattle.hls_book.proofs.Books.{shares_made}
+use Rattle.hls_book.specs.ShareBook.{KeepsShareBook}
 use Rattle.hls_book_rules.specs.Tags.{time_of, start_of, KeepsTagRules, KeepsTagOrder}
 use Rattle.hls_book_rules.proofs.Tags.{tag_rules}
 

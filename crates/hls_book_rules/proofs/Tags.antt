@@ -15,12 +15,12 @@ use Rattle.hls_kinds.specs.Tags.{tag_step, share_in}
 use Rattle.hls_kinds.specs.Tenants.{tenant_at, tenant_then, after_settling}
 use Rattle.hls_kinds.proofs.MarkLaws.{tenant_at-mark}
 use Rattle.hls_kinds.proofs.TenantLaws.{seated_in, seated-terms}
-use Rattle.hls_book_made.proofs.Books.{shares_made}
-use Rattle.hls_book_sfq.specs.ShareBook.{KeepsShareBook}
-use Rattle.hls_book_sfq.proofs.Bounds.{seat-share, present-start}
-use Rattle.hls_book_sfq.proofs.Rooms.{tenant-now}
-use Rattle.hls_book_sfq.proofs.States.{time-idle, time-served, finish-unserved, finish-served}
-use Rattle.hls_book_sfq.proofs.States.{time-mark, finish-stays, finish-begins}
+use Rattle.hls_book.proofs.Books.{shares_made}
+use Rattle.hls_book.specs.ShareBook.{KeepsShareBook}
+use Rattle.hls_book.proofs.Bounds.{seat-share, present-start}
+use Rattle.hls_book.proofs.Rooms.{tenant-now}
+use Rattle.hls_book.proofs.States.{time-idle, time-served, finish-unserved, finish-served}
+use Rattle.hls_book.proofs.States.{time-mark, finish-stays, finish-begins}
 use Rattle.hls_book_rules.proofs.Places.{not_its}
 use Rattle.hls_book_rules.specs.Tags.{time_of, start_of, finish_of, KeepsTagRules}
 

@@ -6,7 +6,7 @@ use Rattle.hls_chron.specs.declared.plain.Terms.TheVariants.{Slots}
 use Rattle.hls_chron.specs.Ledger.{Ledger, with_row, with_mark}
 use Rattle.hls_chron.specs.Ticks.{count}
 use Rattle.hls_kinds.specs.Frames.{owner_at}
-use Rattle.hls_book_wheel.specs.Places.{owns_place}
+use Rattle.hls_book.specs.Places.{owns_place}
 
 -- the free places below one
 abbrev pub free_places : Ledger → ℕ → ℕ

@@ -25,7 +25,7 @@ use Rattle.hls_kinds.proofs.MarkLaws.{settled_at-unmarked}
 use Rattle.hls_kinds.proofs.Rooms.{before-last}
 use Rattle.hls_kinds.proofs.TenantLaws.{seated_in, seated-terms}
 use Rattle.hls_rr.proofs.TurnLaws.{left_at-unmarked, slot-settled, ticks-left}
-use Rattle.hls_book_made.proofs.Books.{admission_made}
+use Rattle.hls_book.proofs.Books.{admission_made}
 use Rattle.hls_book_rules.specs.Turns.{Turn, had_of, turn_of}
 use Rattle.hls_book_rules.proofs.Turns.{turn_rules, turn_is, had_none}
 use Rattle.hls_book_turns.specs.Reached.{WaitsLongest}

@@ -21,7 +21,7 @@ use Rattle.hls_kinds.specs.Made.{IsMade, Making, IsRow, Begun, Marked, Ticked}
 use Rattle.hls_kinds.specs.Tenants.{tenant_at, tenant_then}
 use Rattle.hls_kinds.proofs.MarkLaws.{tenant_at-row, tenant_at-same, tenant_at-unmarked}
 use Rattle.hls_kinds.proofs.Rooms.{before-last}
-use Rattle.hls_book_made.proofs.Books.{admission_made}
+use Rattle.hls_book.proofs.Books.{admission_made}
 use Rattle.hls_book_rules.specs.Turns.{turn_of}
 use Rattle.hls_book_turns.proofs.Circle.{others}
 use Rattle.hls_book_turns.proofs.Rounds.{all_waits}

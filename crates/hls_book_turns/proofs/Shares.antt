@@ -19,10 +19,10 @@ use Rattle.hls_guarantee.specs.Satisfaction.{HasShare, IsReserved}
 use Rattle.hls_guarantee.specs.Service.{EveryPart}
 use Rattle.hls_guarantee.proofs.Readings.{soft, all-windows}
 use Rattle.hls_guarantee.specs.Steps.{IsFairShare}
-use Rattle.hls_book_promise.specs.Promise.{given, asked_by}
-use Rattle.hls_book_promise.proofs.PromiseLaws.{asked-slot}
-use Rattle.hls_book_sfq.proofs.Promises.{fair-share, some_asks}
-use Rattle.hls_book_made.proofs.Books.{admission_made}
+use Rattle.hls_book.specs.Promise.{given, asked_by}
+use Rattle.hls_book.proofs.PromiseLaws.{asked-slot}
+use Rattle.hls_book.proofs.SharePromises.{fair-share, some_asks}
+use Rattle.hls_book.proofs.Books.{admission_made}
 use Rattle.hls_book_fairness.specs.Runs.{served_ticks}
 use Rattle.hls_book_turns.specs.Runs.{ticks_of_others}
 use Rattle.hls_book_turns.specs.Shares.{IsTurnShare, IsPassedOn, KeepsTurnPromise}

@@ -26,7 +26,7 @@ use Rattle.hls_kinds.specs.Turns.{turn_slot, turn_ticks, turn_goes_on, turns_aft
 use Rattle.hls_kinds.proofs.MarkLaws.{sits_on, tenant_at-mark, tenant_at-row, tenant_at-unmarked}
 use Rattle.hls_kinds.proofs.MarkLaws.{settled_at-unmarked}
 use Rattle.hls_rr.proofs.TurnLaws.{slot-settled, slot-served, slot-idle}
-use Rattle.hls_book_made.proofs.Books.{admission_made}
+use Rattle.hls_book.proofs.Books.{admission_made}
 use Rattle.hls_book_rules.specs.Turns.{Turn, had_of, turn_of, over, KeepsTurnRules}
 use Rattle.hls_book_rules.proofs.Turns.{turn_rules}
 use Rattle.hls_book_turns.proofs.Circle.{is_other}

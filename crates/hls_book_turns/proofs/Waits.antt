@@ -15,8 +15,8 @@ use Rattle.hls_kinds.specs.Made.{IsMade}
 use Rattle.hls_kinds.specs.Slots.{sum_below}
 use Rattle.hls_kinds.proofs.MarkLaws.{sits_on}
 use Rattle.hls_kinds.proofs.Sums.{sum-one, sum-suc, sum-zero}
-use Rattle.hls_book_promise.proofs.PromiseLaws.{served-to, to-served}
-use Rattle.hls_book_made.proofs.Books.{admission_made, range_made}
+use Rattle.hls_book.proofs.PromiseLaws.{served-to, to-served}
+use Rattle.hls_book.proofs.Books.{admission_made, range_made}
 use Rattle.hls_book_fairness.specs.Runs.{given_ticks, served_ticks}
 use Rattle.hls_book_turns.specs.Runs.{AsksForTurns, serves_another, ticks_of_others, rivals}
 use Rattle.hls_book_turns.specs.Waits.{most_beside, PassesNoSeatOver, ServesAlike, KeepsDelays}

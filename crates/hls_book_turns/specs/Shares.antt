@@ -11,7 +11,7 @@ use Rattle.hls_kinds.specs.Tenants.{tenant_at, settled_at}
 use Rattle.hls_guarantee.specs.declared.Guarantee.{Guarantee}
 use Rattle.hls_guarantee.specs.declared.Guarantee.TheVariants.{All, Resc, Psbe}
 use Rattle.hls_guarantee.specs.Supply.{Supplies}
-use Rattle.hls_book_promise.specs.Promise.{given, asked_by}
+use Rattle.hls_book.specs.Promise.{given, asked_by}
 use Rattle.hls_book_fairness.specs.Runs.{given_ticks, served_ticks}
 use Rattle.hls_book_turns.specs.Runs.{AsksForTurns, ticks_of_others}
 use Rattle.hls_book_turns.specs.Waits.{delay}

@@ -14,7 +14,7 @@ use Rattle.hls_guarantee.specs.declared.Guarantee.TheVariants.{All}
 use Rattle.hls_guarantee.specs.Supply.{Supplies}
 use Rattle.hls_guarantee.specs.Steps.{LendsByTerms, LendsThrough}
 use Rattle.hls_guarantee.proofs.Conversions.{converts-supplies}
-use Rattle.hls_book_promise.specs.Promise.{given, asked_by, HasPorts, KeepsPromise}
+use Rattle.hls_book.specs.Promise.{given, asked_by, HasPorts, KeepsPromise}
 use Rattle.hls_derive.specs.declared.derivation.Place.{Place}
 use Rattle.hls_derive.specs.declared.derivation.Step.{Step}
 use Rattle.hls_derive.specs.declared.derivation.Derivation.{Derivation}

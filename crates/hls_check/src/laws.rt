@@ -6,7 +6,7 @@ ghost use Rattle.hls_chron.specs.Seats.{asked, served};
 ghost use Rattle.hls_kinds.specs.declared.tenant.Tenant.TheVariants.{Sits};
 ghost use Rattle.hls_kinds.specs.Tenants.{tenant_at, settled_at};
 ghost use Rattle.hls_guarantee.specs.Supply.{Supplies};
-ghost use Rattle.hls_book_promise.specs.Promise.{given, asked_by, HasPorts, KeepsPromise};
+ghost use Rattle.hls_book.specs.Promise.{given, asked_by, HasPorts, KeepsPromise};
 ghost use Rattle.hls_derive.specs.Derives.{IsDerivation};
 ghost use Rattle.hls_check.specs.Checking.{StepHolds};
 

@@ -21,9 +21,9 @@ use Rattle.hls_machine.specs.Steps.{Refuse, Rouse, with_wake, wake_by}
 use Rattle.hls_machine.specs.Steps as steps
 use Rattle.hls_machine.specs.Legal.{IsThread, IsReached}
 use Rattle.hls_machine.specs.Lists.{IsListed}
-use Rattle.hls_accounts.specs.Tells.{HasName}
-use Rattle.hls_answers.specs.Moment.{Boxes, Moment}
-use Rattle.hls_answers.specs.Answers.{IsAnswer}
+use Rattle.hls_legal.specs.Tells.{HasName}
+use Rattle.hls_legal.specs.Moment.{Boxes, Moment}
+use Rattle.hls_legal.specs.Answers.{IsAnswer}
 use Rattle.hls_tree.specs.Kits.{IsSameKit}
 use Rattle.hls_tree.specs.Trees.{IsTreeOf, IsAsBefore, ready_of}
 use Rattle.hls_tree.specs.declared.tree.Tree.{Tree}

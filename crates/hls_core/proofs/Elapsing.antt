@@ -19,7 +19,7 @@ use Rattle.hls_machine.proofs.Seated.{run_seated}
 use Rattle.hls_machine.specs.Lists.{IsListed}
 use Rattle.hls_machine.specs.Seated.{IsSeated}
 use Rattle.hls_tree_nodes.specs.TreeOf as walks
-use Rattle.hls_accounts.specs.Tells.{Names}
+use Rattle.hls_legal.specs.Tells.{Names}
 use Rattle.hls_tree.specs.Trees.{IsTreeOf, IsReadyOf, Any, Stands, PassesBy, Passes, ready_of}
 use Rattle.hls_tree.specs.declared.tree.Tree.{Tree}
 use Rattle.hls_manager.proofs.Outcomes.{reached_listed}

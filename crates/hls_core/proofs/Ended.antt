@@ -16,10 +16,10 @@ use Rattle.hls_machine.specs.Hierarchy.{Hierarchy, start}
 use Rattle.hls_machine.specs.Steps.{Step, Elapse, after, state}
 use Rattle.hls_machine.proofs.Lists.{run_listed}
 use Rattle.hls_machine.proofs.Seated.{run_seated}
-use Rattle.hls_accounts.specs.Tells.{TellsFrom, Tells}
-use Rattle.hls_accounts.specs.Ready.{is_ready}
-use Rattle.hls_answers.specs.Moment.{Boxes}
-use Rattle.hls_legal_report.specs.Legal.{IsRun, IsLegalReport}
+use Rattle.hls_legal.specs.Tells.{TellsFrom, Tells}
+use Rattle.hls_legal.specs.Ready.{is_ready}
+use Rattle.hls_legal.specs.Moment.{Boxes}
+use Rattle.hls_legal.specs.Legal.{IsRun, IsLegalReport}
 use Rattle.hls_tree.specs.Trees.{IsTreeOf, IsReadyOf, Stands}
 use Rattle.hls_core_journal.specs.Told.{answered_by, told, with_totals, IsReportOf}
 use Rattle.hls_core_journal.specs.Kept.{AreTicked, MayTick}
@@ -31,9 +31,9 @@ use Rattle.hls_kinds.specs.Stands.{always}
 use Rattle.hls_core.specs.Leaps.{IsLeapTo, Comes, at_end, at_command, at_change}
 use Rattle.hls_core.specs.Inside.Elapses.{MayElapse, Elapses, IsStretch}
 use Rattle.hls_report_text.specs.declared.report.Account.{Account}
-use Rattle.hls_accounts.specs.Accounts.{accounts_of, idle_of}
-use Rattle.hls_accounts.specs.Agrees.{accounts_in, idle_in}
-use Rattle.hls_accounts.proofs.Agreements.{accounts_told, idle_told}
+use Rattle.hls_legal.specs.Accounts.{accounts_of, idle_of}
+use Rattle.hls_legal.specs.Agrees.{accounts_in, idle_in}
+use Rattle.hls_legal.proofs.Agreements.{accounts_told, idle_told}
 use Rattle.hls_core.specs.Cores.{AreNoted, NoneWithin, IsUpTo, IsCoreOf, Runs}
 use Rattle.hls_core.specs.declared.cores.Core.{Core}
 use Rattle.hls_core.proofs.Items.{ahead_next, none_left, all_told}
@@ -59,8 +59,8 @@ retold c d horizon stretches [] h [] told = told ∙ horizon
 retold c d horizon stretches [] h (b ∷ left) told = absurd told
 retold c d horizon stretches (Elapse asking masks path ∷ steps) h left told = (
   told.0,
-  subst (λ ss. Rattle.hls_accounts.specs.Tells.Names h path
-      (Rattle.hls_accounts.specs.Schedule.path_at ss h.now)) stretches told.1,
+  subst (λ ss. Rattle.hls_legal.specs.Tells.Names h path
+      (Rattle.hls_legal.specs.Schedule.path_at ss h.now)) stretches told.1,
   retold c d horizon stretches steps (after h (Elapse asking masks path)) left told.2,
 )
 retold c d horizon stretches (step ∷ steps) h [] told = absurd told
@@ -219,7 +219,7 @@ module _ {V W : Type 0} {P : V → Type 0} {Q : W → Type 0}
             is.good;
         left =
             ap Rattle.hls_manager.specs.Outcomes.boxes_in kit ∙ is.left
-            ∙ ap (λ xs. Rattle.hls_answers.specs.Kit.boxes_left boxes (answered_by s.items xs.items))
+            ∙ ap (λ xs. Rattle.hls_legal.specs.Kit.boxes_left boxes (answered_by s.items xs.items))
             (sym ran.answers);
         steps = ran.past;
         run = subst (λ n. IsRun n boxes (told s.items n new.journal) ran.past) (sym depth) ran.run;
@@ -252,7 +252,7 @@ module _ {V W : Type 0} {P : V → Type 0} {Q : W → Type 0}
       (subst (Rattle.hls_core.specs.Cores.AreAhead s.items c.agenda) whole is.ahead) in
       record {
         formed = of.formed;
-        legal = subst (Rattle.hls_legal_report.specs.Legal.IsLegalContent s given boxes) (sym content) (record {
+        legal = subst (Rattle.hls_legal.specs.Legal.IsLegalContent s given boxes) (sym content) (record {
           formed = subst Rattle.hls_report_text.specs.WellFormed.IsContent content of.formed.content;
           horizon = whole;
           depth = is.depth;

@@ -15,10 +15,10 @@ use Rattle.hls_machine.proofs.Goes.{state_goes, legal_goes}
 use Rattle.hls_machine.proofs.Seated.{run_seated}
 use Rattle.hls_machine.proofs.Readings.{under_below, below_rank}
 use Rattle.hls_machine.proofs.Runs.{run_keeps, start_kept}
-use Rattle.hls_accounts.specs.Tells.{Answers}
+use Rattle.hls_legal.specs.Tells.{Answers}
 use Rattle.hls_tree.specs.Trees.{IsTreeOf, IsReadyOf, Stands, Any}
 use Rattle.hls_tree.specs.declared.tree.Tree.{Tree}
-use Rattle.hls_answers.specs.Moment.{Moment}
+use Rattle.hls_legal.specs.Moment.{Moment}
 use Rattle.hls_manager.specs.Outcomes as manager
 use Rattle.hls_machine.specs.Legal.{IsReached}
 use Rattle.hls_manager.specs.Outcomes.{HasMarkRoom, moment}

@@ -27,13 +27,13 @@ use Rattle.hls_machine.specs.Legal.{Can, IsLegal}
 use Rattle.hls_machine.proofs.Goes.{state_goes, legal_goes}
 use Rattle.hls_machine.proofs.Lists.{run_listed}
 use Rattle.hls_machine.proofs.Seated.{run_seated}
-use Rattle.hls_accounts.specs.Tells.{Answers}
-use Rattle.hls_answers.specs.Moment.{Boxes, new_name}
-use Rattle.hls_answers.specs.Answers.{IsAnswer}
-use Rattle.hls_answers.specs.Kit.{boxes_left, boxes_after}
-use Rattle.hls_legal_report.specs.Legal.{IsRun}
-use Rattle.hls_legal_report.specs.Grown.{with_answer}
-use Rattle.hls_legal_report.proofs.Growth.{run_command}
+use Rattle.hls_legal.specs.Tells.{Answers}
+use Rattle.hls_legal.specs.Moment.{Boxes, new_name}
+use Rattle.hls_legal.specs.Answers.{IsAnswer}
+use Rattle.hls_legal.specs.Kit.{boxes_left, boxes_after}
+use Rattle.hls_legal.specs.Legal.{IsRun}
+use Rattle.hls_legal.specs.Grown.{with_answer}
+use Rattle.hls_legal.proofs.Growth.{run_command}
 use Rattle.hls_tree.specs.Trees.{IsTreeOf, IsReadyOf, Stands}
 use Rattle.hls_tree.specs.declared.tree.Tree.{Tree}
 use Rattle.hls_core_journal.specs.declared.journal.Journal.{Journal}

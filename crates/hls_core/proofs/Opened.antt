@@ -13,11 +13,11 @@ use Rattle.hls_sched.specs.Seen.{Seen}
 use Rattle.hls_sched.specs.GoodKit.{IsGood}
 use Rattle.hls_sched.specs.Boxed.{boxed}
 use Rattle.hls_machine.specs.Hierarchy.{start}
-use Rattle.hls_accounts.specs.Tells.{TellsFrom}
-use Rattle.hls_answers.specs.Moment.{Boxes}
-use Rattle.hls_answers.specs.Kit.{boxes_left}
-use Rattle.hls_answers.specs.Along.{AnswersAlong}
-use Rattle.hls_legal_report.specs.Legal.{depth_in_force, IsRun}
+use Rattle.hls_legal.specs.Tells.{TellsFrom}
+use Rattle.hls_legal.specs.Moment.{Boxes}
+use Rattle.hls_legal.specs.Kit.{boxes_left}
+use Rattle.hls_legal.specs.Along.{AnswersAlong}
+use Rattle.hls_legal.specs.Legal.{depth_in_force, IsRun}
 use Rattle.hls_tree.specs.Trees.{IsTreeOf, IsReadyOf}
 use Rattle.hls_core_journal.specs.Told.{answered_by, told}
 use Rattle.hls_core_journal.specs.Kept.{IsNew}

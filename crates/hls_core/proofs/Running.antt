@@ -14,10 +14,10 @@ use Rattle.hls_machine.specs.Steps.{Step, Elapse, after, state, hop_at, hops_of}
 use Rattle.hls_machine.specs.Steps as steps
 use Rattle.hls_machine.specs.Legal.{Can}
 use Rattle.hls_machine.proofs.Goes.{state_goes}
-use Rattle.hls_accounts.specs.Tells.{Names}
-use Rattle.hls_answers.specs.Moment.{Boxes}
-use Rattle.hls_legal_report.specs.Legal.{IsRun}
-use Rattle.hls_legal_report.proofs.Growth.{run_tick}
+use Rattle.hls_legal.specs.Tells.{Names}
+use Rattle.hls_legal.specs.Moment.{Boxes}
+use Rattle.hls_legal.specs.Legal.{IsRun}
+use Rattle.hls_legal.proofs.Growth.{run_tick}
 use Rattle.hls_tree_nodes.specs.Leapt.{later}
 use Rattle.hls_core_journal.specs.declared.journal.Journal.{Journal}
 use Rattle.hls_core_journal.specs.Told.{told}
@@ -45,7 +45,7 @@ names_alike h new None None same names = names
 names_alike h new None (Some ns) same names = absurd names
 names_alike h new (Some p) None same names = absurd names
 names_alike h new (Some p) (Some ns) same names =
-    ap (λ (f : ℕ → Option Text). map f (Rattle.hls_accounts.specs.Tells.nodes_on p)) same ∙ names
+    ap (λ (f : ℕ → Option Text). map f (Rattle.hls_legal.specs.Tells.nodes_on p)) same ∙ names
 
 way_later : (j new : Journal) (path : Option Path) → new.names.keys ≡ j.names.keys → IsWayOrIdle j path
     → IsWayOrIdle new path

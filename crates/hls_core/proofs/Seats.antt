@@ -18,8 +18,8 @@ use Rattle.hls_machine.specs.Steps.{Step, Refuse, Load, Admit, End, Unload, Move
 use Rattle.hls_machine.specs.Steps.{after, effect, nobody, marked, renewed, reseated, roused, ticked, leavings}
 use Rattle.hls_machine.specs.Steps.{seatings}
 use Rattle.hls_machine.specs.Steps.{loaded, admitted, wake_by, hop_at, hops_of}
-use Rattle.hls_accounts.specs.Tells.{Answers, Does}
-use Rattle.hls_answers.specs.Moment.{new_name}
+use Rattle.hls_legal.specs.Tells.{Answers, Does}
+use Rattle.hls_legal.specs.Moment.{new_name}
 use Rattle.hls_core_journal.specs.Kept.{named_by}
 use Rattle.hls_core.specs.Left.{left_of, IsLeft}
 use Rattle.hls_core.specs.Inside.Outcomes.{IsOfSeats}

@@ -11,7 +11,7 @@ use Rattle.hls_report_text.specs.declared.report.Answer.{Answer}
 use Rattle.hls_report_text.specs.declared.report.Path.{Path}
 use Rattle.hls_sched.specs.Seen.{Seen}
 use Rattle.hls_machine.specs.Hierarchy.{Hierarchy}
-use Rattle.hls_answers.specs.Moment.{Boxes}
+use Rattle.hls_legal.specs.Moment.{Boxes}
 use Rattle.hls_tree.specs.Trees.{Stands}
 use Rattle.hls_tree.specs.declared.tree.Tree.{Tree}
 use Rattle.hls_core_journal.specs.declared.journal.Journal.{Journal}

@@ -5,9 +5,9 @@ use Rattle.hls_report_text.specs.Content.{Content}
 use Rattle.hls_machine.specs.Hierarchy.{Hierarchy, Stay, start}
 use Rattle.hls_machine.specs.Steps.{Step, state}
 use Rattle.hls_machine.specs.Legal.{IsLegal}
-use Rattle.hls_accounts.specs.Tells.{Tells}
-use Rattle.hls_accounts.proofs.ToldSteps.{IsStayTold, AreStaysTold}
-use Rattle.hls_accounts.proofs.OrderRuns.{telling_run}
+use Rattle.hls_legal.specs.Tells.{Tells}
+use Rattle.hls_legal.proofs.ToldSteps.{IsStayTold, AreStaysTold}
+use Rattle.hls_legal.proofs.OrderRuns.{telling_run}
 use Rattle.hls_core_stays.specs.Tallies.{IsStanding}
 
 told_at : (c : Content) (h : Hierarchy) (stays : List Stay) (at : ℕ) (stay : Stay) → AreStaysTold c h stays

@@ -23,10 +23,10 @@ use Rattle.hls_report_text.proofs.Writings.{whole_report, accounts_kept}
 use Rattle.hls_sched.specs.Seen.{Seen}
 use Rattle.hls_machine.specs.Hierarchy.{Hierarchy, start}
 use Rattle.hls_machine.specs.Steps.{state}
-use Rattle.hls_accounts.specs.Accounts.{accounts_of, idle_of}
-use Rattle.hls_accounts.specs.Agrees.{accounts_in, idle_in}
-use Rattle.hls_accounts.proofs.Agreements.{accounts_told, idle_told}
-use Rattle.hls_answers.specs.Moment.{Boxes}
+use Rattle.hls_legal.specs.Accounts.{accounts_of, idle_of}
+use Rattle.hls_legal.specs.Agrees.{accounts_in, idle_in}
+use Rattle.hls_legal.proofs.Agreements.{accounts_told, idle_told}
+use Rattle.hls_legal.specs.Moment.{Boxes}
 use Rattle.hls_core_journal.specs.Told.{answered_by, stretches_of, told, with_totals}
 use Rattle.hls_core_journal.specs.Kept.{IsWayOrIdle}
 use Rattle.hls_core_journal.proofs.Keeps.{way_short}

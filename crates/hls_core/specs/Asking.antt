@@ -4,7 +4,7 @@ use Rattle.std.specs.Fn.{Mut}
 use Rattle.hls_guarantee.specs.declared.Guarantee.{Guarantee}
 use Rattle.hls_sched.specs.Seen.{Seen}
 use Rattle.hls_machine.specs.Legal.{IsReached}
-use Rattle.hls_answers.specs.Moment.{Moment}
+use Rattle.hls_legal.specs.Moment.{Moment}
 use Rattle.hls_tree.specs.Trees.{IsTreeOf}
 use Rattle.hls_manager.specs.Outcomes.{boxes_in}
 use Rattle.hls_core.specs.declared.cores.Core.{Core}

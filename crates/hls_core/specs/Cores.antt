@@ -11,9 +11,9 @@ use Rattle.hls_sched.specs.GoodKit.{IsGood}
 use Rattle.hls_sched.specs.Boxed.{boxed}
 use Rattle.hls_machine.specs.Hierarchy.{Hierarchy, start, name_of}
 use Rattle.hls_machine.specs.Steps.{Step, state}
-use Rattle.hls_legal_report.specs.Legal.{depth_in_force, IsRun}
-use Rattle.hls_answers.specs.Moment.{Boxes}
-use Rattle.hls_answers.specs.Kit.{boxes_left}
+use Rattle.hls_legal.specs.Legal.{depth_in_force, IsRun}
+use Rattle.hls_legal.specs.Moment.{Boxes}
+use Rattle.hls_legal.specs.Kit.{boxes_left}
 use Rattle.hls_core_journal.specs.declared.journal.Journal.{Journal}
 use Rattle.hls_core_journal.specs.Told.{answered_by, told}
 use Rattle.hls_core_journal.specs.Kept.{IsKept, has_name}

@@ -4,8 +4,8 @@ use Rattle.hls_text.specs.Lines.{Text}
 use Rattle.hls_scenario.specs.declared.scenario.Scenario.{Scenario}
 use Rattle.hls_report_text.specs.declared.report.Report.{Report}
 use Rattle.hls_report_text.specs.ReportText.{report_text}
-use Rattle.hls_answers.specs.Moment.{Boxes}
-use Rattle.hls_legal_report.specs.Legal.{IsLegalReport}
+use Rattle.hls_legal.specs.Moment.{Boxes}
+use Rattle.hls_legal.specs.Legal.{IsLegalReport}
 
 -- the text is that of a legal report of the scenario
 pub record IsLegalText (s : Scenario) (given : ℕ) (boxes : Boxes) (text : Text) : Type 0 where

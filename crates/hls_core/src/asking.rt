@@ -3,8 +3,8 @@ ghost use Rattle.std.specs.Prelude.{◌≡◌, IfOk};
 ghost use Rattle.hls_scenario.specs.declared.scenario.Scenario.{Scenario};
 ghost use Rattle.hls_scenario.specs.Grammar.{IsCommand};
 ghost use Rattle.hls_report_text.specs.WellFormed.{MayAnswer as IsWellFormed};
-ghost use Rattle.hls_answers.specs.Moment.{Boxes, Moment};
-ghost use Rattle.hls_answers.specs.Answers.{IsAnswer};
+ghost use Rattle.hls_legal.specs.Moment.{Boxes, Moment};
+ghost use Rattle.hls_legal.specs.Answers.{IsAnswer};
 ghost use Rattle.hls_manager.specs.Outcomes.{IsRequest};
 
 use crate::Core;

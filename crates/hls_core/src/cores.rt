@@ -5,8 +5,8 @@ ghost use Rattle.hls_scenario.specs.declared.scenario.Scenario.{Scenario};
 ghost use Rattle.hls_scenario.specs.Grammar.{IsScenario};
 ghost use Rattle.hls_sched.specs.GoodKit.{IsGood};
 ghost use Rattle.hls_sched.specs.Boxed.{boxed};
-ghost use Rattle.hls_answers.specs.Moment.{Boxes};
-ghost use Rattle.hls_legal_report.specs.Legal.{depth_in_force, IsLegalReport};
+ghost use Rattle.hls_legal.specs.Moment.{Boxes};
+ghost use Rattle.hls_legal.specs.Legal.{depth_in_force, IsLegalReport};
 
 use crate::bursts::Bursts;
 use hls_clock::Agenda;

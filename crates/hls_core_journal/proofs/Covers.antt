@@ -7,7 +7,7 @@ use Rattle.std.proofs.lemmas.Bool.Decides.{nat_tests}
 use Rattle.hls_text.specs.Lines.{Text}
 use Rattle.hls_report_text.specs.declared.stretch.Stretch.{Stretch}
 use Rattle.hls_report_text.specs.WellFormed.{Cover, IsPath}
-use Rattle.hls_accounts.specs.Schedule.{has_tick, path_at}
+use Rattle.hls_legal.specs.Schedule.{has_tick, path_at}
 
 abbrev pub WayOf : Type 0
 WayOf = Option (List Text)

@@ -17,8 +17,8 @@ use Rattle.hls_report_text.specs.declared.report.Account.{Account}
 use Rattle.hls_report_text.specs.declared.report.Report.{Report}
 use Rattle.hls_report_text.specs.Content.{content_of}
 use Rattle.hls_report_text.specs.WellFormed.{AreAnswered, MayAnswer, HasShort, IsContent}
-use Rattle.hls_accounts.specs.Schedule.{path_at}
-use Rattle.hls_accounts.specs.Accounts.{accounts_of, idle_of}
+use Rattle.hls_legal.specs.Schedule.{path_at}
+use Rattle.hls_legal.specs.Accounts.{accounts_of, idle_of}
 use Rattle.hls_core_journal.specs.declared.journal.Journal.{Journal}
 use Rattle.hls_core_journal.specs.Told.{answered_as, answered_by, stretches_of, told, with_totals, IsTotalled}
 use Rattle.hls_core_journal.specs.Told.{IsReportOf}

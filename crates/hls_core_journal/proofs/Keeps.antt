@@ -25,8 +25,8 @@ use Rattle.hls_report_text.specs.Content.{Content, stretch_of}
 use Rattle.hls_report_text.specs.WellFormed.{Cover, HasShort, IsPath, MayAnswer, with_name}
 use Rattle.hls_report_text.proofs.NameLaws.{Grows, grows_none, name_grows, AreIn, grown_in}
 use Rattle.hls_report_text.proofs.NameLaws.{grown_names}
-use Rattle.hls_answers.specs.Moment.{new_name}
-use Rattle.hls_legal_report.specs.Grown.{with_answer, IsTickMore}
+use Rattle.hls_legal.specs.Moment.{new_name}
+use Rattle.hls_legal.specs.Grown.{with_answer, IsTickMore}
 use Rattle.hls_core_journal.specs.declared.journal.Journal.{Journal}
 use Rattle.hls_core_journal.specs.Told.{answered_as, answered_by, stretches_of, told}
 use Rattle.hls_core_journal.specs.Ways.{names_by, last_names, IsLonger}

@@ -10,10 +10,10 @@ use Rattle.hls_chron.specs.Ticks.{count}
 use Rattle.hls_chron.proofs.CountLaws.{count-le}
 use Rattle.hls_report_text.specs.Content.{Content}
 use Rattle.hls_report_text.specs.WellFormed.{AreAnswered, IsAccount}
-use Rattle.hls_accounts.specs.declared.stay.Stay.{Stay}
-use Rattle.hls_accounts.specs.Stays.{stays}
-use Rattle.hls_accounts.specs.Accounts.{end_of, account_of, accounts_of}
-use Rattle.hls_accounts.proofs.GoodStays.{IsGoodStay, stays_good, end_within}
+use Rattle.hls_legal.specs.declared.stay.Stay.{Stay}
+use Rattle.hls_legal.specs.Stays.{stays}
+use Rattle.hls_legal.specs.Accounts.{end_of, account_of, accounts_of}
+use Rattle.hls_legal.proofs.GoodStays.{IsGoodStay, stays_good, end_within}
 
 account_formed : (c : Content) (stay : Stay) → c.horizon ≤ 100000 → IsGoodStay c.horizon stay
     → nat_lt stay.since (end_of c stay) ≡ true → IsAccount c.horizon (account_of c stay)
@@ -25,8 +25,8 @@ account_formed c stay few good starts =
       forward = omega (arith, lt);
       within = omega (arith, lt, le);
       kept = good.kept;
-      ready = fits (Rattle.hls_accounts.specs.Ready.is_ready c stay.name) lt le;
-      served = fits (Rattle.hls_accounts.specs.Schedule.is_served c.stretches stay.name) lt le;
+      ready = fits (Rattle.hls_legal.specs.Ready.is_ready c stay.name) lt le;
+      served = fits (Rattle.hls_legal.specs.Schedule.is_served c.stretches stay.name) lt le;
     }
   where
     fits : (test : ℕ → Bool) → stay.since < end_of c stay → end_of c stay ≤ c.horizon

@@ -15,7 +15,7 @@ use Rattle.hls_report_text.specs.declared.report.Answer.TheVariants.{Done}
 use Rattle.hls_report_text.specs.declared.report.Path.{Path}
 use Rattle.hls_report_text.specs.declared.report.Run.{Run}
 use Rattle.hls_report_text.specs.WellFormed.{Cover, HasShort, MayAnswer, with_name}
-use Rattle.hls_answers.specs.Moment.{new_name}
+use Rattle.hls_legal.specs.Moment.{new_name}
 use Rattle.hls_core_journal.specs.declared.journal.Journal.{Journal}
 use Rattle.hls_core_journal.specs.Told.{stretches_of}
 use Rattle.hls_core_journal.specs.Ways.{IsLonger}

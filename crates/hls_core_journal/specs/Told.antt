@@ -8,7 +8,7 @@ use Rattle.hls_report_text.specs.declared.report.Report.{Report}
 use Rattle.hls_report_text.specs.declared.stretch.Stretch.{Stretch}
 use Rattle.hls_report_text.specs.Content.{Content, stretch_of, content_of}
 use Rattle.hls_report_text.specs.WellFormed.{IsWellFormed}
-use Rattle.hls_accounts.specs.Accounts.{accounts_of, idle_of}
+use Rattle.hls_legal.specs.Accounts.{accounts_of, idle_of}
 use Rattle.hls_core_journal.specs.declared.journal.Journal.{Journal}
 
 abbrev pub answered_as : Item → Answer → Answered

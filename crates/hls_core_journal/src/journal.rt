@@ -9,8 +9,8 @@ ghost use Rattle.hls_report_text.specs.declared.report.Run.{Run};
 ghost use Rattle.hls_report_text.specs.Content.{path_names};
 ghost use Rattle.hls_report_text.specs.ReportText.{stretch_text, with_end};
 ghost use Rattle.hls_report_text.specs.WellFormed.{HasShort};
-ghost use Rattle.hls_accounts.specs.Commands.{is_done};
-ghost use Rattle.hls_answers.specs.Moment.{new_name};
+ghost use Rattle.hls_legal.specs.Commands.{is_done};
+ghost use Rattle.hls_legal.specs.Moment.{new_name};
 ghost use Rattle.hls_core_journal.specs.Kept.{naming};
 
 use crate::runs::{Runs, last_place, put_all, put_tick};

@@ -1,6 +1,6 @@
 // The report that a journal makes in the end.
 ghost use Rattle.std.specs.Prelude.{◌≡◌, ◌≤◌, IfOk};
-ghost use Rattle.hls_accounts.specs.Accounts.{accounts_of, idle_of};
+ghost use Rattle.hls_legal.specs.Accounts.{accounts_of, idle_of};
 ghost use Rattle.hls_scenario.specs.Grammar.{IsScenario};
 ghost use Rattle.hls_core_journal.specs.Told.{told, IsReportOf, IsTotalled};
 ghost use Rattle.hls_core_journal.specs.Kept.{IsKept};

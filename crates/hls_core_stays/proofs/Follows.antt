@@ -9,7 +9,7 @@ use Rattle.hls_machine.specs.Steps.{closed, stay_of, opened, is_thread, listed, 
 use Rattle.hls_machine.specs.Steps.{admitted, after}
 use Rattle.hls_machine.specs.Legal.{IsThread}
 use Rattle.hls_machine.specs.Lists.{IsListed, open_stay}
-use Rattle.hls_accounts.proofs.Orders.{opened_without, opened_push, listed_same}
+use Rattle.hls_legal.proofs.Orders.{opened_without, opened_push, listed_same}
 use Rattle.hls_core_stays.specs.Tallies.{AreTallies, AreStays, IsStanding, lasting}
 use Rattle.hls_core_stays.specs.Inside.Steps.{HasOpen, HasNone, without}
 use Rattle.hls_core_stays.specs.declared.stays.Stays.{Stays}
@@ -25,8 +25,8 @@ use Rattle.hls_machine.specs.Steps.{Rouse, Block, marked, leavings, seatings}
 use Rattle.hls_machine.specs.Steps.{loaded, wake_by}
 use Rattle.hls_machine.specs.Legal.{Can}
 use Rattle.hls_machine.proofs.Kept.{at_same}
-use Rattle.hls_accounts.specs.Tells.{Does, HasName}
-use Rattle.hls_accounts.proofs.Alike.{wake_of}
+use Rattle.hls_legal.specs.Tells.{Does, HasName}
+use Rattle.hls_legal.proofs.Alike.{wake_of}
 use Rattle.hls_core_stays.specs.Turnovers.{IsTurnover}
 use Rattle.hls_core_stays.specs.declared.turnover.Turnover.TheVariants.{Nothing, Begins, Ends, Rouses}
 

@@ -15,9 +15,9 @@ use Rattle.hls_machine.specs.Steps.{marked, renewed, leavings, seatings}
 use Rattle.hls_machine.specs.Legal.{Can, IsBelow, IsThread}
 use Rattle.hls_machine.specs.Lists.{IsListed, open_stay}
 use Rattle.hls_machine.proofs.Listings.{filter_had}
-use Rattle.hls_accounts.specs.Tells.{Does}
-use Rattle.hls_accounts.proofs.Alike.{moved-reseated}
-use Rattle.hls_accounts.proofs.Orders.{listed_same}
+use Rattle.hls_legal.specs.Tells.{Does}
+use Rattle.hls_legal.proofs.Alike.{moved-reseated}
+use Rattle.hls_legal.proofs.Orders.{listed_same}
 use Rattle.hls_core_stays.specs.Tallies.{AreTallies, AreStays, IsStanding}
 use Rattle.hls_core_stays.specs.Turnovers.{TellsBelow, IsTurnover}
 use Rattle.hls_core_stays.specs.Inside.Steps.{HasOpen}

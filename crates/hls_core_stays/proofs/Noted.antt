@@ -8,7 +8,7 @@ use Rattle.hls_machine.specs.Hierarchy.{is_ready, was_served}
 use Rattle.hls_machine.specs.Steps.{effect, is_thread, roused, with_wake}
 use Rattle.hls_machine.specs.Supplied.{end_of}
 use Rattle.hls_machine.proofs.Kept.{at_other}
-use Rattle.hls_accounts.proofs.Alike.{wake_of, alike_other, alike_same}
+use Rattle.hls_legal.proofs.Alike.{wake_of, alike_other, alike_same}
 use Rattle.hls_core_stays.specs.Tallies.{AreTallies, IsTally, IsNoted, waited}
 use Rattle.hls_core_stays.specs.Inside.Steps.{HasOpen, noted_by, noted_tally}
 use Rattle.hls_core_stays.specs.declared.stays.Stays.{Stays}

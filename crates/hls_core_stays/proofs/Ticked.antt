@@ -10,7 +10,7 @@ use Rattle.hls_machine.specs.Hierarchy.{had_asked, was_served, is_just, is_ready
 use Rattle.hls_machine.specs.Steps.{Path, Hop, elapsed, thread_of, ticked, hop_at, hops_of}
 use Rattle.hls_machine.specs.Supplied.{end_of}
 use Rattle.hls_machine.proofs.Kept.{at_same, at_other}
-use Rattle.hls_accounts.specs.Agrees.{idle_in}
+use Rattle.hls_legal.specs.Agrees.{idle_in}
 use Rattle.hls_tree_nodes.specs.Leapt as leapt
 use Rattle.hls_core_stays.specs.Tallies.{AreTallies, IsTally, IsNoted, waited}
 use Rattle.hls_core_stays.specs.Inside.Steps.{HasOpen, noted_tally, served_tally}

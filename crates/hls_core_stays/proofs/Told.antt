@@ -9,7 +9,7 @@ use Rattle.hls_chron.proofs.CountLaws.{count-le}
 use Rattle.hls_report_text.specs.declared.report.Account.{Account}
 use Rattle.hls_machine.specs.Hierarchy.{Hierarchy, Stay, had_asked}
 use Rattle.hls_machine.specs.Supplied.{end_of, ready_ticks}
-use Rattle.hls_accounts.specs.Agrees.{accounts_in, account_in}
+use Rattle.hls_legal.specs.Agrees.{accounts_in, account_in}
 use Rattle.hls_core_stays.specs.Tallies.{AreStays, IsTally, waited, lasts, lasting}
 use Rattle.hls_core_stays.specs.Inside.Accounts.{account_by, accounts_by}
 use Rattle.hls_core_stays.specs.declared.stays.Stays.{Stays}

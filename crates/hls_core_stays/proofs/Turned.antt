@@ -11,7 +11,7 @@ use Rattle.hls_machine.specs.Hierarchy.{Hierarchy, Stay, Wake, had_asked, was_se
 use Rattle.hls_machine.specs.Steps.{Step, Path, after, thread_of, is_thread, with_wake}
 use Rattle.hls_machine.specs.Legal.{IsThread, asks_now}
 use Rattle.hls_machine.specs.Supplied.{end_of}
-use Rattle.hls_accounts.specs.Agrees.{idle_in}
+use Rattle.hls_legal.specs.Agrees.{idle_in}
 use Rattle.hls_tree.specs.Trees.{IsTreeOf, IsReadyOf, Stands, ready_of}
 use Rattle.hls_tree.specs.declared.tree.Tree.{Tree}
 use Rattle.hls_core_stays.specs.Tallies.{AreStays, IsTally, IsNoted, waited, lasting}

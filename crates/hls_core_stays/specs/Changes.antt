@@ -7,7 +7,7 @@ use Rattle.hls_machine.specs.Steps.{Step, Path, Elapse, after, thread_of}
 use Rattle.hls_machine.specs.Legal.{Can, IsThread}
 use Rattle.hls_machine.specs.Lists.{IsListed}
 use Rattle.hls_machine.specs.Seated.{IsSeated}
-use Rattle.hls_accounts.specs.Tells.{Does}
+use Rattle.hls_legal.specs.Tells.{Does}
 use Rattle.hls_tree_nodes.specs.Leapt.{later}
 use Rattle.hls_tree.specs.Trees.{IsTreeOf, IsReadyOf, ready_of}
 use Rattle.hls_tree.specs.declared.tree.Tree.{Tree}

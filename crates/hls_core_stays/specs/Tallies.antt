@@ -4,7 +4,7 @@ use Rattle.std.specs.Prelude.{length, slice_get, is_some, is_none, filter, nat_l
 use Rattle.hls_machine.specs.Hierarchy.{Hierarchy, Stay, Thread, Admitted, is_ready, was_served}
 use Rattle.hls_machine.specs.Steps.{is_thread}
 use Rattle.hls_machine.specs.Supplied.{end_of, ready_ticks, served_ticks}
-use Rattle.hls_accounts.specs.Agrees.{idle_in}
+use Rattle.hls_legal.specs.Agrees.{idle_in}
 use Rattle.hls_core_stays.specs.declared.stays.Stays.{Stays}
 use Rattle.hls_core_stays.specs.declared.tally.Tally.{Tally}
 

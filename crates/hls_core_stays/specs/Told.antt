@@ -6,7 +6,7 @@ use Rattle.hls_guarantee.specs.Limits.{IsValid}
 use Rattle.hls_report_text.specs.ReportText.{account_text, with_end}
 use Rattle.hls_report_text.specs.declared.report.Account.{Account}
 use Rattle.hls_machine.specs.Hierarchy.{Hierarchy}
-use Rattle.hls_accounts.specs.Agrees.{accounts_in}
+use Rattle.hls_legal.specs.Agrees.{accounts_in}
 use Rattle.hls_core_stays.specs.Tallies.{AreStays}
 use Rattle.hls_core_stays.specs.declared.stays.Stays.{Stays}
 

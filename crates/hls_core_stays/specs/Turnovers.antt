@@ -6,7 +6,7 @@ use Rattle.hls_scenario.specs.declared.scenario.Command.TheVariants as said
 use Rattle.hls_machine.specs.Hierarchy.{Hierarchy}
 use Rattle.hls_machine.specs.Readings.{IsUnder}
 use Rattle.hls_machine.specs.Steps.{is_thread}
-use Rattle.hls_accounts.specs.Tells.{HasName}
+use Rattle.hls_legal.specs.Tells.{HasName}
 use Rattle.hls_core_stays.specs.declared.turnover.Turnover.{Turnover}
 use Rattle.hls_core_stays.specs.declared.turnover.Turnover.TheVariants.{Nothing, Begins, Ends, Reseats, Renews, Rouses}
 

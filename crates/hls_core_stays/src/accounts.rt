@@ -3,7 +3,7 @@ ghost use Rattle.std.specs.Prelude.{◌≡◌, ◌-◌, ◌++◌, ◌∷◌, [],
 ghost use Rattle.hls_report_text.specs.ReportText.{account_text, with_end};
 ghost use Rattle.hls_machine.specs.Hierarchy.{Hierarchy};
 ghost use Rattle.hls_machine.specs.Supplied.{end_of};
-ghost use Rattle.hls_accounts.specs.Agrees.{accounts_in, idle_in};
+ghost use Rattle.hls_legal.specs.Agrees.{accounts_in, idle_in};
 ghost use Rattle.hls_core_stays.specs.Tallies.{AreStays, waited};
 ghost use Rattle.hls_core_stays.specs.Told.{AreValid, MayTell, lines_of};
 ghost use Rattle.hls_core_stays.specs.Inside.Accounts.{account_by, accounts_by};

@@ -13,10 +13,10 @@ use Rattle.hls_report_text.specs.Content.{Content}
 use Rattle.hls_machine.specs.Hierarchy.{Hierarchy}
 use Rattle.hls_machine.specs.Steps.{Step, Elapse, after}
 use Rattle.hls_machine.specs.Legal.{IsLegal}
-use Rattle.hls_accounts.specs.Commands.{has_done, rouses, last_rousing}
-use Rattle.hls_accounts.specs.Schedule.{is_served}
-use Rattle.hls_accounts.specs.Ready.{is_awake, is_ready}
-use Rattle.hls_accounts.specs.Tells.{TellsFrom}
+use Rattle.hls_legal.specs.Commands.{has_done, rouses, last_rousing}
+use Rattle.hls_legal.specs.Schedule.{is_served}
+use Rattle.hls_legal.specs.Ready.{is_awake, is_ready}
+use Rattle.hls_legal.specs.Tells.{TellsFrom}
 
 -- Where a report is cut: some of its commands come up to a tick and in it, and the others in it or later.
 pub record IsCut (c : Content) (before left : List Answered) (until : ℕ) : Type 0 where

@@ -13,10 +13,10 @@ use Rattle.hls_kinds.specs.declared.reservations.Reservation.{Reservation}
 use Rattle.hls_kinds.specs.declared.tenant.Tenant.TheVariants.{Sits}
 use Rattle.hls_kinds.specs.Tenants.{tenant_at}
 use Rattle.hls_kinds.specs.Made.{IsMade}
-use Rattle.hls_book_edf.specs.Books.{IsGiven}
-use Rattle.hls_book_edf.specs.Stays.{EachTick}
-use Rattle.hls_book_edf.proofs.Deadlines.{count_more}
-use Rattle.hls_book_made.proofs.Books.{reservations_made}
+use Rattle.hls_book.specs.Books.{IsGiven}
+use Rattle.hls_book.specs.Stays.{EachTick}
+use Rattle.hls_book.proofs.Deadlines.{count_more}
+use Rattle.hls_book.proofs.Books.{reservations_made}
 use Rattle.hls_legal_jobs.specs.Jobs.{IsJobOf, AsksForJobs, AsksFor, AreInTime}
 use Rattle.hls_legal_jobs.proofs.Releases.{IsHeld, State, Rests, Holds, left, state, fresh_job, next_job}
 

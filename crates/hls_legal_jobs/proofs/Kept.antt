@@ -5,15 +5,15 @@ use Rattle.hls_kinds.specs.declared.reservations.Reservation.{Reservation}
 use Rattle.hls_scenario.specs.declared.scenario.Scenario.{Scenario}
 use Rattle.hls_report_text.specs.declared.report.Answered.{Answered}
 use Rattle.hls_report_text.specs.Content.{Content}
-use Rattle.hls_machine_supply.proofs.Runs as supply
-use Rattle.hls_accounts.specs.declared.stay.Stay.{Stay}
-use Rattle.hls_accounts.specs.Accounts.{end_of}
-use Rattle.hls_accounts.specs.Commands.{last_rousing}
-use Rattle.hls_accounts.specs.Schedule.{is_served}
-use Rattle.hls_accounts.proofs.Keeping.{stays_kept}
-use Rattle.hls_answers.specs.Moment.{Boxes}
-use Rattle.hls_legal_report.specs.Legal.{IsLegalContent}
-use Rattle.hls_legal_report.proofs.Keeping.{report_kept}
+use Rattle.hls_machine.proofs.Supply as supply
+use Rattle.hls_legal.specs.declared.stay.Stay.{Stay}
+use Rattle.hls_legal.specs.Accounts.{end_of}
+use Rattle.hls_legal.specs.Commands.{last_rousing}
+use Rattle.hls_legal.specs.Schedule.{is_served}
+use Rattle.hls_legal.proofs.KeepingAccounts.{stays_kept}
+use Rattle.hls_legal.specs.Moment.{Boxes}
+use Rattle.hls_legal.specs.Legal.{IsLegalContent}
+use Rattle.hls_legal.proofs.KeepingStays.{report_kept}
 use Rattle.hls_legal_jobs.specs.Kept.{KeepsJobs}
 use Rattle.hls_legal_jobs.specs.Reports.{IsReservedStay, IsWake, due_in, IsWokenInTurn}
 use Rattle.hls_legal_jobs.proofs.Wakes.{one_period}

@@ -23,19 +23,19 @@ use Rattle.hls_machine.specs.Hierarchy.{Hierarchy, start}
 use Rattle.hls_machine.specs.Steps.{Step, Refuse, Load, Admit, End, Unload, Move, Rouse, Block, Elapse, after}
 use Rattle.hls_machine.specs.Steps.{state}
 use Rattle.hls_machine.specs.Legal.{Can, IsLegal}
-use Rattle.hls_accounts.specs.declared.stay.Stay.{Stay}
-use Rattle.hls_accounts.specs.Accounts.{end_of, end_by as end_with}
-use Rattle.hls_accounts.specs.Commands.{has_done, seats, last_seating}
-use Rattle.hls_accounts.specs.Under.{is_on, seats_on, is_within, is_under}
-use Rattle.hls_accounts.specs.Stays.{closes, stays, stays_with}
-use Rattle.hls_accounts.specs.Tells.{HasName, Answers, TellsFrom, Tells}
-use Rattle.hls_accounts.proofs.Rousings.{names_same}
-use Rattle.hls_accounts.proofs.UnderLaws.{within-same, within-step}
-use Rattle.hls_accounts.proofs.StaySnoc.{close_by, stays_snoc}
-use Rattle.hls_accounts.proofs.Seatings.{seating_miss}
-use Rattle.hls_accounts.proofs.ToldRuns.{one_more}
-use Rattle.hls_accounts.proofs.OrderRuns.{IsTellingAll, telling_run}
-use Rattle.hls_answers.specs.Moment.{perches_of}
+use Rattle.hls_legal.specs.declared.stay.Stay.{Stay}
+use Rattle.hls_legal.specs.Accounts.{end_of, end_by as end_with}
+use Rattle.hls_legal.specs.Commands.{has_done, seats, last_seating}
+use Rattle.hls_legal.specs.Under.{is_on, seats_on, is_within, is_under}
+use Rattle.hls_legal.specs.Stays.{closes, stays, stays_with}
+use Rattle.hls_legal.specs.Tells.{HasName, Answers, TellsFrom, Tells}
+use Rattle.hls_legal.proofs.Rousings.{names_same}
+use Rattle.hls_legal.proofs.UnderLaws.{within-same, within-step}
+use Rattle.hls_legal.proofs.StaySnoc.{close_by, stays_snoc}
+use Rattle.hls_legal.proofs.Seatings.{seating_miss}
+use Rattle.hls_legal.proofs.ToldRuns.{one_more}
+use Rattle.hls_legal.proofs.OrderRuns.{IsTellingAll, telling_run}
+use Rattle.hls_legal.specs.Moment.{perches_of}
 use Rattle.hls_kinds.specs.declared.reservations.Reservation.{Reservation}
 use Rattle.hls_legal_jobs.specs.Reports.{IsLastSeat, SitsReserved, GoesOnAfter, IsReservedStay}
 use Rattle.hls_legal_jobs.specs.Reports.{IsWokenInTurn, IsServedInTime}

@@ -17,9 +17,9 @@ use Rattle.hls_kinds.proofs.MarkLaws.{sits_on}
 use Rattle.hls_guarantee.specs.declared.Guarantee.{Guarantee}
 use Rattle.hls_guarantee.specs.declared.Guarantee.TheVariants.{All}
 use Rattle.hls_guarantee.specs.Supply.{Supplies}
-use Rattle.hls_book_promise.specs.Promise.{given, asked_by}
-use Rattle.hls_book_edf.specs.Books.{IsGiven}
-use Rattle.hls_book_made.proofs.Books.{admission_made, reservations_made}
+use Rattle.hls_book.specs.Promise.{given, asked_by}
+use Rattle.hls_book.specs.Books.{IsGiven}
+use Rattle.hls_book.proofs.Books.{admission_made, reservations_made}
 use Rattle.hls_machine.specs.Hierarchy.{Hierarchy, Node, Loaded, Admitted, Seat, Scheduler, Tick, start}
 use Rattle.hls_machine.specs.Hierarchy.{seat_of, book_of, had_asked, was_served, asking_of, given_of, since_of}
 use Rattle.hls_machine.specs.Steps.{Step, state}
@@ -29,7 +29,7 @@ use Rattle.hls_machine.proofs.Nodes.{nobody_sits}
 use Rattle.hls_machine.proofs.Moments.{linked, supplied}
 use Rattle.hls_machine.proofs.Runs.{run_keeps, start_kept}
 use Rattle.hls_machine.proofs.Books.{AllMade, made_at, legal_made}
-use Rattle.hls_machine_supply.proofs.Runs.{run_promised}
+use Rattle.hls_machine.proofs.Supply.{run_promised}
 use Rattle.hls_legal_jobs.specs.Jobs.{AsksForJobs, AreInTime}
 use Rattle.hls_legal_jobs.specs.Runs.{HasReservation}
 use Rattle.hls_legal_jobs.proofs.InTime.{jobs_in_book}

@@ -15,10 +15,10 @@ use Rattle.hls_text.specs.Lines.{Text}
 use Rattle.hls_report_text.specs.declared.report.Account.{Account}
 use Rattle.hls_report_text.specs.declared.report.Answered.{Answered}
 use Rattle.hls_report_text.specs.Content.{Content}
-use Rattle.hls_accounts.specs.Commands.{last_rousing}
-use Rattle.hls_accounts.specs.Schedule.{is_served}
-use Rattle.hls_accounts.specs.Ready.{is_ready}
-use Rattle.hls_legal_report.specs.Kept.{KeepsAccount}
+use Rattle.hls_legal.specs.Commands.{last_rousing}
+use Rattle.hls_legal.specs.Schedule.{is_served}
+use Rattle.hls_legal.specs.Ready.{is_ready}
+use Rattle.hls_legal.specs.Kept.{KeepsAccount}
 use Rattle.hls_legal_jobs.specs.Reports.{IsWake}
 use Rattle.hls_legal_jobs.specs.Kept.{GivesIn, IsPrompt}
 use Rattle.hls_legal_jobs.proofs.Wakes.{ready_while}

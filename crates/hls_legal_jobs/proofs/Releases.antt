@@ -8,9 +8,9 @@ use Rattle.hls_chron.specs.Ticks.{one_if, count}
 use Rattle.hls_chron.proofs.CountLaws.{count-add}
 use Rattle.hls_kinds.specs.declared.reservations.Reservation.{Reservation}
 use Rattle.hls_kinds.specs.Reservations.{is_replenished, last_replenished}
-use Rattle.hls_book_edf.specs.Stays.{EachTick}
-use Rattle.hls_book_edf.proofs.Deadlines.{last-zero, last-set, last-kept, replenished-none}
-use Rattle.hls_book_edf.proofs.Deadlines.{replenished-silent, count_more, IsRenewed, last_before, last_since}
+use Rattle.hls_book.specs.Stays.{EachTick}
+use Rattle.hls_book.proofs.Deadlines.{last-zero, last-set, last-kept, replenished-none}
+use Rattle.hls_book.proofs.Deadlines.{replenished-silent, count_more, IsRenewed, last_before, last_since}
 use Rattle.hls_legal_jobs.specs.Jobs.{IsJobOf, AsksForJobs}
 
 -- So many ticks after its seating or settling, after the replenishment of the tick, a seat has its last one from the

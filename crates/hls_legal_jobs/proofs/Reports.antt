@@ -22,15 +22,15 @@ use Rattle.hls_machine.specs.Steps.{Step, state}
 use Rattle.hls_machine.specs.Legal.{IsLegal}
 use Rattle.hls_machine.proofs.Seatings.{lone_port}
 use Rattle.hls_machine.proofs.Stays.{Stands, StandsBy, IsOpen}
-use Rattle.hls_accounts.specs.declared.stay.Stay.{Stay}
-use Rattle.hls_accounts.specs.Schedule.{is_served}
-use Rattle.hls_accounts.specs.Ready.{is_ready}
-use Rattle.hls_accounts.specs.Agrees.{told_stay}
-use Rattle.hls_accounts.specs.Tells.{HasName, IsSpot, IsPerch, ArePerches, terms_in, TellsFrom, Tells}
-use Rattle.hls_accounts.proofs.Seatings.{perches_in, perches_from, AreSeatedBy}
-use Rattle.hls_accounts.proofs.ToldSteps.{IsStayTold}
-use Rattle.hls_accounts.proofs.OrderRuns.{IsTellingAll, telling_run}
-use Rattle.hls_answers.specs.Moment.{perches_of}
+use Rattle.hls_legal.specs.declared.stay.Stay.{Stay}
+use Rattle.hls_legal.specs.Schedule.{is_served}
+use Rattle.hls_legal.specs.Ready.{is_ready}
+use Rattle.hls_legal.specs.Agrees.{told_stay}
+use Rattle.hls_legal.specs.Tells.{HasName, IsSpot, IsPerch, ArePerches, terms_in, TellsFrom, Tells}
+use Rattle.hls_legal.proofs.Seatings.{perches_in, perches_from, AreSeatedBy}
+use Rattle.hls_legal.proofs.ToldSteps.{IsStayTold}
+use Rattle.hls_legal.proofs.OrderRuns.{IsTellingAll, telling_run}
+use Rattle.hls_legal.specs.Moment.{perches_of}
 use Rattle.hls_legal_jobs.specs.Jobs.{AsksForJobs, AreInTime}
 use Rattle.hls_legal_jobs.specs.Runs.{HasReservation}
 use Rattle.hls_legal_jobs.specs.Reports.{IsLastSeat, SitsReserved, GoesOnAfter, IsWokenInTurn, IsServedInTime}

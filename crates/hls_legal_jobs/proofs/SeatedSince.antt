@@ -26,7 +26,7 @@ use Rattle.hls_machine.proofs.Effects.{Owed, effect_sound, rank_after}
 use Rattle.hls_machine.proofs.Runs.{Kept, step_owes, step_keeps, start_kept}
 use Rattle.hls_machine.proofs.Stays.{begun_now}
 use Rattle.hls_kinds.proofs.MarkLaws.{tenant_at-row}
-use Rattle.hls_accounts.proofs.Alike.{alike_other}
+use Rattle.hls_legal.proofs.Alike.{alike_other}
 
 abbrev pub SitsSince : Hierarchy → Type 0
 SitsSince h = (c : ℕ) (t : Thread) (p slot : ℕ) → h.nodes c ≡ Some (Admitted t) → t.seat.place ≡ At p slot

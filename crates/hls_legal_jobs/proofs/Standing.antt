@@ -7,7 +7,7 @@ use Rattle.hls_machine.specs.Legal.{IsLegal}
 use Rattle.hls_machine.proofs.Books.{AllMade, step_made, start_made}
 use Rattle.hls_machine.proofs.Runs.{Kept, step_keeps, step_stays, start_kept}
 use Rattle.hls_machine.proofs.Stays.{Stands}
-use Rattle.hls_machine_supply.proofs.Runs.{promised}
+use Rattle.hls_machine.proofs.Supply.{promised}
 
 run_stands : (steps : List Step) (h : Hierarchy) → Kept h → AllMade h → IsLegal h steps
     → AllByRecursion (Stands h) h.stays → AllByRecursion (Stands (state h steps)) (state h steps).stays

@@ -14,9 +14,9 @@ use Rattle.hls_scenario.specs.declared.scenario.Command.{Command}
 use Rattle.hls_scenario.specs.declared.scenario.Command.TheVariants.{Load, Thread, End, Unload, Move, Wake, Block}
 use Rattle.hls_report_text.specs.declared.report.Answered.{Answered}
 use Rattle.hls_report_text.specs.Content.{Content}
-use Rattle.hls_accounts.specs.Commands.{has_done, rouses, last_rousing}
-use Rattle.hls_accounts.specs.Schedule.{is_served}
-use Rattle.hls_accounts.specs.Ready.{lasts, is_awake, is_ready}
+use Rattle.hls_legal.specs.Commands.{has_done, rouses, last_rousing}
+use Rattle.hls_legal.specs.Schedule.{is_served}
+use Rattle.hls_legal.specs.Ready.{lasts, is_awake, is_ready}
 use Rattle.hls_legal_jobs.specs.Jobs.{IsJobOf, AsksForJobs, AreInTime}
 use Rattle.hls_legal_jobs.specs.Reports.{burst_in, periods_for, due_in, IsWake, IsWokenInTurn, IsServedInTime}
 

@@ -7,10 +7,10 @@ use Rattle.hls_guarantee.specs.declared.Guarantee.TheVariants as guarantees
 use Rattle.hls_report_text.specs.declared.report.Account.{Account}
 use Rattle.hls_report_text.specs.declared.report.Answered.{Answered}
 use Rattle.hls_report_text.specs.Content.{Content}
-use Rattle.hls_accounts.specs.declared.stay.Stay.{Stay}
-use Rattle.hls_accounts.specs.Accounts.{end_of}
-use Rattle.hls_accounts.specs.Commands.{last_rousing}
-use Rattle.hls_accounts.specs.Schedule.{is_served}
+use Rattle.hls_legal.specs.declared.stay.Stay.{Stay}
+use Rattle.hls_legal.specs.Accounts.{end_of}
+use Rattle.hls_legal.specs.Commands.{last_rousing}
+use Rattle.hls_legal.specs.Schedule.{is_served}
 use Rattle.hls_legal_jobs.specs.Reports.{IsReservedStay, IsWake, IsWokenInTurn, IsServedInTime}
 
 -- The guarantee has m ticks in each n in a row: all of them; by sliding windows, with what may be missed in a period;

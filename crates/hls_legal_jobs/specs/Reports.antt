@@ -13,12 +13,12 @@ use Rattle.hls_scenario.specs.declared.scenario.Command.{Command}
 use Rattle.hls_scenario.specs.declared.scenario.Command.TheVariants.{Wake}
 use Rattle.hls_report_text.specs.declared.report.Answered.{Answered}
 use Rattle.hls_report_text.specs.Content.{Content}
-use Rattle.hls_accounts.specs.declared.stay.Stay.{Stay}
-use Rattle.hls_accounts.specs.Commands.{last_rousing, last_seating}
-use Rattle.hls_accounts.specs.Schedule.{is_served}
-use Rattle.hls_accounts.specs.Ready.{is_ready}
-use Rattle.hls_accounts.specs.Stays.{stays}
-use Rattle.hls_answers.specs.Moment.{perches_of}
+use Rattle.hls_legal.specs.declared.stay.Stay.{Stay}
+use Rattle.hls_legal.specs.Commands.{last_rousing, last_seating}
+use Rattle.hls_legal.specs.Schedule.{is_served}
+use Rattle.hls_legal.specs.Ready.{is_ready}
+use Rattle.hls_legal.specs.Stays.{stays}
+use Rattle.hls_legal.specs.Moment.{perches_of}
 
 -- ---- who has a reservation
 

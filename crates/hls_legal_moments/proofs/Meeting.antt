@@ -15,20 +15,20 @@ use Rattle.hls_machine.specs.Legal.{Can, IsLegal}
 use Rattle.hls_machine.specs.Lists.{IsListed}
 use Rattle.hls_machine.proofs.Determined.{IsKnown, elapse_one, run_known, start_known}
 use Rattle.hls_machine.proofs.Solutions.{CanGo, run_goes, start_goes}
-use Rattle.hls_accounts.specs.Tells.{Answers, TellsFrom}
-use Rattle.hls_accounts.proofs.Reached.{IsReached, reached_start, reached_next, listed}
-use Rattle.hls_answers.specs.Moment.{Boxes}
-use Rattle.hls_answers.specs.Answers.{IsAnswer}
-use Rattle.hls_answers.specs.Alike.{IsAlikeAnswer}
-use Rattle.hls_answers.specs.Kit.{boxes_after, boxes_left}
-use Rattle.hls_answers.specs.Along.{AnswersAlong}
-use Rattle.hls_answers.proofs.OneAnswer.{answer_one}
-use Rattle.hls_legal_report.specs.Legal.{IsRun}
-use Rattle.hls_legal_report.proofs.Growth.{now_by}
-use Rattle.hls_legal_report.proofs.Twins.{Renaming, Twin, inverse, twin_back}
-use Rattle.hls_legal_report.proofs.TwinAnswers.{moment, answer-twin}
-use Rattle.hls_legal_report.proofs.TwinTicks.{asking_here, masks_here, path_here, asking-twin, run-twin, tick-twin}
-use Rattle.hls_legal_report.proofs.TwinSteps.{AreTwins, step-twin}
+use Rattle.hls_legal.specs.Tells.{Answers, TellsFrom}
+use Rattle.hls_legal.proofs.Reached.{IsReached, reached_start, reached_next, listed}
+use Rattle.hls_legal.specs.Moment.{Boxes}
+use Rattle.hls_legal.specs.Answers.{IsAnswer}
+use Rattle.hls_legal.specs.AlikeAnswers.{IsAlikeAnswer}
+use Rattle.hls_legal.specs.Kit.{boxes_after, boxes_left}
+use Rattle.hls_legal.specs.Along.{AnswersAlong}
+use Rattle.hls_legal.proofs.OneAnswer.{answer_one}
+use Rattle.hls_legal.specs.Legal.{IsRun}
+use Rattle.hls_legal.proofs.Growth.{now_by}
+use Rattle.hls_legal.proofs.Twins.{Renaming, Twin, inverse, twin_back}
+use Rattle.hls_legal.proofs.TwinAnswers.{moment, answer-twin}
+use Rattle.hls_legal.proofs.TwinTicks.{asking_here, masks_here, path_here, asking-twin, run-twin, tick-twin}
+use Rattle.hls_legal.proofs.TwinSteps.{AreTwins, step-twin}
 use Rattle.hls_legal_moments.specs.Moments.{moment_behind, IsAnsweredAt}
 use Rattle.hls_legal_moments.proofs.Views.{next_of, begun, no_items, first_late, late_one}
 

@@ -8,11 +8,11 @@ use Rattle.hls_report_text.specs.ReportText.{item_of}
 use Rattle.hls_machine.specs.Hierarchy.{Hierarchy}
 use Rattle.hls_machine.specs.Steps.{Step, Elapse, Path, after}
 use Rattle.hls_machine.specs.Legal.{Can, IsLegal}
-use Rattle.hls_accounts.specs.Tells.{Answers, TellsFrom}
-use Rattle.hls_answers.specs.Moment.{Boxes}
-use Rattle.hls_answers.specs.Answers.{IsAnswer}
-use Rattle.hls_answers.specs.Kit.{boxes_after}
-use Rattle.hls_answers.specs.Along.{AnswersAlong}
+use Rattle.hls_legal.specs.Tells.{Answers, TellsFrom}
+use Rattle.hls_legal.specs.Moment.{Boxes}
+use Rattle.hls_legal.specs.Answers.{IsAnswer}
+use Rattle.hls_legal.specs.Kit.{boxes_after}
+use Rattle.hls_legal.specs.Along.{AnswersAlong}
 
 pub record TickNext (c : Content) (depth : ℕ) (h : Hierarchy) (boxes : Boxes) (step : Step) (steps : List Step)
     (left : List Answered) : Type 0 where

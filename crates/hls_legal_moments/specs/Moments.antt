@@ -6,9 +6,9 @@ use Rattle.hls_report_text.specs.Content.{Content}
 use Rattle.hls_report_text.specs.ReportText.{item_of}
 use Rattle.hls_machine.specs.Hierarchy.{start}
 use Rattle.hls_machine.specs.Steps.{Step, state}
-use Rattle.hls_answers.specs.Moment.{Boxes, Moment}
-use Rattle.hls_answers.specs.Answers.{IsAnswer}
-use Rattle.hls_answers.specs.Kit.{boxes_left}
+use Rattle.hls_legal.specs.Moment.{Boxes, Moment}
+use Rattle.hls_legal.specs.Answers.{IsAnswer}
+use Rattle.hls_legal.specs.Kit.{boxes_left}
 
 -- where the steps lead that a report tells, with the boxes that its commands have left
 abbrev pub moment_behind : (depth : ℕ) → Boxes → Content → List Step → Moment

@@ -5,8 +5,8 @@ ghost use Rattle.hls_scenario.specs.declared.scenario.Item.{Item};
 ghost use Rattle.hls_report_text.specs.Content.{Content};
 ghost use Rattle.hls_report_text.specs.ReportText.{item_of};
 ghost use Rattle.hls_machine.specs.Steps.{Step};
-ghost use Rattle.hls_answers.specs.Moment.{Boxes};
-ghost use Rattle.hls_legal_report.specs.Legal.{IsRun};
+ghost use Rattle.hls_legal.specs.Moment.{Boxes};
+ghost use Rattle.hls_legal.specs.Legal.{IsRun};
 ghost use Rattle.hls_legal_moments.specs.Moments.{moment_behind, IsAnsweredAt};
 
 /// An answer depends on nothing behind it: in a report that tells a run, a command has the answer that is defined at

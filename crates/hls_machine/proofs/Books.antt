@@ -12,7 +12,7 @@ use Rattle.hls_kinds.specs.Made.{IsRow, IsMade}
 use Rattle.hls_kinds.proofs.MadeLaws.{made_new, made_mark, made_row}
 use Rattle.hls_kinds.proofs.MarkLaws.{sits_on}
 use Rattle.hls_kinds.proofs.DisciplineLaws.{discipline-unwritten}
-use Rattle.hls_book_made.proofs.Books.{discipline_made}
+use Rattle.hls_book.proofs.Books.{discipline_made}
 use Rattle.hls_machine.specs.Ledgers.{empty_book, with_marks}
 use Rattle.hls_machine.specs.Hierarchy.{Hierarchy, Node, Loaded, Admitted, Scheduler, Wake, Asleep, Seat, At, start}
 use Rattle.hls_machine.specs.Hierarchy.{seats_of, book_of, config_of}

@@ -9,7 +9,7 @@ use Rattle.hls_chron.proofs.BookLaws.{now_of-row, dated-row}
 use Rattle.hls_kinds.specs.declared.tenant.Tenant.TheVariants.{Sits}
 use Rattle.hls_kinds.specs.Tenants.{tenant_at}
 use Rattle.hls_kinds.specs.Asks.{asks, slot_asks}
-use Rattle.hls_book_promise.specs.Promise.{asked_by, given}
+use Rattle.hls_book.specs.Promise.{asked_by, given}
 use Rattle.hls_machine.specs.Hierarchy.{Hierarchy, Node, Loaded, Admitted, Tick, Place, Processor, At, Seat}
 use Rattle.hls_machine.specs.Hierarchy.{seats_of, seat_of, book_of, config_of, since_of, asking_of, given_of}
 use Rattle.hls_machine.specs.Hierarchy.{is_just}

@@ -25,3 +25,5 @@ pub mod Listings
 pub mod Lists
 pub mod Solutions
 pub mod Seated
+pub mod Supply
+pub mod Follows

@@ -14,8 +14,8 @@ use Rattle.hls_kinds.specs.Fits.{Fits}
 use Rattle.hls_kinds.specs.Room.{IsFree, IsFull}
 use Rattle.hls_kinds.specs.Made.{IsMade}
 use Rattle.hls_kinds.proofs.MadeLaws.{made_mark}
-use Rattle.hls_book_made.proofs.Leavings.{fits-leave, full-leave}
-use Rattle.hls_book_made.proofs.Vacancies.{free_or_full}
+use Rattle.hls_book.proofs.Leavings.{fits-leave, full-leave}
+use Rattle.hls_book.proofs.Vacancies.{free_or_full}
 use Rattle.hls_machine.specs.Ledgers.{with_marks}
 use Rattle.hls_machine.specs.Hierarchy.{Place, Processor, At, Seat}
 use Rattle.hls_machine.specs.Steps.{leaving_at, seatings, leavings}

@@ -14,10 +14,10 @@ use Rattle.hls_chron.proofs.BookLaws.{terms_at-mark, now_of-row, row_at-mark, ro
 use Rattle.hls_chron.proofs.BookLaws.{before-mark, before-row, dated-mark, row_at-unwritten}
 use Rattle.hls_kinds.specs.Tenants.{tenant_after, tenant_at, settled_after, settled_at}
 use Rattle.hls_kinds.proofs.MarkLaws.{tenant_at-mark, settled_at-mark}
-use Rattle.hls_book_promise.proofs.PromiseLaws.{row_at-later}
+use Rattle.hls_book.proofs.PromiseLaws.{row_at-later}
 use Rattle.hls_kinds.specs.Asks.{asks, slot_asks}
 use Rattle.hls_chron.specs.Kinds.{IsPort}
-use Rattle.hls_book_promise.specs.Promise.{given, asked_by, HasPorts}
+use Rattle.hls_book.specs.Promise.{given, asked_by, HasPorts}
 use Rattle.hls_machine.specs.Ledgers.{empty_book, with_marks}
 use Rattle.hls_kinds.proofs.Rooms.{asks-room, before-last}
 

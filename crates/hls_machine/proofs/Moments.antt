@@ -15,7 +15,7 @@ use Rattle.hls_guarantee.specs.declared.Guarantee.TheVariants.{All}
 use Rattle.hls_guarantee.specs.Supply.{Supplies}
 use Rattle.hls_guarantee.specs.Steps.{LendsByTerms, LendsThrough}
 use Rattle.hls_guarantee.proofs.Promises.{Agree, supplies-agree}
-use Rattle.hls_book_promise.specs.Promise.{given, asked_by, HasPorts}
+use Rattle.hls_book.specs.Promise.{given, asked_by, HasPorts}
 use Rattle.hls_machine.specs.Derived.{Follows}
 use Rattle.hls_machine.specs.Hierarchy.{Hierarchy, Tick, Node, Loaded, Admitted, Place, Processor, At, Seat}
 use Rattle.hls_machine.specs.Hierarchy.{seats_of, seat_of, haves_of, book_of, config_of, since_of, asking_of}

@@ -12,7 +12,7 @@ use Rattle.hls_chron.specs.Ledger.{now_of, IsDated}
 use Rattle.hls_chron.specs.Seats.{asked, served}
 use Rattle.hls_kinds.specs.declared.tenant.Tenant.TheVariants.{Sits}
 use Rattle.hls_kinds.specs.Tenants.{tenant_after, tenant_at, settled_at}
-use Rattle.hls_book_promise.specs.Promise.{HasPorts}
+use Rattle.hls_book.specs.Promise.{HasPorts}
 use Rattle.hls_machine.specs.Ledgers.{empty_book}
 use Rattle.hls_machine.specs.Hierarchy.{Node, Loaded, Admitted, Scheduler, Tick, Wake, Place, Seat, seats_of}
 use Rattle.hls_machine.specs.Hierarchy.{seat_of, book_of, config_of, since_of, asking_of, given_of}

@@ -15,7 +15,7 @@ use Rattle.hls_kinds.specs.Tenants.{settled_after, settled_at}
 use Rattle.hls_kinds.specs.Slots.{any_below}
 use Rattle.hls_kinds.specs.Asks.{slot_asks, asks_in_budget, asks_softly}
 use Rattle.hls_kinds.specs.Discipline.{Serves, TakesTurn, may_go, KeepsDiscipline}
-use Rattle.hls_book_promise.proofs.PromiseLaws.{served-to, row_at-later}
+use Rattle.hls_book.proofs.PromiseLaws.{served-to, row_at-later}
 use Rattle.hls_machine.specs.Hierarchy.{Hierarchy, Node, Loaded, Admitted, Thread, Wake, Asleep, Place}
 use Rattle.hls_machine.specs.Hierarchy.{Processor, At, Seat, seats_of, since_of, is_ready, is_just, was_served}
 use Rattle.hls_machine.specs.Hierarchy.{had_asked, start}

@@ -11,7 +11,7 @@ use Rattle.hls_chron.specs.Seats.{most_seats, terms_at}
 use Rattle.hls_kinds.specs.Asks.{asks, slot_asks}
 use Rattle.hls_kinds.proofs.MarkLaws.{sits_on}
 use Rattle.hls_kinds.specs.Fits.{HasSeats}
-use Rattle.hls_book_promise.proofs.AdmissionLaws.{admission-unwritten}
+use Rattle.hls_book.proofs.AdmissionLaws.{admission-unwritten}
 use Rattle.hls_chron.specs.declared.plain.Config.TheVariants.{Cpu}
 use Rattle.hls_machine.specs.Ledgers.{empty_book}
 use Rattle.hls_machine.specs.Hierarchy.{Hierarchy, Node, Loaded, Admitted, Scheduler, Wake, Asleep, Place}
@@ -26,7 +26,7 @@ use Rattle.hls_machine.proofs.Nodes.{seats-marked, seats-renewed, seats-roused}
 use Rattle.hls_machine.proofs.Seatings.{lone_port}
 use Rattle.hls_machine.proofs.Kept.{IsSound, at_same, at_other}
 use Rattle.hls_machine.proofs.Elapses.{seats-ticked}
-use Rattle.hls_book_made.proofs.Books.{range_made, admission_made}
+use Rattle.hls_book.proofs.Books.{range_made, admission_made}
 use Rattle.hls_machine.proofs.Books.{IsMadeNode, AllMade, made_at, step_made, start_made}
 use Rattle.hls_machine.proofs.Readings.{serves-asking}
 use Rattle.hls_machine.proofs.Runs.{Kept, step_keeps, start_kept}

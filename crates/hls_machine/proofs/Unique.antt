@@ -26,8 +26,8 @@ use Rattle.hls_machine.specs.Linked.{SitsBelow, SitsAt}
 use Rattle.hls_machine.specs.Alike.{IsAlikeSeat}
 use Rattle.hls_machine.proofs.Kept.{IsSound}
 use Rattle.hls_machine.proofs.Walks.{bool_iff}
-use Rattle.hls_book_made.proofs.Books.{admission_made}
-use Rattle.hls_book_made.proofs.Vacancies.{free_one}
+use Rattle.hls_book.proofs.Books.{admission_made}
+use Rattle.hls_book.proofs.Vacancies.{free_one}
 use Rattle.hls_machine.proofs.Books.{AllMade, made_at}
 use Rattle.hls_machine.proofs.Readings.{under_below, below_rank}
 use Rattle.hls_machine.proofs.Sitters.{HasSitters, IsFinite}

@@ -8,7 +8,7 @@ use Rattle.hls_chron.specs.Ledger.{Ledger}
 use Rattle.hls_chron.specs.Ticks.{count}
 use Rattle.hls_kinds.specs.Tenants.{settled_at}
 use Rattle.hls_guarantee.specs.declared.Guarantee.{Guarantee}
-use Rattle.hls_book_promise.specs.Promise.{given, asked_by}
+use Rattle.hls_book.specs.Promise.{given, asked_by}
 use Rattle.hls_machine.specs.Ledgers.{empty_book}
 
 -- Nodes are schedulers and threads. Each has a number, which steps and places use, and a name.

@@ -7,7 +7,7 @@ use Rattle.hls_kinds.specs.declared.tenant.Tenant.TheVariants.{Sits}
 use Rattle.hls_kinds.specs.Tenants.{tenant_at}
 use Rattle.hls_guarantee.specs.declared.Guarantee.TheVariants.{All}
 use Rattle.hls_guarantee.specs.Supply.{Supplies}
-use Rattle.hls_book_promise.specs.Promise.{HasPorts, KeepsPromise}
+use Rattle.hls_book.specs.Promise.{HasPorts, KeepsPromise}
 use Rattle.hls_machine.specs.Derived.{Follows}
 use Rattle.hls_machine.specs.Hierarchy.{Hierarchy, Place, Processor, At, Seat, seat_of, book_of, config_of}
 use Rattle.hls_machine.specs.Hierarchy.{haves_of}

@@ -6,7 +6,9 @@ ghost use Rattle.hls_chron.specs.Ledger.{Ledger};
 ghost use Rattle.hls_chron.specs.Ranges.{ConfigInRange};
 ghost use Rattle.hls_chron.specs.Seats.{asked, served, terms_at};
 ghost use Rattle.hls_kinds.specs.Asks.{asks, slot_asks};
-ghost use Rattle.hls_kinds.specs.Discipline.{Serves};
+ghost use Rattle.hls_kinds.specs.Discipline.{Serves, KeepsDiscipline};
+ghost use Rattle.hls_derive.specs.Derives.{IsDerivation};
+ghost use Rattle.hls_machine.specs.Derived.{Follows};
 ghost use Rattle.hls_kinds.specs.Room.{IsFree, IsFull};
 ghost use Rattle.hls_kinds.specs.Fits.{Fits, HasSeats};
 ghost use Rattle.hls_kinds.specs.Made.{IsMade};
@@ -14,7 +16,7 @@ ghost use Rattle.hls_machine.specs.Ledgers.{with_marks};
 ghost use Rattle.hls_machine.specs.Hierarchy.{Hierarchy, Scheduler, Loaded, Seat, start, was_served, had_asked};
 ghost use Rattle.hls_machine.specs.Steps.{Path, Step, Move, Block, Elapse, leavings, after, state};
 ghost use Rattle.hls_machine.specs.Legal.{asks_now, Can, IsBelow, IsLegal};
-ghost use Rattle.hls_machine.specs.Linked.{book_at, IsLinked, KeepsPromises, IsSupplied};
+ghost use Rattle.hls_machine.specs.Linked.{config_at, book_at, IsLinked, KeepsPromises, IsSupplied};
 ghost use Rattle.hls_machine.specs.Supplied.{IsKept, KeepsStays, accounts};
 ghost use Rattle.hls_machine.specs.Readings.{IsUnder, Renews, LetSleep};
 ghost use Rattle.hls_machine.specs.Alike.{AreAlike};
@@ -22,6 +24,8 @@ ghost use Rattle.hls_machine.specs.Lists.{IsListed};
 ghost use Rattle.hls_machine.specs.Seated.{IsSeated};
 
 use hls_chron::{Config, Terms};
+use hls_derive::{Derivation, Place};
+use hls_guarantee::Guarantee;
 
 /// Every scheduler of a legal run has a book that came about as it may: it began empty, and each of
 /// its marks and rows came to a book that allowed it.
@@ -149,4 +153,34 @@ pub fn asking_schedulers_serve_one_slot(config: Config)
         asks config b mask ≡ true → (slot : ℕ) × Serves config b mask slot }
     ensures one { (b : Ledger) (mask slot other : ℕ) → HasSeats config b →
         Serves config b mask slot → Serves config b mask other → slot ≡ other }
+{}
+
+/// In every legal run, every stay of a thread, open or closed, meets its guarantee in every window in
+/// which the thread is ready, and keeps its cap over the whole stay.
+pub fn legal_runs_keep_every_stay()
+    ensures { (steps : List Step) → IsLegal start steps → KeepsStays (state start steps) }
+{}
+
+/// Each port of each scheduler and thread was supplied with its guarantee, since its load, its
+/// admission or the last move of it or of what it is below.
+pub fn legal_runs_supply_every_seat()
+    ensures { (steps : List Step) → IsLegal start steps → IsSupplied (state start steps) }
+{}
+
+/// Where a legal run leads, every book keeps its promise.
+pub fn legal_runs_keep_promises()
+    ensures { (steps : List Step) → IsLegal start steps → KeepsPromises (state start steps) }
+{}
+
+/// And its discipline, of whichever kind its scheduler is; fair queueing serves two seats that ask
+/// side by side alike, each by its weight.
+pub fn legal_runs_keep_discipline()
+    ensures { (steps : List Step) → IsLegal start steps → (k : ℕ) →
+        KeepsDiscipline (config_at (state start steps) k) (book_at (state start steps) k) }
+{}
+
+/// What has a derivation follows: its guarantee is supplied where what the derivation begins with is.
+pub fn derivations_follow(place: Place, want: Guarantee)
+    ensures { (haves : List Guarantee) (d : Derivation) → IsDerivation place haves want d →
+        Follows place.config place.terms haves want }
 {}

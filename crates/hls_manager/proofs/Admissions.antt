@@ -20,10 +20,10 @@ use Rattle.hls_report_text.specs.declared.refusal.Refusal.TheVariants.{TermsUnfi
 use Rattle.hls_report_text.specs.declared.refusal.Refusal.TheVariants.{Cycle, TooDeep, TooManyShares, KitEmpty}
 use Rattle.hls_report_text.specs.declared.refusal.Refusal.TheVariants.{NoRoom, NoDerivation}
 use Rattle.hls_machine.specs.Hierarchy.{Hierarchy, Loaded, Admitted, Scheduler, Thread}
-use Rattle.hls_answers.specs.Moment.{Moment, node_of}
-use Rattle.hls_answers.specs.Dues.{Due, due_at, Derives, IsUnderivable}
-use Rattle.hls_answers.specs.Answers.{number, RefusesCommand, RefusesPlace, RefusesFirstPlace, Applies, IsRefused}
-use Rattle.hls_answers.specs.Answers.{IsDone}
+use Rattle.hls_legal.specs.Moment.{Moment, node_of}
+use Rattle.hls_legal.specs.Dues.{Due, due_at, Derives, IsUnderivable}
+use Rattle.hls_legal.specs.Answers.{number, RefusesCommand, RefusesPlace, RefusesFirstPlace, Applies, IsRefused}
+use Rattle.hls_legal.specs.Answers.{IsDone}
 use Rattle.hls_manager.specs.Faults.{fault_refusal}
 use Rattle.hls_manager.proofs.Places.{from_ten, to_last, place_number, at_processor, unknown_place, known_place}
 use Rattle.hls_manager.proofs.Places.{to_fault, of_fault, first_fault, late_fault}

@@ -19,13 +19,13 @@ use Rattle.hls_machine.specs.Hierarchy.{book_of, config_of, start}
 use Rattle.hls_machine.specs.Steps.{Step, Admit, state, leavings}
 use Rattle.hls_machine.specs.Legal.{MaySit, MayTake, MayTakeAt, CanAdmit, Can, IsLegal}
 use Rattle.hls_machine.specs.Lists.{IsListed}
-use Rattle.hls_accounts.specs.Tells.{IsSpot, IsPerch, Does}
-use Rattle.hls_answers.specs.Moment.{Moment}
-use Rattle.hls_answers.specs.Dues.{Due, due_at, Derives}
-use Rattle.hls_answers.specs.Answers.{Applies}
-use Rattle.hls_answers.specs.Doable.{MayDo, AreDerivable}
-use Rattle.hls_answers.proofs.Done.{IsReached, reached}
-use Rattle.hls_answers.proofs.Converse.{may_do}
+use Rattle.hls_legal.specs.Tells.{IsSpot, IsPerch, Does}
+use Rattle.hls_legal.specs.Moment.{Moment}
+use Rattle.hls_legal.specs.Dues.{Due, due_at, Derives}
+use Rattle.hls_legal.specs.Answers.{Applies}
+use Rattle.hls_legal.specs.Doable.{MayDo, AreDerivable}
+use Rattle.hls_legal.proofs.Done.{IsReached, reached}
+use Rattle.hls_legal.proofs.Converse.{may_do}
 
 -- the least free slot is one
 free_once : (config : Config) (b : Ledger) (slot other : ℕ) → IsFree config b slot → IsFree config b other

@@ -21,12 +21,12 @@ use Rattle.hls_machine.specs.Hierarchy.{Hierarchy, Node, Loaded, config_of, book
 use Rattle.hls_machine.specs.Legal.{fair_queues, scheduler_at}
 use Rattle.hls_machine.specs.Lists.{IsListed}
 use Rattle.hls_machine.specs.Readings.{IsUnder}
-use Rattle.hls_accounts.specs.Tells.{HasName, terms_in}
-use Rattle.hls_answers.specs.Moment.{Moment, number_of, node_of, spot_name, NamesJoin, NamesThread}
-use Rattle.hls_answers.specs.Levels.{HasChain, with_mover, seat_there, place_on, place_there}
-use Rattle.hls_answers.specs.Refusals.{PlacesThread, IsCycle, IsTooDeep, AreTooManyShares}
-use Rattle.hls_answers.specs.Answers.{number, RefusesPlace, IsRefused}
-use Rattle.hls_answers.proofs.Found.{named_is, named_found}
+use Rattle.hls_legal.specs.Tells.{HasName, terms_in}
+use Rattle.hls_legal.specs.Moment.{Moment, number_of, node_of, spot_name, NamesJoin, NamesThread}
+use Rattle.hls_legal.specs.Levels.{HasChain, with_mover, seat_there, place_on, place_there}
+use Rattle.hls_legal.specs.Refusals.{PlacesThread, IsCycle, IsTooDeep, AreTooManyShares}
+use Rattle.hls_legal.specs.Answers.{number, RefusesPlace, IsRefused}
+use Rattle.hls_legal.proofs.Found.{named_is, named_found}
 use Rattle.hls_tree.specs.Offers.{MovesTo, IsNoCycle, moved_to}
 use Rattle.hls_tree.specs.Reads.{IsLoaded, IsSeatAnswer, IsRootAnswer, IsGreatestLevel, AreMostShares}
 use Rattle.hls_tree.specs.declared.seat.Seat.{Seat}

@@ -11,10 +11,10 @@ use Rattle.hls_report_text.specs.declared.refusal.Refusal.TheVariants.{NoDerivat
 use Rattle.hls_report_text.specs.declared.report.Answer.{Answer}
 use Rattle.hls_report_text.specs.declared.report.Answer.TheVariants.{Refused}
 use Rattle.hls_machine.specs.Legal.{IsReached}
-use Rattle.hls_answers.specs.Moment.{Moment}
-use Rattle.hls_answers.specs.Dues.{dues_on, AreSettled}
-use Rattle.hls_answers.specs.Refusals.{IsFirstSuch, LacksDerivation}
-use Rattle.hls_answers.specs.Answers.{IsAnswer}
+use Rattle.hls_legal.specs.Moment.{Moment}
+use Rattle.hls_legal.specs.Dues.{dues_on, AreSettled}
+use Rattle.hls_legal.specs.Refusals.{IsFirstSuch, LacksDerivation}
+use Rattle.hls_legal.specs.Answers.{IsAnswer}
 use Rattle.hls_tree.specs.declared.seat.Seat.{Seat}
 use Rattle.hls_manager.specs.Seats.{due_for}
 use Rattle.hls_manager.specs.Rederived.{AreRederived}

@@ -10,12 +10,12 @@ use Rattle.hls_report_text.specs.declared.report.Answer.TheVariants.{Done, Refus
 use Rattle.hls_machine.specs.Hierarchy.{Hierarchy, Node, Loaded, Admitted, Scheduler, name_of}
 use Rattle.hls_machine.specs.Legal.{IsThread}
 use Rattle.hls_machine.specs.Lists.{IsListed}
-use Rattle.hls_accounts.specs.Tells.{HasName}
-use Rattle.hls_answers.specs.Moment.{Moment, node_of, number_of, NamesScheduler, NamesThread}
-use Rattle.hls_answers.specs.Dues.{Due, dues, AreSettled}
-use Rattle.hls_answers.specs.Refusals.{IsOfWrongSort, IsNotEmpty, seats_taken}
-use Rattle.hls_answers.specs.Answers.{IsAnswer}
-use Rattle.hls_answers.proofs.Found.{found_named, named_is}
+use Rattle.hls_legal.specs.Tells.{HasName}
+use Rattle.hls_legal.specs.Moment.{Moment, node_of, number_of, NamesScheduler, NamesThread}
+use Rattle.hls_legal.specs.Dues.{Due, dues, AreSettled}
+use Rattle.hls_legal.specs.Refusals.{IsOfWrongSort, IsNotEmpty, seats_taken}
+use Rattle.hls_legal.specs.Answers.{IsAnswer}
+use Rattle.hls_legal.proofs.Found.{found_named, named_is}
 use Rattle.hls_chron.specs.declared.plain.Kind.{Kind}
 use Rattle.hls_tree.specs.declared.seat.Sort.TheVariants as sorts
 use Rattle.hls_tree.specs.Reads.{IsLoaded, IsSort}

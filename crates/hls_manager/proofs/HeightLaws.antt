@@ -17,10 +17,10 @@ use Rattle.hls_machine.specs.Hierarchy.{Hierarchy}
 use Rattle.hls_chron.specs.Kinds.{fair_queue}
 use Rattle.hls_machine.specs.Legal.{IsChain, fair_queues, IsReached}
 use Rattle.hls_machine.specs.Lists.{IsListed}
-use Rattle.hls_answers.specs.Levels.{LeadsTo, HasNewChain}
-use Rattle.hls_answers.specs.Refusals.{IsTooDeep, AreTooManyShares}
-use Rattle.hls_answers.proofs.Chains.{length_snoc}
-use Rattle.hls_answers.proofs.Found.{named_found}
+use Rattle.hls_legal.specs.Levels.{LeadsTo, HasNewChain}
+use Rattle.hls_legal.specs.Refusals.{IsTooDeep, AreTooManyShares}
+use Rattle.hls_legal.proofs.Chains.{length_snoc}
+use Rattle.hls_legal.proofs.Found.{named_found}
 use Rattle.hls_tree.specs.Offers.{IsLevel}
 use Rattle.hls_tree.specs.Reads.{IsShares, IsLoaded, IsParent}
 use Rattle.hls_tree.specs.declared.seat.Seat.{Seat}

@@ -8,8 +8,8 @@ use Rattle.hls_chron.specs.declared.plain.Kind.TheVariants as kinds
 use Rattle.hls_sched.specs.Blank.{without_last}
 use Rattle.hls_sched.specs.GoodKit.{boxes_of, place_of}
 use Rattle.hls_sched.specs.declared.kit.Kit.{Kit}
-use Rattle.hls_answers.specs.Kit.{is_kind, with_taken}
-use Rattle.hls_answers.proofs.KindLaws.{kind_same, kind_other}
+use Rattle.hls_legal.specs.Kit.{is_kind, with_taken}
+use Rattle.hls_legal.proofs.KindLaws.{kind_same, kind_other}
 use Rattle.hls_tree.specs.Kits.{IsTakenFrom}
 use Rattle.hls_manager.specs.Outcomes.{boxes_in}
 

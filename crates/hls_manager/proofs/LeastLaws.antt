@@ -4,7 +4,7 @@ use Rattle.std.proofs.Common.{Bool, true, false}
 use Rattle.std.specs.Prelude.{IfSome, nat_le, if◌then◌else◌}
 use Rattle.std.proofs.lemmas.Bool.{cases_lt, leb-true, leb-false}
 use Rattle.hls_report_text.specs.declared.refusal.Refusal.{Refusal}
-use Rattle.hls_answers.specs.Answers.{number}
+use Rattle.hls_legal.specs.Answers.{number}
 use Rattle.hls_manager.specs.Inside.Least.{lesser, IsLeastOf, IsLeastRefusal}
 
 module _ (P : ℕ → Refusal → Type 0) (n : ℕ) where

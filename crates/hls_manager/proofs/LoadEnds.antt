@@ -27,10 +27,10 @@ use Rattle.hls_machine.specs.Hierarchy.{Hierarchy, Place, Processor, At, name_of
 use Rattle.hls_machine.specs.Steps.{Load}
 use Rattle.hls_machine.specs.Legal.{scheduler_at, IsReached}
 use Rattle.hls_machine.specs.Lists.{IsListed}
-use Rattle.hls_accounts.specs.Tells.{HasName, IsSpot, IsPerch, ArePerches, terms_in}
-use Rattle.hls_answers.specs.Moment.{Moment}
-use Rattle.hls_answers.proofs.Found.{named_is}
-use Rattle.hls_answers.proofs.LoadsDone.{IsLoadShape, load_shape}
+use Rattle.hls_legal.specs.Tells.{HasName, IsSpot, IsPerch, ArePerches, terms_in}
+use Rattle.hls_legal.specs.Moment.{Moment}
+use Rattle.hls_legal.proofs.Found.{named_is}
+use Rattle.hls_legal.proofs.LoadsDone.{IsLoadShape, load_shape}
 use Rattle.hls_tree.specs.Offers.{IsFreeName, TakesAt, MayTake, MayLoad, IsTakenAs, AreTakenAs}
 use Rattle.hls_tree.specs.Trees.{Loads}
 use Rattle.hls_tree.specs.declared.seat.Seat.{Seat}

@@ -18,12 +18,12 @@ use Rattle.hls_report_text.specs.declared.refusal.Refusal.TheVariants.{TooManyNo
 use Rattle.hls_report_text.specs.declared.refusal.Refusal.TheVariants.{TooDeep, TooManyShares, KitEmpty}
 use Rattle.hls_machine.specs.Hierarchy.{Hierarchy, Node}
 use Rattle.hls_machine.specs.Lists.{IsListed}
-use Rattle.hls_accounts.specs.Tells.{HasName}
-use Rattle.hls_answers.specs.Moment.{Moment, node_of, spots_of}
-use Rattle.hls_answers.specs.Refusals.{IsFirstSuch, IsTooDeep, AreTooManyShares}
-use Rattle.hls_answers.specs.Answers.{number, RefusesPlace, RefusesBy, IsRefused}
-use Rattle.hls_answers.proofs.LoadsDone.{spot_at}
-use Rattle.hls_answers.proofs.Found.{named_is}
+use Rattle.hls_legal.specs.Tells.{HasName}
+use Rattle.hls_legal.specs.Moment.{Moment, node_of, spots_of}
+use Rattle.hls_legal.specs.Refusals.{IsFirstSuch, IsTooDeep, AreTooManyShares}
+use Rattle.hls_legal.specs.Answers.{number, RefusesPlace, RefusesBy, IsRefused}
+use Rattle.hls_legal.proofs.LoadsDone.{spot_at}
+use Rattle.hls_legal.proofs.Found.{named_is}
 use Rattle.hls_tree.specs.declared.seat.Seat.{Seat}
 use Rattle.hls_manager.specs.Inside.Least.{IsLeastRefusal, IsLeastOf, is_early}
 use Rattle.hls_manager.specs.Inside.Ports.{IsNameRefused, IsPortRefused}

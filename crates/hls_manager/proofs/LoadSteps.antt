@@ -14,14 +14,14 @@ use Rattle.hls_machine.specs.Hierarchy.{book_of, config_of, start}
 use Rattle.hls_machine.specs.Steps.{Step, Load, state, effect, nobody, loaded}
 use Rattle.hls_machine.specs.Legal.{MayTake, CanLoad, Can, IsLegal, IsChain, fair_queues}
 use Rattle.hls_machine.specs.Lists.{IsListed}
-use Rattle.hls_accounts.specs.Tells.{ArePerches, Does}
-use Rattle.hls_answers.specs.Moment.{Moment}
-use Rattle.hls_answers.specs.Answers.{Applies}
-use Rattle.hls_answers.specs.Doable.{MayDo, AreDerivable}
-use Rattle.hls_answers.proofs.Done.{IsReached, reached, sound, new_bounded}
-use Rattle.hls_answers.proofs.Converse.{may_do}
-use Rattle.hls_answers.proofs.Loads.{new_chain}
-use Rattle.hls_answers.proofs.Unrefused.{low_level, few_shares}
+use Rattle.hls_legal.specs.Tells.{ArePerches, Does}
+use Rattle.hls_legal.specs.Moment.{Moment}
+use Rattle.hls_legal.specs.Answers.{Applies}
+use Rattle.hls_legal.specs.Doable.{MayDo, AreDerivable}
+use Rattle.hls_legal.proofs.Done.{IsReached, reached, sound, new_bounded}
+use Rattle.hls_legal.proofs.Converse.{may_do}
+use Rattle.hls_legal.proofs.Loads.{new_chain}
+use Rattle.hls_legal.proofs.Unrefused.{low_level, few_shares}
 use Rattle.hls_manager.proofs.Admits.{same_seat}
 
 -- each at the least slot that is free

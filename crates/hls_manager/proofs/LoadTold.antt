@@ -13,12 +13,12 @@ use Rattle.hls_report_text.specs.declared.refusal.Refusal.TheVariants.{NoDerivat
 use Rattle.hls_report_text.specs.declared.report.Seated.{Seated}
 use Rattle.hls_machine.specs.Hierarchy.{Hierarchy, config_of, haves_of}
 use Rattle.hls_machine.specs.Lists.{IsListed}
-use Rattle.hls_answers.specs.Moment.{Moment}
-use Rattle.hls_answers.specs.Dues.{Due, dues_from, due_at, Derives, IsUnderivable, config_there, haves_there}
-use Rattle.hls_answers.specs.Dues.{IsSettled, AreSettled}
-use Rattle.hls_answers.specs.Answers.{IsRefused, IsDone}
-use Rattle.hls_answers.specs.Doable.{AreDerivable}
-use Rattle.hls_answers.proofs.Found.{named_is}
+use Rattle.hls_legal.specs.Moment.{Moment}
+use Rattle.hls_legal.specs.Dues.{Due, dues_from, due_at, Derives, IsUnderivable, config_there, haves_there}
+use Rattle.hls_legal.specs.Dues.{IsSettled, AreSettled}
+use Rattle.hls_legal.specs.Answers.{IsRefused, IsDone}
+use Rattle.hls_legal.specs.Doable.{AreDerivable}
+use Rattle.hls_legal.proofs.Found.{named_is}
 use Rattle.hls_tree.specs.declared.seat.Seat.{Seat}
 use Rattle.hls_manager.specs.Seats.{config_at, haves_at, due_for}
 use Rattle.hls_manager.specs.Inside.Ports.{IsAt, IsWanted}

@@ -18,11 +18,11 @@ use Rattle.hls_report_text.specs.declared.refusal.Refusal.TheVariants.{Cycle, To
 use Rattle.hls_report_text.specs.declared.refusal.Refusal.TheVariants.{NoRoom, NoDerivation}
 use Rattle.hls_report_text.specs.declared.report.Seated.{Seated}
 use Rattle.hls_machine.specs.Hierarchy.{Hierarchy}
-use Rattle.hls_answers.specs.Moment.{Moment, node_of, spots_of}
-use Rattle.hls_answers.specs.Dues.{dues, AreSettled}
-use Rattle.hls_answers.specs.Refusals.{IsFirstSuch, IsTooDeep, AreTooManyShares, IsUnderived}
-use Rattle.hls_answers.specs.Answers.{number, RefusesCommand, RefusesPlace, RefusesBy, RefusesFirstPlace, Applies}
-use Rattle.hls_answers.specs.Answers.{IsRefused, IsDone}
+use Rattle.hls_legal.specs.Moment.{Moment, node_of, spots_of}
+use Rattle.hls_legal.specs.Dues.{dues, AreSettled}
+use Rattle.hls_legal.specs.Refusals.{IsFirstSuch, IsTooDeep, AreTooManyShares, IsUnderived}
+use Rattle.hls_legal.specs.Answers.{number, RefusesCommand, RefusesPlace, RefusesBy, RefusesFirstPlace, Applies}
+use Rattle.hls_legal.specs.Answers.{IsRefused, IsDone}
 use Rattle.hls_manager.proofs.Places.{to_last, IsPlaceNumber, place_number}
 
 -- a place refuses

@@ -16,10 +16,10 @@ use Rattle.hls_report_text.specs.declared.refusal.Refusal.TheVariants.{NoSuchNam
 use Rattle.hls_report_text.specs.declared.refusal.Refusal.TheVariants.{PriorityTaken, SeatsFull, NoRoom}
 use Rattle.hls_machine.specs.Hierarchy.{Hierarchy, Node, Scheduler, Loaded, Admitted, name_of}
 use Rattle.hls_machine.specs.Lists.{IsListed}
-use Rattle.hls_accounts.specs.Tells.{HasName}
-use Rattle.hls_answers.specs.Moment.{Moment, node_of, NamesJoin, NamesThread}
-use Rattle.hls_answers.specs.Answers.{number, RefusesPlace, IsRefused}
-use Rattle.hls_answers.proofs.Found.{named_is}
+use Rattle.hls_legal.specs.Tells.{HasName}
+use Rattle.hls_legal.specs.Moment.{Moment, node_of, NamesJoin, NamesThread}
+use Rattle.hls_legal.specs.Answers.{number, RefusesPlace, IsRefused}
+use Rattle.hls_legal.proofs.Found.{named_is}
 use Rattle.hls_tree.specs.Offers.{MovesTo}
 use Rattle.hls_tree.specs.Reads.{IsSort}
 use Rattle.hls_tree.specs.declared.seat.Sort.{Sort}

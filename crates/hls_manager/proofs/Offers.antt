@@ -30,11 +30,11 @@ use Rattle.hls_machine.specs.Hierarchy.{Seat as TakenSeat}
 use Rattle.hls_machine.specs.Steps.{Admit}
 use Rattle.hls_machine.specs.Legal.{scheduler_at}
 use Rattle.hls_machine.specs.Lists.{IsListed}
-use Rattle.hls_accounts.specs.Tells.{HasName, IsSpot, terms_in}
-use Rattle.hls_answers.specs.Moment.{Moment, node_of}
-use Rattle.hls_answers.specs.Dues.{Due, due_at, Derives, IsUnderivable, config_there, haves_there}
-use Rattle.hls_answers.specs.Answers.{IsRefused, IsDone}
-use Rattle.hls_answers.proofs.Found.{named_is}
+use Rattle.hls_legal.specs.Tells.{HasName, IsSpot, terms_in}
+use Rattle.hls_legal.specs.Moment.{Moment, node_of}
+use Rattle.hls_legal.specs.Dues.{Due, due_at, Derives, IsUnderivable, config_there, haves_there}
+use Rattle.hls_legal.specs.Answers.{IsRefused, IsDone}
+use Rattle.hls_legal.proofs.Found.{named_is}
 use Rattle.hls_tree.specs.Offers.{IsFreeName, MayTake, MayTakeEach, MayAdmit, IsTakenAs, AreTakenAs}
 use Rattle.hls_tree.specs.Offers as offers
 use Rattle.hls_tree.specs.Reads.{IsLoaded, IsParent}

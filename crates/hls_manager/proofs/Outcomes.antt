@@ -20,12 +20,12 @@ use Rattle.hls_machine.specs.Seated.{IsSeated}
 use Rattle.hls_machine.proofs.Lists.{run_listed}
 use Rattle.hls_machine.proofs.Seated.{run_seated}
 use Rattle.hls_machine.proofs.Commands.{thread_empty, unload_empty}
-use Rattle.hls_accounts.specs.Tells.{HasName, Does}
-use Rattle.hls_answers.specs.Moment.{Boxes, Moment, NamesScheduler}
-use Rattle.hls_answers.specs.Answers.{IsAnswer}
-use Rattle.hls_answers.specs.Refusals.{seats_taken}
-use Rattle.hls_answers.proofs.Found.{named_is}
-use Rattle.hls_answers.proofs.Done as done
+use Rattle.hls_legal.specs.Tells.{HasName, Does}
+use Rattle.hls_legal.specs.Moment.{Boxes, Moment, NamesScheduler}
+use Rattle.hls_legal.specs.Answers.{IsAnswer}
+use Rattle.hls_legal.specs.Refusals.{seats_taken}
+use Rattle.hls_legal.proofs.Found.{named_is}
+use Rattle.hls_legal.proofs.Done as done
 use Rattle.hls_tree.specs.Offers.{MayGo}
 use Rattle.hls_tree.specs.Reads.{IsLoaded}
 use Rattle.hls_tree.specs.Trees.{IsTreeOf, IsReadyOf, Stands}

@@ -16,10 +16,10 @@ use Rattle.hls_report_text.specs.declared.refusal.Refusal.TheVariants.{TermsUnfi
 use Rattle.hls_report_text.specs.declared.refusal.Refusal.TheVariants.{Cycle, TooDeep, TooManyShares, KitEmpty}
 use Rattle.hls_report_text.specs.declared.refusal.Refusal.TheVariants.{NoRoom, NoDerivation}
 use Rattle.hls_machine.specs.Hierarchy.{Hierarchy, Node, Loaded, Scheduler}
-use Rattle.hls_answers.specs.Moment.{node_of}
-use Rattle.hls_answers.specs.Refusals.{HasFault}
-use Rattle.hls_answers.specs.Answers.{number, RefusesPlace}
-use Rattle.hls_answers.proofs.Taken.{fault_here}
+use Rattle.hls_legal.specs.Moment.{node_of}
+use Rattle.hls_legal.specs.Refusals.{HasFault}
+use Rattle.hls_legal.specs.Answers.{number, RefusesPlace}
+use Rattle.hls_legal.proofs.Taken.{fault_here}
 use Rattle.hls_manager.specs.Faults.{fault_refusal}
 
 pub number_fault : (sched : Text) (fault : SeatFault) → number (fault_refusal sched fault) ≡ fault_number fault

@@ -14,12 +14,12 @@ use Rattle.hls_report_text.specs.declared.refusal.Refusal.TheVariants.{TermsUnfi
 use Rattle.hls_report_text.specs.declared.refusal.Refusal.TheVariants.{Cycle, TooDeep, TooManyShares, KitEmpty}
 use Rattle.hls_report_text.specs.declared.refusal.Refusal.TheVariants.{NoRoom, NoDerivation}
 use Rattle.hls_machine.specs.Hierarchy.{Hierarchy, Node}
-use Rattle.hls_answers.specs.Moment.{Moment, node_of}
-use Rattle.hls_answers.specs.Moment.{new_name, old_name, perches_of, spots_of}
-use Rattle.hls_answers.specs.Levels.{HasChainAfter}
-use Rattle.hls_answers.specs.Dues.{Due, dues}
-use Rattle.hls_answers.specs.Refusals.{IsOfWrongSort, IsNotEmpty}
-use Rattle.hls_answers.specs.Answers.{number, RefusesCommand, Applies, IsRefused}
+use Rattle.hls_legal.specs.Moment.{Moment, node_of}
+use Rattle.hls_legal.specs.Moment.{new_name, old_name, perches_of, spots_of}
+use Rattle.hls_legal.specs.Levels.{HasChainAfter}
+use Rattle.hls_legal.specs.Dues.{Due, dues}
+use Rattle.hls_legal.specs.Refusals.{IsOfWrongSort, IsNotEmpty}
+use Rattle.hls_legal.specs.Answers.{number, RefusesCommand, Applies, IsRefused}
 
 -- a command that has an old name, and neither a new one nor a place
 pub record IsPlain (h : Hierarchy) (c : Command) (name : Text) : Type 0 where

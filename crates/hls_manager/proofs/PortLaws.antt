@@ -27,11 +27,11 @@ use Rattle.hls_report_text.specs.declared.refusal.Refusal.TheVariants.{TermsUnfi
 use Rattle.hls_report_text.specs.declared.refusal.Refusal.TheVariants.{NoRoom}
 use Rattle.hls_machine.specs.Hierarchy.{Hierarchy, Node, Loaded, Scheduler, config_of, book_of}
 use Rattle.hls_machine.specs.Lists.{IsListed}
-use Rattle.hls_accounts.specs.Tells.{HasName, terms_in}
-use Rattle.hls_answers.specs.Moment.{node_of}
-use Rattle.hls_answers.specs.Answers.{number, RefusesPlace}
-use Rattle.hls_answers.proofs.Found.{named_is}
-use Rattle.hls_answers.proofs.Unrefused.{spot_terms}
+use Rattle.hls_legal.specs.Tells.{HasName, terms_in}
+use Rattle.hls_legal.specs.Moment.{node_of}
+use Rattle.hls_legal.specs.Answers.{number, RefusesPlace}
+use Rattle.hls_legal.proofs.Found.{named_is}
+use Rattle.hls_legal.proofs.Unrefused.{spot_terms}
 use Rattle.hls_tree.specs.Reads.{IsLoaded, IsParent, IsRootAnswer, IsSeatAnswer}
 use Rattle.hls_tree.specs.declared.seat.Seat.{Seat}
 use Rattle.hls_manager.specs.Faults.{fault_refusal}

@@ -22,9 +22,9 @@ use Rattle.hls_report_text.specs.declared.report.Seated.{Seated}
 use Rattle.hls_machine.specs.Hierarchy.{Hierarchy, Node, Loaded, Admitted, Place as Spot, Processor, At, Seat}
 use Rattle.hls_machine.specs.Hierarchy.{SeatHolder, seat_of, config_of, name_of}
 use Rattle.hls_machine.specs.Legal.{SeatInRange, IsReached}
-use Rattle.hls_answers.specs.Dues.{Due, Derives, IsUnderivable, dues_on, dues_of, dues_in, told_name, IsSettled}
-use Rattle.hls_answers.specs.Dues.{AreSettled}
-use Rattle.hls_answers.specs.Refusals.{IsFirstSuch, LacksDerivation}
+use Rattle.hls_legal.specs.Dues.{Due, Derives, IsUnderivable, dues_on, dues_of, dues_in, told_name, IsSettled}
+use Rattle.hls_legal.specs.Dues.{AreSettled}
+use Rattle.hls_legal.specs.Refusals.{IsFirstSuch, LacksDerivation}
 use Rattle.hls_tree.specs.Lists.{is_on, holder_view}
 use Rattle.hls_tree.specs.Reads.{taken_on}
 use Rattle.hls_tree.specs.declared.lists.Holder.{Holder}

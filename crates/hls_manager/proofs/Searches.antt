@@ -19,7 +19,7 @@ use Rattle.hls_derive.specs.Derivation.{PortFits, IsWithinGrammar}
 use Rattle.hls_derive.proofs.Derivings.{follow-valid, follow-start}
 use Rattle.hls_search.specs.Search.{CanSearch}
 use Rattle.hls_machine.specs.Hierarchy.{Hierarchy, Node, Loaded, Admitted, Seat as TakenSeat, config_of, haves_of}
-use Rattle.hls_answers.specs.Dues.{Derives}
+use Rattle.hls_legal.specs.Dues.{Derives}
 use Rattle.hls_tree.specs.Reads.{IsLoaded, IsParent}
 use Rattle.hls_tree.specs.declared.seat.Seat.{Seat}
 use Rattle.hls_manager.specs.Seats.{config_at, haves_at, due_for}

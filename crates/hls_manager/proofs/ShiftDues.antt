@@ -24,11 +24,11 @@ use Rattle.hls_report_text.specs.WellFormed.{IsSeated}
 use Rattle.hls_machine.specs.Hierarchy.{Hierarchy, Node, Loaded, Admitted, SeatHolder, Seat as TakenSeat}
 use Rattle.hls_machine.specs.Hierarchy.{seat_of, seats_of, config_of, haves_of, name_of}
 use Rattle.hls_machine.specs.Lists.{IsListed}
-use Rattle.hls_answers.specs.Moment.{number_of}
-use Rattle.hls_answers.specs.Dues.{Due, dues, due_at, dues_on, Derives, IsUnderivable, IsSettled, AreSettled}
-use Rattle.hls_answers.specs.Dues.{config_there, haves_there, told_name}
-use Rattle.hls_answers.specs.Refusals.{IsFirstSuch, LacksDerivation}
-use Rattle.hls_answers.proofs.Found.{named_is}
+use Rattle.hls_legal.specs.Moment.{number_of}
+use Rattle.hls_legal.specs.Dues.{Due, dues, due_at, dues_on, Derives, IsUnderivable, IsSettled, AreSettled}
+use Rattle.hls_legal.specs.Dues.{config_there, haves_there, told_name}
+use Rattle.hls_legal.specs.Refusals.{IsFirstSuch, LacksDerivation}
+use Rattle.hls_legal.proofs.Found.{named_is}
 use Rattle.hls_tree.specs.Reads.{IsParent, taken_on}
 use Rattle.hls_tree.specs.declared.seat.Seat.{Seat}
 use Rattle.hls_manager.specs.Seats.{config_at, haves_at, due_for}

@@ -23,12 +23,12 @@ use Rattle.hls_machine.specs.Steps.{Step, Move}
 use Rattle.hls_machine.specs.Legal.{IsBelow, Can, scheduler_at}
 use Rattle.hls_machine.specs.Seated.{IsSeated}
 use Rattle.hls_machine.proofs.Readings.{under_below, below_rank}
-use Rattle.hls_accounts.specs.Tells.{HasName, IsSpot, IsPerch, Does}
-use Rattle.hls_answers.specs.Moment.{Moment}
-use Rattle.hls_answers.specs.Answers.{Applies}
-use Rattle.hls_answers.specs.Doable.{MayDo, AreDerivable}
-use Rattle.hls_answers.proofs.Done as done
-use Rattle.hls_answers.proofs.Converse.{may_do}
+use Rattle.hls_legal.specs.Tells.{HasName, IsSpot, IsPerch, Does}
+use Rattle.hls_legal.specs.Moment.{Moment}
+use Rattle.hls_legal.specs.Answers.{Applies}
+use Rattle.hls_legal.specs.Doable.{MayDo, AreDerivable}
+use Rattle.hls_legal.proofs.Done as done
+use Rattle.hls_legal.proofs.Converse.{may_do}
 use Rattle.hls_tree.specs.Offers.{IsTakenAs, MayMove, HasMoveRoom, TakesAt}
 use Rattle.hls_tree.specs.Reads.{IsSeatAnswer, IsLoaded}
 use Rattle.hls_tree.specs.declared.seat.Seat.{Seat}

@@ -19,11 +19,11 @@ use Rattle.hls_sched.specs.Seen.{Seen}
 use Rattle.hls_machine.specs.Hierarchy.{Hierarchy}
 use Rattle.hls_machine.specs.Lists.{IsListed}
 use Rattle.hls_machine.specs.Steps.{Move}
-use Rattle.hls_answers.specs.Moment.{Moment}
-use Rattle.hls_answers.specs.Dues.{Due, due_at, dues, dues_on, AreSettled, IsSettled}
-use Rattle.hls_answers.specs.Refusals.{IsFirstSuch, LacksDerivation}
-use Rattle.hls_answers.specs.Answers.{IsRefused, IsDone}
-use Rattle.hls_answers.specs.Doable.{AreDerivable}
+use Rattle.hls_legal.specs.Moment.{Moment}
+use Rattle.hls_legal.specs.Dues.{Due, due_at, dues, dues_on, AreSettled, IsSettled}
+use Rattle.hls_legal.specs.Refusals.{IsFirstSuch, LacksDerivation}
+use Rattle.hls_legal.specs.Answers.{IsRefused, IsDone}
+use Rattle.hls_legal.specs.Doable.{AreDerivable}
 use Rattle.hls_tree.specs.Offers.{MayMove}
 use Rattle.hls_tree.specs.Reads.{IsParent}
 use Rattle.hls_tree.specs.Trees.{IsTreeOf, Moves}

@@ -15,11 +15,11 @@ use Rattle.hls_report_text.specs.declared.refusal.Refusal.TheVariants.{Cycle, To
 use Rattle.hls_report_text.specs.declared.refusal.Refusal.TheVariants.{NoRoom, NoDerivation}
 use Rattle.hls_report_text.specs.declared.report.Seated.{Seated}
 use Rattle.hls_machine.specs.Hierarchy.{Hierarchy}
-use Rattle.hls_answers.specs.Moment.{Moment, node_of, NamesJoin}
-use Rattle.hls_answers.specs.Dues.{dues, AreSettled}
-use Rattle.hls_answers.specs.Refusals.{IsCycle, IsTooDeep, AreTooManyShares, IsUnderived}
-use Rattle.hls_answers.specs.Answers.{number, RefusesCommand, RefusesPlace, RefusesFirstPlace, Applies, IsRefused}
-use Rattle.hls_answers.specs.Answers.{IsDone}
+use Rattle.hls_legal.specs.Moment.{Moment, node_of, NamesJoin}
+use Rattle.hls_legal.specs.Dues.{dues, AreSettled}
+use Rattle.hls_legal.specs.Refusals.{IsCycle, IsTooDeep, AreTooManyShares, IsUnderived}
+use Rattle.hls_legal.specs.Answers.{number, RefusesCommand, RefusesPlace, RefusesFirstPlace, Applies, IsRefused}
+use Rattle.hls_legal.specs.Answers.{IsDone}
 use Rattle.hls_manager.proofs.Places.{to_last, place_number}
 
 -- no refusal of the command as a whole has a number below n

@@ -12,8 +12,8 @@ use Rattle.hls_machine.specs.Readings.{IsUnderBy}
 use Rattle.hls_machine.specs.Seated.{IsSeated, SitsThere}
 use Rattle.hls_machine.proofs.Commands.{thread_empty}
 use Rattle.hls_machine.proofs.Kept.{at_same, at_other}
-use Rattle.hls_answers.specs.Dues.{dues_on, dues_of, dues_in}
-use Rattle.hls_answers.proofs.Chains.{chain_along, queues_same, IsWithin, under_other}
+use Rattle.hls_legal.specs.Dues.{dues_on, dues_of, dues_in}
+use Rattle.hls_legal.proofs.Chains.{chain_along, queues_same, IsWithin, under_other}
 use Rattle.hls_tree.specs.Offers.{IsNoCycle, moved_to}
 use Rattle.hls_tree.specs.Reads.{IsParent}
 use Rattle.hls_machine.specs.Legal.{IsReached}

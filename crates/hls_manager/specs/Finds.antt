@@ -6,7 +6,7 @@ use Rattle.hls_scenario.specs.declared.scenario.Command.TheVariants.{End, Wake, 
 use Rattle.hls_report_text.specs.declared.refusal.Refusal.{Refusal}
 use Rattle.hls_report_text.specs.declared.refusal.Refusal.TheVariants.{NoSuchName, WrongSort}
 use Rattle.hls_machine.specs.Hierarchy.{Hierarchy}
-use Rattle.hls_answers.specs.Moment.{node_of, NamesScheduler, NamesThread}
+use Rattle.hls_legal.specs.Moment.{node_of, NamesScheduler, NamesThread}
 
 -- nobody has the name, or a scheduler has it
 abbrev pub IsNoThread : Hierarchy → Text → Refusal → Type 0

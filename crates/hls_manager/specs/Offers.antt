@@ -5,8 +5,8 @@ use Rattle.hls_kinds.specs.Faults.{IsFirstFaultIfAny}
 use Rattle.hls_scenario.specs.declared.scenario.Perch.{Perch}
 use Rattle.hls_scenario.specs.declared.scenario.Spot.TheVariants.{Under}
 use Rattle.hls_machine.specs.Hierarchy.{Hierarchy, Scheduler, Loaded}
-use Rattle.hls_accounts.specs.Tells.{HasName}
-use Rattle.hls_answers.specs.Moment.{node_of}
+use Rattle.hls_legal.specs.Tells.{HasName}
+use Rattle.hls_legal.specs.Moment.{node_of}
 use Rattle.hls_tree.specs.declared.seat.Seat.{Seat}
 
 -- its name is free, there are few threads, and the seat fits on the scheduler that it names

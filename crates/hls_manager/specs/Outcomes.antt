@@ -10,9 +10,9 @@ use Rattle.hls_machine.specs.Hierarchy.{Hierarchy, Scheduler, Loaded}
 use Rattle.hls_machine.specs.Steps as steps
 use Rattle.hls_machine.specs.Steps.{Step, after}
 use Rattle.hls_machine.specs.Legal.{Can}
-use Rattle.hls_accounts.specs.Tells.{Answers}
-use Rattle.hls_answers.specs.Moment.{Boxes, Moment}
-use Rattle.hls_answers.specs.Answers.{IsAnswer}
+use Rattle.hls_legal.specs.Tells.{Answers}
+use Rattle.hls_legal.specs.Moment.{Boxes, Moment}
+use Rattle.hls_legal.specs.Answers.{IsAnswer}
 use Rattle.hls_tree.specs.Trees.{IsTreeOf, IsReadyOf}
 use Rattle.hls_tree.specs.declared.tree.Tree.{Tree}
 

@@ -3,8 +3,8 @@ use Rattle.std.specs.Prelude.{◌≡◌, ◌≢◌, List, Option, Some}
 use Rattle.hls_chron.specs.declared.plain.Kind.TheVariants as kinds
 use Rattle.hls_chron.specs.Kinds.{kind_of}
 use Rattle.hls_machine.specs.Hierarchy.{Node, Loaded, Scheduler}
-use Rattle.hls_answers.specs.Dues.{Due, AreSettled}
-use Rattle.hls_answers.specs.Refusals.{IsFirstSuch, LacksDerivation}
+use Rattle.hls_legal.specs.Dues.{Due, AreSettled}
+use Rattle.hls_legal.specs.Refusals.{IsFirstSuch, LacksDerivation}
 use Rattle.hls_manager.specs.declared.rederiving.Rederived.{Rederived}
 use Rattle.hls_manager.specs.declared.rederiving.Rederived.TheVariants.{All, Lacks}
 use Rattle.std.specs.Prelude.{ℕ}

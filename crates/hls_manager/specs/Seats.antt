@@ -6,7 +6,7 @@ use Rattle.hls_chron.specs.declared.plain.Config.TheVariants as configs
 use Rattle.hls_guarantee.specs.declared.Guarantee.{Guarantee}
 use Rattle.hls_guarantee.specs.declared.Guarantee.TheVariants.{All}
 use Rattle.hls_machine.specs.Hierarchy.{Hierarchy, config_of, haves_of}
-use Rattle.hls_answers.specs.Dues.{Due}
+use Rattle.hls_legal.specs.Dues.{Due}
 use Rattle.hls_tree.specs.declared.seat.Seat.{Seat}
 
 -- what is there: the processor gives every tick

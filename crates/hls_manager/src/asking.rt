@@ -4,8 +4,8 @@ ghost use Rattle.hls_scenario.specs.declared.scenario.Command.TheVariants.{Threa
 ghost use Rattle.hls_scenario.specs.Grammar.{IsCommand};
 ghost use Rattle.hls_report_text.specs.WellFormed.{MayAnswer as IsWellFormed};
 ghost use Rattle.hls_machine.specs.Legal.{IsReached};
-ghost use Rattle.hls_answers.specs.Moment.{Moment};
-ghost use Rattle.hls_answers.specs.Answers.{IsAnswer};
+ghost use Rattle.hls_legal.specs.Moment.{Moment};
+ghost use Rattle.hls_legal.specs.Answers.{IsAnswer};
 ghost use Rattle.hls_tree.specs.Trees.{IsTreeOf, Stands};
 ghost use Rattle.hls_manager.specs.Inside.Told.{IsToldBy};
 ghost use Rattle.hls_manager.specs.Outcomes.{IsRequest};

@@ -5,7 +5,7 @@ ghost use Rattle.hls_chron.specs.Ranges.{TermsInRange};
 ghost use Rattle.hls_guarantee.specs.Limits.{IsNarrow};
 ghost use Rattle.hls_chron.specs.Kinds.{port_count};
 ghost use Rattle.hls_machine.specs.Hierarchy.{Hierarchy, haves_of};
-ghost use Rattle.hls_answers.specs.Dues.{Derives, IsUnderivable};
+ghost use Rattle.hls_legal.specs.Dues.{Derives, IsUnderivable};
 ghost use Rattle.hls_tree.specs.Reads.{IsLoaded, IsParent};
 ghost use Rattle.hls_tree.specs.Trees.{IsTreeOf, Stands};
 ghost use Rattle.hls_machine.specs.Legal.{IsReached};

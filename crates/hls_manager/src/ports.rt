@@ -6,7 +6,7 @@ ghost use Rattle.hls_scenario.specs.declared.scenario.Perch.{Perch as Asked};
 ghost use Rattle.hls_report_text.specs.WellFormed.{IsRefusal};
 ghost use Rattle.hls_machine.specs.Hierarchy.{Hierarchy};
 ghost use Rattle.hls_machine.specs.Lists.{IsListed};
-ghost use Rattle.hls_answers.specs.Answers.{number as number_of};
+ghost use Rattle.hls_legal.specs.Answers.{number as number_of};
 ghost use Rattle.hls_tree.specs.Reads.{IsParent};
 ghost use Rattle.hls_tree.specs.Trees.{IsTreeOf, Stands, Any};
 ghost use Rattle.hls_manager.specs.Inside.Least.{IsLeastRefusal, IsLeastOf, lesser as lesser_of};

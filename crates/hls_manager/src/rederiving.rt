@@ -2,7 +2,7 @@
 ghost use Rattle.std.specs.Prelude.{◌≡◌, ◌≤◌, ℕ, IfOk, IfSome, IsNone, Some, slice_get};
 ghost use Rattle.hls_guarantee.specs.Limits.{IsNarrow};
 ghost use Rattle.hls_machine.specs.Hierarchy.{Hierarchy};
-ghost use Rattle.hls_answers.specs.Dues.{Derives, IsUnderivable, dues_on};
+ghost use Rattle.hls_legal.specs.Dues.{Derives, IsUnderivable, dues_on};
 ghost use Rattle.hls_tree.specs.Reads.{taken_on};
 ghost use Rattle.hls_tree.specs.Trees.{IsTreeOf, Stands};
 ghost use Rattle.hls_manager.specs.Inside.Holders.{due_held};

@@ -6,7 +6,7 @@ ghost use Rattle.hls_scenario.specs.declared.scenario.Perch.{Perch};
 ghost use Rattle.hls_scenario.specs.declared.scenario.Command.TheVariants.{Load};
 ghost use Rattle.hls_report_text.specs.WellFormed.{IsRefusal};
 ghost use Rattle.hls_machine.specs.Hierarchy.{Hierarchy};
-ghost use Rattle.hls_answers.specs.Answers.{IsRefused};
+ghost use Rattle.hls_legal.specs.Answers.{IsRefused};
 ghost use Rattle.hls_tree.specs.Trees.{IsTreeOf, Stands};
 ghost use Rattle.hls_machine.specs.Legal.{IsReached};
 ghost use Rattle.hls_manager.specs.Outcomes.{moment};

@@ -3,7 +3,7 @@ ghost use Rattle.std.specs.Prelude.{◌≡◌, ◌≤◌, ◌∷◌, Some, IfOk}
 ghost use Rattle.hls_chron.specs.Ranges.{TermsInRange};
 ghost use Rattle.hls_guarantee.specs.Limits.{IsNarrow};
 ghost use Rattle.hls_machine.specs.Hierarchy.{Hierarchy};
-ghost use Rattle.hls_answers.specs.Dues.{dues_on};
+ghost use Rattle.hls_legal.specs.Dues.{dues_on};
 ghost use Rattle.hls_tree.specs.Offers.{MovesTo};
 ghost use Rattle.hls_tree.specs.Reads.{IsParent};
 ghost use Rattle.hls_tree.specs.Trees.{IsTreeOf, Stands};

@@ -4,8 +4,8 @@ ghost use Rattle.hls_scenario.specs.declared.scenario.Command.TheVariants.{Move}
 ghost use Rattle.hls_scenario.specs.Grammar.{IsCommand};
 ghost use Rattle.hls_report_text.specs.WellFormed.{MayAnswer as IsWellFormed, IsRefusal};
 ghost use Rattle.hls_machine.specs.Hierarchy.{Hierarchy};
-ghost use Rattle.hls_answers.specs.Moment.{Moment};
-ghost use Rattle.hls_answers.specs.Answers.{IsRefused};
+ghost use Rattle.hls_legal.specs.Moment.{Moment};
+ghost use Rattle.hls_legal.specs.Answers.{IsRefused};
 ghost use Rattle.hls_tree.specs.Offers.{MayMove};
 ghost use Rattle.hls_tree.specs.Trees.{IsTreeOf, Stands, IsAsBefore, Moves};
 ghost use Rattle.hls_manager.specs.Inside.Shifts.{IsMovable};

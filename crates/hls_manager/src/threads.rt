@@ -7,8 +7,8 @@ ghost use Rattle.hls_report_text.specs.declared.report.Answer.TheVariants.{Done}
 ghost use Rattle.hls_report_text.specs.WellFormed.{MayAnswer as IsWellFormed, IsRefusal};
 ghost use Rattle.hls_machine.specs.Hierarchy.{Hierarchy};
 ghost use Rattle.hls_machine.specs.Lists.{IsListed};
-ghost use Rattle.hls_answers.specs.Moment.{Moment, node_of};
-ghost use Rattle.hls_answers.specs.Answers.{IsRefused};
+ghost use Rattle.hls_legal.specs.Moment.{Moment, node_of};
+ghost use Rattle.hls_legal.specs.Answers.{IsRefused};
 ghost use Rattle.hls_tree.specs.Offers.{MayAdmit};
 ghost use Rattle.hls_tree.specs.Trees.{IsTreeOf, Stands, IsAsBefore, Any, Admits};
 ghost use Rattle.hls_manager.specs.Offers.{IsOffered};

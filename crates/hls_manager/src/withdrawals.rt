@@ -5,9 +5,9 @@ ghost use Rattle.hls_report_text.specs.declared.report.Answer.TheVariants.{Done,
 ghost use Rattle.hls_scenario.specs.Grammar.{IsCommand};
 ghost use Rattle.hls_chron.specs.Name.{IsName};
 ghost use Rattle.hls_report_text.specs.WellFormed.{MayAnswer as IsWellFormed, IsRefusal};
-ghost use Rattle.hls_answers.specs.Moment.{Moment};
+ghost use Rattle.hls_legal.specs.Moment.{Moment};
 ghost use Rattle.hls_machine.specs.Hierarchy.{Hierarchy};
-ghost use Rattle.hls_accounts.specs.Tells.{HasName};
+ghost use Rattle.hls_legal.specs.Tells.{HasName};
 ghost use Rattle.hls_tree.specs.Reads.{IsLoaded};
 ghost use Rattle.hls_tree.specs.Trees.{IsTreeOf, Stands};
 ghost use Rattle.hls_machine.specs.Legal.{IsReached};

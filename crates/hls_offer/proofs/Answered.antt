@@ -12,7 +12,7 @@ use Rattle.hls_guarantee.specs.declared.Guarantee.{Guarantee}
 use Rattle.hls_report_text.specs.declared.refusal.Refusal.{Refusal}
 use Rattle.hls_report_text.specs.ReportText.{with_end, ended}
 use Rattle.hls_machine.specs.Hierarchy.{Hierarchy, name_of}
-use Rattle.hls_answers.specs.Moment.{Moment}
+use Rattle.hls_legal.specs.Moment.{Moment}
 use Rattle.hls_offer_words.specs.declared.asked.Question.TheVariants as questions
 use Rattle.hls_offer_text.specs.OfferText.{Free, free_text, refused_text}
 use Rattle.hls_offer_asks.specs.declared.wish.Wish.{Wish}

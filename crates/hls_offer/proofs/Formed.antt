@@ -10,9 +10,9 @@ use Rattle.hls_scenario.specs.Grammar.{IsTerms}
 use Rattle.hls_machine.specs.Hierarchy.{Hierarchy, Node, Loaded, Scheduler}
 use Rattle.hls_machine.specs.Legal.{IsReached}
 use Rattle.hls_machine.proofs.Books.{AllMade, IsMadeNode, legal_made}
-use Rattle.hls_book_made.proofs.Books.{kind_made}
-use Rattle.hls_answers.specs.Moment.{Moment}
-use Rattle.hls_answers.proofs.Found.{named_there}
+use Rattle.hls_book.proofs.Books.{kind_made}
+use Rattle.hls_legal.specs.Moment.{Moment}
+use Rattle.hls_legal.proofs.Found.{named_there}
 use Rattle.hls_offer_asks.specs.declared.needs.Need.{Need}
 use Rattle.hls_offer_asks.specs.declared.needs.Had.{Had}
 use Rattle.hls_offer_asks.specs.declared.needs.Had.TheVariants.{At}

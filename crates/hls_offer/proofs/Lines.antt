@@ -13,7 +13,7 @@ use Rattle.hls_machine.specs.Legal.{IsReached}
 use Rattle.hls_machine.specs.Lists.{IsListed}
 use Rattle.hls_machine.specs.Steps.{is_scheduler}
 use Rattle.hls_tree.specs.Reads.{IsLoaded}
-use Rattle.hls_accounts.proofs.GoodStays.{valid_narrow}
+use Rattle.hls_legal.proofs.GoodStays.{valid_narrow}
 use Rattle.hls_manager.proofs.Searches.{fit_at}
 use Rattle.std.proofs.lemmas.List.Elements.{All-head, All-tail}
 use Rattle.std.proofs.lemmas.List.{take_more, take_all, append-nil}

@@ -8,7 +8,7 @@ use Rattle.hls_text.specs.Lines.{Text}
 use Rattle.hls_scenario.specs.declared.scenario.Scenario.{Scenario}
 use Rattle.hls_scenario.specs.Grammar.{IsScenarioText}
 use Rattle.hls_lang.proofs.OneText.{text_of_one}
-use Rattle.hls_answers.specs.Moment.{Boxes}
+use Rattle.hls_legal.specs.Moment.{Boxes}
 use Rattle.hls_top.specs.Exchange.{Exchange, scenario_limit, IsFaultless}
 use Rattle.hls_top.specs.Ends.{IsTooLong}
 use Rattle.hls_top.specs.Refusing.{IsNoScenarioText}

@@ -5,7 +5,7 @@ use Rattle.hls_text.specs.Lines.{Text}
 use Rattle.hls_chron.specs.declared.plain.Terms.{Terms}
 use Rattle.hls_guarantee.specs.declared.Guarantee.{Guarantee}
 use Rattle.hls_sched.specs.Seen.{Seen}
-use Rattle.hls_answers.specs.Moment.{Moment}
+use Rattle.hls_legal.specs.Moment.{Moment}
 use Rattle.hls_tree.specs.Trees.{IsTreeOf}
 use Rattle.hls_tree.specs.declared.tree.Tree.{Tree}
 use Rattle.hls_offer_words.specs.declared.asked.Question.{Question}

@@ -23,8 +23,8 @@ use Rattle.hls_scenario.specs.declared.scenario.Scenario.{Scenario}
 use Rattle.hls_sched.specs.Seen.{Seen}
 use Rattle.hls_machine.specs.Hierarchy.{start}
 use Rattle.hls_machine.specs.Steps.{state}
-use Rattle.hls_answers.specs.Moment.{Boxes, Moment}
-use Rattle.hls_answers.specs.Kit.{boxes_left}
+use Rattle.hls_legal.specs.Moment.{Boxes, Moment}
+use Rattle.hls_legal.specs.Kit.{boxes_left}
 use Rattle.hls_core_journal.specs.Told.{answered_by, told}
 use Rattle.hls_core.specs.Cores.{IsCoreOf, NoneDue, Runs}
 use Rattle.hls_core.specs.declared.cores.Core.{Core}

@@ -10,7 +10,7 @@ use Rattle.hls_report_text.specs.Content.{Content}
 use Rattle.hls_report_text.specs.ReportText.{item_of}
 use Rattle.hls_machine.specs.Hierarchy.{Hierarchy}
 use Rattle.hls_machine.specs.Steps.{Step, Elapse, after}
-use Rattle.hls_accounts.specs.Tells.{TellsFrom}
+use Rattle.hls_legal.specs.Tells.{TellsFrom}
 use Rattle.hls_core_journal.specs.Told.{answered_by, answered_as}
 use Rattle.hls_offer.specs.Moments.{items_to}
 

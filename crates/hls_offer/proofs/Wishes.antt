@@ -10,7 +10,7 @@ use Rattle.hls_scenario.specs.declared.scenario.Command.{Command}
 use Rattle.hls_report_text.specs.ReportText.{with_end, item_text}
 use Rattle.hls_sched.specs.Seen.{Seen}
 use Rattle.hls_machine.specs.Hierarchy.{Node}
-use Rattle.hls_answers.specs.Moment.{Moment}
+use Rattle.hls_legal.specs.Moment.{Moment}
 use Rattle.hls_tree.specs.Reads.{IsLoaded}
 use Rattle.hls_core.specs.Asking.{IsMomentOf}
 use Rattle.hls_core.specs.declared.cores.Core.{Core}

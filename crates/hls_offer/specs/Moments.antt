@@ -9,9 +9,9 @@ use Rattle.hls_lang.specs.declared.fault.Cause.{Cause}
 use Rattle.hls_lang.specs.declared.fault.Cause.TheVariants.{Late, Many}
 use Rattle.hls_machine.specs.Hierarchy.{start}
 use Rattle.hls_machine.specs.Steps.{Step, state}
-use Rattle.hls_answers.specs.Moment.{Boxes, Moment}
-use Rattle.hls_answers.specs.Kit.{boxes_left}
-use Rattle.hls_legal_report.specs.Legal.{depth_in_force, IsRun}
+use Rattle.hls_legal.specs.Moment.{Boxes, Moment}
+use Rattle.hls_legal.specs.Kit.{boxes_left}
+use Rattle.hls_legal.specs.Legal.{depth_in_force, IsRun}
 
 abbrev pub tick_of : Option Item → ℕ
 tick_of None = 0

@@ -6,7 +6,7 @@ use Rattle.hls_text.specs.Lines.{Text, lines_of}
 use Rattle.hls_scenario.specs.declared.scenario.Scenario.{Scenario}
 use Rattle.hls_scenario.specs.Grammar.{IsScenarioText}
 use Rattle.hls_lang.specs.declared.fault.Cause.{Cause}
-use Rattle.hls_answers.specs.Moment.{Boxes, Moment}
+use Rattle.hls_legal.specs.Moment.{Boxes, Moment}
 use Rattle.hls_top.specs.Refusing.{RefusesScenario, refusal_line, cause_text}
 use Rattle.hls_offer_text.specs.OfferText.{answer_text}
 use Rattle.hls_offer_words.specs.declared.asked.Question.{Question}

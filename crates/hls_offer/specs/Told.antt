@@ -7,7 +7,7 @@ use Rattle.hls_scenario.specs.declared.scenario.Command.{Command}
 use Rattle.hls_report_text.specs.declared.refusal.Refusal.{Refusal}
 use Rattle.hls_report_text.specs.ReportText.{item_text}
 use Rattle.hls_machine.specs.Hierarchy.{Hierarchy, name_of}
-use Rattle.hls_answers.specs.Moment.{Moment}
+use Rattle.hls_legal.specs.Moment.{Moment}
 use Rattle.hls_offer_words.specs.declared.asked.Question.{Question}
 use Rattle.hls_offer_words.specs.declared.asked.Question.TheVariants as questions
 use Rattle.hls_offer_text.specs.OfferText.{Free, free_text, refused_text}

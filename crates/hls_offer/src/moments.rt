@@ -1,7 +1,7 @@
 // The tick that is asked about, and a scenario carried out up to it.
 ghost use Rattle.std.specs.Prelude.{◌≡◌, ◌≤◌, ◌<◌, ℕ, IfSome, IsNone, OnOk, length};
 ghost use Rattle.hls_scenario.specs.declared.scenario.Scenario.{Scenario as ScenarioSeen};
-ghost use Rattle.hls_answers.specs.Moment.{Boxes};
+ghost use Rattle.hls_legal.specs.Moment.{Boxes};
 ghost use Rattle.hls_core.specs.Cores.{IsCoreOf, Runs, NoneDue};
 ghost use Rattle.hls_core.specs.Readings.{scenario_of, now_of, next_of};
 ghost use Rattle.hls_offer.specs.Moments.{tick_of, asked_tick, items_to, IsBadTick, IsGoodTick};

@@ -1,7 +1,7 @@
 // The lines that tell by which terms a guarantee can be had.
 ghost use Rattle.std.specs.Prelude.{◌≡◌, ℕ, IfOk, option_copied, length};
 ghost use Rattle.hls_chron.specs.Name.{IsName};
-ghost use Rattle.hls_answers.specs.Moment.{Moment};
+ghost use Rattle.hls_legal.specs.Moment.{Moment};
 ghost use Rattle.hls_core.specs.Cores.{Runs};
 ghost use Rattle.hls_core.specs.Readings.{now_of};
 ghost use Rattle.hls_core.specs.Asking.{IsMomentOf};

@@ -2,7 +2,7 @@
 ghost use Rattle.std.specs.Prelude.{◌≡◌, ◌++◌, ℕ, All, IfOk, OnOk, option_copied};
 ghost use Rattle.hls_guarantee.specs.Limits.{IsNarrow};
 ghost use Rattle.hls_report_text.specs.ReportText.{ended, with_end};
-ghost use Rattle.hls_answers.specs.Moment.{Moment};
+ghost use Rattle.hls_legal.specs.Moment.{Moment};
 ghost use Rattle.hls_core.specs.Cores.{Runs};
 ghost use Rattle.hls_core.specs.Readings.{now_of};
 ghost use Rattle.hls_core.specs.Asking.{IsMomentOf};

@@ -1,6 +1,6 @@
 // The lines that answer a question where a core stands.
 ghost use Rattle.std.specs.Prelude.{◌≡◌, IfOk, option_copied};
-ghost use Rattle.hls_answers.specs.Moment.{Moment};
+ghost use Rattle.hls_legal.specs.Moment.{Moment};
 ghost use Rattle.hls_core.specs.Cores.{Runs};
 ghost use Rattle.hls_core.specs.Readings.{now_of};
 ghost use Rattle.hls_core.specs.Asking.{IsMomentOf};

@@ -19,11 +19,11 @@ use Rattle.hls_machine.specs.Hierarchy.{Hierarchy, Loaded, Admitted, Thread, Sea
 use Rattle.hls_machine.specs.Steps.{reseated}
 use Rattle.hls_machine.specs.Legal.{SitsUnder}
 use Rattle.hls_machine.proofs.Kept.{at_same, at_other}
-use Rattle.hls_answers.specs.Moment.{Moment, NamesThread, number_of}
-use Rattle.hls_answers.specs.Levels.{HasChain, HasChainAfter, seat_there, with_mover}
-use Rattle.hls_answers.specs.Answers.{number, Applies, RefusesCommand, RefusesPlace, RefusesFirstPlace}
-use Rattle.hls_answers.proofs.Chains.{chain_along, queues_same}
-use Rattle.hls_answers.proofs.Found.{named_there}
+use Rattle.hls_legal.specs.Moment.{Moment, NamesThread, number_of}
+use Rattle.hls_legal.specs.Levels.{HasChain, HasChainAfter, seat_there, with_mover}
+use Rattle.hls_legal.specs.Answers.{number, Applies, RefusesCommand, RefusesPlace, RefusesFirstPlace}
+use Rattle.hls_legal.proofs.Chains.{chain_along, queues_same}
+use Rattle.hls_legal.proofs.Found.{named_there}
 use Rattle.hls_offer_asks.specs.Requests.{request_for}
 
 -- ---- no chain goes through a thread that is moved

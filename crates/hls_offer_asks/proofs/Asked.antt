@@ -18,9 +18,9 @@ use Rattle.hls_report_text.specs.declared.report.Answer.TheVariants.{Done, Refus
 use Rattle.hls_machine.specs.Hierarchy.{Hierarchy, Node, Loaded, Admitted}
 use Rattle.hls_machine.specs.Steps.{is_thread}
 use Rattle.hls_machine.specs.Legal.{IsReached}
-use Rattle.hls_answers.specs.Moment.{Moment, NamesThread, node_of}
-use Rattle.hls_answers.specs.Dues.{AreSettled, Derives, Due, IsUnderivable, dues}
-use Rattle.hls_answers.specs.Answers.{number, Applies, IsAnswer, RefusesPlace}
+use Rattle.hls_legal.specs.Moment.{Moment, NamesThread, node_of}
+use Rattle.hls_legal.specs.Dues.{AreSettled, Derives, Due, IsUnderivable, dues}
+use Rattle.hls_legal.specs.Answers.{number, Applies, IsAnswer, RefusesPlace}
 use Rattle.hls_offer_asks.specs.declared.wish.Wish.{Wish}
 use Rattle.hls_offer_asks.specs.Requests.{HasDerivation, IsDoneFor, IsRefusedFor, request_of}
 use Rattle.hls_offer_asks.specs.Inside.Hindering.{IsUnhindered}

@@ -13,8 +13,8 @@ use Rattle.hls_report_text.specs.declared.refusal.Refusal.TheVariants.{NoRoom, N
 use Rattle.hls_report_text.specs.declared.report.Answer.TheVariants.{Refused}
 use Rattle.hls_machine.specs.Hierarchy.{Hierarchy, Node, Loaded, Admitted}
 use Rattle.hls_machine.specs.Steps.{is_thread}
-use Rattle.hls_answers.specs.Moment.{Moment, NamesScheduler, node_of}
-use Rattle.hls_answers.specs.Answers.{number, Applies, IsAnswer, RefusesPlace}
+use Rattle.hls_legal.specs.Moment.{Moment, NamesScheduler, node_of}
+use Rattle.hls_legal.specs.Answers.{number, Applies, IsAnswer, RefusesPlace}
 use Rattle.hls_offer_asks.specs.declared.needs.Need.{Need}
 use Rattle.hls_offer_asks.specs.Requests.{request_of}
 use Rattle.hls_offer_asks.specs.Needs.{IsBarred, IsOfNames, IsUnbarred, wish_of}

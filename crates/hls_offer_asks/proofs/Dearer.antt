@@ -24,9 +24,9 @@ use Rattle.hls_report_text.specs.declared.refusal.Refusal.TheVariants.{NoRoom, N
 use Rattle.hls_machine.specs.Hierarchy.{config_of}
 use Rattle.hls_machine.specs.Steps.{is_thread}
 use Rattle.hls_machine.specs.Legal.{IsReached}
-use Rattle.hls_answers.specs.Moment.{Moment, node_of}
-use Rattle.hls_answers.specs.Refusals.{HasFault}
-use Rattle.hls_answers.specs.Answers.{number, Applies, RefusesCommand, RefusesPlace}
+use Rattle.hls_legal.specs.Moment.{Moment, node_of}
+use Rattle.hls_legal.specs.Refusals.{HasFault}
+use Rattle.hls_legal.specs.Answers.{number, Applies, RefusesCommand, RefusesPlace}
 use Rattle.hls_offer_lines.specs.Cost.{ComesBefore, IsFit}
 use Rattle.hls_offer_asks.specs.declared.needs.Need.{Need}
 use Rattle.hls_offer_asks.specs.Requests.{request_of}

@@ -6,9 +6,9 @@ use Rattle.hls_chron.specs.declared.plain.Terms.{Terms}
 use Rattle.hls_guarantee.specs.declared.Guarantee.{Guarantee}
 use Rattle.hls_machine.specs.Hierarchy.{config_of, haves_of}
 use Rattle.hls_machine.specs.Legal.{IsReached}
-use Rattle.hls_accounts.specs.Tells.{HasName}
-use Rattle.hls_answers.specs.Moment.{Moment, node_of}
-use Rattle.hls_answers.proofs.Found.{named_is}
+use Rattle.hls_legal.specs.Tells.{HasName}
+use Rattle.hls_legal.specs.Moment.{Moment, node_of}
+use Rattle.hls_legal.proofs.Found.{named_is}
 use Rattle.hls_manager.proofs.Outcomes.{reached_listed}
 use Rattle.hls_offer_laws.specs.Offered.{IsOffered}
 use Rattle.hls_offer_lines.specs.declared.terms.TermsAsked.{TermsAsked}

@@ -11,9 +11,9 @@ use Rattle.hls_machine.specs.Hierarchy.{Hierarchy, Admitted, Place, Processor, A
 use Rattle.hls_machine.specs.Legal.{IsReached, IsThread}
 use Rattle.hls_machine.specs.Seated.{IsSeated, SitsThere}
 use Rattle.hls_machine.proofs.Commands.{thread_empty}
-use Rattle.hls_answers.specs.Moment.{NamesThread}
-use Rattle.hls_answers.specs.Dues.{Due, due_at, dues, dues_on, dues_of, dues_in}
-use Rattle.hls_answers.proofs.Found.{named_there}
+use Rattle.hls_legal.specs.Moment.{NamesThread}
+use Rattle.hls_legal.specs.Dues.{Due, due_at, dues, dues_on, dues_of, dues_in}
+use Rattle.hls_legal.proofs.Found.{named_there}
 use Rattle.hls_manager.proofs.Outcomes.{reached_seated}
 use Rattle.hls_offer_asks.proofs.Alike.{asks}
 

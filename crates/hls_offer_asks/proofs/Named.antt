@@ -6,9 +6,9 @@ use Rattle.hls_chron.specs.declared.plain.Kind.{Kind}
 use Rattle.hls_machine.specs.Hierarchy.{Hierarchy, Node, Loaded, Admitted, name_of}
 use Rattle.hls_machine.specs.Steps.{is_thread}
 use Rattle.hls_machine.specs.Lists.{IsListed}
-use Rattle.hls_accounts.specs.Tells.{HasName}
-use Rattle.hls_answers.specs.Moment.{NamesScheduler, node_of, number_of}
-use Rattle.hls_answers.proofs.Found.{found_named, named_is}
+use Rattle.hls_legal.specs.Tells.{HasName}
+use Rattle.hls_legal.specs.Moment.{NamesScheduler, node_of, number_of}
+use Rattle.hls_legal.proofs.Found.{found_named, named_is}
 use Rattle.hls_tree.specs.declared.seat.Sort.TheVariants as sorts
 use Rattle.hls_tree.specs.Reads.{IsSort}
 

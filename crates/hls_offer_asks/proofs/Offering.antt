@@ -7,9 +7,9 @@ use Rattle.hls_guarantee.specs.declared.Guarantee.TheVariants.{Null}
 use Rattle.hls_report_text.specs.declared.refusal.Refusal.{Refusal}
 use Rattle.hls_machine.specs.Hierarchy.{config_of, haves_of}
 use Rattle.hls_machine.specs.Legal.{IsReached}
-use Rattle.hls_accounts.specs.Tells.{HasName}
-use Rattle.hls_answers.specs.Moment.{Moment, NamesScheduler, node_of}
-use Rattle.hls_answers.proofs.Found.{named_is, named_there}
+use Rattle.hls_legal.specs.Tells.{HasName}
+use Rattle.hls_legal.specs.Moment.{Moment, NamesScheduler, node_of}
+use Rattle.hls_legal.proofs.Found.{named_is, named_there}
 use Rattle.hls_manager.proofs.Outcomes.{reached_listed}
 use Rattle.hls_offer_laws.specs.Offered.{IsOffered}
 use Rattle.hls_offer_best.specs.declared.seat.Seat.{Seat}

@@ -20,10 +20,10 @@ use Rattle.hls_machine.specs.Hierarchy.{Hierarchy, Node, Loaded, Admitted, Sched
 use Rattle.hls_machine.specs.Steps.{is_thread}
 use Rattle.hls_machine.specs.Legal.{IsReached}
 use Rattle.hls_machine.proofs.Books.{AllMade, IsMadeNode, legal_made}
-use Rattle.hls_book_made.proofs.Books.{kind_made}
-use Rattle.hls_answers.specs.Moment.{Moment, NamesScheduler, node_of}
-use Rattle.hls_answers.specs.Answers.{number, RefusesPlace}
-use Rattle.hls_answers.proofs.KindLaws.{kind_cases}
+use Rattle.hls_book.proofs.Books.{kind_made}
+use Rattle.hls_legal.specs.Moment.{Moment, NamesScheduler, node_of}
+use Rattle.hls_legal.specs.Answers.{number, RefusesPlace}
+use Rattle.hls_legal.proofs.KindLaws.{kind_cases}
 use Rattle.hls_tree.specs.Reads.{IsLoaded}
 use Rattle.hls_manager.proofs.Searches.{AreFit, fit_at}
 use Rattle.hls_offer_asks.specs.declared.wish.Wish.{Wish}

@@ -15,7 +15,7 @@ use Rattle.hls_machine.specs.Legal.{IsReached}
 use Rattle.hls_machine.specs.Lists.{IsListed}
 use Rattle.hls_machine.proofs.Lists.{run_listed}
 use Rattle.hls_machine.proofs.Seated.{run_seated}
-use Rattle.hls_answers.specs.Moment.{Moment, node_of}
+use Rattle.hls_legal.specs.Moment.{Moment, node_of}
 use Rattle.hls_tree.specs.Trees.{IsTreeOf, Stands}
 use Rattle.hls_tree.specs.declared.tree.Tree.{Tree}
 use Rattle.hls_manager.specs.Outcomes.{IsRequest, boxes_in}

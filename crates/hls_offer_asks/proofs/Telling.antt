@@ -15,9 +15,9 @@ use Rattle.hls_report_text.specs.declared.report.Answer.{Answer}
 use Rattle.hls_report_text.specs.declared.report.Answer.TheVariants.{Done, Refused}
 use Rattle.hls_machine.specs.Hierarchy.{config_of}
 use Rattle.hls_machine.specs.Legal.{IsReached}
-use Rattle.hls_answers.specs.Moment.{Moment}
-use Rattle.hls_answers.specs.Answers.{IsAnswer}
-use Rattle.hls_answers.proofs.Found.{named_there}
+use Rattle.hls_legal.specs.Moment.{Moment}
+use Rattle.hls_legal.specs.Answers.{IsAnswer}
+use Rattle.hls_legal.proofs.Found.{named_there}
 use Rattle.hls_offer_lines.specs.Cost.{IsFit}
 use Rattle.hls_offer_asks.specs.declared.needs.Need.{Need}
 use Rattle.hls_offer_asks.specs.Requests.{request_of}

@@ -14,7 +14,7 @@ use Rattle.hls_report_text.specs.declared.refusal.Refusal.{Refusal}
 use Rattle.hls_report_text.specs.declared.refusal.Refusal.TheVariants.{NoDerivation}
 use Rattle.hls_machine.specs.Hierarchy.{Node, config_of}
 use Rattle.hls_machine.specs.Legal.{IsReached}
-use Rattle.hls_answers.specs.Moment.{Moment}
+use Rattle.hls_legal.specs.Moment.{Moment}
 use Rattle.hls_offer_lines.specs.Cost.{ComesBefore, HasPeriodOf, IsFit}
 use Rattle.hls_offer_asks.specs.declared.needs.Need.{Need}
 use Rattle.hls_offer_asks.specs.declared.needs.Had.{Had}

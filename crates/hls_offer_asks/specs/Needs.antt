@@ -10,8 +10,8 @@ use Rattle.hls_report_text.specs.declared.refusal.Refusal.{Refusal}
 use Rattle.hls_report_text.specs.declared.refusal.Refusal.TheVariants.{NameTaken, NoSuchName, WrongSort}
 use Rattle.hls_report_text.specs.declared.refusal.Refusal.TheVariants.{TooManyThreads, NoDerivation}
 use Rattle.hls_machine.specs.Hierarchy.{config_of}
-use Rattle.hls_answers.specs.Moment.{Moment, node_of}
-use Rattle.hls_answers.specs.Answers.{Applies}
+use Rattle.hls_legal.specs.Moment.{Moment, node_of}
+use Rattle.hls_legal.specs.Answers.{Applies}
 use Rattle.hls_offer_lines.specs.Cost.{ComesBefore, HasPeriodOf, IsFit}
 use Rattle.hls_offer_asks.specs.declared.wish.Wish.{Wish}
 use Rattle.hls_offer_asks.specs.declared.needs.Need.{Need}

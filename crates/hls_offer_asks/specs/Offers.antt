@@ -5,8 +5,8 @@ use Rattle.hls_guarantee.specs.Limits.{IsNarrow}
 use Rattle.hls_report_text.specs.declared.refusal.Refusal.{Refusal}
 use Rattle.hls_report_text.specs.declared.refusal.Refusal.TheVariants.{NoDerivation}
 use Rattle.hls_machine.specs.Hierarchy.{config_of, haves_of}
-use Rattle.hls_answers.specs.Moment.{Moment, node_of}
-use Rattle.hls_answers.specs.Answers.{number}
+use Rattle.hls_legal.specs.Moment.{Moment, node_of}
+use Rattle.hls_legal.specs.Answers.{number}
 use Rattle.hls_offer_best.specs.declared.seat.Seat.{Seat}
 use Rattle.hls_offer_lines.specs.Lines.{AreOffers}
 use Rattle.hls_offer_asks.specs.declared.wish.Wish.{Wish}

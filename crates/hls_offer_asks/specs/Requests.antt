@@ -12,8 +12,8 @@ use Rattle.hls_report_text.specs.declared.report.Seated.{Seated}
 use Rattle.hls_report_text.specs.declared.report.Answer.TheVariants.{Done, Refused}
 use Rattle.hls_machine.specs.Hierarchy.{Hierarchy, config_of, haves_of}
 use Rattle.hls_machine.specs.Steps.{is_thread}
-use Rattle.hls_answers.specs.Moment.{Moment, node_of}
-use Rattle.hls_answers.specs.Answers.{IsAnswer}
+use Rattle.hls_legal.specs.Moment.{Moment, node_of}
+use Rattle.hls_legal.specs.Answers.{IsAnswer}
 use Rattle.hls_offer_laws.specs.Offered.{IsOffered}
 use Rattle.hls_offer_asks.specs.declared.wish.Wish.{Wish}
 

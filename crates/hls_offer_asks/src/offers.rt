@@ -1,8 +1,8 @@
 // What can be promised to a thread on a seat.
 ghost use Rattle.std.specs.Prelude.{◌≡◌, ◌≢◌, ◌↔◌, ℕ, IfOk, IsTrue, IfSome, IsNone, List, Option, option_copied};
 ghost use Rattle.hls_scenario.specs.declared.scenario.Command.{Command};
-ghost use Rattle.hls_answers.specs.Moment.{Moment};
-ghost use Rattle.hls_answers.specs.Answers.{IsAnswer, number};
+ghost use Rattle.hls_legal.specs.Moment.{Moment};
+ghost use Rattle.hls_legal.specs.Answers.{IsAnswer, number};
 ghost use Rattle.hls_core.specs.Cores.{Runs};
 ghost use Rattle.hls_core.specs.Asking.{IsMomentOf};
 ghost use Rattle.hls_offer_lines.specs.Lines.{ArePeriodsAsked};

@@ -2,8 +2,8 @@
 ghost use Rattle.std.specs.Prelude.{IfSome, IsNone};
 ghost use Rattle.hls_machine.specs.Hierarchy.{Hierarchy};
 ghost use Rattle.hls_machine.specs.Lists.{IsListed};
-ghost use Rattle.hls_accounts.specs.Tells.{HasName};
-ghost use Rattle.hls_answers.specs.Moment.{NamesScheduler};
+ghost use Rattle.hls_legal.specs.Tells.{HasName};
+ghost use Rattle.hls_legal.specs.Moment.{NamesScheduler};
 ghost use Rattle.hls_tree.specs.Reads.{IsLoaded};
 ghost use Rattle.hls_tree.specs.Trees.{Any, IsTreeOf, Stands};
 

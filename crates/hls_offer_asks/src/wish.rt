@@ -4,7 +4,7 @@ ghost use Rattle.hls_chron.specs.Name.{IsName};
 ghost use Rattle.hls_machine.specs.Hierarchy.{Hierarchy};
 ghost use Rattle.hls_machine.specs.Lists.{IsListed};
 ghost use Rattle.hls_machine.specs.Steps.{is_thread};
-ghost use Rattle.hls_answers.specs.Moment.{node_of};
+ghost use Rattle.hls_legal.specs.Moment.{node_of};
 ghost use Rattle.hls_tree.specs.Trees.{Any, IsTreeOf, Stands};
 ghost use Rattle.hls_offer_asks.specs.Requests.{request_for, request_of};
 

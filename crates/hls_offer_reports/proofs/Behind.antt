@@ -10,8 +10,8 @@ use Rattle.hls_scenario.specs.Grammar.{IsScenarioText}
 use Rattle.hls_lang.proofs.OneText.{text_of_one}
 use Rattle.hls_report_text.specs.Content.{Content, content_of}
 use Rattle.hls_report_text.specs.ReportText.{item_text, with_end}
-use Rattle.hls_answers.specs.Moment.{Boxes}
-use Rattle.hls_legal_report.specs.Legal.{IsLegalContent}
+use Rattle.hls_legal.specs.Moment.{Boxes}
+use Rattle.hls_legal.specs.Legal.{IsLegalContent}
 use Rattle.hls_longer_texts.specs.Longer.{with_item, MayFollow}
 use Rattle.hls_longer_texts.proofs.Scenarios.{goes_on}
 use Rattle.hls_offer.specs.Moments.{items_to, IsGoodTick}

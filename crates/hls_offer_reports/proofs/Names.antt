@@ -10,7 +10,7 @@ use Rattle.hls_machine.specs.Steps.{Step, Refuse, Load, Admit, End, Unload, Move
 use Rattle.hls_machine.specs.Steps.{admitted, effect, hop_at, hops_of, loaded, nobody, reseated, roused, wake_by}
 use Rattle.hls_machine.specs.Steps.{with_wake}
 use Rattle.hls_machine.specs.Legal.{Can, IsLegal}
-use Rattle.hls_accounts.proofs.Alike.{alike_other, alike_same, alike-ticked, almost-roused, moved-reseated}
+use Rattle.hls_legal.proofs.Alike.{alike_other, alike_same, alike-ticked, almost-roused, moved-reseated}
 
 abbrev pub AreNames : Hierarchy → Type 0
 AreNames h = (k : ℕ) (name : Text) → name_of (h.nodes k) ≡ Some name → IsName name

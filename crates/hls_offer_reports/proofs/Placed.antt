@@ -10,11 +10,11 @@ use Rattle.hls_report_text.specs.declared.report.Answer.{Answer}
 use Rattle.hls_report_text.specs.declared.report.Answer.TheVariants.{Done, Refused}
 use Rattle.hls_report_text.specs.Content.{Content}
 use Rattle.hls_report_text.specs.ReportText.{item_of}
-use Rattle.hls_answers.specs.Moment.{Boxes, Moment}
-use Rattle.hls_answers.specs.Answers.{IsAnswer}
-use Rattle.hls_answers.specs.Alike.{IsAlikeAnswer}
-use Rattle.hls_answers.proofs.OneAnswer.{answer_one}
-use Rattle.hls_legal_report.specs.Legal.{depth_in_force, IsRun, IsLegalContent}
+use Rattle.hls_legal.specs.Moment.{Boxes, Moment}
+use Rattle.hls_legal.specs.Answers.{IsAnswer}
+use Rattle.hls_legal.specs.AlikeAnswers.{IsAlikeAnswer}
+use Rattle.hls_legal.proofs.OneAnswer.{answer_one}
+use Rattle.hls_legal.specs.Legal.{depth_in_force, IsRun, IsLegalContent}
 use Rattle.hls_legal_moments.specs.Moments.{moment_behind}
 use Rattle.hls_legal_moments.proofs.Meeting.{answered_behind}
 use Rattle.hls_offer.specs.Moments.{items_to, IsMoment}

@@ -17,10 +17,10 @@ use Rattle.hls_machine.specs.Steps.{is_scheduler}
 use Rattle.hls_machine.specs.Lists.{IsListed}
 use Rattle.hls_machine.proofs.Books.{AllMade, IsMadeNode, legal_made}
 use Rattle.hls_machine.proofs.Lists.{run_listed}
-use Rattle.hls_book_made.proofs.Books.{kind_made}
-use Rattle.hls_answers.specs.Moment.{Boxes, Moment, node_of}
-use Rattle.hls_answers.specs.Refusals.{HasFault}
-use Rattle.hls_answers.proofs.Found.{named_is}
+use Rattle.hls_book.proofs.Books.{kind_made}
+use Rattle.hls_legal.specs.Moment.{Boxes, Moment, node_of}
+use Rattle.hls_legal.specs.Refusals.{HasFault}
+use Rattle.hls_legal.proofs.Found.{named_is}
 use Rattle.hls_offer_text.specs.OfferText.{Free}
 use Rattle.hls_offer.specs.Moments.{IsMoment}
 use Rattle.hls_offer.specs.Spare.{IsFree, AreFree, told_periods}

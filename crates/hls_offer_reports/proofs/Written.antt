@@ -13,7 +13,7 @@ use Rattle.hls_scenario.specs.Grammar.{IsCommand}
 use Rattle.hls_machine.specs.Hierarchy.{Hierarchy, name_of}
 use Rattle.hls_machine.specs.Steps.{is_thread}
 use Rattle.hls_machine.specs.Legal.{IsReached}
-use Rattle.hls_answers.specs.Moment.{Boxes, Moment, node_of}
+use Rattle.hls_legal.specs.Moment.{Boxes, Moment, node_of}
 use Rattle.hls_top.specs.Exchange.{Exchange}
 use Rattle.hls_offer_text.specs.OfferText.{free_text, refused_text}
 use Rattle.hls_offer_words.specs.declared.asked.Question.{Question}

@@ -14,7 +14,7 @@ use Rattle.hls_report_text.specs.declared.report.Answer.TheVariants as answers
 use Rattle.hls_report_text.specs.declared.report.Answered.{Answered}
 use Rattle.hls_report_text.specs.Content.{Content, content_of}
 use Rattle.hls_report_text.specs.ReportText.{item_of, item_text, with_end}
-use Rattle.hls_answers.specs.Moment.{Boxes}
+use Rattle.hls_legal.specs.Moment.{Boxes}
 use Rattle.hls_longer_texts.specs.Longer.{ends_line}
 use Rattle.hls_top.specs.Outputs.{IsReportOf}
 use Rattle.hls_top.specs.Exchange.{Exchange}

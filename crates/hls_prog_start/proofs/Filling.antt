@@ -8,8 +8,8 @@ use Rattle.hls_chron.specs.declared.plain.Kind.{Kind}
 use Rattle.hls_chron.specs.declared.plain.Kind.TheVariants as kinds
 use Rattle.hls_sched.specs.GoodKit.{boxes_of, place_of}
 use Rattle.hls_sched.specs.declared.kit.Kit.{Kit}
-use Rattle.hls_answers.specs.Kit.{is_kind}
-use Rattle.hls_answers.proofs.KindLaws.{kind_other}
+use Rattle.hls_legal.specs.Kit.{is_kind}
+use Rattle.hls_legal.proofs.KindLaws.{kind_other}
 use Rattle.hls_manager.specs.Outcomes.{boxes_in}
 use Rattle.hls_prog_start.specs.FullKit.{of_each, full_kit}
 

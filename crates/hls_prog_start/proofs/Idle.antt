@@ -1,7 +1,7 @@
 -- A run for which no memory was there to begin with.
 use Rattle.std.proofs.Common.{◌≡◌, ℕ, List, Option, ap, arith, is_some}
 use Rattle.hls_text.specs.Lines.{Text}
-use Rattle.hls_answers.specs.Moment.{Boxes}
+use Rattle.hls_legal.specs.Moment.{Boxes}
 use Rattle.hls_top.specs.Exchange.{exchange, IsOrderly}
 use Rattle.hls_top.specs.Ends.{LacksMemory}
 use Rattle.hls_top.proofs.Outcomes.{orderly_unread}

@@ -7,8 +7,8 @@ use Rattle.hls_report_text.specs.declared.report.Path.{Path}
 use Rattle.hls_report_text.specs.declared.report.Run.{Run}
 use Rattle.hls_report_text.specs.declared.stretch.Stretch.{Stretch}
 use Rattle.hls_report_text.specs.Content.{path_names, stretch_of}
-use Rattle.hls_accounts.specs.Schedule.{has_tick, path_at, last_name, is_name, is_served}
-use Rattle.hls_accounts.proofs.Paths.{last_in, last_of_path}
+use Rattle.hls_legal.specs.Schedule.{has_tick, path_at, last_name, is_name, is_served}
+use Rattle.hls_legal.proofs.Paths.{last_in, last_of_path}
 
 pub find-map : {A B : Type 0} (f : A → B) (test : B → Bool) (xs : List A)
     → find test (map f xs) ≡ option_map f (find (λ x. test (f x)) xs)

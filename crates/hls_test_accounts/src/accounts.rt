@@ -2,13 +2,13 @@
 ghost use Rattle.std.specs.Prelude.{◌≡◌, ◌+◌, ◌-◌, ◌^◌, ◌<◌, IfOk, is_none};
 ghost use Rattle.hls_chron.specs.Ticks.{count};
 ghost use Rattle.hls_report_text.specs.Content.{content_of};
-ghost use Rattle.hls_accounts.specs.Schedule.{path_at};
-ghost use Rattle.hls_accounts.specs.Accounts as told;
+ghost use Rattle.hls_legal.specs.Schedule.{path_at};
+ghost use Rattle.hls_legal.specs.Accounts as told;
 
 use crate::readiness::{count_ready, count_served};
 use crate::schedule::is_idle;
 use crate::stays::stays_of;
-use hls_accounts::Stay;
+use hls_legal::Stay;
 use hls_report_text::{Account, Report};
 use std::alloc::{AllocError, Global};
 

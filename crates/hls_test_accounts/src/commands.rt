@@ -1,7 +1,7 @@
 // What the commands of a report say of a name.
 ghost use Rattle.std.specs.Prelude.{◌≡◌, option_copied};
 ghost use Rattle.std.specs.Str.{bytes_eq};
-ghost use Rattle.hls_accounts.specs.Commands as said;
+ghost use Rattle.hls_legal.specs.Commands as said;
 
 use hls_chron::Name;
 use hls_report_text::{Answer, Answered};
@@ -69,7 +69,7 @@ pub fn is_ended(name: &Name, after: &[Answered]) -> bool
 }
 
 /// The last of these commands that gives the node of a name its seats.
-#[tactic(auto, unfolding(hls_accounts::specs::Commands::last_seating))]
+#[tactic(auto, unfolding(hls_legal::specs::Commands::last_seating))]
 pub fn last_seating<'a>(name: &Name, before: &'a [Answered]) -> Option<&'a Answered>
     ensures { option_copied result ≡ said.last_seating name.now before.entry.now }
 {
@@ -80,7 +80,7 @@ pub fn last_seating<'a>(name: &Name, before: &'a [Answered]) -> Option<&'a Answe
 }
 
 /// The last command up to a tick that admits, wakes, blocks or ends the thread of a name.
-#[tactic(auto, unfolding(hls_accounts::specs::Commands::last_rousing))]
+#[tactic(auto, unfolding(hls_legal::specs::Commands::last_rousing))]
 pub fn last_rousing<'a>(name: &Name, tick: u32, answered: &'a [Answered]) -> Option<&'a Answered>
     ensures { option_copied result ≡ said.last_rousing name.now tick answered.entry.now }
 {

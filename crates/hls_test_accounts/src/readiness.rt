@@ -2,8 +2,8 @@
 ghost use Rattle.std.specs.Prelude.{◌≡◌, ◌+◌, ◌^◌, ◌<◌, option_copied};
 ghost use Rattle.hls_chron.specs.Ticks.{count};
 ghost use Rattle.hls_report_text.specs.Content.{content_of};
-ghost use Rattle.hls_accounts.specs.Schedule as spelled;
-ghost use Rattle.hls_accounts.specs.Ready as told;
+ghost use Rattle.hls_legal.specs.Schedule as spelled;
+ghost use Rattle.hls_legal.specs.Ready as told;
 
 use crate::commands::last_rousing;
 use crate::schedule::is_served;
@@ -42,7 +42,7 @@ fn lasts(report: &Report, name: &Name, since: u32, tick: u32, command: &Command)
 }
 
 /// Whether the thread of a name is ready in a tick.
-#[tactic(auto, unfolding(hls_accounts::specs::Ready::is_ready))]
+#[tactic(auto, unfolding(hls_legal::specs::Ready::is_ready))]
 pub fn is_ready(report: &Report, name: &Name, tick: u32) -> bool
     ensures { result ≡ told.is_ready (content_of report.now) name.now tick }
 {

@@ -1,7 +1,7 @@
 // The ticks that the runs of a report spell.
 ghost use Rattle.std.specs.Prelude.{◌≡◌, ◌&&◌, [], nat_le, is_none, find, get_or};
 ghost use Rattle.hls_report_text.specs.Content.{content_of, path_names};
-ghost use Rattle.hls_accounts.specs.Schedule as spelled;
+ghost use Rattle.hls_legal.specs.Schedule as spelled;
 
 use hls_chron::Name;
 use hls_report_text::{Path, Report, Run};

@@ -1,15 +1,15 @@
 // The stays of threads, by the commands alone.
 ghost use Rattle.std.specs.Prelude.{◌≡◌, ◌+◌, ◌≤◌, ◌<◌, ◌++◌, [], ◌∷◌, IfOk, OnOk, map, take, drop, length};
 ghost use Rattle.std.specs.Prelude.{if◌then◌else◌, option_to_list, filter, slice_get, Some};
-ghost use Rattle.hls_accounts.specs.Commands as said;
-ghost use Rattle.hls_accounts.specs.Under.{is_under};
-ghost use Rattle.hls_accounts.specs.Stays as told;
+ghost use Rattle.hls_legal.specs.Commands as said;
+ghost use Rattle.hls_legal.specs.Under.{is_under};
+ghost use Rattle.hls_legal.specs.Stays as told;
 
 use crate::commands::{is_done, is_ended, last_seating, same_name};
 use crate::under::is_under;
-use hls_accounts::Stay;
 use hls_chron::Name;
 use hls_guarantee::Guarantee;
+use hls_legal::Stay;
 use hls_report_text::Answered;
 use hls_scenario::Command;
 use std::alloc::{AllocError, Global};

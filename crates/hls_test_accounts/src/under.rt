@@ -1,7 +1,7 @@
 // Who sits below whom, by the names in the commands so far.
 ghost use Rattle.std.specs.Prelude.{◌≡◌};
 ghost use Rattle.std.specs.List.{list_any};
-ghost use Rattle.hls_accounts.specs.Under as told;
+ghost use Rattle.hls_legal.specs.Under as told;
 
 use crate::commands::{last_seating, same_name};
 use hls_chron::Name;
@@ -10,7 +10,7 @@ use hls_scenario::{Command, Perch, Spot};
 
 /// Whether a name is the one above or, in at most so many steps, below it.
 #[cycle(within)]
-#[tactic(auto, using(hls_accounts::proofs::UnderLaws::within_laws))]
+#[tactic(auto, using(hls_legal::proofs::UnderLaws::within_laws))]
 fn is_within(before: &[Answered], steps: usize, above: &Name, name: &Name) -> bool
     ensures { result ≡ told.is_within before.now steps above.now name.now }
 {

@@ -1,10 +1,10 @@
 // The windows of a stay.
 ghost use Rattle.std.specs.Prelude.{◌≤◌};
 ghost use Rattle.hls_report_text.specs.Content.{content_of};
-ghost use Rattle.hls_accounts.specs.Accounts.{end_of, IsLongestWindow};
+ghost use Rattle.hls_legal.specs.Accounts.{end_of, IsLongestWindow};
 
 use crate::readiness::is_ready;
-use hls_accounts::Stay;
+use hls_legal::Stay;
 use hls_report_text::Report;
 
 /// The tick from which on, up to the one before `until`, the thread of a stay is ready in all ticks

@@ -9,7 +9,7 @@ use Rattle.hls_scenario.specs.declared.scenario.Command.TheVariants.{Load}
 use Rattle.hls_report_text.specs.declared.report.Answer.{Answer}
 use Rattle.hls_report_text.specs.declared.report.Answer.TheVariants.{Done}
 use Rattle.hls_report_text.specs.declared.report.Answered.{Answered}
-use Rattle.hls_answers.specs.Kit.{is_kind}
+use Rattle.hls_legal.specs.Kit.{is_kind}
 
 -- a load of the kind that is done
 abbrev pub takes_by : Kind → Command → Answer → Bool

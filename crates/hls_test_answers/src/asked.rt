@@ -1,6 +1,6 @@
 // What a command asks for.
 ghost use Rattle.std.specs.Prelude.{◌≡◌, length, slice_get};
-ghost use Rattle.hls_answers.specs.Moment as words;
+ghost use Rattle.hls_legal.specs.Moment as words;
 
 use hls_chron::Name;
 use hls_scenario::{Command, Perch};

@@ -1,7 +1,7 @@
 // What a kit has left.
 ghost use Rattle.std.specs.Prelude.{◌≡◌};
-ghost use Rattle.hls_answers.specs.Moment.{Boxes};
-ghost use Rattle.hls_answers.specs.Kit.{boxes_left, is_kind};
+ghost use Rattle.hls_legal.specs.Moment.{Boxes};
+ghost use Rattle.hls_legal.specs.Kit.{boxes_left, is_kind};
 ghost use Rattle.hls_test_answers.specs.Taking.{takes_box};
 
 use hls_chron::Kind;

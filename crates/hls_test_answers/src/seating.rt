@@ -6,7 +6,7 @@ ghost use Rattle.hls_chron.specs.Seats.{priority_at, most_seats as seats_in};
 ghost use Rattle.hls_kinds.specs.Faults.{Applies, fault_number};
 ghost use Rattle.hls_kinds.specs.Fits.{Exceeds};
 ghost use Rattle.hls_kinds.specs.Room.{IsFree, IsFull, LacksRoom};
-ghost use Rattle.hls_answers.specs.Refusals.{seats_taken as taken_in};
+ghost use Rattle.hls_legal.specs.Refusals.{seats_taken as taken_in};
 ghost use Rattle.hls_test_answers.specs.Taking.{HasPriorityBelow};
 
 use hls_chron::{Book, Config, Terms};

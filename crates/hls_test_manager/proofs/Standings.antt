@@ -13,7 +13,7 @@ use Rattle.hls_machine.specs.Seated.{IsSeated}
 use Rattle.hls_machine.proofs.Goes.{state_goes, legal_goes}
 use Rattle.hls_machine.proofs.Lists.{run_listed}
 use Rattle.hls_machine.proofs.Seated.{run_seated}
-use Rattle.hls_answers.specs.Moment.{Moment}
+use Rattle.hls_legal.specs.Moment.{Moment}
 use Rattle.hls_tree.specs.Trees.{IsTreeOf, Stands, IsAsBefore, Any}
 use Rattle.hls_tree.specs.declared.tree.Tree.{Tree}
 use Rattle.hls_machine.specs.Legal.{IsReached}

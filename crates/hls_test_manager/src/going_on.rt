@@ -3,7 +3,7 @@ ghost use Rattle.std.specs.Prelude.{◌≡◌, ◌≤◌, ◌+◌, ℕ, true, fa
 ghost use Rattle.hls_scenario.specs.declared.scenario.Scenario.{Scenario};
 ghost use Rattle.hls_sched.specs.GoodKit.{IsGood};
 ghost use Rattle.hls_sched.specs.Boxed.{boxed};
-ghost use Rattle.hls_answers.specs.Moment.{Boxes};
+ghost use Rattle.hls_legal.specs.Moment.{Boxes};
 ghost use Rattle.hls_core.specs.Cores.{IsCoreOf, Runs, NoneDue};
 
 use hls_core::Core;

@@ -16,13 +16,13 @@ use Rattle.hls_report_text.specs.declared.report.Answer.TheVariants.{Done}
 use Rattle.hls_machine.specs.Hierarchy.{Hierarchy}
 use Rattle.hls_machine.specs.Steps.{Step}
 use Rattle.hls_machine.specs.Legal.{Can}
-use Rattle.hls_accounts.specs.Tells.{Does}
-use Rattle.hls_accounts.proofs.Reached.{IsReached, listed}
-use Rattle.hls_answers.specs.Moment.{Boxes, Moment}
-use Rattle.hls_answers.specs.Dues.{Due, dues, Derives, IsSettled, AreSettled}
-use Rattle.hls_answers.specs.Answers.{IsAnswer}
-use Rattle.hls_answers.specs.Doable.{HasBox}
-use Rattle.hls_answers.proofs.Taken.{none_applies}
+use Rattle.hls_legal.specs.Tells.{Does}
+use Rattle.hls_legal.proofs.Reached.{IsReached, listed}
+use Rattle.hls_legal.specs.Moment.{Boxes, Moment}
+use Rattle.hls_legal.specs.Dues.{Due, dues, Derives, IsSettled, AreSettled}
+use Rattle.hls_legal.specs.Answers.{IsAnswer}
+use Rattle.hls_legal.specs.Doable.{HasBox}
+use Rattle.hls_legal.proofs.Taken.{none_applies}
 use Rattle.hls_test_worked.specs.Said.{lent, lent_after, seated}
 
 derived_at : (depth : ℕ) (due : List Due) (seats : List Seated) → AreSettled depth due seats → (at : ℕ) (one : Due)

@@ -23,19 +23,19 @@ use Rattle.hls_machine.specs.Steps.{Step, Refuse, Rouse, after}
 use Rattle.hls_machine.specs.Legal.{IsLegal}
 use Rattle.hls_test_runs.specs.Joined as run
 use Rattle.hls_test_runs.proofs.Joined.{joining_legal}
-use Rattle.hls_accounts.specs.Accounts.{accounts_of, idle_of}
-use Rattle.hls_accounts.specs.Schedule.{path_at}
-use Rattle.hls_accounts.specs.Tells.{Tells}
-use Rattle.hls_accounts.proofs.Agreements.{accounts_told, idle_told}
-use Rattle.hls_accounts.proofs.Reached.{IsReached, reached_start, reached_next, listed}
-use Rattle.hls_answers.specs.Moment.{Boxes, Moment, node_of, spots_of, spot_name}
-use Rattle.hls_answers.specs.Refusals.{IsPlaceUnknown}
-use Rattle.hls_answers.specs.Dues.{due_at}
-use Rattle.hls_answers.specs.Answers.{number, Applies, IsAnswer}
-use Rattle.hls_answers.specs.Kit.{boxes_after}
-use Rattle.hls_answers.specs.Along.{AnswersAlong}
-use Rattle.hls_answers.proofs.Found.{named_is}
-use Rattle.hls_legal_report.specs.Legal.{IsLegalContent}
+use Rattle.hls_legal.specs.Accounts.{accounts_of, idle_of}
+use Rattle.hls_legal.specs.Schedule.{path_at}
+use Rattle.hls_legal.specs.Tells.{Tells}
+use Rattle.hls_legal.proofs.Agreements.{accounts_told, idle_told}
+use Rattle.hls_legal.proofs.Reached.{IsReached, reached_start, reached_next, listed}
+use Rattle.hls_legal.specs.Moment.{Boxes, Moment, node_of, spots_of, spot_name}
+use Rattle.hls_legal.specs.Refusals.{IsPlaceUnknown}
+use Rattle.hls_legal.specs.Dues.{due_at}
+use Rattle.hls_legal.specs.Answers.{number, Applies, IsAnswer}
+use Rattle.hls_legal.specs.Kit.{boxes_after}
+use Rattle.hls_legal.specs.Along.{AnswersAlong}
+use Rattle.hls_legal.proofs.Found.{named_is}
+use Rattle.hls_legal.specs.Legal.{IsLegalContent}
 use Rattle.hls_test_worked.specs.Said.{full_kit}
 use Rattle.hls_test_worked.specs.Joined.{joined, joined_scenario, answered, load_root, load_e, load_r, load_j}
 use Rattle.hls_test_worked.specs.Joined.{admit_a, admit_b, move_j}

@@ -7,10 +7,10 @@ use Rattle.hls_chron.specs.declared.plain.Terms.TheVariants as terms
 use Rattle.hls_chron.specs.Ticks.{count}
 use Rattle.hls_guarantee.specs.declared.Guarantee.TheVariants.{All}
 use Rattle.hls_report_text.specs.WellFormed.{IsContent}
-use Rattle.hls_accounts.specs.Accounts.{accounts_of, idle_of}
-use Rattle.hls_accounts.specs.Schedule.{path_at}
-use Rattle.hls_accounts.specs.Stays.{stays_from}
-use Rattle.hls_legal_report.proofs.OneReport.{one_report}
+use Rattle.hls_legal.specs.Accounts.{accounts_of, idle_of}
+use Rattle.hls_legal.specs.Schedule.{path_at}
+use Rattle.hls_legal.specs.Stays.{stays_from}
+use Rattle.hls_legal.proofs.OneReport.{one_report}
 use Rattle.hls_top.specs.Promises.{AnswersEach}
 use Rattle.hls_top.proofs.Answered.{answered_run}
 use Rattle.hls_test_worked.specs.Said.{full_kit}

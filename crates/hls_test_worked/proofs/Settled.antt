@@ -15,18 +15,18 @@ use Rattle.hls_report_text.specs.WellFormed.{IsContent}
 use Rattle.hls_machine.specs.Hierarchy.{Hierarchy, start}
 use Rattle.hls_machine.specs.Steps.{Step, Rouse}
 use Rattle.hls_machine.specs.Legal.{IsLegal}
-use Rattle.hls_accounts.specs.Accounts.{accounts_of, idle_of}
-use Rattle.hls_accounts.specs.Schedule.{path_at}
-use Rattle.hls_accounts.specs.Tells.{Tells}
-use Rattle.hls_accounts.proofs.Agreements.{accounts_told, idle_told}
-use Rattle.hls_accounts.proofs.Reached.{IsReached, reached_start, reached_next}
-use Rattle.hls_answers.specs.Moment.{Boxes}
-use Rattle.hls_answers.specs.Dues.{Due, due_at}
-use Rattle.hls_answers.specs.Answers.{IsAnswer}
-use Rattle.hls_answers.specs.Kit.{boxes_after}
-use Rattle.hls_answers.specs.Along.{AnswersAlong}
-use Rattle.hls_legal_report.specs.Legal.{IsLegalContent}
-use Rattle.hls_legal_report.proofs.OneReport.{one_report}
+use Rattle.hls_legal.specs.Accounts.{accounts_of, idle_of}
+use Rattle.hls_legal.specs.Schedule.{path_at}
+use Rattle.hls_legal.specs.Tells.{Tells}
+use Rattle.hls_legal.proofs.Agreements.{accounts_told, idle_told}
+use Rattle.hls_legal.proofs.Reached.{IsReached, reached_start, reached_next}
+use Rattle.hls_legal.specs.Moment.{Boxes}
+use Rattle.hls_legal.specs.Dues.{Due, due_at}
+use Rattle.hls_legal.specs.Answers.{IsAnswer}
+use Rattle.hls_legal.specs.Kit.{boxes_after}
+use Rattle.hls_legal.specs.Along.{AnswersAlong}
+use Rattle.hls_legal.specs.Legal.{IsLegalContent}
+use Rattle.hls_legal.proofs.OneReport.{one_report}
 use Rattle.hls_test_worked.specs.Said.{full_kit, on_cpu, on, lent, seated}
 use Rattle.hls_test_worked.specs.Settled.{settled, settled_scenario, unsettled, answered, load_root, load_e}
 use Rattle.hls_test_worked.specs.Settled.{admit_a}

@@ -24,17 +24,17 @@ use Rattle.hls_machine.specs.Legal.{Can, IsLegal}
 use Rattle.hls_test_runs.specs.Moves.{root_seat}
 use Rattle.hls_test_runs.proofs.Desk.{IsDesk, load_desk, desk_loaded, can_load_desk, desk_asking, desk_runs}
 use Rattle.hls_test_runs.proofs.Small.{few_after, each_of_three, beyond, first_seat, take_first, bit_off, lone_least}
-use Rattle.hls_accounts.specs.Accounts.{accounts_of, idle_of}
-use Rattle.hls_accounts.specs.Schedule.{path_at}
-use Rattle.hls_accounts.specs.Tells.{Tells}
-use Rattle.hls_accounts.proofs.Agreements.{accounts_told, idle_told}
-use Rattle.hls_accounts.proofs.Reached.{IsReached, reached_start, reached_next}
-use Rattle.hls_answers.specs.Moment.{Boxes}
-use Rattle.hls_answers.specs.Dues.{due_at}
-use Rattle.hls_answers.specs.Answers.{IsAnswer}
-use Rattle.hls_answers.specs.Kit.{boxes_after}
-use Rattle.hls_answers.specs.Along.{AnswersAlong}
-use Rattle.hls_legal_report.specs.Legal.{IsLegalContent}
+use Rattle.hls_legal.specs.Accounts.{accounts_of, idle_of}
+use Rattle.hls_legal.specs.Schedule.{path_at}
+use Rattle.hls_legal.specs.Tells.{Tells}
+use Rattle.hls_legal.proofs.Agreements.{accounts_told, idle_told}
+use Rattle.hls_legal.proofs.Reached.{IsReached, reached_start, reached_next}
+use Rattle.hls_legal.specs.Moment.{Boxes}
+use Rattle.hls_legal.specs.Dues.{due_at}
+use Rattle.hls_legal.specs.Answers.{IsAnswer}
+use Rattle.hls_legal.specs.Kit.{boxes_after}
+use Rattle.hls_legal.specs.Along.{AnswersAlong}
+use Rattle.hls_legal.specs.Legal.{IsLegalContent}
 use Rattle.hls_test_worked.specs.Said.{full_kit, on_cpu, on, lent, seated}
 use Rattle.hls_test_worked.specs.Smallest.{smallest, smallest_scenario, answered, load_root, admit_a}
 use Rattle.hls_test_worked.proofs.Formed.{lent_formed, on_formed, cpu_formed, account_formed}

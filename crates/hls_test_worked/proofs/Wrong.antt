@@ -2,8 +2,8 @@
 use Rattle.std.proofs.Common.{List, [], ◌∷◌, Bool, false, ap}
 use Rattle.std.specs.Prelude.{is_none}
 use Rattle.hls_report_text.specs.declared.stretch.Stretch.{Stretch}
-use Rattle.hls_legal_report.specs.Legal.{IsLegalContent}
-use Rattle.hls_legal_report.proofs.OneReport.{one_report}
+use Rattle.hls_legal.specs.Legal.{IsLegalContent}
+use Rattle.hls_legal.proofs.OneReport.{one_report}
 use Rattle.hls_test_worked.specs.Said.{full_kit}
 use Rattle.hls_test_worked.specs.Joined.{joined, joined_scenario}
 use Rattle.hls_test_worked.specs.Wrong.{refuses_without_cause, idles_while_the_root_asks}

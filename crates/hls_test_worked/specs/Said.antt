@@ -14,7 +14,7 @@ use Rattle.hls_report_text.specs.declared.report.Seated.{Seated}
 use Rattle.hls_report_text.specs.declared.report.Answer.TheVariants.{Done, Refused}
 use Rattle.hls_report_text.specs.declared.report.Answered.{Answered}
 use Rattle.hls_report_text.specs.declared.stretch.Stretch.{Stretch}
-use Rattle.hls_answers.specs.Moment.{Boxes}
+use Rattle.hls_legal.specs.Moment.{Boxes}
 
 -- on the processor, and on a scheduler, as a guarantee
 abbrev pub on_cpu : Guarantee → Perch

@@ -1,6 +1,6 @@
 //! Worked reports: each function's contract is a fact about one, and its body does nothing.
 
-ghost use Rattle.hls_legal_report.specs.Legal.{IsLegalContent};
+ghost use Rattle.hls_legal.specs.Legal.{IsLegalContent};
 ghost use Rattle.hls_top.specs.Promises.{AnswersEach};
 ghost use Rattle.hls_test_worked.specs.Said.{full_kit};
 ghost use Rattle.hls_test_worked.specs.Joined.{joined, joined_scenario};

@@ -6,12 +6,12 @@ use Rattle.hls_report_text.specs.declared.report.Answered.{Answered}
 use Rattle.hls_report_text.specs.Content.{Content}
 use Rattle.hls_machine.specs.Hierarchy.{Hierarchy, start}
 use Rattle.hls_machine.specs.Steps.{Step, Elapse, Path, after, state}
-use Rattle.hls_accounts.specs.Tells.{TellsFrom}
-use Rattle.hls_answers.specs.Moment.{Boxes}
-use Rattle.hls_answers.specs.Answers.{IsAnswer}
-use Rattle.hls_answers.specs.Along.{IsTick, AnswersAlong}
-use Rattle.hls_answers.specs.Kit.{boxes_left, boxes_after}
-use Rattle.hls_legal_report.specs.Legal.{IsRun}
+use Rattle.hls_legal.specs.Tells.{TellsFrom}
+use Rattle.hls_legal.specs.Moment.{Boxes}
+use Rattle.hls_legal.specs.Answers.{IsAnswer}
+use Rattle.hls_legal.specs.Along.{IsTick, AnswersAlong}
+use Rattle.hls_legal.specs.Kit.{boxes_left, boxes_after}
+use Rattle.hls_legal.specs.Legal.{IsRun}
 use Rattle.hls_top.specs.Promises.{AnswersEach}
 use Rattle.hls_top.proofs.Promised.{IsBehind}
 

@@ -14,7 +14,7 @@ use Rattle.hls_report_text.specs.declared.report.Report.{Report}
 use Rattle.hls_report_text.specs.Content.{content_of}
 use Rattle.hls_report_text.specs.WellFormed.{IsReportText}
 use Rattle.hls_report.proofs.Sections.{report_same}
-use Rattle.hls_answers.specs.Moment.{Boxes}
+use Rattle.hls_legal.specs.Moment.{Boxes}
 use Rattle.hls_audit_clauses.specs.Kept.{IsKept, IsBroken}
 use Rattle.hls_top.specs.Exchange.{Drawn, Exchange, scenario_limit, report_limit, limit, IsFaultless}
 use Rattle.hls_top.specs.Refusing.{IsNoScenarioText, IsNoReportText}

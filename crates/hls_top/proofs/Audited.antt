@@ -5,8 +5,8 @@ use Rattle.hls_report_text.specs.declared.report.Report.{Report}
 use Rattle.hls_report_text.specs.Content.{Content, content_of}
 use Rattle.hls_report_text.specs.ReportText.{ended}
 use Rattle.hls_report_text.specs.WellFormed.{IsReportText}
-use Rattle.hls_answers.specs.Moment.{Boxes}
-use Rattle.hls_legal_report.specs.Legal.{IsLegalReport}
+use Rattle.hls_legal.specs.Moment.{Boxes}
+use Rattle.hls_legal.specs.Legal.{IsLegalReport}
 use Rattle.hls_audit_clauses.specs.Kept.{IsKept}
 use Rattle.hls_audit_clauses.proofs.Kept.{report_kept}
 use Rattle.hls_audit.specs.declared.auditing.Outcome.{Outcome}

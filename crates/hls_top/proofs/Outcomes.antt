@@ -12,7 +12,7 @@ use Rattle.hls_top_words.specs.Table.{IsJob}
 use Rattle.hls_top_words.specs.declared.jobs.Job.{Job}
 use Rattle.hls_top_words.specs.declared.jobs.Job.TheVariants.{Run, Check, Gen, Trial}
 use Rattle.hls_top_words.proofs.OneJob.{same_job}
-use Rattle.hls_answers.specs.Moment.{Boxes}
+use Rattle.hls_legal.specs.Moment.{Boxes}
 use Rattle.hls_top.specs.Exchange.{Drawn, Exchange, limit, IsFaultless, Takes, IsOrderly}
 use Rattle.hls_top.specs.Outputs.{IsOutput}
 use Rattle.hls_top.specs.Ends.{IsDue, Writes, IsTooLong, Lacks, Ends}

@@ -22,20 +22,20 @@ use Rattle.hls_report_text.specs.Content.{Content, content_of}
 use Rattle.hls_machine.specs.Hierarchy.{Hierarchy, start}
 use Rattle.hls_machine.specs.Steps.{Step, Elapse, after, state}
 use Rattle.hls_machine.specs.Legal.{IsLegal}
-use Rattle.hls_machine_supply.proofs.Runs as supply
-use Rattle.hls_accounts.specs.Schedule.{last_name, is_name, is_served, path_at}
-use Rattle.hls_accounts.specs.Tells.{TellsFrom, Tells}
-use Rattle.hls_accounts.proofs.Keeping.{stays_kept}
-use Rattle.hls_accounts.proofs.Agreements.{ran_ready}
-use Rattle.hls_answers.specs.Moment.{Boxes, Moment}
-use Rattle.hls_answers.specs.Refusals.{IsUnderived}
-use Rattle.hls_answers.specs.Answers.{number, Applies, IsAnswer}
-use Rattle.hls_answers.specs.Along.{AnswersAlong}
-use Rattle.hls_answers.specs.Kit.{boxes_left, boxes_after}
-use Rattle.hls_legal_report.specs.Legal.{IsLegalContent}
-use Rattle.hls_legal_report.proofs.Keeping.{report_kept}
+use Rattle.hls_machine.proofs.Supply as supply
+use Rattle.hls_legal.specs.Schedule.{last_name, is_name, is_served, path_at}
+use Rattle.hls_legal.specs.Tells.{TellsFrom, Tells}
+use Rattle.hls_legal.proofs.KeepingAccounts.{stays_kept}
+use Rattle.hls_legal.proofs.Agreements.{ran_ready}
+use Rattle.hls_legal.specs.Moment.{Boxes, Moment}
+use Rattle.hls_legal.specs.Refusals.{IsUnderived}
+use Rattle.hls_legal.specs.Answers.{number, Applies, IsAnswer}
+use Rattle.hls_legal.specs.Along.{AnswersAlong}
+use Rattle.hls_legal.specs.Kit.{boxes_left, boxes_after}
+use Rattle.hls_legal.specs.Legal.{IsLegalContent}
+use Rattle.hls_legal.proofs.KeepingStays.{report_kept}
 use Rattle.hls_legal_jobs.proofs.Kept.{jobs_kept}
-use Rattle.hls_legal_report.proofs.Removal.{removed}
+use Rattle.hls_legal.proofs.Removal.{removed}
 use Rattle.hls_audit_clauses.proofs.Kept.{report_kept as never_fails}
 use Rattle.hls_core.specs.Texts.{IsLegalText}
 use Rattle.hls_top.specs.Outputs.{IsReportOf}

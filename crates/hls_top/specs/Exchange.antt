@@ -6,7 +6,7 @@ use Rattle.hls_text.specs.Lines.{Text}
 use Rattle.hls_top_words.specs.Table.{IsJob, IsNoJob}
 use Rattle.hls_top_words.specs.declared.jobs.Job.{Job}
 use Rattle.hls_top_words.specs.declared.jobs.Job.TheVariants.{Run, Check, Gen, Trial}
-use Rattle.hls_answers.specs.Moment.{Boxes}
+use Rattle.hls_legal.specs.Moment.{Boxes}
 
 -- what a source shows before a call and after it: the bytes that are left to be read, where they are told, and the
 -- faults that were counted

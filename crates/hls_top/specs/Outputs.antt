@@ -13,8 +13,8 @@ use Rattle.hls_report_text.specs.declared.report.Report.{Report}
 use Rattle.hls_report_text.specs.Content.{content_of}
 use Rattle.hls_report_text.specs.ReportText.{report_text, ended}
 use Rattle.hls_report_text.specs.WellFormed.{IsReportText}
-use Rattle.hls_answers.specs.Moment.{Boxes}
-use Rattle.hls_legal_report.specs.Legal.{IsLegalReport}
+use Rattle.hls_legal.specs.Moment.{Boxes}
+use Rattle.hls_legal.specs.Legal.{IsLegalReport}
 use Rattle.hls_audit.specs.declared.auditing.Outcome.{Outcome}
 use Rattle.hls_audit.specs.declared.auditing.Outcome.TheVariants.{Kept, Broken}
 use Rattle.hls_audit_clauses.specs.Kept.{IsKept}

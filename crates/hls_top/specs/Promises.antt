@@ -8,16 +8,16 @@ use Rattle.hls_report_text.specs.declared.report.Answer.{Answer}
 use Rattle.hls_report_text.specs.declared.report.Answer.TheVariants.{Done, Refused}
 use Rattle.hls_report_text.specs.declared.report.Answered.{Answered}
 use Rattle.hls_report_text.specs.Content.{Content}
-use Rattle.hls_accounts.specs.Schedule.{is_served}
-use Rattle.hls_accounts.specs.Ready.{is_ready}
-use Rattle.hls_accounts.specs.Tells.{Tells}
-use Rattle.hls_answers.specs.Moment.{Boxes, Moment}
-use Rattle.hls_answers.specs.Refusals.{IsUnderived}
-use Rattle.hls_answers.specs.Answers.{number, Applies, IsAnswer}
-use Rattle.hls_answers.specs.Kit.{boxes_left}
-use Rattle.hls_legal_report.specs.Legal.{IsLegalContent}
-use Rattle.hls_legal_report.specs.Kept.{KeepsAccount}
-use Rattle.hls_legal_report.specs.Without.{scenario_without, content_without}
+use Rattle.hls_legal.specs.Schedule.{is_served}
+use Rattle.hls_legal.specs.Ready.{is_ready}
+use Rattle.hls_legal.specs.Tells.{Tells}
+use Rattle.hls_legal.specs.Moment.{Boxes, Moment}
+use Rattle.hls_legal.specs.Refusals.{IsUnderived}
+use Rattle.hls_legal.specs.Answers.{number, Applies, IsAnswer}
+use Rattle.hls_legal.specs.Kit.{boxes_left}
+use Rattle.hls_legal.specs.Legal.{IsLegalContent}
+use Rattle.hls_legal.specs.Kept.{KeepsAccount}
+use Rattle.hls_legal.specs.Without.{scenario_without, content_without}
 use Rattle.hls_legal_jobs.specs.Kept.{KeepsJobs}
 use Rattle.hls_machine.specs.Hierarchy.{start}
 use Rattle.hls_machine.specs.Steps.{Step, state}

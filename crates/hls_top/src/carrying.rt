@@ -5,8 +5,8 @@ ghost use Rattle.hls_scenario.specs.Grammar.{IsScenario};
 ghost use Rattle.hls_sched.specs.GoodKit.{IsGood};
 ghost use Rattle.hls_sched.specs.Boxed.{boxed};
 ghost use Rattle.hls_manager.specs.Outcomes.{boxes_in};
-ghost use Rattle.hls_answers.specs.Moment.{Boxes};
-ghost use Rattle.hls_legal_report.specs.Legal.{IsLegalReport};
+ghost use Rattle.hls_legal.specs.Moment.{Boxes};
+ghost use Rattle.hls_legal.specs.Legal.{IsLegalReport};
 ghost use Rattle.hls_core.specs.Cores.{IsCoreOf, Runs, NoneDue};
 
 use hls_core::Core;

@@ -11,7 +11,7 @@ use Rattle.hls_machine.specs.Steps.{Hop, Path, hop_at, hops_of, row_by}
 use Rattle.hls_machine.specs.Legal.{IsReached}
 use Rattle.hls_machine.proofs.Books.{IsMadeNode, legal_made}
 use Rattle.hls_kinds.proofs.Choices.{serves_one}
-use Rattle.hls_book_made.proofs.Books.{admission_made}
+use Rattle.hls_book.proofs.Books.{admission_made}
 use Rattle.hls_tree_nodes.specs.Shown.{Post, What, Scheduler, Shown, SchedulerNode, bare, bare_in, is_sched}
 use Rattle.hls_tree_nodes.specs.Shown.{ServesIn, on_post, mask_in, grant_in}
 use Rattle.hls_tree_nodes.specs.Shown as shown

@@ -11,7 +11,7 @@ use Rattle.hls_chron.specs.declared.plain.Terms.{Terms}
 use Rattle.hls_chron.specs.Seats.{terms_at}
 use Rattle.hls_chron.specs.Ticks.{count, one_if}
 use Rattle.hls_chron.proofs.CountLaws.{count-agree}
-use Rattle.hls_book_made.proofs.Books.{range_made, admission_made}
+use Rattle.hls_book.proofs.Books.{range_made, admission_made}
 use Rattle.hls_machine.specs.Ledgers.{empty_book}
 use Rattle.hls_machine.specs.Hierarchy.{Hierarchy, Node, Loaded, Admitted, Seat, SeatHolder, Place, Processor, At}
 use Rattle.hls_machine.specs.Hierarchy.{start, seats_of, seat_of, book_of}

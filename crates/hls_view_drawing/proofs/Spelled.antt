@@ -5,7 +5,7 @@ use Rattle.std.specs.Prelude.{Some, None, Option, option_map, slice_get}
 use Rattle.std.proofs.lemmas.Option.{slice_get-get_or, slice_get-map}
 use Rattle.std.proofs.Math.Seq.{get_or-append_seam}
 use Rattle.std.specs.List.{AllByRecursion}
-use Rattle.hls_accounts.proofs.ToldSteps.{each_same}
+use Rattle.hls_legal.proofs.ToldSteps.{each_same}
 use Rattle.hls_report_text.specs.Content.{Content}
 use Rattle.hls_report_text.specs.WellFormed.{IsContent}
 use Rattle.hls_view_tale.specs.declared.label.Label.{Label}

@@ -11,8 +11,8 @@ use Rattle.hls_scenario.specs.declared.scenario.Command.TheVariants.{Load, Threa
 use Rattle.hls_report_text.specs.declared.report.Answered.{Answered}
 use Rattle.hls_report_text.specs.Content.{Content}
 use Rattle.hls_report_text.specs.WellFormed.{AreAnswered, IsContent}
-use Rattle.hls_accounts.specs.Commands.{is_done, has_done, rouses}
-use Rattle.hls_accounts.proofs.Rousings.{names_same}
+use Rattle.hls_legal.specs.Commands.{is_done, has_done, rouses}
+use Rattle.hls_legal.proofs.Rousings.{names_same}
 use Rattle.hls_view_jobs.specs.declared.job.Sort.TheVariants.{Blocks, Ends}
 use Rattle.hls_view_jobs.specs.declared.job.Release.{Release}
 use Rattle.hls_view_jobs.specs.Words.{sort_of, words_on}

@@ -5,7 +5,7 @@ use Rattle.std.specs.List.{sum_by}
 use Rattle.std.proofs.lemmas.List.Sums.{sum_by-cons, sum-map}
 use Rattle.hls_text.specs.Lines.{Text}
 use Rattle.hls_report_text.specs.Content.{Content}
-use Rattle.hls_accounts.specs.Schedule.{is_served}
+use Rattle.hls_legal.specs.Schedule.{is_served}
 use Rattle.hls_view_jobs.specs.declared.job.Release.{Release}
 use Rattle.hls_view_jobs.specs.declared.job.Fate.{Fate}
 use Rattle.hls_view_jobs.specs.declared.job.Fate.TheVariants as fates

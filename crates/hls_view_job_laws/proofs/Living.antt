@@ -11,8 +11,8 @@ use Rattle.hls_text.specs.Lines.{Text}
 use Rattle.hls_audit_spans.proofs.Counts.{count_on}
 use Rattle.hls_report_text.specs.Content.{Content}
 use Rattle.hls_report_text.specs.WellFormed.{IsContent}
-use Rattle.hls_accounts.specs.Schedule.{path_at, last_name, is_name, is_served}
-use Rattle.hls_accounts.specs.Ready.{is_ready}
+use Rattle.hls_legal.specs.Schedule.{path_at, last_name, is_name, is_served}
+use Rattle.hls_legal.specs.Ready.{is_ready}
 use Rattle.hls_audit_clauses.specs.Clauses.{Ready}
 use Rattle.hls_view_jobs.specs.declared.job.Sort.TheVariants.{Blocks}
 use Rattle.hls_view_jobs.specs.declared.job.Word.{Word}

@@ -14,10 +14,10 @@ use Rattle.hls_scenario.specs.declared.scenario.Command.TheVariants.{Load, Threa
 use Rattle.hls_report_text.specs.declared.report.Answered.{Answered}
 use Rattle.hls_report_text.specs.Content.{Content}
 use Rattle.hls_report_text.specs.WellFormed.{AreAnswered}
-use Rattle.hls_accounts.specs.Accounts.{end_by}
-use Rattle.hls_accounts.specs.Commands.{has_done, rouses, last_rousing}
-use Rattle.hls_accounts.specs.Schedule.{is_served}
-use Rattle.hls_accounts.specs.Ready.{lasts, is_awake, is_ready}
+use Rattle.hls_legal.specs.Accounts.{end_by}
+use Rattle.hls_legal.specs.Commands.{has_done, rouses, last_rousing}
+use Rattle.hls_legal.specs.Schedule.{is_served}
+use Rattle.hls_legal.specs.Ready.{lasts, is_awake, is_ready}
 use Rattle.hls_view_jobs.specs.declared.job.Sort.{Sort}
 use Rattle.hls_view_jobs.specs.declared.job.Sort.TheVariants.{Wakes}
 use Rattle.hls_view_jobs.specs.declared.job.Word.{Word}

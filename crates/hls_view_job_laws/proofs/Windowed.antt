@@ -17,13 +17,13 @@ use Rattle.hls_guarantee.specs.Satisfaction.{Satisfies}
 use Rattle.hls_guarantee.proofs.Promises.{satisfies-part}
 use Rattle.hls_report_text.specs.Content.{Content}
 use Rattle.hls_report_text.specs.WellFormed.{IsContent}
-use Rattle.hls_accounts.specs.declared.stay.Stay.{Stay}
-use Rattle.hls_accounts.specs.Schedule.{is_served}
-use Rattle.hls_accounts.specs.Ready.{is_ready}
-use Rattle.hls_accounts.specs.Stays.{stays}
-use Rattle.hls_accounts.specs.Accounts.{end_by, end_of, IsWindow}
-use Rattle.hls_accounts.proofs.GoodStays.{stays_good}
-use Rattle.hls_accounts.proofs.Keeping.{IsReadySince, since_first, since_next, since_anew, since_longest}
+use Rattle.hls_legal.specs.declared.stay.Stay.{Stay}
+use Rattle.hls_legal.specs.Schedule.{is_served}
+use Rattle.hls_legal.specs.Ready.{is_ready}
+use Rattle.hls_legal.specs.Stays.{stays}
+use Rattle.hls_legal.specs.Accounts.{end_by, end_of, IsWindow}
+use Rattle.hls_legal.proofs.GoodStays.{stays_good}
+use Rattle.hls_legal.proofs.KeepingAccounts.{IsReadySince, since_first, since_next, since_anew, since_longest}
 use Rattle.hls_audit_clauses.specs.Clauses.{Supplied}
 use Rattle.hls_audit_clauses.proofs.Decided.{satisfies_stable}
 use Rattle.hls_view_jobs.specs.declared.job.Release.{Release}

@@ -5,7 +5,7 @@ use Rattle.std.specs.Prelude.{Option, ◌&&◌, cond}
 use Rattle.std.proofs.lemmas.List.{drop_all, map-append}
 use Rattle.hls_text.specs.Lines.{Text}
 use Rattle.hls_report_text.specs.declared.report.Answered.{Answered}
-use Rattle.hls_accounts.specs.Commands.{has_done, rouses}
+use Rattle.hls_legal.specs.Commands.{has_done, rouses}
 use Rattle.hls_view_jobs.specs.declared.job.Word.{Word}
 use Rattle.hls_view_jobs.specs.declared.admissions.Admission.{Admission}
 use Rattle.hls_view_jobs.specs.Words.{sort_of, word_of, is_end, words_on, end_in}

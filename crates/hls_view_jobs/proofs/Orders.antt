@@ -7,7 +7,7 @@ use Rattle.hls_text.specs.Lines.{Text}
 use Rattle.hls_report_text.specs.declared.report.Answered.{Answered}
 use Rattle.hls_report_text.specs.Content.{Content}
 use Rattle.hls_report_text.specs.WellFormed.{AreAnswered, IsContent}
-use Rattle.hls_accounts.specs.Schedule.{is_served}
+use Rattle.hls_legal.specs.Schedule.{is_served}
 use Rattle.hls_view_jobs.specs.declared.job.Sort.{Sort}
 use Rattle.hls_view_jobs.specs.declared.job.Sort.TheVariants.{Wakes, Blocks, Ends}
 use Rattle.hls_view_jobs.specs.declared.job.Word.{Word}

@@ -13,8 +13,8 @@ use Rattle.hls_guarantee.specs.declared.Guarantee.TheVariants as kept
 use Rattle.hls_guarantee.specs.Limits.{IsValid}
 use Rattle.hls_text.specs.Lines.{Text}
 use Rattle.hls_report_text.specs.Content.{Content}
-use Rattle.hls_accounts.specs.declared.stay.Stay.{Stay}
-use Rattle.hls_accounts.specs.Schedule.{is_served}
+use Rattle.hls_legal.specs.declared.stay.Stay.{Stay}
+use Rattle.hls_legal.specs.Schedule.{is_served}
 use Rattle.hls_view_jobs.specs.declared.job.Release.{Release}
 use Rattle.hls_view_jobs.specs.declared.job.Fate.{Fate}
 use Rattle.hls_view_jobs.specs.declared.job.Fate.TheVariants.{Done, Dropped, Open}

@@ -6,9 +6,9 @@ use Rattle.std.proofs.lemmas.Bool.{cases_Bool, leb-true, lt-ltb}
 use Rattle.hls_text.specs.Lines.{Text}
 use Rattle.hls_text.proofs.NumberLaws.{and_left, and_right}
 use Rattle.hls_report_text.specs.Content.{Content}
-use Rattle.hls_accounts.specs.declared.stay.Stay.{Stay}
-use Rattle.hls_accounts.specs.Stays.{stays}
-use Rattle.hls_accounts.specs.Accounts.{end_by}
+use Rattle.hls_legal.specs.declared.stay.Stay.{Stay}
+use Rattle.hls_legal.specs.Stays.{stays}
+use Rattle.hls_legal.specs.Accounts.{end_by}
 use Rattle.hls_audit_stays.specs.Found.{lasts, is_later}
 use Rattle.hls_view_jobs.specs.Jobs.{is_of, has_ticks, stay_with}
 use Rattle.hls_view_jobs.specs.Inside.Sound.{AreStaysOf, stay_among}

@@ -10,7 +10,7 @@ use Rattle.hls_scenario.specs.declared.scenario.Command.TheVariants.{Load, Threa
 use Rattle.hls_scenario.specs.Grammar.{IsCommand}
 use Rattle.hls_report_text.specs.declared.report.Answered.{Answered}
 use Rattle.hls_report_text.specs.WellFormed.{AreAnswered}
-use Rattle.hls_accounts.specs.Commands.{has_done, rouses}
+use Rattle.hls_legal.specs.Commands.{has_done, rouses}
 use Rattle.hls_view_jobs.specs.declared.job.Sort.{Sort}
 use Rattle.hls_view_jobs.specs.declared.job.Sort.TheVariants.{Wakes, Blocks, Ends}
 use Rattle.hls_view_jobs.specs.declared.job.Word.{Word}

@@ -5,10 +5,10 @@ use Rattle.std.specs.Str.{bytes_eq}
 use Rattle.hls_text.specs.Lines.{Text}
 use Rattle.hls_chron.specs.Ticks.{count}
 use Rattle.hls_report_text.specs.Content.{Content}
-use Rattle.hls_accounts.specs.declared.stay.Stay.{Stay}
-use Rattle.hls_accounts.specs.Schedule.{is_served}
-use Rattle.hls_accounts.specs.Stays.{stays}
-use Rattle.hls_accounts.specs.Accounts.{end_by}
+use Rattle.hls_legal.specs.declared.stay.Stay.{Stay}
+use Rattle.hls_legal.specs.Schedule.{is_served}
+use Rattle.hls_legal.specs.Stays.{stays}
+use Rattle.hls_legal.specs.Accounts.{end_by}
 use Rattle.hls_view_jobs.specs.declared.job.Sort.{Sort}
 use Rattle.hls_view_jobs.specs.declared.job.Sort.TheVariants.{Wakes}
 use Rattle.hls_view_jobs.specs.declared.job.Word.{Word}

@@ -6,7 +6,7 @@ use Rattle.hls_scenario.specs.declared.scenario.Command.{Command}
 use Rattle.hls_scenario.specs.declared.scenario.Command.TheVariants.{Thread}
 use Rattle.hls_report_text.specs.declared.report.Answered.{Answered}
 use Rattle.hls_report_text.specs.Content.{Content}
-use Rattle.hls_accounts.specs.Commands.{is_done}
+use Rattle.hls_legal.specs.Commands.{is_done}
 use Rattle.hls_view_jobs.specs.declared.job.Word.{Word}
 use Rattle.hls_view_jobs.specs.declared.job.Release.{Release}
 use Rattle.hls_view_jobs.specs.declared.job.Job.{Job}

@@ -3,7 +3,7 @@ ghost use Rattle.std.specs.Prelude.{◌≡◌, ◌+◌, ◌≤◌, ◌<◌, ◌+
 ghost use Rattle.std.specs.Prelude.{◌&&◌};
 ghost use Rattle.hls_report_text.specs.Content.{content_of};
 ghost use Rattle.hls_report_text.specs.WellFormed.{IsWellFormed};
-ghost use Rattle.hls_accounts.specs.Commands.{has_done, rouses};
+ghost use Rattle.hls_legal.specs.Commands.{has_done, rouses};
 ghost use Rattle.hls_view_jobs.specs.Words.{words_on, end_in, is_end, sort_of};
 ghost use Rattle.hls_view_jobs.specs.Threads.{admits, admitted, has_tick, lasting, lives};
 ghost use Rattle.hls_view_jobs.specs.Inside.Sources.{IsAdmission, life_by, listed};

@@ -1,7 +1,7 @@
 // What became of a job.
 ghost use Rattle.std.specs.Prelude.{◌≡◌, ◌+◌, ◌≤◌, All};
 ghost use Rattle.hls_guarantee.specs.Limits.{IsValid};
-ghost use Rattle.hls_accounts.specs.declared.stay.Stay.{Stay as StayRecord};
+ghost use Rattle.hls_legal.specs.declared.stay.Stay.{Stay as StayRecord};
 ghost use Rattle.hls_report_text.specs.Content.{content_of};
 ghost use Rattle.hls_report_text.specs.WellFormed.{IsWellFormed};
 ghost use Rattle.hls_audit_threads.specs.Inside.Ticks.{TellsServed};
@@ -10,9 +10,9 @@ ghost use Rattle.hls_view_jobs.specs.Inside.Sound.{IsRelease, AreStaysOf, fate_b
 
 use crate::bounds::promised_in;
 use crate::job::{Fate, Job, Release};
-use hls_accounts::Stay;
 use hls_audit_spans::Spans;
 use hls_chron::Name;
+use hls_legal::Stay;
 use hls_report_text::Report;
 
 /// What became of a job that got so much of what it asked for by a tick.

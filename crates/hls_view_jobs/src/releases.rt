@@ -1,6 +1,6 @@
 // The jobs that words release.
 ghost use Rattle.std.specs.Prelude.{◌≡◌, ◌+◌, ◌<◌, ◌++◌, drop, IfOk, OnOk, length};
-ghost use Rattle.hls_accounts.specs.Accounts.{end_by};
+ghost use Rattle.hls_legal.specs.Accounts.{end_by};
 ghost use Rattle.hls_view_jobs.specs.Jobs.{release_of, releases, until};
 
 use crate::job::{Release, Sort, Word};

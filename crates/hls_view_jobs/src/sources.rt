@@ -2,15 +2,15 @@
 ghost use Rattle.std.specs.Prelude.{◌≡◌, IfOk, map, filter};
 ghost use Rattle.hls_report_text.specs.Content.{content_of};
 ghost use Rattle.hls_report_text.specs.WellFormed.{IsWellFormed};
-ghost use Rattle.hls_accounts.specs.Stays as told;
+ghost use Rattle.hls_legal.specs.Stays as told;
 ghost use Rattle.hls_audit_stays.specs.Found.{stay_by, lasts};
 ghost use Rattle.hls_view_jobs.specs.Inside.Sound.{AreStaysOf};
 ghost use Rattle.hls_view_jobs.specs.Inside.Sources.{AreSources};
 
-use hls_accounts::Stay;
 use hls_audit_stays::{FoundStay, stays_of};
 use hls_audit_threads::{KnownThreads, Lookup};
 use hls_chron::Name;
+use hls_legal::Stay;
 use hls_report_text::Report;
 use std::alloc::{AllocError, Global};
 

@@ -1,6 +1,6 @@
 // The words on a thread.
 ghost use Rattle.std.specs.Prelude.{◌≡◌, ◌+◌, ◌≤◌, ◌<◌, ◌++◌, ◌∷◌, [], drop, IfOk, OnOk, length};
-ghost use Rattle.hls_accounts.specs.Commands.{has_done, rouses};
+ghost use Rattle.hls_legal.specs.Commands.{has_done, rouses};
 ghost use Rattle.hls_view_jobs.specs.Words.{sort_of, word_of, is_end, is_wake, words_on, end_in};
 
 use crate::job::{Sort, Word};

@@ -5,7 +5,7 @@ use Rattle.hls_text.specs.Lines.{Text}
 use Rattle.hls_report_text.specs.declared.report.Path.{Path}
 use Rattle.hls_report_text.specs.Content.{Content, path_names}
 use Rattle.hls_report_text.specs.WellFormed.{IsContent}
-use Rattle.hls_accounts.specs.Schedule.{path_at}
+use Rattle.hls_legal.specs.Schedule.{path_at}
 use Rattle.hls_audit_threads.proofs.OnPaths.{all_named}
 use Rattle.hls_view_lanes.specs.Inside.Paths.{AreNamed}
 

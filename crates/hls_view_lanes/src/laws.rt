@@ -4,7 +4,7 @@ ghost use Rattle.std.specs.Prelude.{◌≡◌, ◌+◌, ◌<◌, ◌≤◌, ℕ,
 ghost use Rattle.std.specs.List.{AllByRecursion, range_with_len, sum_by, count_by};
 ghost use Rattle.hls_text.specs.Lines.{Text};
 ghost use Rattle.hls_report_text.specs.Content.{Content};
-ghost use Rattle.hls_accounts.specs.Schedule.{path_at};
+ghost use Rattle.hls_legal.specs.Schedule.{path_at};
 ghost use Rattle.hls_view_tale.specs.declared.label.Label.{Label};
 ghost use Rattle.hls_view_lanes.specs.Rows.{ways_at, has_row, rows_of};
 ghost use Rattle.hls_view_lanes.specs.Facts.{given_at, facts, idle_facts};

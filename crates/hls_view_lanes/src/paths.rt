@@ -4,7 +4,7 @@ ghost use Rattle.std.specs.List.{AllByRecursion};
 ghost use Rattle.hls_chron.specs.Name.{IsName};
 ghost use Rattle.hls_report_text.specs.Content.{content_of, path_names};
 ghost use Rattle.hls_report_text.specs.WellFormed.{HasShort, IsWellFormed};
-ghost use Rattle.hls_accounts.specs.Schedule.{path_at};
+ghost use Rattle.hls_legal.specs.Schedule.{path_at};
 ghost use Rattle.hls_audit.specs.Inside.Leading.{IsReached};
 ghost use Rattle.hls_view_lanes.specs.Facts as told;
 ghost use Rattle.hls_view_lanes.specs.Inside.Paths.{AreNamed, AreRuns, path_in};

@@ -3,8 +3,8 @@
 ghost use Rattle.std.specs.Prelude.{◌≡◌, ℕ, List, map};
 ghost use Rattle.hls_scenario.specs.declared.scenario.Scenario.{Scenario};
 ghost use Rattle.hls_report_text.specs.Content.{Content};
-ghost use Rattle.hls_answers.specs.Moment.{Boxes};
-ghost use Rattle.hls_legal_report.specs.Legal.{IsLegalContent};
+ghost use Rattle.hls_legal.specs.Moment.{Boxes};
+ghost use Rattle.hls_legal.specs.Legal.{IsLegalContent};
 ghost use Rattle.hls_audit.specs.declared.auditing.Outcome.{Outcome};
 ghost use Rattle.hls_audit.specs.declared.auditing.Outcome.TheVariants.{Kept};
 ghost use Rattle.hls_audit.specs.Audits.{IsAudit, IsTale};

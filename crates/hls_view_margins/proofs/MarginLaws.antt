@@ -7,9 +7,9 @@ use Rattle.std.proofs.lemmas.Bool.{lt-ltb, le-ltb}
 use Rattle.std.proofs.lemmas.List.{take_more}
 use Rattle.hls_chron.specs.Ticks.{count}
 use Rattle.hls_report_text.specs.Content.{Content}
-use Rattle.hls_accounts.specs.declared.stay.Stay.{Stay}
-use Rattle.hls_accounts.specs.Accounts.{end_of}
-use Rattle.hls_accounts.specs.Stays.{stays}
+use Rattle.hls_legal.specs.declared.stay.Stay.{Stay}
+use Rattle.hls_legal.specs.Accounts.{end_of}
+use Rattle.hls_legal.specs.Stays.{stays}
 use Rattle.hls_audit_stays.specs.Found.{lasts}
 use Rattle.hls_audit_stays.proofs.Lists.{filter_append, take_all}
 use Rattle.hls_audit_threads.specs.Inside.StayFindings.{has_tick}

@@ -1,11 +1,11 @@
 -- How near each stay of a report came to its guarantee and its cap.
 use Rattle.std.specs.Prelude.{◌≡◌, ℕ, ◌-◌, List, [], ◌∷◌, filter, Bool, nat_lt, ◌&&◌, not}
 use Rattle.hls_report_text.specs.Content.{Content}
-use Rattle.hls_accounts.specs.declared.stay.Stay.{Stay}
-use Rattle.hls_accounts.specs.Schedule.{is_served}
-use Rattle.hls_accounts.specs.Ready.{is_ready}
-use Rattle.hls_accounts.specs.Stays.{stays}
-use Rattle.hls_accounts.specs.Accounts.{end_of, ticks_in}
+use Rattle.hls_legal.specs.declared.stay.Stay.{Stay}
+use Rattle.hls_legal.specs.Schedule.{is_served}
+use Rattle.hls_legal.specs.Ready.{is_ready}
+use Rattle.hls_legal.specs.Stays.{stays}
+use Rattle.hls_legal.specs.Accounts.{end_of, ticks_in}
 use Rattle.hls_view_margins.specs.declared.margin.Margin.{Margin}
 use Rattle.hls_view_margins.specs.Rows.{IsLongestOf}
 use Rattle.hls_view_margins.specs.Judged.{IsSpare}

@@ -3,8 +3,8 @@ ghost use Rattle.std.specs.Prelude.{◌≡◌, ◌≤◌, ◌++◌, IfOk, OnOk, 
 ghost use Rattle.hls_guarantee.specs.Limits.{IsValid};
 ghost use Rattle.hls_report_text.specs.Content.{Content, content_of};
 ghost use Rattle.hls_report_text.specs.WellFormed.{IsWellFormed};
-ghost use Rattle.hls_accounts.specs.Accounts.{end_of};
-ghost use Rattle.hls_accounts.specs.Stays as told;
+ghost use Rattle.hls_legal.specs.Accounts.{end_of};
+ghost use Rattle.hls_legal.specs.Stays as told;
 ghost use Rattle.hls_audit_stays.specs.Found.{stay_by, lasts};
 ghost use Rattle.hls_audit_threads.specs.Inside.Lookups.{IsLookup};
 ghost use Rattle.hls_audit_threads.specs.Inside.Ticks.{TellsReady, TellsServed};
@@ -16,9 +16,9 @@ use crate::margin::Margin;
 use crate::rooms::room_of;
 use crate::rows::longest_row;
 use crate::spares::spare_of;
-use hls_accounts::Stay;
 use hls_audit_stays::{FoundStay, stays_of};
 use hls_audit_threads::{KnownThreads, Lookup, ThreadTicks};
+use hls_legal::Stay;
 use hls_report_text::Report;
 use std::alloc::{AllocError, Global};
 

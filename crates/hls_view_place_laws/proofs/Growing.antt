@@ -6,7 +6,7 @@ use Rattle.hls_text.specs.Lines.{Text}
 use Rattle.hls_scenario.specs.declared.scenario.Spot.{Spot}
 use Rattle.hls_scenario.specs.declared.scenario.Spot.TheVariants.{Cpu, Under}
 use Rattle.hls_scenario.specs.declared.scenario.Perch.{Perch}
-use Rattle.hls_accounts.specs.Under.{is_on}
+use Rattle.hls_legal.specs.Under.{is_on}
 use Rattle.hls_audit_clauses.specs.declared.member.Member.{Member}
 use Rattle.hls_audit_clauses.specs.Names.{has_name, without}
 use Rattle.hls_audit_stays.proofs.Names.{bytes_same, bytes_self, bytes_apart, bytes_back}

@@ -11,8 +11,8 @@ use Rattle.hls_scenario.specs.declared.scenario.Perch.{Perch}
 use Rattle.hls_scenario.specs.declared.scenario.Command.{Command}
 use Rattle.hls_scenario.specs.declared.scenario.Command.TheVariants as said
 use Rattle.hls_report_text.specs.WellFormed.{with_name}
-use Rattle.hls_accounts.specs.Commands.{ends}
-use Rattle.hls_accounts.specs.Stays.{admits}
+use Rattle.hls_legal.specs.Commands.{ends}
+use Rattle.hls_legal.specs.Stays.{admits}
 use Rattle.hls_audit_clauses.specs.declared.member.Sort.TheVariants.{Scheduler, Thread}
 use Rattle.hls_audit_clauses.specs.declared.member.Member.{Member}
 use Rattle.hls_audit_clauses.specs.Names.{member_of, without, is_scheduler, is_thread, after, with_moved}

@@ -12,7 +12,7 @@ use Rattle.hls_text.specs.Lines.{Text}
 use Rattle.hls_report_text.specs.declared.stretch.Stretch.{Stretch}
 use Rattle.hls_report_text.specs.Content.{Content}
 use Rattle.hls_report_text.specs.WellFormed.{IsContent, IsPath, Cover}
-use Rattle.hls_accounts.specs.Schedule.{path_at, has_tick}
+use Rattle.hls_legal.specs.Schedule.{path_at, has_tick}
 use Rattle.hls_audit.specs.declared.auditing.Outcome.{Outcome}
 use Rattle.hls_audit_stays.proofs.Names.{bytes_same}
 use Rattle.hls_view_scale.specs.declared.scale.Scale.{Scale}

@@ -4,7 +4,7 @@ ghost use Rattle.std.specs.Prelude.{◌≡◌, ◌≢◌, ◌↔◌, ◌≤◌, 
 ghost use Rattle.std.specs.List.{AllPairs, Contains, sum_by};
 ghost use Rattle.hls_report_text.specs.Content.{Content};
 ghost use Rattle.hls_report_text.specs.WellFormed.{IsContent};
-ghost use Rattle.hls_accounts.specs.Schedule.{path_at};
+ghost use Rattle.hls_legal.specs.Schedule.{path_at};
 ghost use Rattle.hls_audit_clauses.specs.Names.{tree_at};
 ghost use Rattle.hls_audit.specs.declared.auditing.Outcome.{Outcome};
 ghost use Rattle.hls_audit.specs.declared.auditing.Outcome.TheVariants.{Kept};

@@ -5,7 +5,7 @@ use Rattle.hls_text.specs.Lines.{Text}
 use Rattle.hls_scenario.specs.declared.scenario.Command.{Command}
 use Rattle.hls_scenario.specs.declared.scenario.Command.TheVariants.{Move}
 use Rattle.hls_report_text.specs.declared.report.Answered.{Answered}
-use Rattle.hls_accounts.specs.Commands.{is_done}
+use Rattle.hls_legal.specs.Commands.{is_done}
 use Rattle.hls_view_scale.specs.declared.scale.Scale.{Scale}
 use Rattle.hls_view_tale.specs.declared.standing.Standing.{Standing}
 

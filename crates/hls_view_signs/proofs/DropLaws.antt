@@ -10,7 +10,7 @@ use Rattle.hls_text.specs.Lines.{Text}
 use Rattle.hls_report_text.specs.declared.report.Answered.{Answered}
 use Rattle.hls_report_text.specs.Content.{Content}
 use Rattle.hls_report_text.specs.WellFormed.{IsContent}
-use Rattle.hls_accounts.specs.Commands.{has_done, rouses}
+use Rattle.hls_legal.specs.Commands.{has_done, rouses}
 use Rattle.hls_audit_threads.proofs.Formed.{command_early}
 use Rattle.hls_view_jobs.specs.declared.job.Sort.{Sort}
 use Rattle.hls_view_jobs.specs.declared.job.Sort.TheVariants.{Wakes, Blocks, Ends}

@@ -1,7 +1,7 @@
 // Jobs that a wake or a block drops.
 ghost use Rattle.std.specs.Prelude.{◌≡◌, ◌+◌, ◌<◌, ◌&&◌, ◌==◌, not, drop, Some, IfSome};
 ghost use Rattle.std.specs.List.{list_any};
-ghost use Rattle.hls_accounts.specs.Commands.{has_done, rouses};
+ghost use Rattle.hls_legal.specs.Commands.{has_done, rouses};
 ghost use Rattle.hls_text.specs.Lines.{Text};
 ghost use Rattle.hls_report_text.specs.Content.{Content, content_of};
 ghost use Rattle.hls_report_text.specs.WellFormed.{IsWellFormed};

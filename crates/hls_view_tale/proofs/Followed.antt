@@ -10,9 +10,9 @@ use Rattle.hls_text.specs.Lines.{Text}
 use Rattle.hls_scenario.specs.declared.scenario.Command.{Command}
 use Rattle.hls_scenario.specs.declared.scenario.Command.TheVariants.{Load, Thread, End, Unload, Move, Wake, Block}
 use Rattle.hls_report_text.specs.declared.report.Answered.{Answered}
-use Rattle.hls_accounts.specs.Commands.{is_done, ends}
-use Rattle.hls_accounts.specs.Stays.{threads, admits}
-use Rattle.hls_accounts.proofs.StaySnoc.{threads_snoc}
+use Rattle.hls_legal.specs.Commands.{is_done, ends}
+use Rattle.hls_legal.specs.Stays.{threads, admits}
+use Rattle.hls_legal.proofs.StaySnoc.{threads_snoc}
 use Rattle.hls_audit_clauses.specs.declared.member.Member.{Member}
 use Rattle.hls_audit_clauses.specs.Names.{tree_of, after, after_answer}
 use Rattle.hls_view_tale.specs.declared.standing.Standing.{Standing}

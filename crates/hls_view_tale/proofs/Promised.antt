@@ -14,8 +14,8 @@ use Rattle.hls_scenario.specs.Grammar.{IsCommand, IsLoad, ArePorts}
 use Rattle.hls_report_text.specs.declared.report.Answered.{Answered}
 use Rattle.hls_report_text.specs.Content.{Content}
 use Rattle.hls_report_text.specs.WellFormed.{AreAnswered, IsContent}
-use Rattle.hls_accounts.specs.Commands.{is_done}
-use Rattle.hls_accounts.proofs.GoodStays.{valid_narrow}
+use Rattle.hls_legal.specs.Commands.{is_done}
+use Rattle.hls_legal.proofs.GoodStays.{valid_narrow}
 use Rattle.hls_audit_clauses.specs.declared.member.Member.{Member}
 use Rattle.hls_audit_clauses.specs.Names.{has_name, member_of, without, with_moved, after, after_answer}
 use Rattle.hls_audit_clauses.specs.Names.{tree_at}

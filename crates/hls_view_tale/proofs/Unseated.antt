@@ -8,8 +8,8 @@ use Rattle.hls_scenario.specs.declared.scenario.Command.TheVariants.{Load, Threa
 use Rattle.hls_report_text.specs.declared.report.Answered.{Answered}
 use Rattle.hls_report_text.specs.Content.{Content}
 use Rattle.hls_report_text.specs.WellFormed.{IsContent}
-use Rattle.hls_accounts.specs.Commands.{is_done}
-use Rattle.hls_accounts.specs.Stays.{threads}
+use Rattle.hls_legal.specs.Commands.{is_done}
+use Rattle.hls_legal.specs.Stays.{threads}
 use Rattle.hls_audit_clauses.specs.declared.member.Member.{Member}
 use Rattle.hls_audit_clauses.specs.Names.{tree_of, tree_at, after}
 use Rattle.hls_view_tale.specs.declared.standing.Standing.{Standing}

@@ -5,8 +5,8 @@ use Rattle.std.specs.Str.{bytes_eq}
 use Rattle.hls_text.specs.Lines.{Text}
 use Rattle.hls_scenario.specs.declared.scenario.Spot.{Spot}
 use Rattle.hls_scenario.specs.declared.scenario.Perch.{Perch}
-use Rattle.hls_accounts.specs.Tells.{terms_in}
-use Rattle.hls_accounts.specs.Under.{is_on}
+use Rattle.hls_legal.specs.Tells.{terms_in}
+use Rattle.hls_legal.specs.Under.{is_on}
 use Rattle.hls_audit_clauses.specs.declared.member.Member.{Member}
 use Rattle.hls_audit_clauses.specs.Names.{is_cpu}
 use Rattle.hls_view_tale.specs.declared.label.Label.{Label}

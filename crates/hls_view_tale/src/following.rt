@@ -1,6 +1,6 @@
 // The hierarchy, carried from tick to tick.
 ghost use Rattle.std.specs.Prelude.{◌≡◌, ◌+◌, ◌≤◌, ℕ, [], IfOk, OnOk, false, length};
-ghost use Rattle.hls_accounts.specs.Commands.{is_done};
+ghost use Rattle.hls_legal.specs.Commands.{is_done};
 ghost use Rattle.hls_report_text.specs.Content.{Content, content_of};
 ghost use Rattle.hls_report_text.specs.WellFormed.{AreAnswered, IsWellFormed};
 ghost use Rattle.hls_view_tale.specs.Hierarchies.{IsHierarchy, came_by};

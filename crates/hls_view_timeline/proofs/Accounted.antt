@@ -9,9 +9,9 @@ use Rattle.hls_report_text.specs.declared.report.Account.{Account}
 use Rattle.hls_report_text.specs.declared.report.Report.{Report}
 use Rattle.hls_report_text.specs.Content.{Content, content_of}
 use Rattle.hls_report_text.specs.WellFormed.{IsWellFormed}
-use Rattle.hls_accounts.specs.declared.stay.Stay.{Stay}
-use Rattle.hls_accounts.specs.Stays.{stays}
-use Rattle.hls_accounts.specs.Accounts.{end_of, account_of, accounts_of}
+use Rattle.hls_legal.specs.declared.stay.Stay.{Stay}
+use Rattle.hls_legal.specs.Stays.{stays}
+use Rattle.hls_legal.specs.Accounts.{end_of, account_of, accounts_of}
 use Rattle.hls_audit_threads.proofs.Formed.{stays_valid, stay_ends}
 use Rattle.hls_view_margins.specs.declared.margin.Margin.{Margin}
 use Rattle.hls_view_margins.specs.Margins.{IsMargin, AreMargins}

@@ -4,7 +4,7 @@ use Rattle.std.specs.List.{range_with_len}
 use Rattle.hls_guarantee.specs.Spelling.{spelling}
 use Rattle.hls_report_text.specs.declared.report.Account.{Account}
 use Rattle.hls_report_text.specs.Content.{Content}
-use Rattle.hls_accounts.specs.Ready.{is_ready}
+use Rattle.hls_legal.specs.Ready.{is_ready}
 use Rattle.hls_view_tale.specs.declared.label.Label.{Label}
 use Rattle.hls_view_trace.specs.declared.event.Category.TheVariants.{Stay}
 use Rattle.hls_view_trace.specs.declared.event.Place.{Place}

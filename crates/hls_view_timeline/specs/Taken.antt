@@ -1,7 +1,7 @@
 -- By which of its ways a thread is served.
 use Rattle.std.specs.Prelude.{ℕ, ◌==◌, List, Option, Some, None, Bool, false, option_and_then, position}
 use Rattle.hls_report_text.specs.Content.{Content}
-use Rattle.hls_accounts.specs.Schedule.{path_at}
+use Rattle.hls_legal.specs.Schedule.{path_at}
 use Rattle.hls_view_tale.specs.declared.label.Label.{Label}
 use Rattle.hls_view_lanes.specs.Facts.{spells}
 

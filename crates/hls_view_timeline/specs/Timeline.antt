@@ -1,7 +1,7 @@
 -- The trace of a report.
 use Rattle.std.specs.Prelude.{◌≡◌, ℕ, List, [], ◌++◌, flat_map}
 use Rattle.hls_report_text.specs.Content.{Content}
-use Rattle.hls_accounts.specs.Accounts.{accounts_of}
+use Rattle.hls_legal.specs.Accounts.{accounts_of}
 use Rattle.hls_audit.specs.declared.auditing.Outcome.{Outcome}
 use Rattle.hls_top.specs.Summaries.{verdict}
 use Rattle.hls_view_tale.specs.declared.label.Label.{Label}

@@ -3,7 +3,7 @@ ghost use Rattle.std.specs.Prelude.{◌≡◌, IfOk, map};
 ghost use Rattle.std.specs.List.{AllByRecursion};
 ghost use Rattle.hls_report_text.specs.Content.{content_of};
 ghost use Rattle.hls_report_text.specs.WellFormed.{IsWellFormed};
-ghost use Rattle.hls_accounts.specs.Accounts.{accounts_of};
+ghost use Rattle.hls_legal.specs.Accounts.{accounts_of};
 ghost use Rattle.hls_view_timeline.specs.Inside.Accounts.{account_by, IsWithin};
 
 use hls_report_text::{Account, Report};

@@ -3,7 +3,7 @@ ghost use Rattle.std.specs.Prelude.{◌≡◌, ◌+◌, ◌<◌, [], IfOk, get_o
 ghost use Rattle.std.specs.Str.{bytes_eq};
 ghost use Rattle.hls_report_text.specs.Content.{content_of, path_names};
 ghost use Rattle.hls_report_text.specs.WellFormed.{HasShort, IsWellFormed};
-ghost use Rattle.hls_accounts.specs.Schedule.{path_at};
+ghost use Rattle.hls_legal.specs.Schedule.{path_at};
 ghost use Rattle.hls_audit.specs.Inside.Leading.{IsReached};
 ghost use Rattle.hls_view_lanes.specs.Facts as facts;
 ghost use Rattle.hls_view_timeline.specs.Inside.Paths.{ArePaths, named};

@@ -8,7 +8,7 @@ use Rattle.hls_text.specs.Lines.{Text}
 use Rattle.hls_report_text.specs.declared.stretch.Stretch.{Stretch}
 use Rattle.hls_report_text.specs.Content.{Content}
 use Rattle.hls_report_text.specs.WellFormed.{Cover, IsContent}
-use Rattle.hls_accounts.specs.Schedule.{path_at, has_tick}
+use Rattle.hls_legal.specs.Schedule.{path_at, has_tick}
 use Rattle.hls_view_trace.specs.declared.event.Place.{Place}
 use Rattle.hls_view_trace.specs.declared.event.Event.{Event}
 use Rattle.hls_view_tracks.specs.Flame.{names_in, begins, last_tick, run_slice, slice_of, slices_below, flame}

@@ -3,7 +3,7 @@
 ghost use Rattle.std.specs.Prelude.{◌≡◌, ◌<◌, ℕ, []};
 ghost use Rattle.hls_report_text.specs.Content.{Content};
 ghost use Rattle.hls_report_text.specs.WellFormed.{IsContent};
-ghost use Rattle.hls_accounts.specs.Schedule.{path_at};
+ghost use Rattle.hls_legal.specs.Schedule.{path_at};
 ghost use Rattle.hls_view_trace.specs.declared.event.Place.{Place};
 ghost use Rattle.hls_view_tracks.specs.Flame.{names_in, flame};
 ghost use Rattle.hls_view_trace_laws.specs.Held.{names_at};

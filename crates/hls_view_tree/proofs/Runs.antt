@@ -12,7 +12,7 @@ use Rattle.hls_report_text.specs.declared.report.Path.{Path}
 use Rattle.hls_report_text.specs.declared.stretch.Stretch.{Stretch}
 use Rattle.hls_report_text.specs.Content.{path_names, stretch_of}
 use Rattle.hls_report_text.specs.WellFormed.{Cover, IsPath, HasShort}
-use Rattle.hls_accounts.specs.Schedule.{has_tick, path_at}
+use Rattle.hls_legal.specs.Schedule.{has_tick, path_at}
 use Rattle.hls_view_tree.specs.Inside.Runs.{is_run_of}
 
 -- the stretch of a tick is that of its run

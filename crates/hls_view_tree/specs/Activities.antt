@@ -5,8 +5,8 @@ use Rattle.std.specs.List.{list_any}
 use Rattle.std.specs.Str.{bytes_eq}
 use Rattle.hls_text.specs.Lines.{Text}
 use Rattle.hls_report_text.specs.Content.{Content}
-use Rattle.hls_accounts.specs.Schedule.{path_at}
-use Rattle.hls_accounts.specs.Ready.{is_ready}
+use Rattle.hls_legal.specs.Schedule.{path_at}
+use Rattle.hls_legal.specs.Ready.{is_ready}
 use Rattle.hls_audit_clauses.specs.Names.{is_thread_sort}
 use Rattle.hls_view_tale.specs.declared.label.Label.{Label}
 use Rattle.hls_view_tale.specs.declared.place.Place.{Place}

@@ -1,7 +1,7 @@
 -- What is told of a tick for all places.
 use Rattle.std.specs.Prelude.{◌≡◌, ℕ}
 use Rattle.hls_report_text.specs.Content.{Content}
-use Rattle.hls_accounts.specs.Schedule.{path_at}
+use Rattle.hls_legal.specs.Schedule.{path_at}
 use Rattle.hls_view_tree.specs.declared.activity.Scene.{Scene}
 use Rattle.hls_view_tree.specs.Activities.{asking}
 

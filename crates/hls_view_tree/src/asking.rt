@@ -3,7 +3,7 @@ ghost use Rattle.std.specs.Prelude.{◌≡◌, ◌<◌, ◌++◌, ◌∷◌, [],
 ghost use Rattle.std.specs.Prelude.{if◌then◌else◌};
 ghost use Rattle.hls_report_text.specs.Content.{content_of};
 ghost use Rattle.hls_report_text.specs.WellFormed.{IsWellFormed};
-ghost use Rattle.hls_accounts.specs.Ready as ready;
+ghost use Rattle.hls_legal.specs.Ready as ready;
 ghost use Rattle.hls_audit_threads.specs.Inside.Lookups.{IsLookup};
 ghost use Rattle.hls_audit_threads.specs.Inside.KnownThreads.{AreKnown};
 ghost use Rattle.hls_audit_clauses.specs.Names.{is_thread_sort};

@@ -4,7 +4,7 @@ ghost use Rattle.std.specs.List.{AllByRecursion};
 ghost use Rattle.hls_chron.specs.Name.{IsName};
 ghost use Rattle.hls_report_text.specs.Content.{content_of, path_names};
 ghost use Rattle.hls_report_text.specs.WellFormed.{IsWellFormed};
-ghost use Rattle.hls_accounts.specs.Schedule as spelled;
+ghost use Rattle.hls_legal.specs.Schedule as spelled;
 ghost use Rattle.hls_view_tree.specs.Inside.Runs.{is_run_of};
 
 use hls_chron::{List, Name};

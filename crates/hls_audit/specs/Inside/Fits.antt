@@ -5,7 +5,7 @@ use Rattle.hls_chron.specs.Ranges.{ConfigInRange, TermsInRange}
 use Rattle.hls_guarantee.specs.Limits.{IsValid}
 use Rattle.hls_scenario.specs.declared.scenario.Perch.{Perch}
 use Rattle.hls_scenario.specs.Grammar.{IsLoad, IsPerch}
-use Rattle.hls_answers.specs.Dues.{Due}
+use Rattle.hls_legal.specs.Dues.{Due}
 use Rattle.hls_audit_clauses.specs.declared.member.Sort.{Sort}
 use Rattle.hls_audit_clauses.specs.declared.member.Sort.TheVariants.{Scheduler, Thread}
 use Rattle.hls_audit_clauses.specs.declared.member.Member.{Member}

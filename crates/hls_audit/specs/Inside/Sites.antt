@@ -1,8 +1,8 @@
 -- Clauses at one command of a list.
 use Rattle.std.specs.Prelude.{◌≡◌, ℕ, List, Some, true, take, slice_get}
 use Rattle.hls_report_text.specs.declared.report.Answered.{Answered}
-use Rattle.hls_accounts.specs.Commands.{is_done}
-use Rattle.hls_answers.specs.Dues.{AreSettled}
+use Rattle.hls_legal.specs.Commands.{is_done}
+use Rattle.hls_legal.specs.Dues.{AreSettled}
 use Rattle.hls_audit_clauses.specs.declared.member.Member.{Member}
 use Rattle.hls_audit_clauses.specs.Names.{tree_of}
 use Rattle.hls_audit_clauses.specs.Misplaced.{is_misplaced}

@@ -4,8 +4,8 @@ use Rattle.hls_text.specs.Lines.{Text}
 use Rattle.hls_chron.specs.declared.plain.Config.{Config}
 use Rattle.hls_guarantee.specs.declared.Guarantee.{Guarantee}
 use Rattle.hls_scenario.specs.declared.scenario.Perch.{Perch}
-use Rattle.hls_accounts.specs.Tells.{terms_in}
-use Rattle.hls_answers.specs.Dues.{Due}
+use Rattle.hls_legal.specs.Tells.{terms_in}
+use Rattle.hls_legal.specs.Dues.{Due}
 use Rattle.hls_audit_clauses.specs.Dues.{is_at}
 use Rattle.hls_audit.specs.declared.dues.Due as dues
 

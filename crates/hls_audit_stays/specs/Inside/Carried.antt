@@ -4,8 +4,8 @@ use Rattle.std.specs.Prelude.{if◌then◌else◌}
 use Rattle.std.specs.Option.{option_or}
 use Rattle.hls_text.specs.Lines.{Text}
 use Rattle.hls_report_text.specs.declared.report.Answered.{Answered}
-use Rattle.hls_accounts.specs.declared.stay.Stay.{Stay}
-use Rattle.hls_accounts.specs.Stays.{stays, threads}
+use Rattle.hls_legal.specs.declared.stay.Stay.{Stay}
+use Rattle.hls_legal.specs.Stays.{stays, threads}
 use Rattle.hls_audit_stays.specs.declared.found.FoundStay.{FoundStay}
 use Rattle.hls_audit_stays.specs.declared.seats.Seats.{Seats}
 use Rattle.hls_audit_stays.specs.declared.carrying.Carried.{Carried}

@@ -7,7 +7,7 @@ use Rattle.hls_scenario.specs.declared.scenario.Perch.{Perch}
 use Rattle.hls_scenario.specs.declared.scenario.Command.{Command}
 use Rattle.hls_scenario.specs.declared.scenario.Command.TheVariants.{Load, Thread, Move}
 use Rattle.hls_report_text.specs.declared.report.Answered.{Answered}
-use Rattle.hls_accounts.specs.Commands.{last_seating}
+use Rattle.hls_legal.specs.Commands.{last_seating}
 use Rattle.hls_audit_stays.specs.declared.places.Places.{Places}
 use Rattle.hls_audit_stays.specs.declared.seats.Seats.{Seats}
 use Rattle.hls_audit_stays.specs.Found.{command_at}

@@ -5,7 +5,7 @@ use Rattle.hls_text.specs.Lines.{Text}
 use Rattle.hls_chron.specs.Ticks.{count}
 use Rattle.hls_scenario.specs.declared.scenario.Command.{Command}
 use Rattle.hls_scenario.specs.declared.scenario.Command.TheVariants.{Wake}
-use Rattle.hls_accounts.specs.Schedule.{last_name, is_name}
+use Rattle.hls_legal.specs.Schedule.{last_name, is_name}
 use Rattle.hls_audit_threads.specs.declared.lines.Readiness.{Readiness}
 use Rattle.hls_audit_threads.specs.declared.lines.Readiness.TheVariants.{Asleep, Awake, Burst}
 

@@ -5,7 +5,7 @@ use Rattle.hls_report_text.specs.declared.report.Answered.{Answered}
 use Rattle.hls_report_text.specs.declared.report.Run.{Run}
 use Rattle.hls_report_text.specs.declared.report.Report.{Report}
 use Rattle.hls_report_text.specs.Content.{stretch_of}
-use Rattle.hls_accounts.specs.Commands.{has_done, rouses}
+use Rattle.hls_legal.specs.Commands.{has_done, rouses}
 use Rattle.hls_audit_threads.specs.declared.lookup.Lookup.{Lookup}
 use Rattle.hls_audit_threads.specs.Inside.Chains.{Keys, HasKey, AreChains}
 use Rattle.hls_audit_threads.specs.Inside.Lines.{serves}

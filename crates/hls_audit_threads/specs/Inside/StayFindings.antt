@@ -3,8 +3,8 @@ use Rattle.std.specs.Prelude.{◌≡◌, ℕ, List, ◌++◌, Option, Some, None
 use Rattle.std.specs.Prelude.{if◌then◌else◌}
 use Rattle.hls_report_text.specs.declared.report.Account.{Account}
 use Rattle.hls_report_text.specs.Content.{Content}
-use Rattle.hls_accounts.specs.declared.stay.Stay.{Stay}
-use Rattle.hls_accounts.specs.Accounts.{end_of, account_of}
+use Rattle.hls_legal.specs.declared.stay.Stay.{Stay}
+use Rattle.hls_legal.specs.Accounts.{end_of, account_of}
 use Rattle.hls_audit_threads.specs.declared.stay_findings.StayFindings.{StayFindings}
 use Rattle.hls_audit_watch.specs.First.{FirstAt}
 use Rattle.hls_audit_threads.specs.Inside.Least.{sooner_of}

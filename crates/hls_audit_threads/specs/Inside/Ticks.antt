@@ -4,8 +4,8 @@ use Rattle.hls_text.specs.Lines.{Text}
 use Rattle.hls_audit_spans.specs.declared.span.Span.{Span}
 use Rattle.hls_audit_spans.specs.Spans.{Tell}
 use Rattle.hls_report_text.specs.Content.{Content}
-use Rattle.hls_accounts.specs.Schedule.{is_served}
-use Rattle.hls_accounts.specs.Ready.{is_ready}
+use Rattle.hls_legal.specs.Schedule.{is_served}
+use Rattle.hls_legal.specs.Ready.{is_ready}
 
 -- in which ticks the thread of a name is ready
 abbrev pub TellsReady : Content → (name : Text) → List Span → Type 0

@@ -6,7 +6,7 @@ use Rattle.hls_machine.specs.Hierarchy.{Hierarchy}
 use Rattle.hls_machine.specs.Steps.{Elapse}
 use Rattle.hls_machine.specs.Steps as steps
 use Rattle.hls_machine.specs.Legal.{Can, IsThread}
-use Rattle.hls_accounts.specs.Tells.{Names}
+use Rattle.hls_legal.specs.Tells.{Names}
 use Rattle.hls_tree_nodes.specs.Leapt.{later}
 use Rattle.hls_tree.specs.Trees.{IsTreeOf, IsReadyOf}
 use Rattle.hls_tree.specs.declared.tree.Tree.{Tree}

@@ -7,8 +7,8 @@ use Rattle.hls_sched.specs.Seen.{Seen}
 use Rattle.hls_machine.specs.Hierarchy.{Hierarchy}
 use Rattle.hls_machine.specs.Steps.{Step, after}
 use Rattle.hls_machine.specs.Legal.{Can, IsReached}
-use Rattle.hls_accounts.specs.Tells.{Answers}
-use Rattle.hls_answers.specs.Moment.{Moment}
+use Rattle.hls_legal.specs.Tells.{Answers}
+use Rattle.hls_legal.specs.Moment.{Moment}
 use Rattle.hls_tree.specs.Trees.{IsTreeOf, IsReadyOf}
 use Rattle.hls_tree.specs.declared.tree.Tree.{Tree}
 use Rattle.hls_core_stays.specs.Tallies.{AreStays, IsStanding}

@@ -7,7 +7,7 @@ use Rattle.hls_guarantee.specs.declared.Guarantee.{Guarantee}
 use Rattle.hls_scenario.specs.declared.scenario.Scenario.{Scenario}
 use Rattle.hls_report_text.specs.declared.report.Answer.{Answer}
 use Rattle.hls_sched.specs.Seen.{Seen}
-use Rattle.hls_answers.specs.Moment.{Boxes}
+use Rattle.hls_legal.specs.Moment.{Boxes}
 use Rattle.hls_core.specs.Cores.{IsCoreOf}
 use Rattle.hls_core.specs.declared.cores.Core.{Core}
 

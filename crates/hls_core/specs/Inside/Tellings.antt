@@ -9,7 +9,7 @@ use Rattle.hls_report_text.specs.declared.report.Answer.{Answer}
 use Rattle.hls_report_text.specs.declared.report.Answered.{Answered}
 use Rattle.hls_report_text.specs.ReportText.{head_lines, answered_lines, ended}
 use Rattle.hls_sched.specs.Seen.{Seen}
-use Rattle.hls_answers.specs.Moment.{Boxes}
+use Rattle.hls_legal.specs.Moment.{Boxes}
 use Rattle.hls_core_journal.specs.Told.{answered_by}
 use Rattle.hls_core.specs.Cores.{IsCoreOf}
 use Rattle.hls_core.specs.Texts.{IsLegalText}

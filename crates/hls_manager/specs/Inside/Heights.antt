@@ -8,8 +8,8 @@ use Rattle.hls_report_text.specs.declared.refusal.Refusal.{Refusal}
 use Rattle.hls_report_text.specs.declared.refusal.Refusal.TheVariants.{TooDeep, TooManyShares}
 use Rattle.hls_machine.specs.Hierarchy.{Hierarchy}
 use Rattle.hls_machine.specs.Legal.{IsChain}
-use Rattle.hls_answers.specs.Levels.{HasNewChain}
-use Rattle.hls_answers.specs.Refusals.{IsTooDeep, AreTooManyShares}
+use Rattle.hls_legal.specs.Levels.{HasNewChain}
+use Rattle.hls_legal.specs.Refusals.{IsTooDeep, AreTooManyShares}
 use Rattle.hls_tree.specs.declared.seat.Seat.{Seat}
 
 -- schedulers from the processor down to the one at which a seat is

@@ -5,7 +5,7 @@ use Rattle.hls_chron.specs.declared.plain.Terms.TheVariants as terms
 use Rattle.hls_guarantee.specs.declared.Guarantee.{Guarantee}
 use Rattle.hls_guarantee.specs.declared.Guarantee.TheVariants as guarantees
 use Rattle.hls_machine.specs.Hierarchy.{Hierarchy, Seat, SeatHolder, seat_of, config_of, name_of}
-use Rattle.hls_answers.specs.Dues.{Due, told_name}
+use Rattle.hls_legal.specs.Dues.{Due, told_name}
 
 -- the terms of a seat, and what is kept for it
 abbrev pub terms_of : Option Seat → Terms

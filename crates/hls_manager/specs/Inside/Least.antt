@@ -2,7 +2,7 @@
 use Rattle.std.specs.Prelude.{ℕ, ◌<◌, ◌≤◌, Option, Some, None, Bool, false, if◌then◌else◌}
 use Rattle.std.specs.Prelude.{nat_le, nat_lt}
 use Rattle.hls_report_text.specs.declared.refusal.Refusal.{Refusal}
-use Rattle.hls_answers.specs.Answers.{number}
+use Rattle.hls_legal.specs.Answers.{number}
 
 -- of two refusals the one of the lesser number, the first where they have one number
 abbrev pub lesser : Option Refusal → Refusal → Refusal

@@ -7,8 +7,8 @@ use Rattle.hls_derive.specs.declared.derivation.Derivation.{Derivation}
 use Rattle.hls_scenario.specs.declared.scenario.Perch.{Perch}
 use Rattle.hls_report_text.specs.declared.report.Seated.{Seated}
 use Rattle.hls_machine.specs.Hierarchy.{Hierarchy}
-use Rattle.hls_answers.specs.Moment.{Moment, node_of}
-use Rattle.hls_answers.specs.Dues.{Derives, IsUnderivable}
+use Rattle.hls_legal.specs.Moment.{Moment, node_of}
+use Rattle.hls_legal.specs.Dues.{Derives, IsUnderivable}
 use Rattle.hls_tree.specs.declared.seat.Seat.{Seat}
 use Rattle.hls_manager.specs.Seats.{due_for}
 use Rattle.hls_manager.specs.Inside.Least.{IsLeastRefusal}

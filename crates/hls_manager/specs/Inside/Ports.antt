@@ -10,8 +10,8 @@ use Rattle.hls_scenario.specs.declared.scenario.Command.TheVariants as said
 use Rattle.hls_scenario.specs.Grammar as grammar
 use Rattle.hls_report_text.specs.declared.refusal.Refusal.{Refusal}
 use Rattle.hls_machine.specs.Hierarchy.{Hierarchy}
-use Rattle.hls_accounts.specs.Tells.{HasName, terms_in}
-use Rattle.hls_answers.specs.Answers.{RefusesPlace, number}
+use Rattle.hls_legal.specs.Tells.{HasName, terms_in}
+use Rattle.hls_legal.specs.Answers.{RefusesPlace, number}
 use Rattle.hls_tree.specs.Reads.{IsLoaded, IsParent}
 use Rattle.hls_tree.specs.declared.seat.Seat.{Seat}
 use Rattle.hls_manager.specs.Finds.{IsNoScheduler}

@@ -12,8 +12,8 @@ use Rattle.hls_machine.specs.Hierarchy.{Hierarchy}
 use Rattle.hls_machine.specs.Hierarchy.{Seat as TakenSeat}
 use Rattle.hls_machine.specs.Legal.{IsChain, fair_queues, scheduler_at}
 use Rattle.hls_machine.specs.Readings.{IsUnder}
-use Rattle.hls_accounts.specs.Tells.{HasName, terms_in}
-use Rattle.hls_answers.specs.Moment.{spot_name}
+use Rattle.hls_legal.specs.Tells.{HasName, terms_in}
+use Rattle.hls_legal.specs.Moment.{spot_name}
 use Rattle.hls_tree.specs.Offers.{MovesTo, IsNoCycle, moved_to}
 use Rattle.hls_tree.specs.Reads.{IsLoaded, IsSeatAnswer, IsGreatestLevel, AreMostShares}
 use Rattle.hls_tree.specs.declared.seat.Seat.{Seat}

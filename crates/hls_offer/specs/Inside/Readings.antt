@@ -3,7 +3,7 @@ use Rattle.std.specs.Prelude.{◌≤◌, length}
 use Rattle.hls_io.specs.Bytes.{IsWhole}
 use Rattle.hls_io.specs.declared.status.Status.{Status}
 use Rattle.hls_text.specs.Lines.{Text}
-use Rattle.hls_answers.specs.Moment.{Boxes}
+use Rattle.hls_legal.specs.Moment.{Boxes}
 use Rattle.hls_top.specs.Exchange.{Drawn, scenario_limit}
 use Rattle.hls_offer_words.specs.Table.{IsQuestion, ArePeriods, most_period, IsAtMost}
 use Rattle.hls_offer_words.specs.declared.asked.Asked.{Asked}

@@ -4,7 +4,7 @@ use Rattle.std.specs.List.{list_any}
 use Rattle.hls_text.specs.Lines.{Text}
 use Rattle.hls_report_text.specs.ReportText.{with_end, ended}
 use Rattle.hls_machine.specs.Hierarchy.{name_of}
-use Rattle.hls_answers.specs.Moment.{Moment}
+use Rattle.hls_legal.specs.Moment.{Moment}
 use Rattle.hls_offer_asks.specs.declared.needs.Need.{Need}
 use Rattle.hls_offer_asks.specs.declared.needs.Had.{Had}
 use Rattle.hls_offer.specs.Told.{Told, Place, IsPlaceOf, ArePlacesOf, had_text, is_at}

@@ -5,8 +5,8 @@ use Rattle.hls_guarantee.specs.declared.Guarantee.TheVariants.{Null}
 use Rattle.hls_scenario.specs.declared.scenario.Command.{Command}
 use Rattle.hls_report_text.specs.declared.refusal.Refusal.{Refusal}
 use Rattle.hls_report_text.specs.declared.report.Answer.TheVariants.{Refused}
-use Rattle.hls_answers.specs.Moment.{Moment}
-use Rattle.hls_answers.specs.Answers.{number, Applies, IsAnswer}
+use Rattle.hls_legal.specs.Moment.{Moment}
+use Rattle.hls_legal.specs.Answers.{number, Applies, IsAnswer}
 use Rattle.hls_offer_best.specs.declared.seat.Seat.{Seat}
 use Rattle.hls_offer_best.specs.Best.{CanAsk}
 use Rattle.hls_offer_lines.specs.Lines.{AreOffers}

@@ -7,8 +7,8 @@ use Rattle.hls_scenario.specs.declared.scenario.Command.{Command}
 use Rattle.hls_report_text.specs.declared.refusal.Refusal.{Refusal}
 use Rattle.hls_report_text.specs.declared.report.Answer.{Answer}
 use Rattle.hls_report_text.specs.declared.report.Answer.TheVariants as answers
-use Rattle.hls_answers.specs.Moment.{Moment}
-use Rattle.hls_answers.specs.Answers.{Applies, IsAnswer}
+use Rattle.hls_legal.specs.Moment.{Moment}
+use Rattle.hls_legal.specs.Answers.{Applies, IsAnswer}
 use Rattle.hls_offer_lines.specs.Cost.{IsFit}
 use Rattle.hls_offer_asks.specs.declared.needs.Need.{Need}
 use Rattle.hls_offer_asks.specs.declared.needs.Had.{Had}

@@ -6,8 +6,8 @@ use Rattle.hls_text.specs.Lines.{Text}
 use Rattle.hls_guarantee.specs.Limits.{IsValid}
 use Rattle.hls_scenario.specs.Grammar.{IsBurst}
 use Rattle.hls_report_text.specs.Content.{Content}
-use Rattle.hls_accounts.specs.declared.stay.Stay.{Stay}
-use Rattle.hls_accounts.specs.Stays.{stays}
+use Rattle.hls_legal.specs.declared.stay.Stay.{Stay}
+use Rattle.hls_legal.specs.Stays.{stays}
 use Rattle.hls_audit_stays.specs.Found.{lasts}
 use Rattle.hls_view_jobs.specs.declared.job.Sort.{Sort}
 use Rattle.hls_view_jobs.specs.declared.job.Sort.TheVariants.{Wakes}

@@ -3,7 +3,7 @@ use Rattle.std.specs.Prelude.{◌≡◌, ◌+◌, ◌<◌, List, [], ◌∷◌, 
 use Rattle.hls_report_text.specs.declared.report.Answered.{Answered}
 use Rattle.hls_report_text.specs.declared.report.Report.{Report}
 use Rattle.hls_report_text.specs.Content.{Content, content_of}
-use Rattle.hls_accounts.specs.Stays.{stays}
+use Rattle.hls_legal.specs.Stays.{stays}
 use Rattle.hls_audit_stays.specs.Found.{stay_by, lasts}
 use Rattle.hls_audit_threads.specs.Inside.Lookups.{IsLookup}
 use Rattle.hls_audit_threads.specs.Inside.KnownThreads.{AreKnown}

@@ -1,8 +1,8 @@
 -- The margin of a stay, if it has a tick.
 use Rattle.std.specs.Prelude.{◌≡◌, ◌≤◌, ◌<◌, List, [], ◌∷◌, Option, Some, None}
 use Rattle.hls_report_text.specs.Content.{Content}
-use Rattle.hls_accounts.specs.declared.stay.Stay.{Stay}
-use Rattle.hls_accounts.specs.Accounts.{end_of}
+use Rattle.hls_legal.specs.declared.stay.Stay.{Stay}
+use Rattle.hls_legal.specs.Accounts.{end_of}
 use Rattle.hls_view_margins.specs.declared.cuts.Window.{Window}
 use Rattle.hls_view_margins.specs.declared.margin.Margin.{Margin}
 use Rattle.hls_view_margins.specs.Margins.{IsMargin}

@@ -3,7 +3,7 @@ use Rattle.std.specs.Prelude.{◌≡◌, ℕ, ◌<◌, List, Some, Bool, true, f
 use Rattle.hls_scenario.specs.declared.scenario.Command.{Command}
 use Rattle.hls_scenario.specs.declared.scenario.Command.TheVariants.{Wake, Block}
 use Rattle.hls_report_text.specs.declared.report.Answered.{Answered}
-use Rattle.hls_accounts.specs.Commands.{is_done}
+use Rattle.hls_legal.specs.Commands.{is_done}
 use Rattle.hls_audit_clauses.specs.Names.{tree_of}
 use Rattle.hls_view_tale.specs.Standings.{standing}
 

@@ -5,7 +5,7 @@ use Rattle.hls_text.specs.Lines.{Text}
 use Rattle.hls_scenario.specs.declared.scenario.Command.{Command}
 use Rattle.hls_scenario.specs.declared.scenario.Command.TheVariants.{Thread, End}
 use Rattle.hls_report_text.specs.declared.report.Answered.{Answered}
-use Rattle.hls_accounts.specs.Stays.{threads}
+use Rattle.hls_legal.specs.Stays.{threads}
 use Rattle.hls_audit_clauses.specs.Names.{tree_of, after}
 use Rattle.hls_view_tale.specs.declared.tale.Tale.{Tale}
 use Rattle.hls_view_tale.specs.Standings.{standing, standing_after}

@@ -4,7 +4,7 @@ use Rattle.hls_text.specs.Lines.{Text}
 use Rattle.hls_report_text.specs.declared.report.Path.{Path}
 use Rattle.hls_report_text.specs.Content.{Content, path_names}
 use Rattle.hls_report_text.specs.WellFormed.{HasShort}
-use Rattle.hls_accounts.specs.Schedule.{path_at}
+use Rattle.hls_legal.specs.Schedule.{path_at}
 
 -- the path of a tick, by the places of its names
 pub record IsPathOf (c : Content) (names : List Text) (t : ℕ) (path : Option Path) : Type 0 where

@@ -1,7 +1,7 @@
 use Rattle.std.proofs.Common.{refl, sym, arith, is_none}
 use Rattle.hls_kinds.proofs.TickLaws.{count-zero}
 use Rattle.hls_report_text.specs.Content.{content_of}
-use Rattle.hls_accounts.specs.Schedule.{path_at}
+use Rattle.hls_legal.specs.Schedule.{path_at}
 use Rattle.hls_audit.proofs.Abreast.{reach_first}
 use Rattle.hls_audit.proofs.counts.idle_of.Goals as goal
 

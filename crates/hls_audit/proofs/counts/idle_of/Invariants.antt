@@ -1,7 +1,7 @@
 use Rattle.std.proofs.Common.{◌≡◌, ◌≤◌, is_none}
 use Rattle.hls_chron.specs.Ticks.{count}
 use Rattle.hls_report_text.specs.Content.{content_of}
-use Rattle.hls_accounts.specs.Schedule.{path_at}
+use Rattle.hls_legal.specs.Schedule.{path_at}
 use Rattle.hls_audit.specs.Inside.Leading.{IsReached}
 use Rattle.hls_audit.proofs.counts.idle_of.Given as goal
 

@@ -1,8 +1,8 @@
 use Rattle.std.proofs.Common.{ℕ, ◌-◌, ◌≤◌, refl, ap, ◌∙◌, arith}
 use Rattle.hls_report_text.specs.Content.{content_of}
-use Rattle.hls_accounts.specs.Accounts.{end_of, ticks_in}
-use Rattle.hls_accounts.specs.Ready.{is_ready}
-use Rattle.hls_accounts.specs.Schedule.{is_served}
+use Rattle.hls_legal.specs.Accounts.{end_of, ticks_in}
+use Rattle.hls_legal.specs.Ready.{is_ready}
+use Rattle.hls_legal.specs.Schedule.{is_served}
 use Rattle.hls_audit_threads.proofs.Counted.{counted_in, account_by}
 use Rattle.hls_audit_threads.proofs.Found.{if_some}
 use Rattle.hls_audit_threads.proofs.accounts.account_of.Goals as goal

@@ -1,6 +1,6 @@
 use Rattle.hls_report_text.specs.Content.{content_of}
-use Rattle.hls_accounts.specs.Ready.{is_ready}
-use Rattle.hls_accounts.specs.Schedule.{is_served}
+use Rattle.hls_legal.specs.Ready.{is_ready}
+use Rattle.hls_legal.specs.Schedule.{is_served}
 use Rattle.hls_audit_threads.proofs.EachName.{lack_told}
 use Rattle.hls_audit_threads.proofs.paths.first_unready_of.Goals as goal
 

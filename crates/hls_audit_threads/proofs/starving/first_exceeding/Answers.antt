@@ -1,6 +1,6 @@
 use Rattle.std.proofs.Common.{◌≡◌, ◌+◌, List, Bool, sym, subst, length}
 use Rattle.hls_audit_spans.specs.Spans.{AreTicks}
-use Rattle.hls_accounts.specs.Schedule.{is_served}
+use Rattle.hls_legal.specs.Schedule.{is_served}
 use Rattle.hls_audit_threads.proofs.OneStay.{exceeding_first, exceeding_never}
 use Rattle.hls_audit_threads.proofs.starving.first_exceeding.Goals as goal
 

@@ -1,7 +1,7 @@
 use Rattle.std.proofs.Common.{◌≡◌, ◌+◌, List, Bool, sym, subst, length}
 use Rattle.hls_audit_spans.specs.Spans.{AreTicks}
-use Rattle.hls_accounts.specs.Ready.{is_ready}
-use Rattle.hls_accounts.specs.Schedule.{is_served}
+use Rattle.hls_legal.specs.Ready.{is_ready}
+use Rattle.hls_legal.specs.Schedule.{is_served}
 use Rattle.hls_audit_threads.proofs.OneStay.{stay_in, starving_first, starving_never}
 use Rattle.hls_audit_threads.proofs.starving.first_starving.Goals as goal
 

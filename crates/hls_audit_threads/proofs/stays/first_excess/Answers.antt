@@ -2,7 +2,7 @@ use Rattle.std.proofs.Common.{◌≡◌, ℕ, ◌≤◌, sym, arith}
 use Rattle.std.specs.Prelude.{Option}
 use Rattle.std.proofs.lemmas.Result.{IfOk-weaker}
 use Rattle.hls_report_text.specs.Content.{Content, content_of}
-use Rattle.hls_accounts.specs.Accounts.{end_of}
+use Rattle.hls_legal.specs.Accounts.{end_of}
 use Rattle.hls_audit_watch.specs.First.{FirstAt}
 use Rattle.hls_audit_threads.specs.Inside.Sites.{Exceeds}
 use Rattle.hls_audit_threads.specs.Inside.Ticks.{TellsServed}

@@ -2,7 +2,7 @@ use Rattle.std.proofs.Common.{◌≡◌, ◌+◌, List, refl, sym, subst, arith,
 use Rattle.std.proofs.lemmas.Option.{slice_get_read}
 use Rattle.hls_report_text.specs.declared.report.Answered.{Answered}
 use Rattle.hls_report_text.specs.Content.{content_of}
-use Rattle.hls_accounts.specs.Schedule.{is_served}
+use Rattle.hls_legal.specs.Schedule.{is_served}
 use Rattle.hls_audit_threads.specs.Inside.Chains.{IsNext}
 use Rattle.hls_audit_threads.proofs.Formed.{are_in_order}
 use Rattle.hls_audit_threads.proofs.Linked.{ready_told, commands_early}

@@ -1,6 +1,6 @@
 use Rattle.std.proofs.Common.{length}
 use Rattle.hls_report_text.specs.Content.{content_of}
-use Rattle.hls_accounts.specs.Schedule.{is_served}
+use Rattle.hls_legal.specs.Schedule.{is_served}
 use Rattle.hls_audit_threads.proofs.ChainLaws.{left_behind}
 use Rattle.hls_audit_threads.proofs.LineLaws.{IsFilling}
 use Rattle.hls_audit_threads.proofs.threads.ready_ticks.Given as goal

@@ -1,4 +1,4 @@
-use Rattle.hls_book_made.proofs.Books.{reservations_made}
+use Rattle.hls_book.proofs.Books.{reservations_made}
 use Rattle.hls_book_isolation.proofs.Claims.{is_claim}
 use Rattle.hls_book_isolation.proofs.laws.budgets_and_deadlines_stay_near.Goals as goal
 

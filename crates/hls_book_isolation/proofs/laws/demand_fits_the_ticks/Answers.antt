@@ -1,4 +1,4 @@
-use Rattle.hls_book_made.proofs.Books.{reservations_made}
+use Rattle.hls_book.proofs.Books.{reservations_made}
 use Rattle.hls_book_isolation.proofs.Demand.{demand_fits, parts_fit}
 use Rattle.hls_book_isolation.proofs.laws.demand_fits_the_ticks.Goals as goal
 

@@ -1,4 +1,4 @@
-use Rattle.hls_book_made.proofs.Books.{reservations_made}
+use Rattle.hls_book.proofs.Books.{reservations_made}
 use Rattle.hls_book_isolation.proofs.Spans.{is_capped}
 use Rattle.hls_book_isolation.proofs.laws.hard_seats_are_capped_in_any_span.Goals as goal
 

@@ -1,4 +1,4 @@
-use Rattle.hls_book_made.proofs.Books.{reservations_made}
+use Rattle.hls_book.proofs.Books.{reservations_made}
 use Rattle.hls_book_isolation.proofs.Spans.{has_budgets}
 use Rattle.hls_book_isolation.proofs.laws.seats_have_their_budgets_beside_any_others.Goals as goal
 

@@ -1,7 +1,7 @@
 use Rattle.std.proofs.Common.{refl, sym, subst}
 use Rattle.hls_scenario.specs.declared.scenario.Command.TheVariants as said
 use Rattle.hls_report_text.specs.declared.refusal.Refusal.{Refusal}
-use Rattle.hls_answers.specs.Answers.{IsRefused}
+use Rattle.hls_legal.specs.Answers.{IsRefused}
 use Rattle.hls_manager.proofs.Outcomes.{stands_so, reached_listed}
 use Rattle.hls_manager.proofs.Askings.{at_parent}
 use Rattle.hls_manager.proofs.Options.{some_so}

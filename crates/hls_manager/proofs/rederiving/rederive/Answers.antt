@@ -1,6 +1,6 @@
 use Rattle.std.proofs.Common.{◌≡◌, Some, refl, sym, ap, ◌∙◌, subst, arith, length}
 use Rattle.std.proofs.lemmas.Option.{slice_get_read}
-use Rattle.hls_answers.specs.Dues.{dues_on}
+use Rattle.hls_legal.specs.Dues.{dues_on}
 use Rattle.hls_manager.proofs.Outcomes.{stands_so}
 use Rattle.hls_manager.proofs.Options.{some_at}
 use Rattle.hls_manager.proofs.Rederivals.{AreSettledFirst, holder_there, told_one, lacks_one, told_all, count_more}

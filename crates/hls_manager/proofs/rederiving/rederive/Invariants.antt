@@ -1,6 +1,6 @@
 use Rattle.std.proofs.Common.{◌≡◌, Some, length}
 use Rattle.hls_machine.specs.Hierarchy.{Hierarchy}
-use Rattle.hls_answers.specs.Dues.{dues_on}
+use Rattle.hls_legal.specs.Dues.{dues_on}
 use Rattle.hls_tree.specs.Trees.{IsTreeOf}
 use Rattle.hls_manager.proofs.Rederivals.{AreSettledFirst}
 use Rattle.hls_manager.proofs.rederiving.rederive.Given as goal

@@ -1,5 +1,5 @@
 use Rattle.std.proofs.Common.{ℕ, refl, sym, subst, arith}
-use Rattle.hls_answers.specs.Dues.{Derives}
+use Rattle.hls_legal.specs.Dues.{Derives}
 use Rattle.hls_manager.specs.Seats.{due_for}
 use Rattle.hls_manager.proofs.Offers.{parent_there, terms_range, kept_narrow, may_admit, lacks_within, admits}
 use Rattle.hls_manager.proofs.Offers.{answered_so}

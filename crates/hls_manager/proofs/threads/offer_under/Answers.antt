@@ -1,8 +1,8 @@
 use Rattle.std.proofs.Common.{refl, sym, subst, arith}
 use Rattle.hls_report_text.specs.declared.refusal.Refusal.{Refusal}
 use Rattle.hls_scenario.specs.declared.scenario.Command.TheVariants.{Thread}
-use Rattle.hls_answers.specs.Moment.{Moment}
-use Rattle.hls_answers.specs.Answers.{IsRefused}
+use Rattle.hls_legal.specs.Moment.{Moment}
+use Rattle.hls_legal.specs.Answers.{IsRefused}
 use Rattle.hls_manager.proofs.Offers.{under_name, under_range, no_parent, too_many_threads, faulty, offered}
 use Rattle.hls_manager.proofs.Outcomes.{stands_so, no_boxes}
 use Rattle.hls_manager.proofs.threads.offer_under.Goals as goal

@@ -1,5 +1,5 @@
 use Rattle.std.specs.Prelude.{option_copied}
-use Rattle.hls_answers.specs.Moment.{Moment}
+use Rattle.hls_legal.specs.Moment.{Moment}
 use Rattle.hls_core.specs.Asking.{IsMomentOf}
 use Rattle.hls_offer.specs.Inside.Told.{AddsPlaces}
 use Rattle.hls_offer.proofs.needing.put_places.Given as goal

@@ -1,6 +1,6 @@
 use Rattle.std.proofs.Common.{◌≡◌, ◌++◌, take}
 use Rattle.hls_report_text.specs.ReportText.{ended}
-use Rattle.hls_answers.specs.Moment.{Moment}
+use Rattle.hls_legal.specs.Moment.{Moment}
 use Rattle.hls_core.specs.Asking.{IsMomentOf}
 use Rattle.hls_offer.specs.Told.{open_told}
 use Rattle.hls_offer.proofs.offering.put_requests.Given as goal

@@ -1,6 +1,6 @@
 use Rattle.std.proofs.Common.{subst}
 use Rattle.hls_scenario.specs.declared.scenario.Command.{Command}
-use Rattle.hls_answers.specs.Answers.{IsAnswer}
+use Rattle.hls_legal.specs.Answers.{IsAnswer}
 use Rattle.hls_offer_asks.specs.Needs.{wish_of}
 use Rattle.hls_offer_asks.proofs.Standing.{asked_for, ok_so, request_kind, request_within, runs_stand}
 use Rattle.hls_offer_asks.proofs.needs.answer_on.Goals as goal

@@ -1,6 +1,6 @@
 use Rattle.std.proofs.Common.{◌≤◌, ◌<◌, ℕ}
 use Rattle.hls_chron.specs.declared.plain.Terms.TheVariants.{Prio}
-use Rattle.hls_answers.specs.Moment.{Moment}
+use Rattle.hls_legal.specs.Moment.{Moment}
 use Rattle.hls_core.specs.Asking.{IsMomentOf}
 use Rattle.hls_offer_asks.specs.Needs.{IsDoneOn}
 use Rattle.hls_offer_asks.proofs.needs.done_below.Given as goal

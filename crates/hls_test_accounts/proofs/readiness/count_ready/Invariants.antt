@@ -1,7 +1,7 @@
 use Rattle.std.proofs.Common.{◌≡◌, ◌≤◌}
 use Rattle.hls_chron.specs.Ticks.{count}
 use Rattle.hls_report_text.specs.Content.{content_of}
-use Rattle.hls_accounts.specs.Ready.{is_ready}
+use Rattle.hls_legal.specs.Ready.{is_ready}
 use Rattle.hls_test_accounts.proofs.readiness.count_ready.Given as goal
 
 abbrev pub invariant-loop-k : goal.invariant-loop-k

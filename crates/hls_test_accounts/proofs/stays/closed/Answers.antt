@@ -1,5 +1,5 @@
 use Rattle.std.proofs.Common.{sym, ◌∙◌}
-use Rattle.hls_accounts.proofs.StayLaws.{closed-hit, closed-miss, closed-none}
+use Rattle.hls_legal.proofs.StayLaws.{closed-hit, closed-miss, closed-none}
 use Rattle.hls_test_accounts.proofs.stays.closed.Goals as goal
 
 pub returns-then-closes : goal.returns-then-closes

@@ -1,5 +1,5 @@
 use Rattle.std.proofs.Common.{◌≡◌, take, drop}
-use Rattle.hls_accounts.specs.Stays.{closed}
+use Rattle.hls_legal.specs.Stays.{closed}
 use Rattle.hls_test_accounts.proofs.stays.closed.Given as goal
 
 abbrev pub invariant-loop-i : goal.invariant-loop-i

@@ -1,4 +1,4 @@
-use Rattle.hls_accounts.proofs.StayLaws.{put-all}
+use Rattle.hls_legal.proofs.StayLaws.{put-all}
 use Rattle.hls_test_accounts.proofs.stays.put_stays.Goals as goal
 
 pub returns : goal.returns

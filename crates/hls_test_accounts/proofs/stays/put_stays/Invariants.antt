@@ -1,5 +1,5 @@
 use Rattle.std.proofs.Common.{◌≡◌, ◌++◌, ◌+◌, map, take, drop}
-use Rattle.hls_accounts.specs.Stays.{stay_of}
+use Rattle.hls_legal.specs.Stays.{stay_of}
 use Rattle.hls_test_accounts.proofs.stays.put_stays.Given as goal
 
 abbrev pub invariant-loop-name : goal.invariant-loop-name

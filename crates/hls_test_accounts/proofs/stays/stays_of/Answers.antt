@@ -1,4 +1,4 @@
-use Rattle.hls_accounts.proofs.StayLaws.{stays-more, stays-all}
+use Rattle.hls_legal.proofs.StayLaws.{stays-more, stays-all}
 use Rattle.hls_test_accounts.proofs.stays.stays_of.Goals as goal
 
 pub loop-place-preserved : goal.loop-place-preserved

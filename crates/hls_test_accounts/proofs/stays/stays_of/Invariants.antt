@@ -1,5 +1,5 @@
 use Rattle.std.proofs.Common.{◌≡◌, ◌++◌, take, drop}
-use Rattle.hls_accounts.specs.Stays.{stays_from, stays}
+use Rattle.hls_legal.specs.Stays.{stays_from, stays}
 use Rattle.hls_test_accounts.proofs.stays.stays_of.Given as goal
 
 abbrev pub invariant-loop-place : goal.invariant-loop-place

@@ -1,7 +1,7 @@
 use Rattle.std.proofs.Common.{◌+◌, ◌++◌, List, sym, ap, ◌∙◌}
 use Rattle.std.proofs.lemmas.List.{append-nil, take_rest}
 use Rattle.hls_text.specs.Lines.{Text}
-use Rattle.hls_accounts.proofs.StayLaws.{stands_by, threads-more, threads-all}
+use Rattle.hls_legal.proofs.StayLaws.{stands_by, threads-more, threads-all}
 use Rattle.hls_test_accounts.proofs.stays.threads.Goals as goal
 use Rattle.hls_test_accounts.proofs.stays.threads.Goals.{in-Some+in_ok-push, in_default}
 

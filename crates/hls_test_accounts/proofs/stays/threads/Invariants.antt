@@ -1,5 +1,5 @@
 use Rattle.std.proofs.Common.{◌≡◌, ◌++◌, drop}
-use Rattle.hls_accounts.specs.Stays.{threads}
+use Rattle.hls_legal.specs.Stays.{threads}
 use Rattle.hls_test_accounts.proofs.stays.threads.Given as goal
 
 abbrev pub invariant-loop-i : goal.invariant-loop-i

@@ -1,7 +1,7 @@
 use Rattle.std.proofs.Common.{◌≡◌, ◌-◌, suc, sym, ap, ◌∙◌, arith}
 use Rattle.std.specs.Prelude.{Some, None, option_copied}
-use Rattle.hls_accounts.specs.Commands.{last_seating}
-use Rattle.hls_accounts.proofs.UnderLaws.{within-step, any-none}
+use Rattle.hls_legal.specs.Commands.{last_seating}
+use Rattle.hls_legal.proofs.UnderLaws.{within-step, any-none}
 use Rattle.hls_test_accounts.proofs.under.+within.Goals as goal
 
 pub is_within-returns-in-Some : goal.is_within-returns-in-Some

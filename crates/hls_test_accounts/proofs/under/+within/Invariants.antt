@@ -1,7 +1,7 @@
 use Rattle.std.proofs.Common.{◌≡◌, ◌+◌, ◌*◌, take, false}
 use Rattle.std.specs.List.{list_any}
 use Rattle.hls_scenario.specs.declared.scenario.Perch.{Perch}
-use Rattle.hls_accounts.specs.Under.{is_on, is_within}
+use Rattle.hls_legal.specs.Under.{is_on, is_within}
 use Rattle.hls_test_accounts.proofs.under.+within.Given as goal
 
 abbrev pub decreases-is_within : goal.decreases-is_within

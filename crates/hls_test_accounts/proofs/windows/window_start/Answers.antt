@@ -1,6 +1,6 @@
 use Rattle.std.proofs.Common.{◌≡◌, ℕ, ◌+◌, sym, ◌∙◌, subst, arith}
 use Rattle.hls_report_text.specs.Content.{content_of}
-use Rattle.hls_accounts.proofs.Keeping.{IsReadySince, since_first, since_next, since_anew, since_longest}
+use Rattle.hls_legal.proofs.KeepingAccounts.{IsReadySince, since_first, since_next, since_anew, since_longest}
 use Rattle.hls_test_accounts.proofs.windows.window_start.Goals as goal
 use Rattle.hls_test_accounts.proofs.windows.window_start.Goals.{then-not-is_ready, else-not-is_ready}
 

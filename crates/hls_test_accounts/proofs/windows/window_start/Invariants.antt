@@ -1,5 +1,5 @@
 use Rattle.hls_report_text.specs.Content.{content_of}
-use Rattle.hls_accounts.proofs.Keeping.{IsReadySince}
+use Rattle.hls_legal.proofs.KeepingAccounts.{IsReadySince}
 use Rattle.hls_test_accounts.proofs.windows.window_start.Given as goal
 
 abbrev pub invariant-loop-tick : goal.invariant-loop-tick

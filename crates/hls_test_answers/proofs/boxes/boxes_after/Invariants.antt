@@ -1,6 +1,6 @@
 use Rattle.std.proofs.Common.{◌≡◌, take}
-use Rattle.hls_answers.specs.Moment.{Boxes}
-use Rattle.hls_answers.specs.Kit.{boxes_left}
+use Rattle.hls_legal.specs.Moment.{Boxes}
+use Rattle.hls_legal.specs.Kit.{boxes_left}
 use Rattle.hls_test_answers.proofs.boxes.boxes_after.Given as goal
 
 abbrev pub invariant-loop-a : goal.invariant-loop-a

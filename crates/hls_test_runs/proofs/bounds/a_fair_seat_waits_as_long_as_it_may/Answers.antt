@@ -1,6 +1,6 @@
 use Rattle.std.proofs.Common.{refl, arith}
 use Rattle.hls_chron.specs.Ticks.{count}
-use Rattle.hls_machine_supply.proofs.Runs.{stays_kept}
+use Rattle.hls_machine.proofs.Supply.{stays_kept}
 use Rattle.hls_test_runs.specs.Apart.{apart}
 use Rattle.hls_test_runs.proofs.Apart.{apart_legal}
 use Rattle.hls_test_runs.proofs.bounds.a_fair_seat_waits_as_long_as_it_may.Goals as goal

@@ -1,4 +1,4 @@
-use Rattle.hls_machine_supply.proofs.Runs.{stays_kept}
+use Rattle.hls_machine.proofs.Supply.{stays_kept}
 use Rattle.hls_test_runs.specs.Paced.{paced}
 use Rattle.hls_test_runs.proofs.Paced.{paced_legal, has_reservation, asks_for_one_job, served_when_due, not_sooner}
 use Rattle.hls_test_runs.proofs.bounds.a_job_is_served_as_late_as_it_may_be.Goals as goal

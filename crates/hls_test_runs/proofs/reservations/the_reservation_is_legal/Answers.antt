@@ -1,6 +1,6 @@
 use Rattle.std.proofs.Common.{refl}
 use Rattle.hls_chron.specs.Ticks.{count}
-use Rattle.hls_machine_supply.proofs.Runs.{stays_kept}
+use Rattle.hls_machine.proofs.Supply.{stays_kept}
 use Rattle.hls_test_runs.specs.Reserved.{reserved}
 use Rattle.hls_test_runs.proofs.Reserved.{reserved_legal}
 use Rattle.hls_test_runs.proofs.reservations.the_reservation_is_legal.Goals as goal

@@ -1,6 +1,6 @@
 use Rattle.std.proofs.Common.{refl}
 use Rattle.hls_chron.specs.Ticks.{count}
-use Rattle.hls_machine_supply.proofs.Runs.{stays_kept}
+use Rattle.hls_machine.proofs.Supply.{stays_kept}
 use Rattle.hls_test_runs.specs.Shared.{shared}
 use Rattle.hls_test_runs.proofs.Shared.{shared_legal}
 use Rattle.hls_test_runs.proofs.shares.the_shares_are_legal.Goals as goal

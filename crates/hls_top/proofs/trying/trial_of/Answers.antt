@@ -1,5 +1,5 @@
 use Rattle.std.proofs.Common.{subst}
-use Rattle.hls_legal_report.specs.Legal.{IsLegalReport}
+use Rattle.hls_legal.specs.Legal.{IsLegalReport}
 use Rattle.hls_manager.specs.Outcomes.{boxes_in}
 use Rattle.hls_top.proofs.Audited.{trial_is}
 use Rattle.hls_top.proofs.trying.trial_of.Goals as goal

@@ -1,8 +1,8 @@
 use Rattle.std.proofs.Common.{ℕ, ◌-◌, arith, refl, ◌∙◌, ap, subst}
 use Rattle.std.specs.Prelude.{Option}
 use Rattle.hls_report_text.specs.Content.{content_of}
-use Rattle.hls_accounts.specs.declared.stay.Stay.{Stay}
-use Rattle.hls_accounts.specs.Schedule.{is_served}
+use Rattle.hls_legal.specs.declared.stay.Stay.{Stay}
+use Rattle.hls_legal.specs.Schedule.{is_served}
 use Rattle.hls_audit_spans.specs.Spans.{IsReach}
 use Rattle.hls_view_jobs.specs.Jobs.{until, bound_by}
 use Rattle.hls_view_jobs.proofs.FateLaws.{fate_found}

@@ -8,7 +8,7 @@ use Rattle.hls_text.specs.Lines.{Text}
 use Rattle.hls_guarantee.specs.Limits.{IsValid}
 use Rattle.hls_report_text.specs.declared.report.Answered.{Answered}
 use Rattle.hls_report_text.specs.Content.{content_of}
-use Rattle.hls_accounts.specs.declared.stay.Stay.{Stay}
+use Rattle.hls_legal.specs.declared.stay.Stay.{Stay}
 use Rattle.hls_audit_stays.specs.Found.{stay_by}
 use Rattle.hls_audit_stays.proofs.Lists.{filter_append}
 use Rattle.hls_audit_threads.proofs.EachStay.{told_at, kept_valid}

@@ -1,6 +1,6 @@
 use Rattle.std.proofs.Common.{◌≡◌, All, take, map, filter}
 use Rattle.hls_guarantee.specs.Limits.{IsValid}
-use Rattle.hls_accounts.specs.declared.stay.Stay.{Stay}
+use Rattle.hls_legal.specs.declared.stay.Stay.{Stay}
 use Rattle.hls_audit_stays.specs.Found.{stay_by}
 use Rattle.hls_view_jobs.specs.Jobs.{is_of}
 use Rattle.hls_view_jobs.proofs.sources.stays_named.Given as goal

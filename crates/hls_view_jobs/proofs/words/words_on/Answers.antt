@@ -1,5 +1,5 @@
 use Rattle.std.proofs.Common.{◌≡◌, ◌∷◌, [], ◌++◌, true, false, ◌∙◌, sym, ap, refl}
-use Rattle.hls_accounts.specs.Commands.{has_done, rouses}
+use Rattle.hls_legal.specs.Commands.{has_done, rouses}
 use Rattle.hls_view_jobs.specs.declared.job.Sort.{Sort}
 use Rattle.hls_view_jobs.specs.Words.{is_end, sort_of}
 use Rattle.hls_view_jobs.proofs.WordLaws.{words_end, words_more, words_less, words_none}

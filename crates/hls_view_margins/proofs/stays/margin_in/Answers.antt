@@ -1,7 +1,7 @@
 use Rattle.std.proofs.Common.{ℕ, ◌-◌, arith, ap, ◌∙◌, refl}
-use Rattle.hls_accounts.specs.Schedule.{is_served}
-use Rattle.hls_accounts.specs.Ready.{is_ready}
-use Rattle.hls_accounts.specs.Accounts.{end_of}
+use Rattle.hls_legal.specs.Schedule.{is_served}
+use Rattle.hls_legal.specs.Ready.{is_ready}
+use Rattle.hls_legal.specs.Accounts.{end_of}
 use Rattle.hls_view_margins.specs.Rows.{IsLongestOf}
 use Rattle.hls_view_margins.specs.Judged.{IsSpare}
 use Rattle.hls_view_margins.specs.Rooms.{IsRoomOf}

@@ -3,7 +3,7 @@ use Rattle.std.specs.Prelude.{Option, Some, IfSome}
 use Rattle.std.specs.List.{list_any}
 use Rattle.hls_report_text.specs.declared.report.Answered.{Answered}
 use Rattle.hls_report_text.specs.Content.{content_of}
-use Rattle.hls_accounts.specs.Commands.{has_done, rouses}
+use Rattle.hls_legal.specs.Commands.{has_done, rouses}
 use Rattle.hls_view_jobs.specs.declared.job.Word.{Word}
 use Rattle.hls_view_jobs.specs.Words.{word_of, sort_of, is_end, words_on}
 use Rattle.hls_view_jobs.specs.Jobs.{releases}

@@ -2,7 +2,7 @@ use Rattle.std.proofs.Common.{◌≡◌, length, refl, arith}
 use Rattle.std.specs.Prelude.{Some, slice_get}
 use Rattle.std.proofs.lemmas.Option.{slice_get_read}
 use Rattle.hls_report_text.specs.Content.{content_of}
-use Rattle.hls_accounts.specs.Ready.{is_ready}
+use Rattle.hls_legal.specs.Ready.{is_ready}
 use Rattle.hls_audit_threads.proofs.KnownLaws.{known_within, known_ready}
 use Rattle.hls_view_tree.proofs.Askings.{counted}
 use Rattle.hls_view_tree.proofs.asking.is_ready.Goals as goal

@@ -5,7 +5,7 @@ use Rattle.std.proofs.lemmas.Result.{IfOk-weaker}
 use Rattle.hls_scenario.specs.declared.scenario.Perch.{Perch}
 use Rattle.hls_scenario.specs.declared.scenario.Command.{Command}
 use Rattle.hls_scenario.specs.declared.scenario.Command.TheVariants.{Load}
-use Rattle.hls_accounts.specs.Under.{is_on}
+use Rattle.hls_legal.specs.Under.{is_on}
 use Rattle.hls_audit_clauses.specs.Names.{is_there, is_join, is_scheduler, is_under}
 use Rattle.hls_audit_clauses.specs.Misplaced.{is_wrong_spot, is_misplaced}
 use Rattle.hls_audit.proofs.Misplacing.{load_misplaced, move_misplaced, end_misplaced, wake_misplaced, block_misplaced}

@@ -1,6 +1,6 @@
 use Rattle.std.proofs.Common.{◌∙◌, sym, ap, subst, map, List}
 use Rattle.std.specs.List.{AllByRecursion}
-use Rattle.hls_answers.specs.Dues.{Due}
+use Rattle.hls_legal.specs.Dues.{Due}
 use Rattle.hls_audit.specs.declared.dues.Due as dues
 use Rattle.hls_audit.specs.Inside.Fits.{IsFitDue}
 use Rattle.hls_audit.specs.Inside.Told.{told}

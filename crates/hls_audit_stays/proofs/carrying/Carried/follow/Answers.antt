@@ -1,6 +1,6 @@
 use Rattle.std.proofs.Common.{◌≡◌, Some, false, ap, refl, take, slice_get}
 use Rattle.std.proofs.lemmas.Option.{slice_get_read}
-use Rattle.hls_accounts.specs.Commands.{is_done}
+use Rattle.hls_legal.specs.Commands.{is_done}
 use Rattle.hls_audit_stays.proofs.SeatLaws.{seats_pass}
 use Rattle.hls_audit_stays.proofs.CarryLaws.{carried_quiet, quiet_refused, refused_seats}
 use Rattle.hls_audit_stays.proofs.carrying.Carried.follow.Goals as goal

@@ -1,5 +1,5 @@
 use Rattle.hls_report_text.specs.Content.{content_of}
-use Rattle.hls_accounts.specs.Accounts.{accounts_of}
+use Rattle.hls_legal.specs.Accounts.{accounts_of}
 use Rattle.hls_audit_threads.proofs.MeetingLaws.{counted_by}
 use Rattle.hls_audit_threads.proofs.findings.Findings.of.Goals as goal
 

@@ -1,6 +1,6 @@
 use Rattle.std.proofs.Common.{◌≡◌, List, map, filter, subst}
 use Rattle.hls_report_text.specs.declared.report.Answered.{Answered}
-use Rattle.hls_accounts.specs.Stays.{stays}
+use Rattle.hls_legal.specs.Stays.{stays}
 use Rattle.hls_audit_stays.specs.Found.{stay_by, lasts}
 use Rattle.hls_view_jobs.proofs.sources.Sources.of.Goals as goal
 

@@ -1,7 +1,7 @@
 use Rattle.std.proofs.Common.{◌<◌, length, refl, sym, subst, arith, ◌∙◌}
 use Rattle.std.proofs.lemmas.Option.{slice_get_read}
 use Rattle.hls_report_text.specs.Content.{content_of}
-use Rattle.hls_accounts.specs.Ready.{is_ready}
+use Rattle.hls_legal.specs.Ready.{is_ready}
 use Rattle.hls_audit_threads.proofs.KnownLaws.{known_within, known_ready}
 use Rattle.hls_view_lanes.proofs.readings.Readings.asking.Goals as goal
 

@@ -1,6 +1,6 @@
 use Rattle.std.proofs.Common.{ap}
 use Rattle.std.proofs.lemmas.Result.{on_ok_weaker}
-use Rattle.hls_accounts.specs.Commands.{is_done}
+use Rattle.hls_legal.specs.Commands.{is_done}
 use Rattle.hls_view_tale.proofs.Followed.{told_done, told_refused}
 use Rattle.hls_view_tale.proofs.tale.Tale.follow.Goals as goal
 

@@ -2,7 +2,7 @@ use Rattle.std.proofs.Common.{◌≡◌, ◌<◌, ◌∙◌, ◌+◌, ◌-◌, l
 use Rattle.std.specs.List.{range_with_len}
 use Rattle.std.proofs.lemmas.Option.{slice_get_read}
 use Rattle.hls_report_text.specs.Content.{Content, content_of}
-use Rattle.hls_accounts.specs.Ready.{is_ready}
+use Rattle.hls_legal.specs.Ready.{is_ready}
 use Rattle.hls_audit_threads.proofs.KnownLaws.{known_within, known_ready}
 use Rattle.hls_view_timeline.proofs.Rows.{ticks_are}
 use Rattle.hls_view_timeline.proofs.readings.Readings.ready_in.Goals as goal

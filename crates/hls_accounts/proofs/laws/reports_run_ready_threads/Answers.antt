@@ -1,5 +1,0 @@
-use Rattle.hls_accounts.proofs.Agreements.{ran_ready}
-use Rattle.hls_accounts.proofs.laws.reports_run_ready_threads.Goals as goal
-
-pub returns : goal.returns
-returns c = λ content steps legal tells t name. ran_ready content steps legal tells t name

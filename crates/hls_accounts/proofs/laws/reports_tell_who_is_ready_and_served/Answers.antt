@@ -1,5 +1,0 @@
-use Rattle.hls_accounts.proofs.Agreements.{agreed}
-use Rattle.hls_accounts.proofs.laws.reports_tell_who_is_ready_and_served.Goals as goal
-
-pub returns : goal.returns
-returns c = λ content steps. agreed content steps

@@ -1,5 +1,0 @@
-use Rattle.hls_answers.proofs.OneAnswer.{answer_one}
-use Rattle.hls_answers.proofs.laws.answers_are_determined.Goals as goal
-
-pub returns : goal.returns
-returns c = λ m command one two f g. answer_one m command one two f g

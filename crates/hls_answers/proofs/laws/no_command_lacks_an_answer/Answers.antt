@@ -1,5 +1,0 @@
-use Rattle.hls_answers.proofs.Exists.{answered}
-use Rattle.hls_answers.proofs.laws.no_command_lacks_an_answer.Goals as goal
-
-pub returns : goal.returns
-returns c = λ m command no. answered m command no

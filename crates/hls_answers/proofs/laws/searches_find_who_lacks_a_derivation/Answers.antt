@@ -1,5 +1,0 @@
-use Rattle.hls_answers.proofs.Tests.{underived_at}
-use Rattle.hls_answers.proofs.laws.searches_find_who_lacks_a_derivation.Goals as goal
-
-pub returns : goal.returns
-returns c = λ m command at due there lacks before. underived_at m command at due there lacks before

@@ -1,0 +1,11 @@
+pub mod Promise
+pub mod Admission
+pub mod Demand
+pub mod Servers
+pub mod Choosing
+pub mod Recomputed
+pub mod Stays
+pub mod Books
+pub mod Props
+pub mod ShareBook
+pub mod Places

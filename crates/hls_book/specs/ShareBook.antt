@@ -1,0 +1,36 @@
+-- What fair queueing leaves in its book, by how it admits seats and chooses among them in each tick.
+use Rattle.std.specs.Prelude.{◌≡◌, ◌≢◌, ℕ, ◌+◌, ◌≤◌, ◌<◌, Some}
+use Rattle.hls_chron.specs.declared.plain.Config.TheVariants.{Sfq}
+use Rattle.hls_chron.specs.declared.plain.Terms.{Terms}
+use Rattle.hls_chron.specs.declared.plain.Terms.TheVariants.{Weight}
+use Rattle.hls_chron.specs.Ranges.{IsWithin, ConfigInRange}
+use Rattle.hls_chron.specs.Ledger.{Ledger, now_of, row_at, before}
+use Rattle.hls_chron.specs.Seats.{terms_at}
+use Rattle.hls_kinds.specs.declared.tenant.Tenant.TheVariants.{Sits}
+use Rattle.hls_kinds.specs.Tenants.{tenant_then}
+use Rattle.hls_kinds.specs.Room.{room_used}
+use Rattle.hls_kinds.specs.Discipline.{Serves}
+use Rattle.hls_book.specs.Admission.{KeepsAdmission}
+
+-- Who sits in a tick was seated or settled in it, or sat so in the tick before.
+pub record KeepsSittings (b : Ledger) : Type 0 where
+  pub first : (slot since : ℕ) (terms : Terms) → tenant_then b slot b.start ≡ Sits terms since
+      → since ≡ b.start
+  pub next : (t slot since : ℕ) (terms : Terms) → t < now_of b → tenant_then b slot (t + 1) ≡ Sits terms since
+      → since ≢ t + 1 → tenant_then b slot t ≡ Sits terms since
+
+-- the weights of the seats are in range, and sum to at most the total
+pub record HasWeights (total most : ℕ) (b : Ledger) : Type 0 where
+  pub ranged : (slot weight : ℕ) → terms_at b slot ≡ Some (Weight weight) → IsWithin 1 20 weight
+  pub fits : room_used (Sfq total most) b ≤ total
+
+-- Seats are admitted as they are, their weights fit now and before each tick, and each row served the slot of
+-- least start tag among those that asked.
+pub record KeepsShareBook (total most : ℕ) (b : Ledger) : Type 0 where
+  pub range : ConfigInRange (Sfq total most)
+  pub admission : KeepsAdmission (Sfq total most) b
+  pub sittings : KeepsSittings b
+  pub weights : HasWeights total most b
+  pub had : (t : ℕ) → t < now_of b → HasWeights total most (before t b)
+  pub served : (t slot : ℕ) → t < now_of b → (row_at b t).to ≡ Some slot
+      → Serves (Sfq total most) (before t b) (row_at b t).mask slot

@@ -1,3 +1,0 @@
-pub mod Leavings
-pub mod Books
-pub mod Vacancies

@@ -1,8 +1,0 @@
-use Rattle.hls_book_made.proofs.Books.{kind_made, range_made}
-use Rattle.hls_book_made.proofs.laws.made_books_are_configured.Goals as goal
-
-pub returns-clause-kind : goal.returns-clause-kind
-returns-clause-kind c = kind_made c.args.config
-
-pub returns-clause-range : goal.returns-clause-range
-returns-clause-range c = range_made c.args.config

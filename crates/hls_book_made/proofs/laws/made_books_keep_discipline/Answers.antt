@@ -1,5 +1,0 @@
-use Rattle.hls_book_made.proofs.Books.{discipline_made}
-use Rattle.hls_book_made.proofs.laws.made_books_keep_discipline.Goals as goal
-
-pub returns : goal.returns
-returns c = discipline_made c.args.config

@@ -1,6 +1,0 @@
-use Rattle.hls_book_edf.proofs.Promises.{cap-kept}
-use Rattle.hls_book_made.proofs.Books.{reservations_made}
-use Rattle.hls_book_made.proofs.laws.made_reservations_keep_their_caps.Goals as goal
-
-pub returns : goal.returns
-returns c = λ b slot r made. cap-kept b slot r (reservations_made b made)

@@ -1,6 +1,0 @@
-use Rattle.hls_book_edf.proofs.Promises.{deadline-found}
-use Rattle.hls_book_made.proofs.Books.{reservations_made}
-use Rattle.hls_book_made.proofs.laws.made_reservations_meet_their_deadlines.Goals as goal
-
-pub returns : goal.returns
-returns c = λ b slot t last r made. deadline-found b slot t last r (reservations_made b made)

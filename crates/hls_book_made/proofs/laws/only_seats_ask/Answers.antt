@@ -1,5 +1,0 @@
-use Rattle.hls_book_made.proofs.Books.{admission_made}
-use Rattle.hls_book_made.proofs.laws.only_seats_ask.Goals as goal
-
-pub returns : goal.returns
-returns c = λ b made. (admission_made c.args.config b made).seated

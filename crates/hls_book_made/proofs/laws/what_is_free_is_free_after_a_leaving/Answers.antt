@@ -1,8 +1,0 @@
-use Rattle.hls_book_made.proofs.Leavings.{free-leave, full-leave}
-use Rattle.hls_book_made.proofs.laws.what_is_free_is_free_after_a_leaving.Goals as goal
-
-pub returns-clause-slots : goal.returns-clause-slots
-returns-clause-slots c = free-leave c.args.config
-
-pub returns-clause-full : goal.returns-clause-full
-returns-clause-full c = full-leave c.args.config

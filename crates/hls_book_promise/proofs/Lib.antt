@@ -1,2 +1,0 @@
-pub mod AdmissionLaws
-pub mod PromiseLaws

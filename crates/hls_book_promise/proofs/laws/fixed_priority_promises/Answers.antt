@@ -1,5 +1,0 @@
-use Rattle.hls_book_promise.proofs.PromiseLaws.{fixed_priority_keeps}
-use Rattle.hls_book_promise.proofs.laws.fixed_priority_promises.Goals as goal
-
-pub returns : goal.returns
-returns c = fixed_priority_keeps

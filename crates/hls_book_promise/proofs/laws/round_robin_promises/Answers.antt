@@ -1,5 +1,0 @@
-use Rattle.hls_book_promise.proofs.PromiseLaws.{round_robin_keeps}
-use Rattle.hls_book_promise.proofs.laws.round_robin_promises.Goals as goal
-
-pub returns : goal.returns
-returns c = round_robin_keeps c.args.quantum

@@ -1,2 +1,0 @@
-pub mod Promise
-pub mod Admission

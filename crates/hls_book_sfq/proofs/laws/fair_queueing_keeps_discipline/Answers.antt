@@ -1,5 +1,0 @@
-use Rattle.hls_book_sfq.proofs.Bounds.{keeps-discipline}
-use Rattle.hls_book_sfq.proofs.laws.fair_queueing_keeps_discipline.Goals as goal
-
-pub returns : goal.returns
-returns c = keeps-discipline c.args.total c.args.most

@@ -1,5 +1,0 @@
-use Rattle.hls_book_sfq.proofs.Bounds.{near-virtual-time}
-use Rattle.hls_book_sfq.proofs.laws.start_tags_are_near_virtual_time.Goals as goal
-
-pub returns : goal.returns
-returns c = near-virtual-time c.args.total c.args.most

@@ -1,4 +1,0 @@
-//! What follows of fair queueing from its books alone.
-#![tactic(auto)]
-
-pub mod laws;

@@ -1,3 +1,0 @@
-pub mod OwnerLaws
-pub mod PlaceLaws
-pub mod WheelLaws

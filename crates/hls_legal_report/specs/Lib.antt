@@ -1,5 +1,0 @@
-pub mod Legal
-pub mod Grown
-pub mod Without
-pub mod Alike
-pub mod Kept

@@ -1,5 +1,0 @@
-use Rattle.hls_machine_supply.proofs.Follows.{derivation_follows}
-use Rattle.hls_machine_supply.proofs.laws.derivations_follow.Goals as goal
-
-pub returns : goal.returns
-returns c = λ haves d. derivation_follows c.args.place haves c.args.want d

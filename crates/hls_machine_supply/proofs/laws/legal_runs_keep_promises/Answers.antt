@@ -1,5 +1,0 @@
-use Rattle.hls_machine_supply.proofs.Runs.{run_promised}
-use Rattle.hls_machine_supply.proofs.laws.legal_runs_keep_promises.Goals as goal
-
-pub returns : goal.returns
-returns c = run_promised
