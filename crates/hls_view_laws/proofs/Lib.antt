@@ -1,0 +1,5 @@
+mod Broken
+mod Places
+mod Saying
+mod Kept
+mod Shown
