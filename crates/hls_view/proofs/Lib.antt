@@ -3,3 +3,8 @@ pub mod Outcomes
 pub mod Answering
 pub mod Promised
 pub mod Pictures
+mod Broken
+mod Places
+mod Saying
+mod Kept
+mod Shown

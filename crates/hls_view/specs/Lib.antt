@@ -5,3 +5,6 @@ pub mod Outputs
 pub mod Ends
 pub mod Musts
 pub mod Inside
+pub mod Reads
+pub mod Kept
+pub mod Accounts

@@ -16,9 +16,9 @@ ghost use Rattle.hls_view.specs.Viewing.{Viewing, IsFaultless};
 ghost use Rattle.hls_view.specs.Texts.{HasManyRows};
 ghost use Rattle.hls_view.specs.Ends.{Ends};
 ghost use Rattle.hls_view.specs.Musts.{MustAnswer};
-ghost use Rattle.hls_view_laws.specs.Reads.{ReadsLegalReport};
-ghost use Rattle.hls_view_laws.specs.Kept.{ShowsItIsKept};
-ghost use Rattle.hls_view_laws.specs.Accounts.{ShowsAccounts};
+ghost use Rattle.hls_view.specs.Reads.{ReadsLegalReport};
+ghost use Rattle.hls_view.specs.Kept.{ShowsItIsKept};
+ghost use Rattle.hls_view.specs.Accounts.{ShowsAccounts};
 
 /// What `run` of `hls` writes is a legal report, so that the other laws speak of it where it is read.
 pub fn what_run_writes_is_legal()

@@ -2,7 +2,7 @@
 use Rattle.std.proofs.Common.{◌≡◌, ◌∙◌, sym, ap, ◌++◌}
 use Rattle.std.proofs.lemmas.List.{append_assoc}
 use Rattle.hls_text.specs.Lines.{Text}
-use Rattle.hls_view_laws.specs.Kept.{BeginsWith, HasWords}
+use Rattle.hls_view.specs.Kept.{BeginsWith, HasWords}
 
 pub begun : (output front rest : Text) → output ≡ front ++ rest → BeginsWith output front
 begun output front rest is = record { rest = rest; is = is }

@@ -19,8 +19,8 @@ use Rattle.hls_view_trace.specs.declared.event.Trace as traces
 use Rattle.hls_view_trace.specs.Traces.{head_text, trace_text}
 use Rattle.hls_view.specs.Texts.{opening, opening_at, tick_line, tick_shown, IsViewText}
 use Rattle.hls_view.specs.Texts.{ShowsMargins, ShowsThreads, ShowsJobs, ShowsPicture, ShowsTrace}
-use Rattle.hls_view_laws.specs.Kept.{BeginsWith, HasWords, SaysKept}
-use Rattle.hls_view_laws.proofs.Places.{begun, begins_on, begins_with_both, has_begun, has_behind, has_before}
+use Rattle.hls_view.specs.Kept.{BeginsWith, HasWords, SaysKept}
+use Rattle.hls_view.proofs.Places.{begun, begins_on, begins_with_both, has_begun, has_behind, has_before}
 
 -- ---- tables
 

@@ -19,8 +19,8 @@ use Rattle.hls_view_words.specs.declared.views.View.{View}
 use Rattle.hls_view.specs.Viewing.{Viewing, IsFaultless}
 use Rattle.hls_view.specs.Texts.{HasManyRows}
 use Rattle.hls_view.specs.Musts.{Judges, MustAnswer}
-use Rattle.hls_view_laws.specs.Reads.{ReadsLegalReport}
-use Rattle.hls_view_laws.proofs.Broken.{legal_kept}
+use Rattle.hls_view.specs.Reads.{ReadsLegalReport}
+use Rattle.hls_view.proofs.Broken.{legal_kept}
 
 pub run_reads : (depth : ℕ) (boxes : Boxes) (bytes output : Text) (x : Viewing)
     (written : IsReportOf depth boxes bytes output) → x.source.left ≡ Some output

@@ -17,7 +17,7 @@ use Rattle.hls_view_words.specs.declared.views.View.{View}
 use Rattle.hls_view.specs.Viewing.{Viewing}
 use Rattle.hls_view.specs.Outputs.{IsUntold, IsSaid}
 use Rattle.hls_view.specs.Ends.{IsOfView, Writes, Ends}
-use Rattle.hls_view_laws.specs.Reads.{IsTextOf, ReadsLegalReport}
+use Rattle.hls_view.specs.Reads.{IsTextOf, ReadsLegalReport}
 
 -- every report of the text has this content
 pub same_content : (bytes : Text) (c : Content) (r : Report) → IsTextOf bytes c → IsReportText bytes r

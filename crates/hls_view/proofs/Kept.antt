@@ -20,11 +20,11 @@ use Rattle.hls_view.specs.Viewing.{Viewing}
 use Rattle.hls_view.specs.Texts.{IsViewText, ShowsMargins}
 use Rattle.hls_view.specs.Outputs.{IsShown}
 use Rattle.hls_view.specs.Ends.{IsOfView, Writes}
-use Rattle.hls_view_laws.specs.Reads.{IsTextOf, ReadsLegalReport}
-use Rattle.hls_view_laws.specs.Kept.{ShowsItIsKept}
-use Rattle.hls_view_laws.specs.Accounts.{ShowsAccounts}
-use Rattle.hls_view_laws.proofs.Broken.{same_content, legal_kept, read_text}
-use Rattle.hls_view_laws.proofs.Saying.{margins_begin, says_kept}
+use Rattle.hls_view.specs.Reads.{IsTextOf, ReadsLegalReport}
+use Rattle.hls_view.specs.Kept.{ShowsItIsKept}
+use Rattle.hls_view.specs.Accounts.{ShowsAccounts}
+use Rattle.hls_view.proofs.Broken.{same_content, legal_kept, read_text}
+use Rattle.hls_view.proofs.Saying.{margins_begin, says_kept}
 
 -- what holds of a content and its audit holds of the same content as a kept one
 as_kept : (P : Content → Outcome → Type 0) (c d : Content) (audit : Outcome) → d ≡ c → IsKept c → IsAudit d audit

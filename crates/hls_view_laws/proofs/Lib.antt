@@ -1,5 +1,0 @@
-mod Broken
-mod Places
-mod Saying
-mod Kept
-mod Shown

@@ -1,5 +1,0 @@
-use Rattle.hls_view_laws.proofs.Shown.{shows_legal}
-use Rattle.hls_view_laws.proofs.laws.legal_reports_are_shown.Goals as goal
-
-pub returns : goal.returns
-returns c = shows_legal

@@ -1,5 +1,0 @@
-use Rattle.hls_view_laws.proofs.Kept.{writes_accounts}
-use Rattle.hls_view_laws.proofs.laws.margins_shown_have_the_numbers_of_the_accounts.Goals as goal
-
-pub returns : goal.returns
-returns c = writes_accounts

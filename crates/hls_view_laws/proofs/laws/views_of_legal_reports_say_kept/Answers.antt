@@ -1,5 +1,0 @@
-use Rattle.hls_view_laws.proofs.Kept.{writes_kept}
-use Rattle.hls_view_laws.proofs.laws.views_of_legal_reports_say_kept.Goals as goal
-
-pub returns : goal.returns
-returns c = writes_kept

@@ -1,5 +1,0 @@
-use Rattle.hls_view_laws.proofs.Shown.{run_reads}
-use Rattle.hls_view_laws.proofs.laws.what_run_writes_is_legal.Goals as goal
-
-pub returns : goal.returns
-returns c = run_reads
