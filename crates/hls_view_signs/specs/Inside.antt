@@ -1,5 +1,6 @@
 pub mod Found
 pub mod Moments
 pub mod Nodes
+pub mod Scenes
 pub mod Sources
 pub mod Words

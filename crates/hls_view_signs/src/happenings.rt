@@ -22,7 +22,7 @@ use hls_view_tale::{Label, Standing};
 use std::alloc::{AllocError, Global};
 
 /// Whether the command at a place is there, and of a tick.
-fn is_of(answered: &[Answered], place: usize, tick: u32) -> bool
+pub(crate) fn is_of(answered: &[Answered], place: usize, tick: u32) -> bool
     ensures { result ≡ told.is_of tick (slice_get answered.now place) }
 {
     match answered.get(place) {

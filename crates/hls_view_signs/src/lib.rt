@@ -9,6 +9,7 @@ mod event;
 mod happenings;
 pub mod laws;
 mod moments;
+mod roused;
 mod signs;
 mod sources;
 
