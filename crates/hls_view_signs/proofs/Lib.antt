@@ -5,5 +5,6 @@ pub mod DropLaws
 pub mod CommandLaws
 pub mod MomentLaws
 pub mod SceneLaws
+pub mod HeardLaws
 pub mod SignLaws
 pub mod FateLaws

@@ -1,4 +1,5 @@
 -- Whom the commands of a tick rouse, and to whom something happens.
+use Rattle.std.proofs.Common.{zero, take}
 use Rattle.std.proofs.Common.{◌≡◌, ℕ, suc, ◌+◌, ◌<◌, ◌≤◌, ◌==◌, List, [], ◌∷◌, Bool, true, false, refl, sym, ap}
 use Rattle.std.proofs.Common.{◌∙◌, ◌||◌, inl, inr, cond, drop, length, get_or, subst, arith}
 use Rattle.std.specs.Prelude.{Option, Some, None, slice_get}
@@ -25,27 +26,57 @@ use Rattle.hls_view_signs.specs.declared.event.Event.TheVariants.{Begun, Woken, 
 use Rattle.hls_view_signs.specs.Happenings as told
 use Rattle.hls_view_signs.specs.Inside.Nodes.{happens_to_any}
 use Rattle.hls_view_signs.specs.Inside.Moments.{node_if, KnowsAll}
-use Rattle.hls_view_signs.specs.Inside.Scenes.{is_roused, AreBefore, rouses_in, AreHeard, AreRoused, any_begun}
+use Rattle.hls_view_signs.specs.Inside.Scenes.{is_roused, IsParted, AreBefore, rouses_in, AreHeard, AreRoused, any_begun}
 use Rattle.hls_view_signs.proofs.Tests.{either, or_left, or_right, first_of_two, second_of_two, both_of_two}
-use Rattle.hls_view_signs.proofs.Tests.{any_behind, any_looser}
+use Rattle.hls_view_signs.proofs.Tests.{alike, any_behind, any_at, any_looser}
 use Rattle.hls_view_signs.proofs.CommandLaws.{releases_in, words_rouse}
 use Rattle.hls_view_signs.proofs.MomentLaws.{node_happens}
 
 -- ---- how many commands come before a tick
 
-pub before_none : (all : List Answered) (t : ℕ) → AreBefore all t 0
-before_none all t = record { within = omega arith; early = λ k a lt there. absurd (omega (arith, lt)) }
+pub parted_none : (all : List Answered) (t : ℕ) → IsParted all t 0 (length all)
+parted_none all t = record {
+  order = omega arith;
+  within = omega arith;
+  early = λ k a lt there. absurd (omega (arith, lt));
+  late = λ k a le there. let lt = slice_get_within all k a there in absurd (omega (arith, le, lt));
+}
 
 -- where one comes before it, so do those before that one
-pub before_more : (all : List Answered) (t middle : ℕ) (a : Answered) → AreInOrder all → middle < length all
-    → a ≡ get_or all middle a → a.tick < t → AreBefore all t (middle + 1)
-before_more all t middle a order lt is early = record {
-  within = omega (arith, lt);
-  early = λ k b less there.
-      let at = slice_get_read all (length all) middle a refl lt is in
-      let first : b.tick ≤ a.tick = order k middle b a (omega (arith, less)) there at in
-      omega (arith, first, early);
-}
+pub parted_low : (all : List Answered) (t low middle high : ℕ) (a : Answered) → AreInOrder all → middle < high
+    → a ≡ get_or all middle a → a.tick < t → IsParted all t low high → IsParted all t (middle + 1) high
+parted_low all t low middle high a order lt is early parted =
+    let within = parted.within in
+    record {
+      order = omega (arith, lt);
+      within = within;
+      early = λ k b less there.
+          let at = slice_get_read all (length all) middle a refl (omega (arith, lt, within)) is in
+          let first : b.tick ≤ a.tick = order k middle b a (omega (arith, less)) there at in
+          omega (arith, first, early);
+      late = parted.late;
+    }
+
+-- and where one does not, no more do those behind that one
+pub parted_high : (all : List Answered) (t low middle high : ℕ) (a : Answered) → AreInOrder all → low ≤ middle
+    → middle < high → a ≡ get_or all middle a → t ≤ a.tick → IsParted all t low high → IsParted all t low middle
+parted_high all t low middle high a order le lt is late parted =
+    let within = parted.within in
+    record {
+      order = le;
+      within = omega (arith, lt, within);
+      early = parted.early;
+      late = λ k b more there.
+          let at = slice_get_read all (length all) middle a refl (omega (arith, lt, within)) is in
+          let behind : a.tick ≤ b.tick = order middle k a b more at there in
+          omega (arith, behind, late);
+    }
+
+pub parted_all : (all : List Answered) (t low high : ℕ) → high ≤ low → IsParted all t low high → AreBefore all t low
+parted_all all t low high le parted =
+    let order = parted.order in
+    let same : high ≡ low = omega (arith, le, order) in
+    subst (IsParted all t low) same parted
 
 -- ---- whom they rouse
 
@@ -177,3 +208,65 @@ pub node_known : (c : Content) (t : ℕ) (event : Event) (label : Label) (s : Op
     → happens_to_any c t event (node_if may label s) ≡ told.happens_if c t event label s
 node_known c t event label s true known = node_happens c t event label s
 node_known c t event label s false known = sym (never (told.happens_if c t event label s) known)
+
+-- ---- who is woken, by the commands of the tick
+
+any_found : {A : Type 0} (p : A → Bool) (n : ℕ) (xs : List A) (Q : Type 0)
+    → ((k : ℕ) (x : A) → n ≤ k → slice_get xs k ≡ Some x → p x ≡ true → Q) → list_any p (drop n xs) ≡ true → Q
+any_found p zero xs Q each some = any_place p xs Q (λ k x. each k x (omega arith)) some
+any_found p (suc n) [] Q each some = absurd (let no : false ≡ true = some in cc)
+any_found p (suc n) (x ∷ xs) Q each some =
+    any_found p n xs Q (λ k y le there on. each (suc k) y (omega (arith, le)) there on) some
+
+any_there : {A : Type 0} (p : A → Bool) (n : ℕ) (xs : List A) (k : ℕ) (x : A) → n ≤ k → slice_get xs k ≡ Some x
+    → p x ≡ true → list_any p (drop n xs) ≡ true
+any_there p zero xs k x le there on = any_at p xs k x there on
+any_there p (suc n) [] k x le there on = absurd (cc)
+any_there p (suc n) (y ∷ xs) zero x le there on = absurd (omega (arith, le))
+any_there p (suc n) (y ∷ xs) (suc k) x le there on = any_there p n xs k x (omega (arith, le)) there on
+
+got_taken : {A : Type 0} (u : ℕ) (xs : List A) (k : ℕ) (x : A) → slice_get (take u xs) k ≡ Some x
+    → slice_get xs k ≡ Some x
+got_taken zero xs k x there = absurd (cc)
+got_taken (suc u) [] k x there = absurd (cc)
+got_taken (suc u) (y ∷ xs) zero x there = there
+got_taken (suc u) (y ∷ xs) (suc k) x there = got_taken u xs k x there
+
+taken_got : {A : Type 0} (u : ℕ) (xs : List A) (k : ℕ) (x : A) → k < u → slice_get xs k ≡ Some x
+    → slice_get (take u xs) k ≡ Some x
+taken_got zero xs k x lt there = absurd (omega (arith, lt))
+taken_got (suc u) [] k x lt there = absurd (cc)
+taken_got (suc u) (y ∷ xs) zero x lt there = there
+taken_got (suc u) (y ∷ xs) (suc k) x lt there = taken_got u xs k x (omega (arith, lt)) there
+
+not_before : (all : List Answered) (t first k : ℕ) (a : Answered) → AreBefore all t first → slice_get all k ≡ Some a
+    → a.tick ≡ t → first ≤ k
+not_before all t first k a begun there now = elim (cases_lt k first) [
+  | inl less ↦ let early = begun.early k a less there in absurd (omega (arith, early, now))
+  | inr more ↦ more
+]
+
+not_behind : (all : List Answered) (t until k : ℕ) (a : Answered) → AreBefore all (t + 1) until
+    → slice_get all k ≡ Some a → a.tick ≡ t → k < until
+not_behind all t until k a ended there now = elim (cases_lt k until) [
+  | inl less ↦ less
+  | inr more ↦ let late = ended.late k a more there in absurd (omega (arith, late, now))
+]
+
+pub woken_in : (all : List Answered) (t : ℕ) (name : Text) (born place first until : ℕ) → born ≤ place
+    → ((k : ℕ) → born + 1 ≤ k → first ≤ k → place + 1 ≤ k) → AreBefore all t first → AreBefore all (t + 1) until
+    → list_any (told.has_woken t name) (drop (place + 1) (take until all))
+    ≡ list_any (told.has_woken t name) (drop (born + 1) all)
+woken_in all t name born place first until le on begun ended =
+    let p = told.has_woken t name in
+    let near = list_any p (drop (place + 1) (take until all)) in
+    let far = list_any p (drop (born + 1) all) in
+    alike near far
+    (any_found p (place + 1) (take until all) (far ≡ true)
+    (λ k a more there woken.
+    any_there p (born + 1) all k a (omega (arith, le, more)) (got_taken until all k a there) woken))
+    (any_found p (born + 1) all (near ≡ true)
+    (λ k a more there woken.
+    let now : a.tick ≡ t = eqb-true a.tick t (first_of_two (a.tick == t) (has_done (told.wakes name) a) woken) in
+    any_there p (place + 1) (take until all) k a (on k more (not_before all t first k a begun there now))
+    (taken_got until all k a (not_behind all t until k a ended there now) there) woken))

@@ -1,4 +1,5 @@
 pub mod Found
+pub mod Heard
 pub mod Moments
 pub mod Nodes
 pub mod Scenes

@@ -7,6 +7,7 @@ mod commands;
 mod drops;
 mod event;
 mod happenings;
+mod heard;
 pub mod laws;
 mod moments;
 mod roused;

@@ -11,7 +11,7 @@ use hls_scenario::Command;
 use std::alloc::{AllocError, Global};
 
 /// How many commands come before a tick.
-fn before(answered: &[Answered], tick: u32) -> usize
+pub(crate) fn before(answered: &[Answered], tick: u64) -> usize
     requires { AreInOrder answered.now }
     ensures { told.AreBefore answered.now tick result }
 {
@@ -19,7 +19,7 @@ fn before(answered: &[Answered], tick: u32) -> usize
     let mut high = answered.len();
     while low < high {
         let middle = low + (high - low) / 2;
-        if answered[middle].tick < tick {
+        if u64::from(answered[middle].tick) < tick {
             low = middle + 1;
         } else {
             high = middle;
@@ -75,7 +75,7 @@ pub(crate) fn roused_in(
     ensures { IfOk result (λ names. told.AreRoused answered.now tick names.items) }
 {
     let mut names = Vec::new(alloc);
-    for place in before(answered, tick)..answered.len() {
+    for place in before(answered, u64::from(tick))..answered.len() {
         if tick < answered[place].tick {
             return Ok(names);
         }

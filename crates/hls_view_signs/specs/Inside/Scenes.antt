@@ -18,10 +18,16 @@ is_named name (Some other) = bytes_eq other name
 abbrev pub is_roused : (names : List Text) → (name : Text) → Bool
 is_roused names name = list_any (λ other. bytes_eq other name) names
 
--- each of the first so many commands comes before a tick
-pub record AreBefore (all : List Answered) (t came : ℕ) : Type 0 where
-  pub within : came ≤ length all
-  pub early : (k : ℕ) (a : Answered) → k < came → slice_get all k ≡ Some a → a.tick < t
+-- each of the first so many commands comes before a tick, and none from a further place on does
+pub record IsParted (all : List Answered) (t low high : ℕ) : Type 0 where
+  pub order : low ≤ high
+  pub within : high ≤ length all
+  pub early : (k : ℕ) (a : Answered) → k < low → slice_get all k ≡ Some a → a.tick < t
+  pub late : (k : ℕ) (a : Answered) → high ≤ k → slice_get all k ≡ Some a → t ≤ a.tick
+
+-- so many commands come before a tick
+abbrev pub AreBefore : List Answered → (t came : ℕ) → Type 0
+AreBefore all t came = IsParted all t came came
 
 -- a command of a tick rouses the thread of a name
 abbrev pub rouses_in : (t : ℕ) → (name : Text) → Answered → Bool
