@@ -104,7 +104,7 @@ fn is_cut_by(served: &Spans, last: Option<Word>, word: &Word, tick: u32) -> bool
         result ≡ list_any (told.is_dropped c tick name) (released last (Some word.now)) }
 {
     match last {
-        Some(last) => is_cut(served, &last, word, tick),
+        Some(last) => word.tick == tick && is_cut(served, &last, word, tick),
         None => false,
     }
 }
