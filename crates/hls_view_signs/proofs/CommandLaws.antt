@@ -28,34 +28,44 @@ use Rattle.hls_view_signs.specs.declared.event.Event.{Event}
 use Rattle.hls_view_signs.specs.declared.event.Event.TheVariants.{Begun, Woken, Dropped}
 use Rattle.hls_view_signs.specs.Happenings as told
 use Rattle.hls_view_signs.specs.Inside.Moments.{is_in}
+use Rattle.hls_view_signs.specs.Inside.Scenes.{rouses_in}
 use Rattle.hls_view_signs.proofs.Tests.{either, or_left, or_right, first_of_two, second_of_two, any_gives, any_looser}
-use Rattle.hls_view_signs.proofs.Tests.{any_behind, any_at}
+use Rattle.hls_view_signs.proofs.Tests.{both_of_two, any_behind, any_at}
 
 -- ---- of a word
 
 abbrev pub word_in : (t : ℕ) → Word → Bool
 word_in t w = w.tick == t
 
-word_here : (t : ℕ) (a : Answered) (ws : List Word) (rest roused end : Bool)
-    → (list_any (word_in t) ws ≡ true → rest ≡ true)
-    → list_any (word_in t) (cond roused (word_of a ∷ cond end [] ws) ws) ≡ true → (is_in t a || rest) ≡ true
-word_here t a ws rest true true more some = elim (either (word_in t (word_of a)) false some) [
-  | inl here ↦ or_left (is_in t a) rest here
+word_here : (t : ℕ) (name : Text) (a : Answered) (ws : List Word) (rest roused end : Bool)
+    → has_done (rouses name) a ≡ roused → (list_any (word_in t) ws ≡ true → rest ≡ true)
+    → list_any (word_in t) (cond roused (word_of a ∷ cond end [] ws) ws) ≡ true → (rouses_in t name a || rest) ≡ true
+word_here t name a ws rest true true is more some = elim (either (word_in t (word_of a)) false some) [
+  | inl here ↦
+      or_left (rouses_in t name a) rest (both_of_two (a.tick == t) (has_done (rouses name) a) here is)
   | inr off ↦ absurd (let wrong : false ≡ true = off in cc)
 ]
-word_here t a ws rest true false more some = elim (either (word_in t (word_of a)) (list_any (word_in t) ws) some) [
-  | inl here ↦ or_left (is_in t a) rest here
-  | inr there ↦ or_right (is_in t a) rest (more there)
-]
-word_here t a ws rest false end more some = or_right (is_in t a) rest (more some)
+word_here t name a ws rest true false is more some =
+    elim (either (word_in t (word_of a)) (list_any (word_in t) ws) some) [
+      | inl here ↦
+          or_left (rouses_in t name a) rest (both_of_two (a.tick == t) (has_done (rouses name) a) here is)
+      | inr there ↦ or_right (rouses_in t name a) rest (more there)
+    ]
+word_here t name a ws rest false end is more some = or_right (rouses_in t name a) rest (more some)
+
+pub words_rouse : (t : ℕ) (name : Text) (all : List Answered) → list_any (word_in t) (words_on name all) ≡ true
+    → list_any (rouses_in t name) all ≡ true
+unfolding words_on
+words_rouse t name [] some = some
+words_rouse t name (a ∷ after) some =
+    word_here t name a (words_on name after) (list_any (rouses_in t name) after) (has_done (rouses name) a)
+    (is_end (sort_of a.command)) refl (words_rouse t name after) some
 
 words_in : (t : ℕ) (name : Text) (all : List Answered) → list_any (word_in t) (words_on name all) ≡ true
     → list_any (is_in t) all ≡ true
-unfolding words_on
-words_in t name [] some = some
-words_in t name (a ∷ after) some =
-    word_here t a (words_on name after) (list_any (is_in t) after) (has_done (rouses name) a)
-    (is_end (sort_of a.command)) (words_in t name after) some
+words_in t name all some =
+    any_looser (rouses_in t name) (is_in t) all
+    (λ a on. first_of_two (a.tick == t) (has_done (rouses name) a) on) (words_rouse t name all some)
 
 -- ---- of a job
 
@@ -78,7 +88,7 @@ broken_in t [] some = absurd (let no : false ≡ true = some in cc)
 broken_in t (w ∷ ws) some =
     or_left (word_in t w) (list_any (word_in t) ws) (first_of_two (word_in t w) (not (is_end w.sort)) some)
 
-releases_in : (c : Content) (t : ℕ) (name : Text) (ws : List Word)
+pub releases_in : (c : Content) (t : ℕ) (name : Text) (ws : List Word)
     → list_any (told.is_dropped c t name) (releases ws) ≡ true → list_any (word_in t) ws ≡ true
 releases_in c t name [] some = absurd (let no : false ≡ true = some in cc)
 releases_in c t name (w ∷ ws) some =

@@ -1,26 +1,25 @@
 -- Jobs that are dropped, command by command.
-use Rattle.std.proofs.Common.{◌≡◌, ℕ, zero, suc, ◌+◌, ◌<◌, ◌≤◌, List, [], ◌∷◌, ◌++◌, Bool, true, false, refl, ap, ◌∙◌}
-use Rattle.std.proofs.Common.{◌||◌, cond, drop, length, get_or, subst, arith}
+use Rattle.std.proofs.Common.{◌≡◌, ℕ, zero, suc, ◌+◌, ◌<◌, ◌≤◌, List, [], ◌∷◌, ◌++◌, Bool, true, false, refl, sym, ap, ◌∙◌}
+use Rattle.std.proofs.Common.{◌||◌, cond, drop, length, subst, arith}
 use Rattle.std.specs.Prelude.{Option, Some, None, slice_get}
-use Rattle.std.specs.List.{list_any}
+use Rattle.std.specs.List.{list_any, AllByRecursion}
 use Rattle.std.proofs.lemmas.List.{drop_all}
-use Rattle.std.proofs.lemmas.Option.{slice_get_read}
+use Rattle.std.proofs.lemmas.Option.{slice_get_within, get_or_from_slice_get}
 use Rattle.std.proofs.lemmas.List.Folds.{list_any-append}
 use Rattle.hls_text.specs.Lines.{Text}
 use Rattle.hls_report_text.specs.declared.report.Answered.{Answered}
 use Rattle.hls_report_text.specs.Content.{Content}
-use Rattle.hls_report_text.specs.WellFormed.{IsContent}
+use Rattle.hls_report_text.specs.WellFormed.{AreAnswered, IsContent}
 use Rattle.hls_legal.specs.Commands.{has_done, rouses}
-use Rattle.hls_audit_threads.proofs.Formed.{command_early}
 use Rattle.hls_view_jobs.specs.declared.job.Sort.{Sort}
 use Rattle.hls_view_jobs.specs.declared.job.Sort.TheVariants.{Wakes, Blocks, Ends}
 use Rattle.hls_view_jobs.specs.declared.job.Word.{Word}
 use Rattle.hls_view_jobs.specs.declared.job.Release.{Release}
 use Rattle.hls_view_jobs.specs.Words.{sort_of, word_of, is_end, words_on}
 use Rattle.hls_view_jobs.specs.Jobs.{first, release_of, releases}
-use Rattle.hls_view_jobs.proofs.WordLaws.{here_on, dropped_at}
+use Rattle.hls_view_jobs.proofs.WordLaws.{dropped_at}
 use Rattle.hls_view_signs.specs.Happenings.{is_dropped}
-use Rattle.hls_view_signs.specs.Inside.Words.{released, any_released}
+use Rattle.hls_view_signs.specs.Inside.Words.{released, any_released, AreEarly}
 
 -- ---- one word more
 
@@ -29,69 +28,25 @@ behind_word : (f : Release → Bool) (last : Option Word) (w : Word) (ws : List 
 behind_word f last w ws =
     list_any-append f (released last (Some w)) (release_of w.tick w.sort (first ws) ++ releases ws)
 
-roused_at : (name : Text) (all : List Answered) (i : ℕ) (a : Answered) → i < length all → a ≡ get_or all i a
-    → has_done (rouses name) a ≡ true → words_on name (drop i all)
-    ≡ word_of a ∷ cond (is_end (sort_of a.command)) [] (words_on name (drop (i + 1) all))
-roused_at name all i a lt is roused =
-    ap (words_on name) (dropped_at all i a lt is) ∙ here_on name a (drop (i + 1) all) ∙ rw roused refl
+word_at : (f : Release → Bool) (last : Option Word) (ws : List Word) (i : ℕ) (w : Word) → slice_get ws i ≡ Some w
+    → any_released f last (drop i ws)
+    ≡ (list_any f (released last (Some w)) || any_released f (Some w) (drop (i + 1) ws))
+word_at f last ws i w there =
+    ap (any_released f last) (dropped_at ws i w (slice_get_within ws i w there) (sym (get_or_from_slice_get ws i w w there)))
+    ∙ behind_word f last w (drop (i + 1) ws)
 
-split_at : (f : Release → Bool) (last : Option Word) (name : Text) (all : List Answered) (i : ℕ) (a : Answered)
-    → i < length all → a ≡ get_or all i a → has_done (rouses name) a ≡ true
-    → any_released f last (words_on name (drop i all)) ≡ (list_any f (released last (Some (word_of a)))
-    || any_released f (Some (word_of a)) (cond (is_end (sort_of a.command)) [] (words_on name (drop (i + 1) all))))
-split_at f last name all i a lt is roused =
-    ap (any_released f last) (roused_at name all i a lt is roused)
-    ∙ behind_word f last (word_of a) (cond (is_end (sort_of a.command)) [] (words_on name (drop (i + 1) all)))
+-- the word at a place cuts the job before it short
+pub cut_at : (f : Release → Bool) (last : Option Word) (ws : List Word) (i : ℕ) (w : Word) → slice_get ws i ≡ Some w
+    → list_any f (released last (Some w)) ≡ true → any_released f last (drop i ws) ≡ true
+cut_at f last ws i w there cut =
+    word_at f last ws i w there ∙ ap (λ b. b || any_released f (Some w) (drop (i + 1) ws)) cut
 
-pub cut_here : (f : Release → Bool) (last : Option Word) (name : Text) (all : List Answered) (i : ℕ) (a : Answered)
-    → i < length all → a ≡ get_or all i a → has_done (rouses name) a ≡ true
-    → list_any f (released last (Some (word_of a))) ≡ true
-    → any_released f last (words_on name (drop i all)) ≡ true
-cut_here f last name all i a lt is roused cut =
-    split_at f last name all i a lt is roused
-    ∙ ap (λ b. b || any_released f (Some (word_of a))
-    (cond (is_end (sort_of a.command)) [] (words_on name (drop (i + 1) all)))) cut
-
-not_cut : (f : Release → Bool) (last : Option Word) (name : Text) (all : List Answered) (i : ℕ) (a : Answered)
-    → i < length all → a ≡ get_or all i a → has_done (rouses name) a ≡ true
-    → list_any f (released last (Some (word_of a))) ≡ false
-    → any_released f last (words_on name (drop i all)) ≡ any_released f (Some (word_of a))
-    (cond (is_end (sort_of a.command)) [] (words_on name (drop (i + 1) all)))
-not_cut f last name all i a lt is roused whole =
-    split_at f last name all i a lt is roused
-    ∙ ap (λ b. b || any_released f (Some (word_of a))
-    (cond (is_end (sort_of a.command)) [] (words_on name (drop (i + 1) all)))) whole
-
-nothing : (f : Release → Bool) (tick : ℕ) (sort : Sort) → is_end sort ≡ true
-    → list_any f (release_of tick sort None ++ []) ≡ false
-nothing f tick (Wakes burst) end = absurd (let no : false ≡ true = end in cc)
-nothing f tick Blocks end = absurd (let no : false ≡ true = end in cc)
-nothing f tick Ends end = refl
-
-pub end_here : (f : Release → Bool) (last : Option Word) (name : Text) (all : List Answered) (i : ℕ) (a : Answered)
-    → i < length all → a ≡ get_or all i a → has_done (rouses name) a ≡ true
-    → list_any f (released last (Some (word_of a))) ≡ false → is_end (sort_of a.command) ≡ true
-    → any_released f last (words_on name (drop i all)) ≡ false
-end_here f last name all i a lt is roused whole end =
-    not_cut f last name all i a lt is roused whole
-    ∙ ap (λ b. any_released f (Some (word_of a)) (cond b [] (words_on name (drop (i + 1) all)))) end
-    ∙ nothing f a.tick (sort_of a.command) end
-
-pub goes_on : (f : Release → Bool) (last : Option Word) (name : Text) (all : List Answered) (i : ℕ) (a : Answered)
-    → i < length all → a ≡ get_or all i a → has_done (rouses name) a ≡ true
-    → list_any f (released last (Some (word_of a))) ≡ false → is_end (sort_of a.command) ≡ false
-    → any_released f last (words_on name (drop i all))
-    ≡ any_released f (Some (word_of a)) (words_on name (drop (i + 1) all))
-goes_on f last name all i a lt is roused whole more =
-    not_cut f last name all i a lt is roused whole
-    ∙ ap (λ b. any_released f (Some (word_of a)) (cond b [] (words_on name (drop (i + 1) all)))) more
-
-pub passed_by : (f : Release → Bool) (last : Option Word) (name : Text) (all : List Answered) (i : ℕ) (a : Answered)
-    → i < length all → a ≡ get_or all i a → has_done (rouses name) a ≡ false
-    → any_released f last (words_on name (drop i all)) ≡ any_released f last (words_on name (drop (i + 1) all))
-passed_by f last name all i a lt is quiet =
-    ap (λ l. any_released f last (words_on name l)) (dropped_at all i a lt is)
-    ∙ ap (any_released f last) (here_on name a (drop (i + 1) all) ∙ rw quiet refl)
+-- it does not
+pub left_at : (f : Release → Bool) (last : Option Word) (ws : List Word) (i : ℕ) (w : Word) → slice_get ws i ≡ Some w
+    → list_any f (released last (Some w)) ≡ false
+    → any_released f last (drop i ws) ≡ any_released f (Some w) (drop (i + 1) ws)
+left_at f last ws i w there whole =
+    word_at f last ws i w there ∙ ap (λ b. b || any_released f (Some w) (drop (i + 1) ws)) whole
 
 -- ---- a job that no further word came to is not dropped
 
@@ -106,30 +61,44 @@ open_left c t name (Some w) = by w.tick w.sort
     by tick Blocks = refl
     by tick Ends = refl
 
-none_on : (c : Content) (t : ℕ) (name : Text) (last : Option Word)
-    → any_released (is_dropped c t name) last (words_on name []) ≡ false
+pub none_left : (c : Content) (t : ℕ) (name : Text) (last : Option Word) (ws : List Word) (i : ℕ)
+    → length ws ≤ i → any_released (is_dropped c t name) last (drop i ws) ≡ false
+none_left c t name last ws i end =
+    ap (any_released (is_dropped c t name) last) (drop_all i ws end) ∙ open_left c t name last
+
+-- ---- commands come before the horizon, and so do words
+
+drop_early : (k last h : ℕ) (all : List Answered) → AreAnswered h last all
+    → AllByRecursion (λ (a : Answered). a.tick < h) (drop k all)
+drop_early zero last h [] are = tt
+drop_early zero last h (a ∷ all) are = (are.3, drop_early zero a.tick h all are.4)
+drop_early (suc k) last h [] are = tt
+drop_early (suc k) last h (a ∷ all) are = drop_early k a.tick h all are.4
+
+word_early : (h : ℕ) (a : Answered) (ws : List Word) (roused end : Bool) → a.tick < h → AreEarly h ws
+    → AreEarly h (cond roused (word_of a ∷ cond end [] ws) ws)
+word_early h a ws true true early more = (early, tt)
+word_early h a ws true false early more = (early, more)
+word_early h a ws false end early more = more
+
+words_early : (h : ℕ) (name : Text) (all : List Answered) → AllByRecursion (λ (a : Answered). a.tick < h) all
+    → AreEarly h (words_on name all)
 unfolding words_on
-none_on c t name last = open_left c t name last
+words_early h name [] early = tt
+words_early h name (a ∷ all) early =
+    word_early h a (words_on name all) (has_done (rouses name) a) (is_end (sort_of a.command)) early.0
+    (words_early h name all early.1)
 
-pub none_left : (c : Content) (t : ℕ) (name : Text) (last : Option Word) (all : List Answered) (i : ℕ)
-    → length all ≤ i → any_released (is_dropped c t name) last (words_on name (drop i all)) ≡ false
-none_left c t name last all i end =
-    ap (λ l. any_released (is_dropped c t name) last (words_on name l)) (drop_all i all end) ∙ none_on c t name last
+pub early_behind : (c : Content) (name : Text) (k : ℕ) → IsContent c
+    → AreEarly c.horizon (words_on name (drop k c.answered))
+early_behind c name k formed =
+    words_early c.horizon name (drop k c.answered) (drop_early k 0 c.horizon c.answered formed.answered)
 
--- ---- commands behind a place are before the horizon
+pub early_more : (t h : ℕ) (ws : List Word) → t ≤ h → AreEarly t ws → AreEarly h ws
+early_more t h [] le early = tt
+early_more t h (w ∷ ws) le early = (let first = early.0 in omega (arith, le, first), early_more t h ws le early.1)
 
-got_behind : (k : ℕ) (xs : List Answered) (i : ℕ) (a : Answered) → slice_get (drop k xs) i ≡ Some a
-    → slice_get xs (k + i) ≡ Some a
-got_behind zero xs i a is =
-    let e : i ≡ 0 + i = omega arith in subst (λ n. slice_get xs n ≡ Some a) e is
-got_behind (suc k) [] i a is = absurd (cc)
-got_behind (suc k) (x ∷ xs) i a is =
-    let e : suc (k + i) ≡ suc k + i = omega arith in
-    subst (λ n. slice_get (x ∷ xs) n ≡ Some a) e (got_behind k xs i a is)
-
-pub later_early : (c : Content) (k : ℕ) (later : List Answered) (at : ℕ) (a : Answered) → IsContent c
-    → later ≡ drop k c.answered → at < length later → a ≡ get_or later at a → a.tick < c.horizon
-later_early c k later at a formed e lt is =
-    command_early c a (k + at) formed (got_behind k c.answered at a
-    (subst (λ (l : List Answered). slice_get l at ≡ Some a) e
-    (slice_get_read later (length later) at a refl lt is)))
+pub early_at : (t : ℕ) (ws : List Word) (i : ℕ) (w : Word) → slice_get ws i ≡ Some w → AreEarly t ws → w.tick < t
+early_at t [] i w there early = absurd (cc)
+early_at t (v ∷ ws) zero w there early = let same : v ≡ w = cc in subst (λ (x : Word). x.tick < t) same early.0
+early_at t (v ∷ ws) (suc i) w there early = early_at t ws i w there early.1

@@ -4,5 +4,7 @@ pub mod ColumnLaws
 pub mod DropLaws
 pub mod CommandLaws
 pub mod MomentLaws
+pub mod SceneLaws
+pub mod HeardLaws
 pub mod SignLaws
 pub mod FateLaws

@@ -1,5 +1,7 @@
 pub mod Found
+pub mod Heard
 pub mod Moments
 pub mod Nodes
+pub mod Scenes
 pub mod Sources
 pub mod Words

@@ -1,21 +1,19 @@
 // Jobs that a wake or a block drops.
-ghost use Rattle.std.specs.Prelude.{◌≡◌, ◌+◌, ◌<◌, ◌&&◌, ◌==◌, not, drop, Some, IfSome};
+ghost use Rattle.std.specs.Prelude.{◌≡◌, ◌+◌, ◌<◌, ◌&&◌, ◌==◌, not, Some, IfSome};
 ghost use Rattle.std.specs.List.{list_any};
 ghost use Rattle.hls_legal.specs.Commands.{has_done, rouses};
 ghost use Rattle.hls_text.specs.Lines.{Text};
-ghost use Rattle.hls_report_text.specs.Content.{Content, content_of};
-ghost use Rattle.hls_report_text.specs.WellFormed.{IsWellFormed};
+ghost use Rattle.hls_report_text.specs.Content.{Content};
 ghost use Rattle.hls_audit_threads.specs.Inside.Ticks.{TellsServed};
 ghost use Rattle.hls_view_jobs.specs.Jobs.{releases, release_of};
 ghost use Rattle.hls_view_jobs.specs.declared.job.Word as spoken;
 ghost use Rattle.hls_view_jobs.specs.Words as words;
 ghost use Rattle.hls_view_signs.specs.Happenings as told;
-ghost use Rattle.hls_view_signs.specs.Inside.Words.{released};
+ghost use Rattle.hls_view_signs.specs.Inside.Words.{released, AreEarly};
 
-use crate::commands::behind;
 use hls_audit_spans::Spans;
 use hls_chron::Name;
-use hls_report_text::{Answer, Answered, Report};
+use hls_report_text::{Answer, Answered};
 use hls_scenario::Command;
 use hls_view_jobs::{Sort, Word};
 
@@ -30,7 +28,7 @@ fn sort_of(command: &Command) -> Sort
     }
 }
 
-fn word_of(a: &Answered) -> Word
+pub(crate) fn word_of(a: &Answered) -> Word
     ensures { result ≡ words.word_of a.now }
 {
     Word {
@@ -39,7 +37,7 @@ fn word_of(a: &Answered) -> Word
     }
 }
 
-fn is_end(sort: Sort) -> bool
+pub(crate) fn is_end(sort: Sort) -> bool
     ensures { result ≡ words.is_end sort }
 {
     match sort {
@@ -62,7 +60,7 @@ fn rouses(command: &Command, thread: &Name) -> bool
 }
 
 /// Whether a command that was carried out does.
-fn has_roused(a: &Answered, name: &Name) -> bool
+pub(crate) fn has_roused(a: &Answered, name: &Name) -> bool
     ensures { result ≡ has_done (rouses name.now) a.now }
 {
     match &a.answer {
@@ -106,38 +104,24 @@ fn is_cut_by(served: &Spans, last: Option<Word>, word: &Word, tick: u32) -> bool
         result ≡ list_any (told.is_dropped c tick name) (released last (Some word.now)) }
 {
     match last {
-        Some(last) => is_cut(served, &last, word, tick),
+        Some(last) => word.tick == tick && is_cut(served, &last, word, tick),
         None => false,
     }
 }
 
-/// Whether a wake or a block in a tick drops a job of the thread of a name that the command at a place admitted.
-pub(crate) fn is_dropped(
-    report: &Report,
-    served: &Spans,
-    tick: u32,
-    name: &Name,
-    born: usize,
-) -> bool
-    requires formed { IsWellFormed report.now }
-    requires served { TellsServed (content_of report.now) name.now served.now.spans.items }
-    ensures { result ≡ list_any (told.is_dropped (content_of report.now) tick name.now)
-        (releases (words.words_on name.now (drop (born + 1) report.now.answered))) }
+/// Whether a wake or a block in a tick drops a job of a thread on which these are the words.
+pub(crate) fn is_dropped(served: &Spans, tick: u32, words: &[Word]) -> bool
+    requires { AreEarly 100000 words.now }
+    ensures { (c : Content) (name : Text) → TellsServed c name served.now.spans.items → AreEarly c.horizon words.now →
+        result ≡ list_any (told.is_dropped c tick name) (releases words.now) }
 {
-    let later = behind(report.answered.items(), born);
     let mut last = None;
-    for at in 0..later.len() {
-        let a = &later[at];
-        if has_roused(a, name) {
-            let word = word_of(a);
-            if is_cut_by(served, last, &word, tick) {
-                return true;
-            }
-            if is_end(word.sort) {
-                return false;
-            }
-            last = Some(word);
+    for at in 0..words.len() {
+        let word = words[at];
+        if is_cut_by(served, last, &word, tick) {
+            return true;
         }
+        last = Some(word);
     }
     false
 }

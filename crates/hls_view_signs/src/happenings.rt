@@ -6,6 +6,7 @@ ghost use Rattle.hls_report_text.specs.Content.{content_of};
 ghost use Rattle.hls_report_text.specs.WellFormed.{IsWellFormed};
 ghost use Rattle.hls_view_tree.specs.Stays.{standing_of};
 ghost use Rattle.hls_view_lanes.specs.Leaves.{is_thread};
+ghost use Rattle.hls_audit_threads.specs.Inside.Order.{AreInOrder};
 ghost use Rattle.hls_view_signs.specs.Happenings as told;
 ghost use Rattle.hls_view_signs.specs.Inside.Nodes.{node_with, happens_at, happens_to_any};
 ghost use Rattle.hls_view_signs.specs.Inside.Sources.{AreSources};
@@ -13,6 +14,8 @@ ghost use Rattle.hls_view_signs.specs.Inside.Sources.{AreSources};
 use crate::commands::behind;
 use crate::drops::is_dropped;
 use crate::event::{Asked, Event, Node};
+use crate::heard::heard_at;
+use crate::roused::before;
 use crate::sources::Sources;
 use hls_audit_clauses::Sort;
 use hls_chron::Name;
@@ -22,7 +25,7 @@ use hls_view_tale::{Label, Standing};
 use std::alloc::{AllocError, Global};
 
 /// Whether the command at a place is there, and of a tick.
-fn is_of(answered: &[Answered], place: usize, tick: u32) -> bool
+pub(crate) fn is_of(answered: &[Answered], place: usize, tick: u32) -> bool
     ensures { result ≡ told.is_of tick (slice_get answered.now place) }
 {
     match answered.get(place) {
@@ -59,6 +62,17 @@ fn is_woken(answered: &[Answered], born: usize, tick: u32, name: &Name) -> bool
         .any(|a| has_woken(a, tick, name))
 }
 
+/// Whether it is, asked of the commands of the tick alone, since a report may have many others.
+fn is_woken_in(answered: &[Answered], born: usize, tick: u32, name: &Name) -> bool
+    requires { AreInOrder answered.now }
+    ensures { result ≡ list_any (told.has_woken tick name.now) (drop (born + 1) answered.now) }
+{
+    let first = before(answered, u64::from(tick));
+    let until = before(answered, u64::from(tick) + 1);
+    let place = if born < first { first - 1 } else { born };
+    is_woken(&answered[..until], place, tick, name)
+}
+
 fn is_thread(label: &Label) -> bool
     ensures { result ≡ is_thread label.now }
 {
@@ -88,8 +102,9 @@ fn has_dropped(
     let place = sources
         .known
         .place_of(alloc, report, &sources.lookup, &name)?;
+    let at = heard_at(alloc, &mut sources.heard, report, node, place)?;
     let served = &sources.known.ticks[place].served;
-    Ok(is_dropped(report, served, tick, &name, node.standing.born))
+    Ok(is_dropped(served, tick, &sources.heard[at].words))
 }
 
 /// Whether what is asked happens to a node.
@@ -110,7 +125,10 @@ fn happens(
         Event::Begun => Ok(is_of(answered, node.standing.opened, asked.tick)),
         Event::Woken => {
             let name = &node.label.name;
-            Ok(is_thread(&node.label) && is_woken(answered, node.standing.born, asked.tick, name))
+            Ok(
+                is_thread(&node.label)
+                    && is_woken_in(answered, node.standing.born, asked.tick, name),
+            )
         }
         Event::Dropped => has_dropped(alloc, report, sources, asked.tick, node),
     }

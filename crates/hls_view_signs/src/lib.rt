@@ -7,8 +7,10 @@ mod commands;
 mod drops;
 mod event;
 mod happenings;
+mod heard;
 pub mod laws;
 mod moments;
+mod roused;
 mod signs;
 mod sources;
 

@@ -4,17 +4,20 @@ ghost use Rattle.std.specs.List.{list_any};
 ghost use Rattle.hls_report_text.specs.Content.{content_of};
 ghost use Rattle.hls_report_text.specs.WellFormed.{IsWellFormed};
 ghost use Rattle.hls_view_tale.specs.Hierarchies.{IsHierarchy};
+ghost use Rattle.hls_view_tree.specs.Stays.{standing_of};
+ghost use Rattle.hls_view_signs.specs.Inside.Scenes as scenes;
 ghost use Rattle.hls_view_signs.specs.Inside.Moments as told;
 ghost use Rattle.hls_view_signs.specs.Inside.Sources.{AreSources};
 
-use crate::event::{Asked, Event};
-use crate::happenings::{happens_if, node_at};
+use crate::event::{Asked, Event, Node};
+use crate::happenings::{happens_if, is_of, node_at};
+use crate::roused::{is_roused, roused_in};
 use crate::sources::Sources;
-use hls_chron::List;
-use hls_report_text::Report;
+use hls_chron::{List, Name};
+use hls_report_text::{Answered, Report};
 use hls_view_lanes::is_same;
 use hls_view_scale::Scale;
-use hls_view_tale::{Hierarchy, Label, hierarchy_at};
+use hls_view_tale::{Following, Hierarchy, Label, Standing};
 use std::alloc::{AllocError, Global};
 
 /// What happens in a tick, by the ways down to the places where it does.
@@ -26,23 +29,56 @@ pub(crate) struct Moment {
     pub(crate) dropped: List<List<Label>>,
 }
 
+/// What is known of a tick before its places are looked at.
+#[derive(Clone, Copy)]
+struct Scene<'a> {
+    hierarchy: &'a Hierarchy,
+    /// Whom the commands of the tick rouse.
+    roused: &'a [Name],
+    /// Whether a stay begins.
+    begins: bool,
+}
+
+/// Whether something may happen to the node of a name.
+fn may_happen(scene: &Scene<'_>, event: Event, name: &Name) -> bool
+    ensures { result ≡ scenes.may_happen scene.now.roused.now scene.now.begins event name.now }
+{
+    match event {
+        Event::Begun => scene.begins,
+        Event::Woken | Event::Dropped => is_roused(scene.roused, name),
+    }
+}
+
+/// What may happen at a place is asked for: the node that is there.
+fn node_in(scene: &Scene<'_>, event: Event, label: &Label) -> Option<Node>
+    ensures { result ≡ told.node_if (scenes.may_happen scene.now.roused.now scene.now.begins event label.now.name)
+        label.now (standing_of scene.now.hierarchy.now.standing.items label.now.name) }
+{
+    if may_happen(scene, event, &label.name) {
+        node_at(&scene.hierarchy.standing, label)
+    } else {
+        None
+    }
+}
+
 /// The ways down to the places of a tick where something happens.
 fn ways_with(
     alloc: Global,
     report: &Report,
     sources: &mut Sources,
-    hierarchy: &Hierarchy,
+    scene: &Scene<'_>,
     asked: Asked,
 ) -> Result<List<List<Label>>, AllocError>
     requires formed { IsWellFormed report.now }
     requires sources { AreSources report.now sources.old }
-    requires hierarchy { IsHierarchy (content_of report.now) asked.tick hierarchy.now }
+    requires hierarchy { IsHierarchy (content_of report.now) asked.tick scene.now.hierarchy.now }
+    requires all { told.KnowsAll (content_of report.now) asked.tick scene.now.roused.now scene.now.begins }
     ensures sources { OnOk result (AreSources report.now sources.new) }
     ensures ways { IfOk result (λ ways. ways ≡ told.ways_with (content_of report.now) asked.event asked.tick) }
 {
     let mut ways = Vec::new(alloc);
-    for place in &hierarchy.places {
-        let node = node_at(&hierarchy.standing, &place.label);
+    for place in &scene.hierarchy.places {
+        let node = node_in(scene, asked.event, &place.label);
         if happens_if(alloc, report, sources, asked, node)? {
             ways.push(List::of(place.labels(alloc)?))?;
         }
@@ -50,19 +86,34 @@ fn ways_with(
     Ok(List::of(ways))
 }
 
+/// Whether a stay begins in a tick.
+fn any_begun(answered: &[Answered], standing: &[Standing], tick: u32) -> bool
+    ensures { result ≡ scenes.any_begun answered.now tick standing.now }
+{
+    standing.iter().any(|s| is_of(answered, s.opened, tick))
+}
+
 /// What happens in a tick.
 fn moment_at(
     alloc: Global,
     report: &Report,
     sources: &mut Sources,
+    hierarchy: &Hierarchy,
     tick: u32,
 ) -> Result<Moment, AllocError>
     requires formed { IsWellFormed report.now }
     requires sources { AreSources report.now sources.old }
+    requires hierarchy { IsHierarchy (content_of report.now) tick hierarchy.now }
     ensures sources { OnOk result (AreSources report.now sources.new) }
     ensures is { IfOk result (told.IsOf (content_of report.now) tick) }
 {
-    let hierarchy = hierarchy_at(alloc, report, tick)?;
+    let answered = report.answered.items();
+    let roused = roused_in(alloc, answered, tick)?;
+    let scene = Scene {
+        hierarchy,
+        roused: &roused,
+        begins: any_begun(answered, &hierarchy.standing, tick),
+    };
     let begun = Asked {
         event: Event::Begun,
         tick,
@@ -77,9 +128,9 @@ fn moment_at(
     };
     Ok(Moment {
         tick,
-        begun: ways_with(alloc, report, sources, &hierarchy, begun)?,
-        woken: ways_with(alloc, report, sources, &hierarchy, woken)?,
-        dropped: ways_with(alloc, report, sources, &hierarchy, dropped)?,
+        begun: ways_with(alloc, report, sources, &scene, begun)?,
+        woken: ways_with(alloc, report, sources, &scene, woken)?,
+        dropped: ways_with(alloc, report, sources, &scene, dropped)?,
     })
 }
 
@@ -112,23 +163,32 @@ fn is_last(moments: &[Moment], tick: u32) -> bool
     }
 }
 
-/// Puts what happens in a tick behind all others, if it is shown and not there yet.
-fn put_moment(
-    alloc: Global,
-    report: &Report,
-    sources: &mut Sources,
-    moments: &mut Vec<Moment>,
-    tick: u32,
-) -> Result<(), AllocError>
-    requires formed { IsWellFormed report.now }
-    requires sources { AreSources report.now sources.old }
-    ensures sources { OnOk result (AreSources report.now sources.new) }
-    ensures put { OnOk result (told.IsPut (content_of report.now) tick moments.old.items moments.new.items) }
-{
-    if !is_last(moments, tick) {
-        moments.push(moment_at(alloc, report, sources, tick)?)?;
+/// What happens in ticks, and what is found of the report on the way.
+#[derive(Drop)]
+struct Gathering {
+    sources: Sources,
+    following: Following,
+    moments: Vec<Moment>,
+}
+
+impl Gathering {
+    /// Puts what happens in a tick behind all others, if it is not there yet.
+    fn put(&mut self, alloc: Global, report: &Report, tick: u32) -> Result<(), AllocError>
+        requires formed { IsWellFormed report.now }
+        requires gathering { told.IsGathering report.now self.old }
+        ensures gathering { OnOk result (told.IsGathering report.now self.new) }
+        ensures put { OnOk result
+            (told.IsPut (content_of report.now) tick self.old.moments.items self.new.moments.items) }
+    {
+        if is_last(&self.moments, tick) {
+            return Ok(());
+        }
+        self.following.go_to(alloc, report, tick)?;
+        let hierarchy = &self.following.hierarchy;
+        let moment = moment_at(alloc, report, &mut self.sources, hierarchy, tick)?;
+        self.moments.push(moment)?;
+        Ok(())
     }
-    Ok(())
 }
 
 /// What happens in each shown tick that has commands.
@@ -143,14 +203,17 @@ pub(crate) fn moments_of(
     requires { IsWellFormed report.now }
     ensures { IfOk result (λ moments. told.AreMoments (content_of report.now) scale.now moments.items) }
 {
-    let mut sources = Sources::of(alloc, report)?;
-    let mut moments = Vec::new(alloc);
+    let mut gathering = Gathering {
+        sources: Sources::of(alloc, report)?,
+        following: Following::new(alloc),
+        moments: Vec::new(alloc),
+    };
     let answered = report.answered.items();
     for at in 0..answered.len() {
         let tick = answered[at].tick;
         if scale.from <= tick && tick <= scale.to {
-            put_moment(alloc, report, &mut sources, &mut moments, tick)?;
+            gathering.put(alloc, report, tick)?;
         }
     }
-    Ok(moments)
+    Ok(gathering.moments)
 }

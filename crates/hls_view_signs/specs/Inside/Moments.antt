@@ -1,18 +1,38 @@
 -- What happens in the ticks that have commands.
-use Rattle.std.specs.Prelude.{◌≡◌, ℕ, ◌≤◌, ◌==◌, List, ◌++◌, Bool, true, map, filter}
+use Rattle.std.specs.Prelude.{◌≡◌, ℕ, ◌≤◌, ◌==◌, List, ◌++◌, Option, None, Bool, true, map, filter}
+use Rattle.std.specs.Prelude.{if◌then◌else◌}
 use Rattle.std.specs.List.{list_any, AllByRecursion}
 use Rattle.hls_report_text.specs.declared.report.Answered.{Answered}
-use Rattle.hls_report_text.specs.Content.{Content}
+use Rattle.hls_text.specs.Lines.{Text}
+use Rattle.hls_report_text.specs.declared.report.Report.{Report}
+use Rattle.hls_report_text.specs.Content.{Content, content_of}
 use Rattle.hls_view_scale.specs.declared.scale.Scale.{Scale}
 use Rattle.hls_view_tale.specs.declared.label.Label.{Label}
 use Rattle.hls_view_tale.specs.declared.place.Place.{Place}
+use Rattle.hls_view_tale.specs.declared.standing.Standing.{Standing}
 use Rattle.hls_view_tale.specs.Places.{labels_of}
+use Rattle.hls_view_tale.specs.Following.{IsFollowing}
 use Rattle.hls_view_tale.specs.Hierarchies.{places_at}
 use Rattle.hls_view_lanes.specs.Likeness.{is_same}
 use Rattle.hls_view_signs.specs.declared.event.Event.{Event}
 use Rattle.hls_view_signs.specs.declared.event.Event.TheVariants.{Begun, Woken, Dropped}
+use Rattle.hls_view_signs.specs.declared.event.Node.{Node}
 use Rattle.hls_view_signs.specs.declared.moments.Moment.{Moment}
+use Rattle.hls_view_signs.specs.declared.moments.Gathering.{Gathering}
 use Rattle.hls_view_signs.specs.Happenings.{happens_to}
+use Rattle.hls_view_signs.specs.Inside.Nodes.{node_with}
+use Rattle.hls_view_signs.specs.Inside.Scenes.{may_happen}
+use Rattle.hls_view_signs.specs.Inside.Sources.{AreSources}
+
+-- the node at a place, where something may happen to it
+abbrev pub node_if : (may : Bool) → Label → Option Standing → Option Node
+node_if may label s = if may then node_with label s else None
+
+-- whatever happens in a tick may happen
+abbrev pub KnowsAll : Content → (t : ℕ) → (roused : List Text) → (begins : Bool) → Type 0
+KnowsAll c t roused begins =
+    (event : Event) (label : Label) → happens_to c t event label ≡ true
+    → may_happen roused begins event label.name ≡ true
 
 -- the ways down to the places of a tick where something happens
 abbrev pub ways_with : Content → Event → (t : ℕ) → List (List Label)
@@ -60,3 +80,7 @@ pub record AreMomentsOf (c : Content) (s : Scale) (answered : List Answered) (al
 
 abbrev pub AreMoments : Content → Scale → List Moment → Type 0
 AreMoments c s all = AreMomentsOf c s c.answered all
+
+pub record IsGathering (r : Report) (g : Gathering) : Type 0 where
+  pub sources : AreSources r g.sources
+  pub following : IsFollowing (content_of r) g.following

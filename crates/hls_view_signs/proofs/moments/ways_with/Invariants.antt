@@ -11,5 +11,5 @@ invariant-loop-place l = record {
   sources : AreSources l.report l.sources;
   ways : l.ways.items ≡ map labels_of
       (filter (λ (p : Place). happens_to (content_of l.report) l.asked.tick l.asked.event p.label)
-      (take l.place-index l.hierarchy.places.items));
+      (take l.place-index l.scene.hierarchy.now.places.items));
 }
