@@ -3,6 +3,9 @@ pub mod Reaching
 pub mod Spelling
 pub mod PathLaws
 pub mod Selves
+pub mod Alls
+pub mod Named
+pub mod Stays
 pub mod RowLaws
 pub mod LeafLaws
 pub mod OneLeaf

@@ -1,17 +1,22 @@
 -- Rows as they come: none is lost, none stands twice, and each is a way of some tick.
 use Rattle.std.proofs.Common.{◌≡◌, ℕ, zero, suc, ◌+◌, ◌-◌, ◌<◌, ◌≤◌, List, [], ◌∷◌, ◌++◌, true, false, refl, ap, sym}
-use Rattle.std.proofs.Common.{subst, ◌∙◌, ◌&&◌, ◌||◌, Bool, cond, take, drop, fold, inl, inr, arith}
+use Rattle.std.proofs.Common.{subst, ◌∙◌, ◌&&◌, ◌||◌, Bool, cond, take, drop, fold, length, inl, inr, arith}
 use Rattle.std.specs.Prelude.{Some, slice_get, map}
 use Rattle.std.specs.List.{list_any, insert, range_with_len, AllByRecursion}
 use Rattle.std.proofs.lemmas.Bool.{cases_eq}
 use Rattle.std.proofs.lemmas.List.Folds.{list_any-append}
+use Rattle.std.proofs.lemmas.List.FromFn.{map-range_with_len_more}
+use Rattle.std.proofs.lemmas.List.Sums.{fold-append}
 use Rattle.hls_report_text.specs.Content.{Content}
 use Rattle.hls_view_tale.specs.declared.label.Label.{Label}
 use Rattle.hls_view_lanes.specs.Likeness.{begins, is_same}
-use Rattle.hls_view_lanes.specs.Rows.{ways_at, has_row, reach, above_of, with_row, rows_of}
+use Rattle.hls_view_lanes.specs.Rows.{ways_at, ways_by_stays, has_row, reach, above_of, with_row, beginnings, with_rows}
+use Rattle.hls_view_lanes.specs.Rows.{rows_of}
 use Rattle.hls_view_lanes.specs.Standing.{AreApart, IsSomeWay}
 use Rattle.hls_view_lanes.specs.Inside.Kept.{HaveRows}
+use Rattle.hls_view_lanes.proofs.Alls.{all-at, all-from, all-weaker, all-inserted}
 use Rattle.hls_view_lanes.proofs.Selves.{same-self}
+use Rattle.hls_view_lanes.proofs.Stays.{by-stays-all, all-by-stays, ways-begin}
 
 or_either : (a b p : Bool) → (a || b) ≡ true → (a || (p || b)) ≡ true
 or_either true b p e = refl
@@ -67,52 +72,85 @@ has : (rows : List (List Label)) (way : List Label) (b : Bool) → has_row rows 
 has rows way true is = is
 has rows way false is = insert_has rows (reach (above_of way) rows) way
 
-pub all_keep : (rows ways : List (List Label)) (other : List Label) → has_row rows other ≡ true
+all_keep : (rows ways : List (List Label)) (other : List Label) → has_row rows other ≡ true
     → has_row (fold with_row rows ways) other ≡ true
 all_keep rows [] other had = had
 all_keep rows (way ∷ ways) other had =
     all_keep (with_row rows way) ways other (keeps rows way other (has_row rows way) had)
 
-all_have : (rows ways : List (List Label)) (i : ℕ) (way : List Label) → slice_get ways i ≡ Some way
-    → has_row (fold with_row rows ways) way ≡ true
-all_have rows [] i way is = absurd (cc)
-all_have rows (first ∷ ways) zero way is =
-    let e : first ≡ way = cc in
-    subst (λ (w : List Label). has_row (fold with_row (with_row rows first) ways) w ≡ true) e
-    (all_keep (with_row rows first) ways first (has rows first (has_row rows first) refl))
-all_have rows (first ∷ ways) (suc i) way is = all_have (with_row rows first) ways i way is
-
--- rows that are there are not added again
-pub have-after : (rows ways : List (List Label)) → HaveRows (fold with_row rows ways) ways
-have-after rows [] = tt
-have-after rows (way ∷ ways) = (
+all_have : (rows ways : List (List Label)) → HaveRows (fold with_row rows ways) ways
+all_have rows [] = tt
+all_have rows (way ∷ ways) = (
   all_keep (with_row rows way) ways way (has rows way (has_row rows way) refl),
-  have-after (with_row rows way) ways,
+  all_have (with_row rows way) ways,
 )
 
-with-had : (rows : List (List Label)) (way : List Label) (b : Bool) → b ≡ true
-    → cond b rows (insert rows (reach (above_of way) rows) way) ≡ rows
-with-had rows way true e = refl
-with-had rows way false e = absurd (let no : false ≡ true = e in cc)
+ranged-at : (P : List Label → Type 0) (f : ℕ → List Label) (a n k : ℕ)
+    → AllByRecursion P (map f (range_with_len a n)) → k < n → P (f (a + k))
+ranged-at P f a zero k all lt = absurd (omega (arith, lt))
+ranged-at P f a (suc n) zero all lt = let here : a ≡ a + 0 = omega arith in subst (λ m. P (f m)) here all.0
+ranged-at P f a (suc n) (suc k) all lt =
+    let there : a + 1 + k ≡ a + suc k = omega arith in
+    subst (λ m. P (f m)) there (ranged-at P f (a + 1) n k all.1 (omega (arith, lt)))
 
-pub had-before : (rows ways : List (List Label)) → HaveRows rows ways → fold with_row rows ways ≡ rows
+-- a way is the last of its beginnings
+take-whole : (way : List Label) → take (length way) way ≡ way
+take-whole [] = refl
+take-whole (l ∷ way) = ap (λ (w : List Label). l ∷ w) (take-whole way)
+
+set_keeps : (rows : List (List Label)) (way other : List Label) (b : Bool) → has_row rows other ≡ true
+    → has_row (cond b rows (fold with_row rows (beginnings way))) other ≡ true
+set_keeps rows way other true had = had
+set_keeps rows way other false had = all_keep rows (beginnings way) other had
+
+set_has : (rows : List (List Label)) (way : List Label) (b : Bool) → has_row rows way ≡ b
+    → has_row (cond b rows (fold with_row rows (beginnings way))) way ≡ true
+set_has rows way true is = is
+set_has rows way false is =
+    let all = fold with_row rows (beginnings way) in
+    let none : 0 + length way ≡ length way = omega arith in
+    subst (λ (w : List Label). has_row all w ≡ true) (ap (λ n. take n way) none ∙ take-whole way)
+    (ranged-at (λ (w : List Label). has_row all w ≡ true) (λ n. take n way) 0 (length way + 1) (length way)
+    (all_have rows (beginnings way)) (omega arith))
+
+sets_keep : (rows ways : List (List Label)) (other : List Label) → has_row rows other ≡ true
+    → has_row (fold with_rows rows ways) other ≡ true
+sets_keep rows [] other had = had
+sets_keep rows (way ∷ ways) other had =
+    sets_keep (with_rows rows way) ways other (set_keeps rows way other (has_row rows way) had)
+
+-- rows that are there are not added again
+pub have-after : (rows ways : List (List Label)) → HaveRows (fold with_rows rows ways) ways
+have-after rows [] = tt
+have-after rows (way ∷ ways) = (
+  sets_keep (with_rows rows way) ways way (set_has rows way (has_row rows way) refl),
+  have-after (with_rows rows way) ways,
+)
+
+with-had : (rows more : List (List Label)) (b : Bool) → b ≡ true → cond b rows more ≡ rows
+with-had rows more true e = refl
+with-had rows more false e = absurd (let no : false ≡ true = e in cc)
+
+pub had-before : (rows ways : List (List Label)) → HaveRows rows ways → fold with_rows rows ways ≡ rows
 had-before rows [] had = refl
 had-before rows (way ∷ ways) had =
-    let same = with-had rows way (has_row rows way) had.0 in
-    ap (λ (all : List (List Label)). fold with_row all ways) same ∙ had-before rows ways had.1
+    let same = with-had rows (fold with_row rows (beginnings way)) (has_row rows way) had.0 in
+    ap (λ (all : List (List Label)). fold with_rows all ways) same ∙ had-before rows ways had.1
 
 pub ways-have-rows : (c : Content) (from ticks t i : ℕ) (way : List Label) → t < ticks
     → slice_get (ways_at c (from + t)) i ≡ Some way → has_row (rows_of c from ticks) way ≡ true
 unfolding rows_of
 ways-have-rows c from zero t i way lt is = absurd (omega (arith, lt))
-ways-have-rows c from (suc ticks) t i way lt is = elim (cases_eq t ticks) [
-  | inl same ↦
-      all_have (rows_of c from ticks) (ways_at c (from + ticks)) i way
-      (subst (λ n. slice_get (ways_at c (from + n)) i ≡ Some way) same is)
-  | inr ne ↦
-      all_keep (rows_of c from ticks) (ways_at c (from + ticks)) way
-      (ways-have-rows c from ticks t i way (omega (arith, lt, ne)) is)
-]
+ways-have-rows c from (suc ticks) t i way lt is =
+    let rows = rows_of c from ticks in
+    let ways = ways_by_stays c (from + ticks) in
+    let P = (λ (w : List Label). has_row (fold with_rows rows ways) w ≡ true) in
+    elim (cases_eq t ticks) [
+      | inl same ↦
+          all-at P (ways_at c (from + ticks)) i way (all-by-stays P c (from + ticks) (have-after rows ways))
+          (subst (λ n. slice_get (ways_at c (from + n)) i ≡ Some way) same is)
+      | inr ne ↦ sets_keep rows ways way (ways-have-rows c from ticks t i way (omega (arith, lt, ne)) is)
+    ]
 
 -- ---- no row stands twice
 
@@ -156,36 +194,46 @@ all_apart rows [] apart = apart
 all_apart rows (way ∷ ways) apart =
     all_apart (with_row rows way) ways (stays_apart rows way (has_row rows way) refl apart)
 
+set_apart : (rows : List (List Label)) (way : List Label) (b : Bool) → AreApart rows
+    → AreApart (cond b rows (fold with_row rows (beginnings way)))
+set_apart rows way true apart = apart
+set_apart rows way false apart = all_apart rows (beginnings way) apart
+
+sets_apart : (rows ways : List (List Label)) → AreApart rows → AreApart (fold with_rows rows ways)
+sets_apart rows [] apart = apart
+sets_apart rows (way ∷ ways) apart = sets_apart (with_rows rows way) ways (set_apart rows way (has_row rows way) apart)
+
 pub rows-apart : (c : Content) (from ticks : ℕ) → AreApart (rows_of c from ticks)
 unfolding rows_of
 rows-apart c from zero = (refl, tt)
-rows-apart c from (suc ticks) = all_apart (rows_of c from ticks) (ways_at c (from + ticks)) (rows-apart c from ticks)
+rows-apart c from (suc ticks) =
+    sets_apart (rows_of c from ticks) (ways_by_stays c (from + ticks)) (rows-apart c from ticks)
 
 -- ---- each row is a way of some tick
-
-insert_all : (P : List Label → Type 0) (rows : List (List Label)) (i : ℕ) (way : List Label) → P way
-    → AllByRecursion P rows → AllByRecursion P (insert rows i way)
-insert_all P rows zero way p all = (p, all)
-insert_all P [] (suc i) way p all = (p, tt)
-insert_all P (row ∷ rows) (suc i) way p all = (all.0, insert_all P rows i way p all.1)
 
 with_all : (P : List Label → Type 0) (rows : List (List Label)) (way : List Label) (b : Bool) → P way
     → AllByRecursion P rows → AllByRecursion P (cond b rows (insert rows (reach (above_of way) rows) way))
 with_all P rows way true p all = all
-with_all P rows way false p all = insert_all P rows (reach (above_of way) rows) way p all
+with_all P rows way false p all = all-inserted P rows (reach (above_of way) rows) way p all
 
-fold_all : (P : List Label → Type 0) (rows ways : List (List Label))
-    → ((i : ℕ) (way : List Label) → slice_get ways i ≡ Some way → P way) → AllByRecursion P rows
-    → AllByRecursion P (fold with_row rows ways)
-fold_all P rows [] each all = all
-fold_all P rows (way ∷ ways) each all =
-    fold_all P (with_row rows way) ways (λ i w is. each (suc i) w is)
-    (with_all P rows way (has_row rows way) (each zero way refl) all)
+ranged_all : (P : List Label → Type 0) (f : ℕ → List Label) (a n : ℕ) (rows : List (List Label)) → ((k : ℕ) → P (f k))
+    → AllByRecursion P rows → AllByRecursion P (fold with_row rows (map f (range_with_len a n)))
+ranged_all P f a zero rows each all = all
+ranged_all P f a (suc n) rows each all =
+    ranged_all P f (a + 1) n (with_row rows (f a)) each (with_all P rows (f a) (has_row rows (f a)) (each a) all)
 
-weaker : (P Q : List Label → Type 0) (rows : List (List Label)) → ((row : List Label) → P row → Q row)
-    → AllByRecursion P rows → AllByRecursion Q rows
-weaker P Q [] f all = tt
-weaker P Q (row ∷ rows) f all = (f row all.0, weaker P Q rows f all.1)
+set_all : (P : List Label → Type 0) (rows : List (List Label)) (way : List Label) (b : Bool)
+    → ((n : ℕ) → P (take n way)) → AllByRecursion P rows
+    → AllByRecursion P (cond b rows (fold with_row rows (beginnings way)))
+set_all P rows way true each all = all
+set_all P rows way false each all = ranged_all P (λ n. take n way) 0 (length way + 1) rows each all
+
+sets_all : (P : List Label → Type 0) (rows ways : List (List Label))
+    → AllByRecursion (λ way. (n : ℕ) → P (take n way)) ways → AllByRecursion P rows
+    → AllByRecursion P (fold with_rows rows ways)
+sets_all P rows [] each all = all
+sets_all P rows (way ∷ ways) each all =
+    sets_all P (with_rows rows way) ways each.1 (set_all P rows way (has_row rows way) each.0 all)
 
 later : (c : Content) (from ticks : ℕ) (row : List Label) → IsSomeWay c from ticks row
     → IsSomeWay c from (suc ticks) row
@@ -198,20 +246,35 @@ pub rows-are-ways : (c : Content) (from ticks : ℕ) → AllByRecursion (IsSomeW
 unfolding rows_of
 rows-are-ways c from zero = (inl refl, tt)
 rows-are-ways c from (suc ticks) =
-    fold_all (IsSomeWay c from (suc ticks)) (rows_of c from ticks) (ways_at c (from + ticks))
-    (λ i way is. inr (record { t = ticks; early = omega arith; number = i; there = is }))
-    (weaker (IsSomeWay c from ticks) (IsSomeWay c from (suc ticks)) (rows_of c from ticks) (later c from ticks)
-    (rows-are-ways c from ticks))
+    let P = IsSomeWay c from (suc ticks) in
+    let t = from + ticks in
+    sets_all P (rows_of c from ticks) (ways_by_stays c t)
+    (by-stays-all (λ way. (n : ℕ) → P (take n way)) c t
+    (ways-begin P c t (inl refl)
+    (all-from P (ways_at c t)
+    (λ i way is. inr (record { t = ticks; early = omega arith; number = i; there = is })))))
+    (all-weaker (IsSomeWay c from ticks) P (rows_of c from ticks) (later c from ticks) (rows-are-ways c from ticks))
+
+-- ---- one beginning more
+
+pub more-rows : (rows all : List (List Label)) (way : List Label) (n : ℕ)
+    → all ≡ fold with_row rows (map (λ k. take k way) (range_with_len 0 n))
+    → with_row all (take n way) ≡ fold with_row rows (map (λ k. take k way) (range_with_len 0 (n + 1)))
+more-rows rows all way n e =
+    let begun = map (λ k. take k way) (range_with_len 0 n) in
+    ap (λ (some : List (List Label)). with_row some (take n way)) e
+    ∙ sym (fold-append with_row rows begun (take n way ∷ []))
+    ∙ ap (fold with_row rows) (sym (map-range_with_len_more (λ k. take k way) 0 n n (omega arith)))
 
 -- ---- one tick more
 
 pub rows-more : (c : Content) (from tick : ℕ) → from ≤ tick
-    → rows_of c from (tick + 1 - from) ≡ fold with_row (rows_of c from (tick - from)) (ways_at c tick)
+    → rows_of c from (tick + 1 - from) ≡ fold with_rows (rows_of c from (tick - from)) (ways_by_stays c tick)
 unfolding rows_of
 rows-more c from tick le =
     let one : tick + 1 - from ≡ suc (tick - from) = omega (arith, le) in
     let now : from + (tick - from) ≡ tick = omega (arith, le) in
-    ap (rows_of c from) one ∙ ap (λ t. fold with_row (rows_of c from (tick - from)) (ways_at c t)) now
+    ap (rows_of c from) one ∙ ap (λ t. fold with_rows (rows_of c from (tick - from)) (ways_by_stays c t)) now
 
 pub rows-first : (c : Content) (from : ℕ) → rows_of c from (from - from) ≡ [] ∷ []
 unfolding rows_of

@@ -6,7 +6,7 @@ ghost use Rattle.hls_report_text.specs.WellFormed.{IsWellFormed};
 ghost use Rattle.hls_view_scale.specs.Columns.{column_from, ticks_in};
 ghost use Rattle.hls_view_tale.specs.Places.{labels_of};
 ghost use Rattle.hls_view_tale.specs.Following.{IsFollowing};
-ghost use Rattle.hls_view_lanes.specs.Rows.{rows_of, ways_at, with_row};
+ghost use Rattle.hls_view_lanes.specs.Rows.{rows_of, ways_by_stays, with_rows};
 ghost use Rattle.hls_view_lanes.specs.Lanes.{AreLanes};
 ghost use Rattle.hls_view_lanes.specs.Inside.Kept.{HaveRows};
 ghost use Rattle.hls_view_lanes.specs.Inside.Telling.{IsTelling, tallies};
@@ -15,7 +15,7 @@ use crate::counts::{Counts, all_counts};
 use crate::rows::add_rows;
 use crate::tallies::Tally;
 use crate::telling::Telling;
-use crate::ways::ways_of;
+use crate::ways::ways_by_stays;
 use hls_chron::List;
 use hls_report_text::Report;
 use hls_view_scale::Scale;
@@ -45,12 +45,12 @@ fn add_rows_at(
     ensures following { OnOk result (IsFollowing (content_of report.now) following.new) }
     ensures have { OnOk result (HaveRows rows.new.items (map labels_of following.new.hierarchy.places.items)) }
     ensures rows { OnOk result (rows.new.items
-        ≡ fold with_row rows.old.items (ways_at (content_of report.now) tick)) }
+        ≡ fold with_rows rows.old.items (ways_by_stays (content_of report.now) tick)) }
 {
     if !following.go_to(alloc, report, tick)? {
         return Ok(());
     }
-    let ways = ways_of(alloc, &following.hierarchy.places)?;
+    let ways = ways_by_stays(alloc, &following.hierarchy)?;
     add_rows(alloc, rows, &ways)
 }
 

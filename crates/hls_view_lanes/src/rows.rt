@@ -41,6 +41,19 @@ fn add_row(alloc: Global, rows: &mut Vec<List<Label>>, way: &[Label]) -> Result<
     Ok(())
 }
 
+/// Adds the rows of a way and of its beginnings, unless it has one.
+fn add_rows_of(alloc: Global, rows: &mut Vec<List<Label>>, way: &[Label]) -> Result<(), AllocError>
+    ensures { OnOk result (rows.new.items ≡ told.with_rows rows.old.items way.now) }
+{
+    if has_row(rows, way) {
+        return Ok(());
+    }
+    for labels in 0..way.len() + 1 {
+        add_row(alloc, rows, &way[..labels])?;
+    }
+    Ok(())
+}
+
 /// Adds the rows of these ways, one after another.
 ///
 /// # Errors
@@ -50,10 +63,10 @@ pub(crate) fn add_rows(
     rows: &mut Vec<List<Label>>,
     ways: &[List<Label>],
 ) -> Result<(), AllocError>
-    ensures { OnOk result (rows.new.items ≡ fold told.with_row rows.old.items ways.now) }
+    ensures { OnOk result (rows.new.items ≡ fold told.with_rows rows.old.items ways.now) }
 {
     for way in ways {
-        add_row(alloc, rows, way.items())?;
+        add_rows_of(alloc, rows, way.items())?;
     }
     Ok(())
 }

@@ -12,7 +12,8 @@ use Rattle.hls_view_tale.specs.Places.{labels_of}
 use Rattle.hls_audit_clauses.specs.Names.{tree_at}
 use Rattle.hls_view_tale.specs.Hierarchies.{places_at}
 use Rattle.hls_view_lanes.specs.Likeness.{is_same}
-use Rattle.hls_view_lanes.specs.Rows.{ways_at, has_row, reach, above_of, with_row, rows_of}
+use Rattle.hls_view_lanes.specs.Rows.{ways_at, ways_by_stays, has_row, reach, above_of, with_row, beginnings}
+use Rattle.hls_view_lanes.specs.Rows.{with_rows, rows_of}
 use Rattle.hls_view_lanes.specs.Standing.{IsSomeWay}
 use Rattle.hls_view_lanes.proofs.Selves.{same-self}
 use Rattle.hls_view_lanes.proofs.RowLaws.{ways-have-rows, rows-are-ways}
@@ -43,11 +44,20 @@ in-all x rows (way ∷ ways) has =
     in-all x (with_row rows way) ways
     (in-either-of (has_row rows way) x rows (reach (above_of way) rows) way has)
 
+in-set : (b : Bool) (x : List Label) (rows : List (List Label)) (way : List Label) → IsIn x rows
+    → IsIn x (cond b rows (fold with_row rows (beginnings way)))
+in-set true x rows way has = has
+in-set false x rows way has = in-all x rows (beginnings way) has
+
+in-sets : (x : List Label) (rows ways : List (List Label)) → IsIn x rows → IsIn x (fold with_rows rows ways)
+in-sets x rows [] has = has
+in-sets x rows (way ∷ ways) has = in-sets x (with_rows rows way) ways (in-set (has_row rows way) x rows way has)
+
 in-first : (c : Content) (from ticks : ℕ) → IsIn [] (rows_of c from ticks)
 unfolding rows_of
 in-first c from zero = inl refl
 in-first c from (suc ticks) =
-    in-all [] (rows_of c from ticks) (ways_at c (from + ticks)) (in-first c from ticks)
+    in-sets [] (rows_of c from ticks) (ways_by_stays c (from + ticks)) (in-first c from ticks)
 
 has-first : (c : Content) (from ticks : ℕ) → has_row (rows_of c from ticks) [] ≡ true
 has-first c from ticks =

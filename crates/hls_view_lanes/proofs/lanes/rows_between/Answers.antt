@@ -3,7 +3,7 @@ use Rattle.hls_report_text.specs.Content.{content_of}
 use Rattle.hls_view_tale.specs.declared.label.Label.{Label}
 use Rattle.hls_view_tale.specs.declared.place.Place.{Place}
 use Rattle.hls_view_tale.specs.Places.{labels_of}
-use Rattle.hls_view_lanes.specs.Rows.{ways_at, with_row}
+use Rattle.hls_view_lanes.specs.Rows.{ways_by_stays, with_rows}
 use Rattle.hls_view_lanes.specs.Inside.Kept.{HaveRows}
 use Rattle.hls_view_lanes.proofs.RowLaws.{rows-first, rows-more}
 use Rattle.hls_view_lanes.proofs.lanes.rows_between.Goals as goal
@@ -23,7 +23,7 @@ loop-tick-preserved c =
     let content = content_of c.args.report.now in
     record {
       rows = c.in_ok-add_rows_at.ensures.rows
-          ∙ ap (λ (rows : List (List Label)). fold with_row rows (ways_at content c.loop-tick.tick))
+          ∙ ap (λ (rows : List (List Label)). fold with_rows rows (ways_by_stays content c.loop-tick.tick))
           c.loop-tick.invariant.rows
           ∙ sym (rows-more content c.args.from c.loop-tick.tick c.loop-tick.auto.tick);
       following = c.in_ok-add_rows_at.ensures.following;
