@@ -114,7 +114,7 @@ goes_down (s ∷ ss) t names more off =
         ap (λ b. b && cond (nat_le t s.to) true (goes ss t (names ++ more)))
         (begins_less names more (names_in s.path) is)
 
-later_last : (names : List Text) (to : ℕ) (ss : List Stretch) (from end : ℕ) (last : Option (Option (List Text)))
+pub later_last : (names : List Text) (to : ℕ) (ss : List Stretch) (from end : ℕ) (last : Option (Option (List Text)))
     → Cover from last ss end → to < from → to ≤ last_tick names to ss
 later_last names to [] from end last cover lt = omega arith
 later_last names to (s ∷ ss) from end last cover lt =

@@ -1,3 +1,7 @@
 mod Prefixes
 mod Fresh
 mod FlameTicks
+mod Pairs
+mod FlameNests
+mod JsonTexts
+mod JsonTraces

@@ -1,1 +1,4 @@
 pub mod Held
+pub mod Nesting
+pub mod Json
+pub mod Plain

@@ -2,3 +2,4 @@
 #![tactic(auto)]
 
 pub mod flame;
+pub mod json;
