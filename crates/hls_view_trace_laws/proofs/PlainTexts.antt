@@ -1,6 +1,8 @@
 -- Texts of names, numbers and words have no byte that JSON must escape.
-use Rattle.std.proofs.Common.{◌≡◌, ◌∙◌, ℕ, zero, suc, ◌+◌, ◌/◌, ◌%◌, ◌≤◌, ◌<◌, ◌⊎◌, inl, inr, List, [], ◌∷◌, ◌++◌, true, false, refl, ap, sym, arith}
-use Rattle.std.specs.Prelude.{Bool, cond, not, ◌&&◌, ◌||◌, ◌==◌, nat_le, nat_lt, codes, decimal, flat_map, map, length, Option, Some, None}
+use Rattle.std.proofs.Common.{◌≡◌, ◌∙◌, ℕ, zero, suc, ◌+◌, ◌/◌, ◌%◌, ◌≤◌, ◌<◌, ◌⊎◌, inl, inr, List, [], ◌∷◌, ◌++◌}
+use Rattle.std.proofs.Common.{true, false, refl, ap, sym, arith}
+use Rattle.std.specs.Prelude.{Bool, cond, not, ◌&&◌, ◌||◌, ◌==◌, nat_le, nat_lt, codes, decimal, flat_map, map}
+use Rattle.std.specs.Prelude.{length, Option, Some, None}
 use Rattle.std.specs.List.{AllByRecursion, list_all}
 use Rattle.std.specs.Fmt.{digits, digits_onto, digit_glyph}
 use Rattle.std.proofs.lemmas.Bool.{leb-true, le-leb, lt-ltb, ne_eqb, eqb-true}
@@ -142,8 +144,13 @@ plain_fields word first second a b c =
 pub plain_spelling : (g : Guarantee) → IsPlain (spelling g)
 plain_spelling All = refl
 plain_spelling Null = refl
-plain_spelling (Resb true x y) = plain_fields (codes "RESBH") (decimal x) (decimal y) refl (plain_number x) (plain_number y)
-plain_spelling (Resb false x y) = plain_fields (codes "RESBS") (decimal x) (decimal y) refl (plain_number x) (plain_number y)
-plain_spelling (Resc true x y) = plain_fields (codes "RESCH") (decimal x) (decimal y) refl (plain_number x) (plain_number y)
-plain_spelling (Resc false x y) = plain_fields (codes "RESCS") (decimal x) (decimal y) refl (plain_number x) (plain_number y)
-plain_spelling (Psbe s d) = plain_fields (codes "PSBE") (fraction_text s) (fraction_text d) refl (plain_fraction s) (plain_fraction d)
+plain_spelling (Resb true x y) = plain_fields (codes "RESBH") (decimal x) (decimal y) refl
+    (plain_number x) (plain_number y)
+plain_spelling (Resb false x y) = plain_fields (codes "RESBS") (decimal x) (decimal y) refl
+    (plain_number x) (plain_number y)
+plain_spelling (Resc true x y) = plain_fields (codes "RESCH") (decimal x) (decimal y) refl
+    (plain_number x) (plain_number y)
+plain_spelling (Resc false x y) = plain_fields (codes "RESCS") (decimal x) (decimal y) refl
+    (plain_number x) (plain_number y)
+plain_spelling (Psbe s d) = plain_fields (codes "PSBE") (fraction_text s) (fraction_text d) refl
+    (plain_fraction s) (plain_fraction d)

@@ -23,7 +23,8 @@ use Rattle.hls_view_trace_laws.proofs.PlainForms.{plain_command, plain_refusal}
 
 -- ---- the schedule
 
-ends_late : (from end : ℕ) (last : Option (Option (List Text))) (ss : List Stretch) → Cover from last ss end → from ≤ end
+ends_late : (from end : ℕ) (last : Option (Option (List Text))) (ss : List Stretch) → Cover from last ss end
+    → from ≤ end
 ends_late from end last [] cover = omega (arith, cover)
 ends_late from end last (s ∷ ss) cover =
     let order = cover.1 in
