@@ -1,5 +1,6 @@
 -- Of two slices of a flame the later one lies within the earlier or behind it.
-use Rattle.std.proofs.Common.{◌≡◌, ◌∙◌, ℕ, ◌+◌, ◌≤◌, ◌<◌, List, [], ◌∷◌, ◌++◌, true, false, refl, ap, sym, arith, subst, inl, inr}
+use Rattle.std.proofs.Common.{◌≡◌, ◌∙◌, ℕ, ◌+◌, ◌≤◌, ◌<◌, List, [], ◌∷◌, ◌++◌, true, false, refl, ap, sym, arith}
+use Rattle.std.proofs.Common.{subst, inl, inr}
 use Rattle.std.proofs.Common.{append_assoc}
 use Rattle.std.specs.Prelude.{Bool, cond, Option, Some, None, ◌⊎◌}
 use Rattle.std.specs.List.{AllByRecursion, AllPairs}
@@ -53,7 +54,8 @@ module _ (place : Place) (before : List Text) (s : Stretch) (more : List Stretch
       all-append P (slice_of place before s more down name) (slices_below place before s more down below)
       (by (begins down before) refl)
       (each_below P path down below all
-      (λ names last begun on off. each names last (begins_all above down names (begins_front above (name ∷ [])) begun) on
+      (λ names last begun on off. each names last
+      (begins_all above down names (begins_front above (name ∷ [])) begun) on
       off))
     where
       down : List Text
@@ -64,10 +66,12 @@ module _ (place : Place) (before : List Text) (s : Stretch) (more : List Stretch
 
       by : (b : Bool) → begins down before ≡ b → AllByRecursion P (slice_of place before s more down name)
       by true is =
-          subst (λ (b : Bool). AllByRecursion P (cond b [] (run_slice place name s.from (last_tick down s.to more) ∷ [])))
+          subst
+          (λ (b : Bool). AllByRecursion P (cond b [] (run_slice place name s.from (last_tick down s.to more) ∷ [])))
           (sym is) tt
       by false is =
-          subst (λ (b : Bool). AllByRecursion P (cond b [] (run_slice place name s.from (last_tick down s.to more) ∷ [])))
+          subst
+          (λ (b : Bool). AllByRecursion P (cond b [] (run_slice place name s.from (last_tick down s.to more) ∷ [])))
           (sym is)
           (each down name (begins_front above (name ∷ [])) (ap (begins down) all ∙ begins_front down below) is, tt)
 

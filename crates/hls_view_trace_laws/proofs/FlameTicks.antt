@@ -1,6 +1,7 @@
 -- The slices of a flame that hold a tick.
 use Rattle.std.proofs.Common.{◌≡◌, ◌∙◌, ℕ, ◌+◌, ◌≤◌, ◌<◌, List, [], ◌∷◌, ◌++◌, true, false, refl, ap, ap₂, sym, arith}
-use Rattle.std.specs.Prelude.{Bool, cond, not, ◌&&◌, ◌||◌, nat_le, map, filter, Option, Some, None, find, option_and_then}
+use Rattle.std.specs.Prelude.{Bool, cond, not, ◌&&◌, ◌||◌, nat_le, map, filter, Option, Some, None, find}
+use Rattle.std.specs.Prelude.{option_and_then}
 use Rattle.std.proofs.lemmas.Bool.{leb-true, leb-false, le-leb, lt-leb}
 use Rattle.std.proofs.lemmas.List.{map-append}
 use Rattle.std.proofs.lemmas.List.Elements.{filter-append}

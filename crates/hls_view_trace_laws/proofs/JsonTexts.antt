@@ -1,5 +1,6 @@
 -- The texts of events in JSON.
-use Rattle.std.proofs.Common.{◌≡◌, ◌∙◌, ℕ, ◌+◌, ◌-◌, ◌*◌, ◌≤◌, ◌<◌, ◌^◌, List, [], ◌∷◌, ◌++◌, true, false, refl, ap, sym, arith, subst, append_assoc}
+use Rattle.std.proofs.Common.{◌≡◌, ◌∙◌, ℕ, ◌+◌, ◌-◌, ◌*◌, ◌≤◌, ◌<◌, ◌^◌, List, [], ◌∷◌, ◌++◌, true, false, refl, ap}
+use Rattle.std.proofs.Common.{sym, arith, subst, append_assoc}
 use Rattle.std.specs.Prelude.{Bool, ◌&&◌, cond, codes, decimal, Option, Some, None}
 use Rattle.std.specs.List.{list_all}
 use Rattle.std.proofs.lemmas.Nat.{mul-lt}
@@ -17,7 +18,8 @@ use Rattle.hls_view_trace.specs.declared.event.Instant.{Instant}
 use Rattle.hls_view_trace.specs.declared.event.Event.{Event}
 use Rattle.hls_view_trace.specs.declared.event.Event.TheVariants as events
 use Rattle.hls_view_trace.specs.Events as texts
-use Rattle.hls_view_trace_laws.specs.Json.{is_plain, is_blank, AreSigns, closed, plain, IsValue, string, number, object, array}
+use Rattle.hls_view_trace_laws.specs.Json.{is_plain, is_blank, AreSigns, closed, plain, IsValue, string, number}
+use Rattle.hls_view_trace_laws.specs.Json.{object, array}
 use Rattle.hls_view_trace_laws.specs.Json.{IsObject, without, members, AreMembers, member, MayEnd, more, end}
 use Rattle.hls_view_trace_laws.specs.Plain.{IsPlain, IsHeldPlace, AreHeldCounts, IsPlainEvent}
 

@@ -5,3 +5,6 @@ mod Pairs
 mod FlameNests
 mod JsonTexts
 mod JsonTraces
+mod PlainTexts
+mod PlainForms
+mod PlainTracks

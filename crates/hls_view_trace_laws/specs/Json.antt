@@ -1,5 +1,5 @@
--- Texts in JSON, as much of it as serves: signs of ASCII in strings, whole numbers, objects and arrays. Each word is of a
--- text and of what is left behind the part that it begins with.
+-- Texts in JSON, as much of it as serves: signs of ASCII in strings, whole numbers, objects and arrays. Each word is of
+-- a text and of what is left behind the part that it begins with.
 use Rattle.std.specs.Prelude.{◌≡◌, ℕ, ◌==◌, ◌&&◌, ◌||◌, nat_le, not, true, Bool, [], ◌∷◌, ◌++◌, codes}
 use Rattle.std.specs.List.{list_all, list_any}
 use Rattle.hls_text.specs.Lines.{Text}
