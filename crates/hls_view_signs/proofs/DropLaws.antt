@@ -1,8 +1,9 @@
 -- Jobs that are dropped, command by command.
 use Rattle.std.proofs.Common.{◌≡◌, ℕ, zero, suc, ◌+◌, ◌<◌, ◌≤◌, List, [], ◌∷◌, ◌++◌, Bool, true, false, refl, sym, ap, ◌∙◌}
-use Rattle.std.proofs.Common.{◌||◌, cond, drop, length, subst, arith}
-use Rattle.std.specs.Prelude.{Option, Some, None, slice_get}
+use Rattle.std.proofs.Common.{◌||◌, ◌==◌, cond, drop, length, subst, arith}
+use Rattle.std.specs.Prelude.{Option, Some, None, IfSome, slice_get}
 use Rattle.std.specs.List.{list_any, AllByRecursion}
+use Rattle.std.proofs.lemmas.Bool.{ne_eqb}
 use Rattle.std.proofs.lemmas.List.{drop_all}
 use Rattle.std.proofs.lemmas.Option.{slice_get_within, get_or_from_slice_get}
 use Rattle.std.proofs.lemmas.List.Folds.{list_any-append}
@@ -19,7 +20,7 @@ use Rattle.hls_view_jobs.specs.Words.{sort_of, word_of, is_end, words_on}
 use Rattle.hls_view_jobs.specs.Jobs.{first, release_of, releases}
 use Rattle.hls_view_jobs.proofs.WordLaws.{dropped_at}
 use Rattle.hls_view_signs.specs.Happenings.{is_dropped}
-use Rattle.hls_view_signs.specs.Inside.Words.{released, any_released, AreEarly}
+use Rattle.hls_view_signs.specs.Inside.Words.{released, any_released, AreEarly, AreRising, last_of}
 
 -- ---- one word more
 
@@ -66,6 +67,74 @@ pub none_left : (c : Content) (t : ℕ) (name : Text) (last : Option Word) (ws :
 none_left c t name last ws i end =
     ap (any_released (is_dropped c t name) last) (drop_all i ws end) ∙ open_left c t name last
 
+-- in a tick none is cut by a word of another
+not_now : (c : Content) (t : ℕ) (name : Text) (last : Option Word) (w : Word) → (w.tick == t) ≡ false
+    → list_any (is_dropped c t name) (released last (Some w)) ≡ false
+not_now c t name None w off = refl
+not_now c t name (Some v) w off = by v.tick v.sort
+  where
+    by : (tick : ℕ) (sort : Sort) → list_any (is_dropped c t name) (release_of tick sort (Some w)) ≡ false
+    by tick (Wakes (Some asked)) = rw off refl
+    by tick (Wakes None) = refl
+    by tick Blocks = refl
+    by tick Ends = refl
+
+past_none : (ws : List Word) (i : ℕ) → slice_get ws i ≡ None → i < length ws → ⊥
+past_none [] i none lt = omega (arith, lt)
+past_none (w ∷ ws) zero none lt = cc
+past_none (w ∷ ws) (suc i) none lt = past_none ws i none (omega (arith, lt))
+
+other_word : (w : Word) (t : ℕ) → (w.tick ≡ t → ⊥) → (w.tick == t) ≡ false
+other_word w t other = ne_eqb w.tick t other
+
+one_over : (c : Content) (t : ℕ) (name : Text) (ws : List Word) (i : ℕ) (got : Option Word) → slice_get ws i ≡ got
+    → i < length ws → ((w : Word) → got ≡ Some w → w.tick < t)
+    → any_released (is_dropped c t name) (last_of ws i) (drop i ws)
+    ≡ any_released (is_dropped c t name) got (drop (suc i) ws)
+one_over c t name ws i None is lt early = absurd (past_none ws i is lt)
+one_over c t name ws i (Some w) is lt early =
+    let next : i + 1 ≡ suc i = omega arith in
+    let soon : w.tick < t = early w refl in
+    left_at (is_dropped c t name) (last_of ws i) ws i w is
+    (not_now c t name (last_of ws i) w (other_word w t (λ same. omega (arith, soon, same))))
+    ∙ ap (λ n. any_released (is_dropped c t name) (Some w) (drop n ws)) next
+
+-- words before it are passed over
+pub passed_over : (c : Content) (t : ℕ) (name : Text) (ws : List Word) (i : ℕ)
+    → ((k : ℕ) (w : Word) → k < i → slice_get ws k ≡ Some w → w.tick < t) → i ≤ length ws
+    → list_any (is_dropped c t name) (releases ws) ≡ any_released (is_dropped c t name) (last_of ws i) (drop i ws)
+passed_over c t name ws zero early within = refl
+passed_over c t name ws (suc i) early within =
+    passed_over c t name ws i (λ k w lt. early k w (omega (arith, lt))) (omega (arith, within))
+    ∙ one_over c t name ws i (slice_get ws i) refl (omega (arith, within)) (λ w is. early i w (omega arith) is)
+
+none_late : (c : Content) (t : ℕ) (name : Text) (last : Option Word) (ws : List Word)
+    → AllByRecursion (λ (w : Word). t < w.tick) ws → any_released (is_dropped c t name) last ws ≡ false
+none_late c t name last [] late = open_left c t name last
+none_late c t name last (w ∷ ws) late =
+    let far = late.0 in
+    behind_word (is_dropped c t name) last w ws
+    ∙ ap (λ b. b || any_released (is_dropped c t name) (Some w) ws)
+    (not_now c t name last w (other_word w t (λ same. omega (arith, far, same))))
+    ∙ none_late c t name (Some w) ws late.1
+
+all_late : (t : ℕ) (ws : List Word) (i : ℕ)
+    → ((k : ℕ) (w : Word) → i ≤ k → slice_get ws k ≡ Some w → t < w.tick)
+    → AllByRecursion (λ (w : Word). t < w.tick) (drop i ws)
+all_late t [] zero late = tt
+all_late t (w ∷ ws) zero late =
+    (late 0 w (omega arith) refl, all_late t ws zero (λ k v le. late (suc k) v (omega arith)))
+all_late t [] (suc i) late = tt
+all_late t (w ∷ ws) (suc i) late = all_late t ws i (λ k v le. late (suc k) v (omega (arith, le)))
+
+-- behind a word of a later tick none is cut
+pub none_behind : (c : Content) (t : ℕ) (name : Text) (last : Option Word) (ws : List Word) (i : ℕ) (w : Word)
+    → AreRising ws → slice_get ws i ≡ Some w → t < w.tick
+    → any_released (is_dropped c t name) last (drop i ws) ≡ false
+none_behind c t name last ws i w rising there late =
+    none_late c t name last (drop i ws)
+    (all_late t ws i (λ k v le at. let more = rising i k w v le there at in omega (arith, late, more)))
+
 -- ---- commands come before the horizon, and so do words
 
 drop_early : (k last h : ℕ) (all : List Answered) → AreAnswered h last all
@@ -102,3 +171,65 @@ pub early_at : (t : ℕ) (ws : List Word) (i : ℕ) (w : Word) → slice_get ws 
 early_at t [] i w there early = absurd (cc)
 early_at t (v ∷ ws) zero w there early = let same : v ≡ w = cc in subst (λ (x : Word). x.tick < t) same early.0
 early_at t (v ∷ ws) (suc i) w there early = early_at t ws i w there early.1
+
+some_early : (t : ℕ) (ws : List Word) (i : ℕ) (got : Option Word) → slice_get ws i ≡ got → AreEarly t ws
+    → IfSome got (λ (w : Word). w.tick < t)
+some_early t ws i None is early = tt
+some_early t ws i (Some w) is early = early_at t ws i w is early
+
+pub last_early : (t : ℕ) (ws : List Word) (i : ℕ) → AreEarly t ws → IfSome (last_of ws i) (λ (w : Word). w.tick < t)
+last_early t ws zero early = tt
+last_early t ws (suc i) early = some_early t ws i (slice_get ws i) refl early
+
+-- ---- and their ticks never fall
+
+abbrev rises_from : ℕ → List Word → Type 0
+rises_from t [] = Unit {0}
+rises_from t (w ∷ ws) = (t ≤ w.tick) × rises_from w.tick ws
+
+rise_sooner : (s t : ℕ) (ws : List Word) → s ≤ t → rises_from t ws → rises_from s ws
+rise_sooner s t [] le rise = tt
+rise_sooner s t (w ∷ ws) le rise = (let first = rise.0 in omega (arith, le, first), rise.1)
+
+word_rises : (last : ℕ) (a : Answered) (ws : List Word) (roused end : Bool) → last ≤ a.tick → rises_from a.tick ws
+    → rises_from last (cond roused (word_of a ∷ cond end [] ws) ws)
+word_rises last a ws true true le more = (le, tt)
+word_rises last a ws true false le more = (le, more)
+word_rises last a ws false end le more = rise_sooner last a.tick ws le more
+
+words_rise : (h last : ℕ) (name : Text) (all : List Answered) → AreAnswered h last all
+    → rises_from last (words_on name all)
+unfolding words_on
+words_rise h last name [] are = tt
+words_rise h last name (a ∷ all) are =
+    word_rises last a (words_on name all) (has_done (rouses name) a) (is_end (sort_of a.command)) are.2
+    (words_rise h a.tick name all are.4)
+
+rise_behind : (k h last : ℕ) (name : Text) (all : List Answered) → AreAnswered h last all
+    → rises_from last (words_on name (drop k all))
+rise_behind zero h last name all are = words_rise h last name all are
+rise_behind (suc k) h last name [] are = words_rise h last name [] are
+rise_behind (suc k) h last name (a ∷ all) are =
+    rise_sooner last a.tick (words_on name (drop k all)) are.2 (rise_behind k h a.tick name all are.4)
+
+rise_at : (t : ℕ) (ws : List Word) (j : ℕ) (b : Word) → rises_from t ws → slice_get ws j ≡ Some b → t ≤ b.tick
+rise_at t [] j b rise there = absurd (cc)
+rise_at t (w ∷ ws) zero b rise there = let same : w ≡ b = cc in subst (λ (x : Word). t ≤ x.tick) same rise.0
+rise_at t (w ∷ ws) (suc j) b rise there =
+    let first = rise.0 in
+    let rest = rise_at w.tick ws j b rise.1 there in omega (arith, first, rest)
+
+in_order : (t : ℕ) (ws : List Word) → rises_from t ws → AreRising ws
+in_order t [] rise i j a b le e f = absurd (cc)
+in_order t (w ∷ ws) rise zero zero a b le e f =
+    let same : a ≡ b = cc in
+    subst (λ (x : Word). a.tick ≤ x.tick) same (omega arith)
+in_order t (w ∷ ws) rise zero (suc j) a b le e f =
+    let same : w ≡ a = cc in
+    subst (λ (x : Word). x.tick ≤ b.tick) same (rise_at w.tick ws j b rise.1 f)
+in_order t (w ∷ ws) rise (suc i) zero a b le e f = absurd (omega (arith, le))
+in_order t (w ∷ ws) rise (suc i) (suc j) a b le e f = in_order w.tick ws rise.1 i j a b (omega (arith, le)) e f
+
+pub rising_behind : (c : Content) (name : Text) (k : ℕ) → IsContent c → AreRising (words_on name (drop k c.answered))
+rising_behind c name k formed =
+    in_order 0 (words_on name (drop k c.answered)) (rise_behind k c.horizon 0 name c.answered formed.answered)

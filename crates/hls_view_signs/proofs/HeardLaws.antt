@@ -13,10 +13,10 @@ use Rattle.hls_view_jobs.specs.declared.job.Word.{Word}
 use Rattle.hls_view_jobs.specs.Words.{words_on}
 use Rattle.hls_view_signs.specs.declared.event.Node.{Node}
 use Rattle.hls_view_signs.specs.declared.heard.Heard.{Heard}
-use Rattle.hls_view_signs.specs.Inside.Words.{AreEarly}
+use Rattle.hls_view_signs.specs.Inside.Words.{AreEarly, AreRising}
 use Rattle.hls_view_signs.specs.Inside.Heard.{IsHeard, AreHeard, is_of_node, IsHeardAt}
 use Rattle.hls_view_signs.proofs.Tests.{first_of_two, second_of_two}
-use Rattle.hls_view_signs.proofs.DropLaws.{early_behind}
+use Rattle.hls_view_signs.proofs.DropLaws.{early_behind, rising_behind}
 
 same_bytes : (xs ys : Text) → bytes_eq xs ys ≡ true → xs ≡ ys
 same_bytes xs ys on = (bytes_eq-Decides xs ys).0 on
@@ -60,3 +60,8 @@ pub read_early : (c : Content) (node : Node) (ws : List Word) → IsContent c
     → ws ≡ words_on node.label.name (drop (node.standing.born + 1) c.answered) → AreEarly c.horizon ws
 read_early c node ws formed is =
     subst (AreEarly c.horizon) (sym is) (early_behind c node.label.name (node.standing.born + 1) formed)
+
+pub read_rising : (c : Content) (node : Node) (ws : List Word) → IsContent c
+    → ws ≡ words_on node.label.name (drop (node.standing.born + 1) c.answered) → AreRising ws
+read_rising c node ws formed is =
+    subst AreRising (sym is) (rising_behind c node.label.name (node.standing.born + 1) formed)

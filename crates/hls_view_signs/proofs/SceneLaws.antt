@@ -26,59 +26,13 @@ use Rattle.hls_view_signs.specs.declared.event.Event.TheVariants.{Begun, Woken, 
 use Rattle.hls_view_signs.specs.Happenings as told
 use Rattle.hls_view_signs.specs.Inside.Nodes.{happens_to_any}
 use Rattle.hls_view_signs.specs.Inside.Moments.{node_if, KnowsAll}
-use Rattle.hls_view_signs.specs.Inside.Scenes.{is_roused, IsParted, AreBefore, rouses_in, AreHeard, AreRoused, any_begun}
+use Rattle.hls_view_signs.specs.Inside.Scenes.{is_roused, AreBefore, rouses_in, AreHeard, AreRoused, any_begun}
 use Rattle.hls_view_signs.proofs.Tests.{either, or_left, or_right, first_of_two, second_of_two, both_of_two}
 use Rattle.hls_view_signs.proofs.Tests.{alike, any_behind, any_at, any_looser}
 use Rattle.hls_view_signs.proofs.CommandLaws.{releases_in, words_rouse}
 use Rattle.hls_view_signs.proofs.MomentLaws.{node_happens}
 
--- ---- how many commands come before a tick
-
-pub parted_none : (all : List Answered) (t : ℕ) → IsParted all t 0 (length all)
-parted_none all t = record {
-  order = omega arith;
-  within = omega arith;
-  early = λ k a lt there. absurd (omega (arith, lt));
-  late = λ k a le there. let lt = slice_get_within all k a there in absurd (omega (arith, le, lt));
-}
-
--- where one comes before it, so do those before that one
-pub parted_low : (all : List Answered) (t low middle high : ℕ) (a : Answered) → AreInOrder all → middle < high
-    → a ≡ get_or all middle a → a.tick < t → IsParted all t low high → IsParted all t (middle + 1) high
-parted_low all t low middle high a order lt is early parted =
-    let within = parted.within in
-    record {
-      order = omega (arith, lt);
-      within = within;
-      early = λ k b less there.
-          let at = slice_get_read all (length all) middle a refl (omega (arith, lt, within)) is in
-          let first : b.tick ≤ a.tick = order k middle b a (omega (arith, less)) there at in
-          omega (arith, first, early);
-      late = parted.late;
-    }
-
--- and where one does not, no more do those behind that one
-pub parted_high : (all : List Answered) (t low middle high : ℕ) (a : Answered) → AreInOrder all → low ≤ middle
-    → middle < high → a ≡ get_or all middle a → t ≤ a.tick → IsParted all t low high → IsParted all t low middle
-parted_high all t low middle high a order le lt is late parted =
-    let within = parted.within in
-    record {
-      order = le;
-      within = omega (arith, lt, within);
-      early = parted.early;
-      late = λ k b more there.
-          let at = slice_get_read all (length all) middle a refl (omega (arith, lt, within)) is in
-          let behind : a.tick ≤ b.tick = order middle k a b more at there in
-          omega (arith, behind, late);
-    }
-
-pub parted_all : (all : List Answered) (t low high : ℕ) → high ≤ low → IsParted all t low high → AreBefore all t low
-parted_all all t low high le parted =
-    let order = parted.order in
-    let same : high ≡ low = omega (arith, le, order) in
-    subst (IsParted all t low) same parted
-
--- ---- whom they rouse
+-- ---- whom the commands of a tick rouse
 
 pub heard_before : (all : List Answered) (t came : ℕ) (names : List Text) → AreBefore all t came
     → AreHeard all t came names

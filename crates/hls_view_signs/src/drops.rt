@@ -9,7 +9,7 @@ ghost use Rattle.hls_view_jobs.specs.Jobs.{releases, release_of};
 ghost use Rattle.hls_view_jobs.specs.declared.job.Word as spoken;
 ghost use Rattle.hls_view_jobs.specs.Words as words;
 ghost use Rattle.hls_view_signs.specs.Happenings as told;
-ghost use Rattle.hls_view_signs.specs.Inside.Words.{released, AreEarly};
+ghost use Rattle.hls_view_signs.specs.Inside.Words.{released, AreEarly, AreRising, AreParted, last_of};
 
 use hls_audit_spans::Spans;
 use hls_chron::Name;
@@ -109,15 +109,48 @@ fn is_cut_by(served: &Spans, last: Option<Word>, word: &Word, tick: u32) -> bool
     }
 }
 
+/// How many words come before a tick.
+fn words_before(words: &[Word], tick: u32) -> usize
+    requires { AreRising words.now }
+    ensures { AreParted words.now tick result result }
+{
+    let mut low = 0;
+    let mut high = words.len();
+    while low < high {
+        let middle = low + (high - low) / 2;
+        if words[middle].tick < tick {
+            low = middle + 1;
+        } else {
+            high = middle;
+        }
+    }
+    low
+}
+
+/// The last of the first so many words.
+fn last_of(words: &[Word], count: usize) -> Option<Word>
+    ensures { result ≡ last_of words.now count }
+{
+    if count == 0 {
+        return None;
+    }
+    words.get(count - 1).copied()
+}
+
 /// Whether a wake or a block in a tick drops a job of a thread on which these are the words.
 pub(crate) fn is_dropped(served: &Spans, tick: u32, words: &[Word]) -> bool
-    requires { AreEarly 100000 words.now }
+    requires early { AreEarly 100000 words.now }
+    requires rising { AreRising words.now }
     ensures { (c : Content) (name : Text) → TellsServed c name served.now.spans.items → AreEarly c.horizon words.now →
         result ≡ list_any (told.is_dropped c tick name) (releases words.now) }
 {
-    let mut last = None;
-    for at in 0..words.len() {
+    let first = words_before(words, tick);
+    let mut last = last_of(words, first);
+    for at in first..words.len() {
         let word = words[at];
+        if tick < word.tick {
+            return false;
+        }
         if is_cut_by(served, last, &word, tick) {
             return true;
         }

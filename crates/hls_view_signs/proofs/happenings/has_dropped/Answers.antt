@@ -9,7 +9,7 @@ use Rattle.hls_view_jobs.specs.Jobs.{releases}
 use Rattle.hls_view_lanes.specs.Leaves.{is_thread}
 use Rattle.hls_view_signs.specs.Happenings.{is_dropped}
 use Rattle.hls_view_signs.proofs.DropLaws.{early_more}
-use Rattle.hls_view_signs.proofs.HeardLaws.{read_at, read_early}
+use Rattle.hls_view_signs.proofs.HeardLaws.{read_at, read_early, read_rising}
 use Rattle.hls_view_signs.proofs.happenings.has_dropped.Goals as goal
 
 pub index-requires : goal.index-requires
@@ -18,8 +18,8 @@ index-requires c =
     (known_within (content_of c.args.report.now) c.place_of.new.self c.args.node.now.label.name c.in_ok-place.place
     c.in_ok-place.ensures.place)
 
-pub is_dropped-requires : goal.is_dropped-requires
-is_dropped-requires c =
+pub is_dropped-requires-clause-early : goal.is_dropped-requires-clause-early
+is_dropped-requires-clause-early c =
     let content = content_of c.args.report.now in
     let node = c.args.node.now in
     let words : c.deref.result.now ≡ words_on node.label.name (drop (node.standing.born + 1) content.answered) =
@@ -29,6 +29,16 @@ is_dropped-requires c =
     let formed = c.requires.formed.content in
     early_more content.horizon 100000 c.deref.result.now
     (let horizon = formed.horizon in omega (arith, horizon)) (read_early content node c.deref.result.now formed words)
+
+pub is_dropped-requires-clause-rising : goal.is_dropped-requires-clause-rising
+is_dropped-requires-clause-rising c =
+    let content = content_of c.args.report.now in
+    let node = c.args.node.now in
+    let words : c.deref.result.now ≡ words_on node.label.name (drop (node.standing.born + 1) content.answered) =
+    c.deref.ensures.value
+    ∙ read_at content c.heard_at.new.all.items node c.in_ok-at.at c.index-2.result.now c.in_ok-at.ensures.at
+    c.index-2.ensures in
+    read_rising content node c.deref.result.now c.requires.formed.content words
 
 pub returns-clause-is : goal.returns-clause-is
 returns-clause-is c =
