@@ -4,5 +4,6 @@ pub mod Ways
 pub mod Taken
 pub mod Slices
 pub mod Staying
+pub mod Counted
 pub mod Timeline
 pub mod Inside

@@ -3,6 +3,7 @@
 
 mod accounts;
 mod ends;
+pub mod laws;
 mod naming;
 mod numbers;
 mod paths;
