@@ -8,13 +8,9 @@ pub mod laws;
 mod line_error;
 mod plain;
 mod ports;
-#[cfg(test)]
-mod printing_tests;
 mod reader;
 mod reading;
 mod seats;
-#[cfg(test)]
-mod tests;
 mod words;
 
 pub use commands::read_item;

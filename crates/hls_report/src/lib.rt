@@ -13,8 +13,6 @@ mod reader;
 mod refusal_reading;
 mod report_reading;
 mod run_reading;
-#[cfg(test)]
-mod tests;
 mod words;
 
 pub use fault::ReportFault;

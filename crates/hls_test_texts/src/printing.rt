@@ -1,6 +1,6 @@
 // Texts, and the canonical texts of the scenarios that they are of.
-use crate::{Command, print_command, print_scenario, read_scenario};
 use hls_chron::Name;
+use hls_lang::{Command, print_command, print_scenario, read_scenario};
 use std::alloc::Global;
 use std::test::Fail;
 

@@ -1,7 +1,7 @@
-use crate::refusal_reading::refusal;
-use crate::{ReportFault, read_report};
+// Reports, and texts with the first line that cannot stand.
 use hls_chron::{Kind, Name};
-use hls_report_text::{Refusal, put_refusal, write_report};
+use hls_report::{Refusal, ReportFault, read_report, write_report};
+use hls_report_text::put_refusal;
 use std::alloc::{AllocError, Global};
 use std::test::Fail;
 
@@ -74,13 +74,15 @@ fn writes_and_reads_each_refusal(rt: HostRuntime) -> Result<(), Fail> {
         let mut out = Vec::new(rt.alloc());
         put_refusal(&mut out, &one)?;
         assert_eq!(rt; out.as_slice(), text);
-        assert_eq!(rt; refusal(text), Some(one));
+        let answer = [b"= refused ".as_slice(), text].concat(rt.alloc())?;
+        let read = with_line(rt.alloc(), 4, &answer)?;
+        assert_eq!(rt; bad_line(rt.alloc(), &read), Some(6), "at {text:?}");
     }
     Ok(())
 }
 
 #[test]
-fn reads_no_other_refusal(rt: HostRuntime) {
+fn reads_no_other_refusal(rt: HostRuntime) -> Result<(), Fail> {
     let table = [
         b"10 NameTaken cpu".as_slice(),
         b"10 NameTaken".as_slice(),
@@ -97,8 +99,11 @@ fn reads_no_other_refusal(rt: HostRuntime) {
         b"25 NoName player".as_slice(),
     ];
     for text in table {
-        assert_eq!(rt; refusal(text), None, "at {text:?}");
+        let answer = [b"= refused ".as_slice(), text].concat(rt.alloc())?;
+        let read = with_line(rt.alloc(), 4, &answer)?;
+        assert_eq!(rt; bad_line(rt.alloc(), &read), Some(5), "at {text:?}");
     }
+    Ok(())
 }
 
 /// The smallest report of a thread that is served.

@@ -1,6 +1,6 @@
 // Texts, with the scenarios that they are of or their faults.
-use crate::{Cause, Command, ScenarioFault, Spot, read_scenario};
 use hls_chron::{Config, Terms};
+use hls_lang::{Cause, Command, ScenarioFault, Spot, read_scenario};
 use std::alloc::Global;
 use std::test::Fail;
 
