@@ -2,8 +2,6 @@
 use Rattle.std.proofs.Common.{◌≡◌, ℕ, List, [], ◌∷◌, true, false, refl, ap, sym, ◌∙◌, ◌&&◌, Bool}
 use Rattle.std.specs.Prelude.{Option, Some, None, find, option_and_then, is_none}
 use Rattle.hls_text.specs.Lines.{Text}
-use Rattle.hls_audit_clauses.specs.declared.member.Sort.{Sort}
-use Rattle.hls_audit_clauses.specs.Names.{is_thread_sort}
 use Rattle.hls_report_text.specs.Content.{Content}
 use Rattle.hls_legal.specs.Schedule.{path_at}
 use Rattle.hls_view_tale.specs.declared.label.Label.{Label}
@@ -11,7 +9,7 @@ use Rattle.hls_view_lanes.specs.Likeness.{is_like, begins, is_same}
 use Rattle.hls_view_lanes.specs.Rows.{ways_at}
 use Rattle.hls_view_lanes.specs.Facts.{spells, given_at, is_through, facts, idle_facts}
 use Rattle.hls_view_lanes.specs.Leaves.{is_thread, is_leaf, IsDown, ServesAlone}
-use Rattle.hls_view_lanes.proofs.Selves.{begins-self, first-of, second-of, like-parts, like-turned}
+use Rattle.hls_view_lanes.proofs.Selves.{begins-self, first-of, second-of, like-parts, like-turned, same-thread}
 
 pub wrong : {A : Type 0} (b : Bool) → b ≡ false → b ≡ true → A
 wrong b off on = absurd (let e : false ≡ true = sym off ∙ on in cc)
@@ -24,7 +22,7 @@ back (l ∷ []) (m ∷ []) leaf down e =
     ap (λ b. b && true) (like-turned l m (first-of (is_like l m) true e))
 back (l ∷ []) (m ∷ next ∷ way) leaf down e =
     let same = (like-parts l m (first-of (is_like l m) true e)).sort in
-    wrong (is_thread m) down.0 (ap (λ (s : Sort). is_thread_sort (Some s)) (sym same) ∙ leaf)
+    wrong (is_thread m) down.0 (sym (same-thread l.sort m.sort same) ∙ leaf)
 back (l ∷ other ∷ row) (m ∷ []) leaf down e = wrong false refl (second-of (is_like l m) false e)
 back (l ∷ other ∷ row) (m ∷ next ∷ way) leaf down e =
     ap (λ b. b && begins (next ∷ way) (other ∷ row))

@@ -5,8 +5,6 @@ use Rattle.std.specs.Prelude.{Option, Some, slice_get, find, option_and_then, is
 use Rattle.std.specs.List.{range_with_len, sum_by, count_by}
 use Rattle.std.proofs.lemmas.List.Sums.{sum_by-cons}
 use Rattle.hls_text.specs.Lines.{Text}
-use Rattle.hls_audit_clauses.specs.declared.member.Sort.{Sort}
-use Rattle.hls_audit_clauses.specs.Names.{is_thread_sort}
 use Rattle.hls_report_text.specs.Content.{Content}
 use Rattle.hls_legal.specs.Schedule.{path_at}
 use Rattle.hls_view_tale.specs.declared.label.Label.{Label}
@@ -15,7 +13,7 @@ use Rattle.hls_view_lanes.specs.Rows.{ways_at, has_row, rows_of}
 use Rattle.hls_view_lanes.specs.Facts.{spells, given_at, is_through, facts, idle_facts}
 use Rattle.hls_view_lanes.specs.Standing.{AreApart}
 use Rattle.hls_view_lanes.specs.Leaves.{is_leaf, IsDown, IsGiven, goes_to}
-use Rattle.hls_view_lanes.proofs.Selves.{first-of, second-of, like-parts, like-through}
+use Rattle.hls_view_lanes.proofs.Selves.{first-of, second-of, like-parts, like-through, same-thread}
 use Rattle.hls_view_lanes.proofs.LeafLaws.{wrong, back, idle-alone}
 use Rattle.hls_view_lanes.proofs.RowLaws.{ways-have-rows, rows-apart}
 
@@ -46,7 +44,7 @@ leaf-back [] (m ∷ way) down e f = wrong false refl f
 leaf-back (l ∷ row) [] down e f = absurd down
 leaf-back (l ∷ []) (m ∷ []) down e f =
     let same = (like-parts l m (first-of (is_like l m) true e)).sort in
-    ap (λ (s : Sort). is_thread_sort (Some s)) same ∙ down
+    same-thread l.sort m.sort same ∙ down
 leaf-back (l ∷ []) (m ∷ next ∷ way) down e f = wrong false refl (second-of (is_like m l) false f)
 leaf-back (l ∷ other ∷ row) (m ∷ []) down e f = wrong false refl (second-of (is_like l m) false e)
 leaf-back (l ∷ other ∷ row) (m ∷ next ∷ way) down e f =
