@@ -13,7 +13,7 @@ use Rattle.hls_frac.specs.Frac.{IsWithin}
 use Rattle.hls_guarantee.specs.declared.Guarantee.{Guarantee}
 use Rattle.hls_guarantee.specs.declared.Guarantee.TheVariants.{All, Null, Resb, Resc, Psbe}
 use Rattle.hls_guarantee.specs.declared.rule.RuleName.{RuleName}
-use Rattle.hls_guarantee.specs.declared.rule.RuleName.TheVariants.{R1, R2, R3, R4, R5, R6, R7, R8, R9}
+use Rattle.hls_guarantee.specs.declared.rule.RuleName.TheVariants.{R1, R2, R3, R4, R5, R6, R7, R8, R9, R10, R11}
 use Rattle.hls_guarantee.specs.Limits.{IsReservation, IsValid}
 use Rattle.hls_guarantee.specs.Spelling.{fraction_text, with_fields, spelling}
 use Rattle.hls_text.proofs.Marks.{decimal-lacks}
@@ -134,6 +134,8 @@ rule_again R6 rest = refl
 rule_again R7 rest = refl
 rule_again R8 rest = refl
 rule_again R9 rest = refl
+rule_again R10 rest = refl
+rule_again R11 rest = refl
 
 pub step_rule : (text : List ℕ) (s : Step) (rest : List ℕ) → StepStands text s rest
     → rule_at text ≡ Some (s.rule, spelling s.to ++ rest)

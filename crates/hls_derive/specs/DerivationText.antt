@@ -4,7 +4,7 @@ use Rattle.hls_chron.specs.declared.plain.Kind.{Kind}
 use Rattle.hls_chron.specs.declared.plain.Kind.TheVariants.{Cpu, Fp, Edf, Sfq, Rr, Wheel, Join}
 use Rattle.hls_guarantee.specs.declared.Guarantee.{Guarantee}
 use Rattle.hls_guarantee.specs.declared.rule.RuleName.{RuleName}
-use Rattle.hls_guarantee.specs.declared.rule.RuleName.TheVariants.{R1, R2, R3, R4, R5, R6, R7, R8, R9}
+use Rattle.hls_guarantee.specs.declared.rule.RuleName.TheVariants.{R1, R2, R3, R4, R5, R6, R7, R8, R9, R10, R11}
 use Rattle.hls_guarantee.specs.Spelling.{spelling}
 use Rattle.hls_derive.specs.declared.derivation.Step.{Step}
 use Rattle.hls_derive.specs.declared.derivation.SchedStep.{SchedStep}
@@ -20,6 +20,8 @@ rule_text R6 = codes "R6"
 rule_text R7 = codes "R7"
 rule_text R8 = codes "R8"
 rule_text R9 = codes "R9"
+rule_text R10 = codes "R10"
+rule_text R11 = codes "R11"
 
 -- the word of a kind, and for a join the port
 abbrev pub scheduler_text : Kind → (port : ℕ) → List ℕ

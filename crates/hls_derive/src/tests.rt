@@ -128,7 +128,7 @@ fn reads_no_other_text(rt: HostRuntime) -> Result<(), Fail> {
     let mut seven = Vec::from_slice(rt.alloc(), SIX)?;
     seven.extend_from_slice(b" R9 NULL")?;
     assert!(rt; read_derivation(rt.alloc(), &seven)?.is_none());
-    let texts: [&[u8]; 24] = [
+    let texts: [&[u8]; 25] = [
         b"",
         b"ALL",
         b"ALL ",
@@ -146,7 +146,8 @@ fn reads_no_other_text(rt: HostRuntime) -> Result<(), Fail> {
         b"ALL JOIN ALL",
         b"ALL JOIN 4 ALL",
         b"ALL JOIN 00 ALL",
-        b"ALL R10 NULL FP NULL",
+        b"ALL R12 NULL FP NULL",
+        b"ALL R1 0 NULL FP NULL",
         b"ALL R0 NULL FP NULL",
         b"ALL R9 FP NULL",
         b"ALL R9 NULL",

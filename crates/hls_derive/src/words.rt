@@ -2,7 +2,7 @@
 ghost use Rattle.std.specs.Prelude.{◌≡◌, ◌≤◌, ◌++◌, [], ◌∷◌, codes, decimal, IfSome};
 ghost use Rattle.hls_derive.specs.Derivation.{PortFits};
 ghost use Rattle.hls_derive.specs.DerivationText.{rule_text, scheduler_text};
-ghost use Rattle.hls_derive.specs.Inside.Reading.{place_of_space, first_byte, rule_of, rule_at};
+ghost use Rattle.hls_derive.specs.Inside.Reading.{place_of_space, first_byte, rule_of, rule_of_digit_at, rule_at};
 ghost use Rattle.hls_text.specs.Options.{Gives};
 ghost use Rattle.hls_derive.specs.Inside.Reading.{port_of, port_at, scheduler_at};
 
@@ -56,6 +56,20 @@ fn rule_of_digit(digit: u8) -> Option<RuleName>
 #[tactic(auto, unfolding(crate::specs::Inside::Reading::rule_at))]
 pub fn rule(text: &[u8]) -> Option<(RuleName, &[u8])>
     ensures read { Gives (λ p. (p.0, p.1.now)) result (rule_at text.now) }
+    ensures found { IfSome result (λ p. text.now ≡ codes " " ++ rule_text p.0 ++ codes " " ++ p.1.now) }
+{
+    if let Some(rest) = after(text, b" R10 ") {
+        return Some((RuleName::R10, rest));
+    }
+    if let Some(rest) = after(text, b" R11 ") {
+        return Some((RuleName::R11, rest));
+    }
+    rule_by_digit(text)
+}
+
+/// The rule of one digit between two spaces at the front of the text, and what stands behind it.
+fn rule_by_digit(text: &[u8]) -> Option<(RuleName, &[u8])>
+    ensures read { Gives (λ p. (p.0, p.1.now)) result (rule_of_digit_at text.now) }
     ensures found { IfSome result (λ p. text.now ≡ codes " " ++ rule_text p.0 ++ codes " " ++ p.1.now) }
 {
     let rest = after(text, b" R")?;

@@ -123,5 +123,7 @@ fn rule_word(rule: RuleName) -> &'static [u8]
         RuleName::R7 => b"R7",
         RuleName::R8 => b"R8",
         RuleName::R9 => b"R9",
+        RuleName::R10 => b"R10",
+        RuleName::R11 => b"R11",
     }
 }

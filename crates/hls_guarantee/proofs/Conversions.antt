@@ -1,19 +1,21 @@
 -- Each rule of conversion is sound: for what is promised, and for what is capped.
-use Rattle.std.proofs.Common.{ℕ, ◌+◌, ◌*◌, ◌-◌, ◌≤◌, Bool, true, false, arith, sym, subst}
+use Rattle.std.proofs.Common.{◌≡◌, ℕ, ◌+◌, ◌*◌, ◌-◌, ◌≤◌, Bool, true, false, arith, sym, subst, ap, ◌∙◌, inl, inr}
 use Rattle.std.proofs.Common.{mul-le-mul_right}
+use Rattle.std.proofs.lemmas.Bool.{cases_lt}
 use Rattle.hls_frac.specs.declared.Frac.{Frac}
 use Rattle.hls_guarantee.specs.declared.Guarantee.{Guarantee}
 use Rattle.hls_guarantee.specs.declared.Guarantee.TheVariants.{All, Null, Resb, Resc, Psbe}
 use Rattle.hls_guarantee.specs.declared.rule.RuleName.{RuleName}
-use Rattle.hls_guarantee.specs.declared.rule.RuleName.TheVariants.{R1, R2, R3, R4, R5, R6, R7, R8, R9}
+use Rattle.hls_guarantee.specs.declared.rule.RuleName.TheVariants.{R1, R2, R3, R4, R5, R6, R7, R8, R9, R10, R11}
 use Rattle.hls_chron.specs.Ticks.{count}
 use Rattle.hls_guarantee.specs.Satisfaction.{Satisfies}
 use Rattle.hls_guarantee.specs.Cap.{KeepsCap}
 use Rattle.hls_guarantee.specs.Supply.{Supplies}
 use Rattle.hls_guarantee.specs.Limits.{IsReservation, IsValid}
-use Rattle.hls_guarantee.specs.Conversions.{Leads, Converts}
+use Rattle.hls_guarantee.specs.Conversions.{HasTimes, Leads, Converts}
 use Rattle.hls_guarantee.proofs.Shares.{HasFew, span-share, piece-share}
 use Rattle.hls_guarantee.proofs.Spans.{piece_spans}
+use Rattle.hls_guarantee.proofs.Times.{shorter, times}
 use Rattle.hls_guarantee.proofs.Fractions.{share-less, all-shares}
 use Rattle.hls_guarantee.proofs.Readings.{soft, windows-spans, blocks-spans, spans-windows, windows-blocks}
 use Rattle.hls_guarantee.proofs.Readings.{few-share, all-served, all-windows, share-windows}
@@ -52,6 +54,34 @@ blocks_windows hard x y x' y' f lo hi from to less wide s =
     let pieces = blocks-spans hard x y f lo hi fits s in
     let spans = piece_spans x c s.0 y f lo hi s.1 (omega arith) pieces in
     spans-windows x' y' (c + c) (y + c) f lo hi to.fits spans (omega arith) (omega arith)
+
+-- the fewer, the sooner
+fewer_windows : (hard : Bool) (x y x' y' : ℕ) (f : ℕ → Bool) (lo hi : ℕ) → IsReservation x y → IsReservation x' y'
+    → x' ≤ x → 2 * y + x' ≤ 2 * x + y' → Satisfies (Resb hard x y) f lo hi → Satisfies (Resc false x' y') f lo hi
+fewer_windows hard x y x' y' f lo hi from to less wide s =
+    let c : ℕ = y - x in
+    let fits = from.fits in
+    let pieces = blocks-spans hard x y f lo hi fits s in
+    let spans = piece_spans x c s.0 y f lo hi s.1 (omega arith) pieces in
+    elim (cases_lt y' (y + c)) [
+      | inl short ↦
+          spans-windows x' y' (c + c) y' f lo hi to.fits
+          (shorter (c + c) (y + c) y' f lo hi spans (omega (arith, short)))
+          (omega arith) (omega (arith, fits, wide))
+      | inr long ↦
+          spans-windows x' y' (c + c) (y + c) f lo hi to.fits spans long (omega (arith, fits, long, less))
+    ]
+
+many_windows : (hard : Bool) (x y x' y' : ℕ) (f : ℕ → Bool) (lo hi : ℕ) → IsReservation x y → IsReservation x' y'
+    → HasTimes x y x' y' → Satisfies (Resc hard x y) f lo hi → Satisfies (Resc false x' y') f lo hi
+many_windows hard x y x' y' f lo hi from to has s =
+    let c : ℕ = y - x in
+    let k : ℕ = has.times in
+    let sum : y ≡ c + x = (let fits = from.fits in omega arith) in
+    let all : k * y ≡ k * c + k * x = ap (λ n. k * n) sum ∙ omega arith in
+    spans-windows x' y' (k * c) (k * y) f lo hi to.fits
+    (times c y k f lo hi (windows-spans hard x y f lo hi from.fits s)) has.within
+    (omega (arith, all, has.enough, has.within))
 
 windows-few : (hard : Bool) (x y : ℕ) (f : ℕ → Bool) (lo hi : ℕ) → IsReservation x y →
     Satisfies (Resc hard x y) f lo hi → (i j : ℕ) → lo ≤ i → i ≤ j → j ≤ hi → HasFew (y - x) y x f i j
@@ -118,6 +148,10 @@ sound R8 All (Resb false x' y') f lo hi from to leads s =
 sound R8 All (Resc false x' y') f lo hi from to leads s = all-windows x' y' f lo hi to.fits s
 sound R8 All (Psbe s' d') f lo hi from to leads s = all-share s' d' f lo hi to.fits s
 sound R9 g h f lo hi from to leads s = subst (λ k. Satisfies k f lo hi) (sym leads) tt
+sound R10 (Resb hard x y) (Resc false x' y') f lo hi from to leads s =
+    fewer_windows hard x y x' y' f lo hi from to leads.0 leads.1 s
+sound R11 (Resc hard x y) (Resc false x' y') f lo hi from to leads s =
+    many_windows hard x y x' y' f lo hi from to leads s
 sound _ _ _ f lo hi from to leads s = absurd leads
 
 pub converts-satisfies : (rule : RuleName) (g h : Guarantee) (f : ℕ → Bool) (lo hi : ℕ) → Converts rule g h →

@@ -12,7 +12,7 @@ use Rattle.hls_chron.specs.Ranges.{ConfigInRange}
 use Rattle.hls_guarantee.specs.declared.Guarantee.{Guarantee}
 use Rattle.hls_guarantee.specs.declared.Guarantee.TheVariants.{All, Psbe}
 use Rattle.hls_guarantee.specs.Conversions.{StartsNoLater}
-use Rattle.hls_guarantee.specs.Steps.{IsFairShare, LendsByTerms}
+use Rattle.hls_guarantee.specs.Steps.{IsFairShare, IsTurnShare, LendsByTerms}
 
 -- two shares of the same weight
 same_error : (d p q : Frac) (total weight others rest more left : ℕ) → 1 ≤ total → others ≡ more →
@@ -37,6 +37,15 @@ same_share total most weight s d p e q f some a b =
       same_error d e f total weight a.others a.rest b.others b.rest some others rest a.error b.error,
     )
 
+same_turn : (quantum : ℕ) (s d p e q f : Frac) → IsTurnShare quantum s d p e → IsTurnShare quantum s d q f
+    → (p ≡ q) × (e ≡ f)
+same_turn quantum s d p e q f a b =
+    let rate_size : 1 ≤ s.den * 32 = mul-pos s.positive (omega arith) in
+    let size : 1 ≤ d.den * 32 = mul-pos d.positive (omega arith) in (
+      quotient-same p q _ _ _ _ rate_size rate_size a.rate b.rate refl,
+      quotient-same e f _ _ _ _ size size a.error b.error refl,
+    )
+
 psbe-same : (s d t e : Frac) → s ≡ t → d ≡ e → Psbe s d ≡ Psbe t e
 psbe-same s d t e first second = ap (λ (f : Frac). Psbe f d) first ∙ ap (λ (f : Frac). Psbe t f) second
 
@@ -49,8 +58,12 @@ lends-one (configs.Wheel frame) (terms.Slots places) All h k range a b = a.1 ∙
 lends-one (configs.Sfq total most) (terms.Weight weight) (Psbe s d) (Psbe p e) (Psbe q f) range a b =
     let same = same_share total most weight s d p e q f range.0.0 a b in
     psbe-same p e q f same.0 same.1
+lends-one (configs.Rr quantum) terms.Turn (Psbe s d) (Psbe p e) (Psbe q f) range a b =
+    let same = same_turn quantum s d p e q f a b in
+    psbe-same p e q f same.0 same.1
 lends-one (configs.Join ports) terms.Sole g h k range a b = a.1 ∙ sym b.1
 lends-one (configs.Sfq total most) (terms.Weight weight) (Psbe s d) (Psbe p e) k range a b = absurd b
+lends-one (configs.Rr quantum) terms.Turn (Psbe s d) (Psbe p e) k range a b = absurd b
 lends-one _ _ _ _ _ range a b = absurd a
 
 -- a fair share is a lower one
@@ -79,3 +92,25 @@ fair-later total most weight s d p e some a =
     let sum = a.weights in
     let pos : 1 ≤ total = omega arith in
     later_by d.num d.den s.num s.den p.num p.den e.num e.den total weight a.others a.rest pos a.rate a.error
+
+-- a 32nd part is a lower one
+pub turn-at_most : (quantum : ℕ) (s d p e : Frac) → IsTurnShare quantum s d p e → IsAtMost p s
+turn-at_most quantum s d p e a =
+    let rate : p.num * (s.den * 32) ≡ s.num * p.den = a.rate in
+    omega (arith, rate)
+
+turn_later_by : (dn dd sn sd pn pd en ed quantum : ℕ) → pn * (sd * 32) ≡ sn * pd
+    → en * (dd * 32) ≡ (dn + 31 * quantum * dd) * ed → dn * pn * (ed * sd) ≤ en * sn * (dd * pd)
+turn_later_by dn dd sn sd pn pd en ed quantum rate error =
+    let first = ap (λ (n : ℕ). n * (dn * ed)) rate in
+    let second = ap (λ (n : ℕ). n * (sn * pd)) error in
+    omega (arith, first, second)
+
+pub turn-later : (quantum : ℕ) (s d p e : Frac) → IsTurnShare quantum s d p e → StartsNoLater s d p e
+turn-later quantum s d p e a =
+    turn_later_by d.num d.den s.num s.den p.num p.den e.num e.den quantum a.rate a.error
+
+pub turn-shares : (quantum : ℕ) (m : Terms) (g h : Guarantee) → LendsByTerms (configs.Rr quantum) m g h
+    → (s d p e : Frac) × (m ≡ terms.Turn) × (g ≡ Psbe s d) × (h ≡ Psbe p e) × IsTurnShare quantum s d p e
+turn-shares quantum terms.Turn (Psbe s d) (Psbe p e) lends = (s, d, p, e, refl, refl, refl, lends)
+turn-shares quantum _ _ _ lends = absurd lends

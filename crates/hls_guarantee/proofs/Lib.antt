@@ -10,6 +10,7 @@ pub mod Injective
 pub mod Pieces
 pub mod Missed
 pub mod Spans
+pub mod Times
 pub mod Shares
 pub mod Fractions
 pub mod Readings

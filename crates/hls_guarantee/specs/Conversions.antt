@@ -6,7 +6,7 @@ use Rattle.hls_frac.specs.Frac.{IsAtMost, IsQuotient}
 use Rattle.hls_guarantee.specs.declared.Guarantee.{Guarantee}
 use Rattle.hls_guarantee.specs.declared.Guarantee.TheVariants.{All, Null, Resb, Resc, Psbe}
 use Rattle.hls_guarantee.specs.declared.rule.RuleName.{RuleName}
-use Rattle.hls_guarantee.specs.declared.rule.RuleName.TheVariants.{R1, R2, R3, R4, R5, R6, R7, R8, R9}
+use Rattle.hls_guarantee.specs.declared.rule.RuleName.TheVariants.{R1, R2, R3, R4, R5, R6, R7, R8, R9, R10, R11}
 use Rattle.hls_guarantee.specs.Limits.{IsValid}
 
 -- d / s ≤ d' / s': the share s with the error d starts no later than s' with d'
@@ -20,6 +20,13 @@ IsError d m x y = d.num * y + m * x * d.den ≡ m * y * d.den
 -- x ≤ s * y - d: of y ticks, the share s with the error d is x or more
 abbrev pub Covers : (s d : Frac) (x y : ℕ) → Type 0
 Covers s d x y = (x * d.den + d.num) * s.den ≤ s.num * y * d.den
+
+-- for some number of times, so many times x are x' or more, and so many times y are y' or less
+pub record HasTimes (x y x' y' : ℕ) : Type 0 where
+  pub times : ℕ
+  pub some : 1 ≤ times
+  pub enough : x' ≤ times * x
+  pub within : times * y ≤ y'
 
 -- a rule leads from the first guarantee to the second; what has a stroke is free
 abbrev pub Leads : RuleName → Guarantee → Guarantee → Type 0
@@ -47,6 +54,10 @@ Leads R8 All (Resc false x' y') = Unit {0}
 Leads R8 All (Psbe s' d') = Unit {0}
 -- anything is nothing
 Leads R9 g h = h ≡ Null
+-- x of each block of y, x' or more, are x' of any 2 * y - 2 * x + x' ticks in a row, or of more
+Leads R10 (Resb hard x y) (Resc false x' y') = (x' ≤ x) × (2 * y + x' ≤ 2 * x + y')
+-- x of any y ticks in a row are so many times x of so many times y ticks in a row, or of more
+Leads R11 (Resc hard x y) (Resc false x' y') = HasTimes x y x' y'
 Leads _ _ _ = ⊥
 
 -- a conversion by this rule, within the limits of derivations

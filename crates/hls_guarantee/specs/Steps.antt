@@ -23,6 +23,13 @@ pub record IsFairShare (total most weight : ℕ) (s d s' d' : Frac) : Type 0 whe
   -- ((d + others) * weight + rest) / total
   pub error : IsQuotient d' ((d.num + others * d.den) * weight + rest * d.den) (d.den * total)
 
+-- the share s' with the error d' that a seat has of s with d, beside 31 seats that have a quantum each in turn
+pub record IsTurnShare (quantum : ℕ) (s d s' d' : Frac) : Type 0 where
+  -- s / 32
+  pub rate : IsQuotient s' s.num (s.den * 32)
+  -- (d + 31 * quantum) / 32
+  pub error : IsQuotient d' (d.num + 31 * quantum * d.den) (d.den * 32)
+
 -- what terms of the scheduler's kind lend
 abbrev pub LendsByTerms : Config → Terms → Guarantee → Guarantee → Type 0
 -- the processor lends every tick
@@ -37,6 +44,8 @@ LendsByTerms (configs.Wheel frame) (terms.Slots places) All h =
 -- a weight is a part of a share
 LendsByTerms (configs.Sfq total most) (terms.Weight weight) (Psbe s d) (Psbe s' d') =
     IsFairShare total most weight s d s' d'
+-- a seat in a round is one of 32 at most
+LendsByTerms (configs.Rr quantum) terms.Turn (Psbe s d) (Psbe s' d') = IsTurnShare quantum s d s' d'
 -- other ports may add to what one port gives
 LendsByTerms (configs.Join ports) terms.Sole g h = IsSoft g × (h ≡ g)
 LendsByTerms _ _ _ _ = ⊥

@@ -21,4 +21,8 @@ pub enum RuleName {
     R8,
     /// Anything is nothing.
     R9,
+    /// A reservation by blocks is one by longer sliding windows, the shorter the less of its budget is promised.
+    R10,
+    /// A reservation by sliding windows is one of a multiple of its budget, by windows of as many periods.
+    R11,
 }

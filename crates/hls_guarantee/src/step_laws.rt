@@ -5,7 +5,7 @@ ghost use Rattle.hls_frac.specs.Frac.{IsQuotient, IsSum, IsProduct};
 ghost use Rattle.hls_chron.specs.Kinds.{kind_of, terms_kind};
 ghost use Rattle.hls_chron.specs.Ranges.{ConfigInRange};
 ghost use Rattle.hls_guarantee.specs.Conversions.{Leads};
-ghost use Rattle.hls_guarantee.specs.Steps.{IsFairShare, LendsByTerms, LendsThrough};
+ghost use Rattle.hls_guarantee.specs.Steps.{IsFairShare, IsTurnShare, LendsByTerms, LendsThrough};
 
 use crate::{Guarantee, RuleName};
 use hls_chron::{Config, Terms};
@@ -31,9 +31,12 @@ pub fn first_priority_has_it_all(priority: u32, g: Guarantee, h: Guarantee)
         ((priority ≡ 0) × (h ≡ g)) }
 {}
 
-/// A turn in a round is promised nothing.
-pub fn turns_lend_nothing(quantum: u32, terms: Terms, g: Guarantee, h: Guarantee)
-    ensures { (port : ℕ) → LendsThrough (Config.Rr quantum) terms port g h → h ≡ Guarantee.Null }
+/// A turn in a round is lent a part of a share, and of anything else nothing.
+pub fn turns_lend_shares(quantum: u32, terms: Terms, g: Guarantee, h: Guarantee)
+    requires { h ≢ Guarantee.Null }
+    ensures { (port : ℕ) → LendsThrough (Config.Rr quantum) terms port g h →
+        (s d rate error : Frac) × (terms ≡ Terms.Turn) × (g ≡ Guarantee.Psbe s d) × (h ≡ Guarantee.Psbe rate error)
+        × IsTurnShare quantum s d rate error }
 {}
 
 /// Terms of a scheduler's kind make one guarantee of what the scheduler has.
@@ -60,6 +63,12 @@ pub fn fair_shares_are_lesser(
 )
     requires weight { 1 ≤ weight }
     requires share { IsFairShare total most weight s d rate error }
+    ensures { Leads RuleName.R1 (Guarantee.Psbe s d) (Guarantee.Psbe rate error) }
+{}
+
+/// The share of a turn is a lower share that starts no earlier, as by `R1`.
+pub fn shares_of_turns_are_lesser(quantum: u32, s: Frac, d: Frac, rate: Frac, error: Frac)
+    requires { IsTurnShare quantum s d rate error }
     ensures { Leads RuleName.R1 (Guarantee.Psbe s d) (Guarantee.Psbe rate error) }
 {}
 

@@ -18,7 +18,7 @@ use Rattle.hls_chron.specs.declared.plain.Kind.TheVariants as kinds
 use Rattle.hls_guarantee.specs.declared.Guarantee.{Guarantee}
 use Rattle.hls_guarantee.specs.declared.Guarantee.TheVariants.{All as Whole, Null, Resb, Resc, Psbe}
 use Rattle.hls_guarantee.specs.declared.rule.RuleName.{RuleName}
-use Rattle.hls_guarantee.specs.declared.rule.RuleName.TheVariants.{R1, R2, R3, R4, R5, R6, R7, R8, R9}
+use Rattle.hls_guarantee.specs.declared.rule.RuleName.TheVariants.{R1, R2, R3, R4, R5, R6, R7, R8, R9, R10, R11}
 use Rattle.hls_guarantee.specs.Limits.{IsValid, IsReservation}
 use Rattle.hls_guarantee.specs.Spelling.{fraction_text, spelling}
 use Rattle.hls_guarantee.proofs.Spellings.{cases_whole, text_of_whole, text_of_ratio, fits_num, fits_den}
@@ -121,6 +121,8 @@ rule_line R6 = refl
 rule_line R7 = refl
 rule_line R8 = refl
 rule_line R9 = refl
+rule_line R10 = refl
+rule_line R11 = refl
 
 scheduler_line : (kind : Kind) (port : ℕ) → PortFits kind port → Lacks 10 (scheduler_text kind port)
 scheduler_line kinds.Cpu port fits = refl

@@ -10,7 +10,7 @@ use Rattle.hls_chron.specs.declared.plain.Kind.TheVariants.{Cpu, Fp, Edf, Sfq, R
 use Rattle.hls_guarantee.specs.declared.Guarantee.{Guarantee}
 use Rattle.hls_guarantee.specs.declared.Guarantee.TheVariants.{All, Null}
 use Rattle.hls_guarantee.specs.declared.rule.RuleName.{RuleName}
-use Rattle.hls_guarantee.specs.declared.rule.RuleName.TheVariants.{R1, R2, R3, R4, R5, R6, R7, R8, R9}
+use Rattle.hls_guarantee.specs.declared.rule.RuleName.TheVariants.{R1, R2, R3, R4, R5, R6, R7, R8, R9, R10, R11}
 use Rattle.hls_guarantee.specs.Limits.{IsValid}
 use Rattle.hls_guarantee.specs.Spelling.{spelling}
 use Rattle.hls_derive.specs.declared.derivation.Step.{Step}
@@ -82,14 +82,24 @@ rule_of digit =
     (if digit == 56 then Some R8 else
     (if digit == 57 then Some R9 else None))))))))
 
--- a rule between two spaces, and what stands behind it
-unfoldable pub rule_at : List ℕ → Option (RuleName × List ℕ)
-rule_at text = do
+-- a rule of one digit between two spaces, and what stands behind it
+abbrev pub rule_of_digit_at : List ℕ → Option (RuleName × List ℕ)
+rule_of_digit_at text = do
   digits ← after_words (codes " R") text
   digit ← first_byte digits
   rule ← rule_of digit.0
   rest ← after_words (codes " ") digit.1
   Some (rule, rest)
+
+abbrev pub of_rule : RuleName → List ℕ → Option (RuleName × List ℕ)
+of_rule rule rest = Some (rule, rest)
+
+-- any rule
+unfoldable pub rule_at : List ℕ → Option (RuleName × List ℕ)
+rule_at text =
+    first_of_two (after_words (codes " R10 ") text) (of_rule R10)
+    (first_of_two (after_words (codes " R11 ") text) (of_rule R11)
+    (rule_of_digit_at text))
 
 -- the port of a digit
 abbrev pub port_of : ℕ → Option ℕ
