@@ -21,7 +21,7 @@ fn share(s: (u128, u128), d: (u128, u128)) -> Result<Guarantee, Fail> {
 #[test]
 fn reads_and_writes(rt: HostRuntime) -> Result<(), Fail> {
     let quarter = share((1, 4), (3, 4))?;
-    let cases: [(&[u8], Kind, u8, u32, Guarantee); 10] = [
+    let cases: [(&[u8], Kind, u8, u32, Guarantee); 11] = [
         (b"ALL CPU ALL", Kind::Cpu, 0, 0, Guarantee::All),
         (b"ALL FP NULL", Kind::Fp, 0, 0, Guarantee::Null),
         (EXAMPLE, Kind::Sfq, 0, 1, share((9, 40), (83, 20))?),
@@ -29,6 +29,7 @@ fn reads_and_writes(rt: HostRuntime) -> Result<(), Fail> {
         (b"ALL JOIN 3 ALL R9 NULL", Kind::Join, 3, 1, Guarantee::Null),
         (SIX, Kind::Edf, 0, 6, Guarantee::Null),
         (b"NULL RR NULL", Kind::Rr, 0, 0, Guarantee::Null),
+        (b"ALL RR ALL R10 NULL R11 NULL", Kind::Rr, 0, 2, Guarantee::Null),
         (
             b"ALL WHEEL RESCH 1 4 R5 PSBE 1/4 3/4",
             Kind::Wheel,
