@@ -1,8 +1,6 @@
 -- How a guarantee is derived at a place, from what its ports have.
 use Rattle.std.specs.Prelude.{◌≡◌, List, [], ◌∷◌, Some, slice_get}
 use Rattle.hls_frac.specs.Frac.{IsQuotient}
-use Rattle.hls_chron.specs.declared.plain.Config.{Config}
-use Rattle.hls_chron.specs.declared.plain.Config.TheVariants.{Sfq}
 use Rattle.hls_chron.specs.Kinds.{kind_of}
 use Rattle.hls_guarantee.specs.declared.Guarantee.{Guarantee}
 use Rattle.hls_guarantee.specs.declared.Guarantee.TheVariants.{Psbe}
@@ -12,7 +10,6 @@ use Rattle.hls_derive.specs.declared.derivation.Place.{Place}
 use Rattle.hls_derive.specs.declared.derivation.Step.{Step}
 use Rattle.hls_derive.specs.declared.derivation.Derivation.{Derivation}
 use Rattle.hls_derive.specs.Derivation.{end_of, last_of}
-use Rattle.hls_derive.specs.Answers.{Answers}
 
 -- each step is a conversion of what the one before it reached, the first of g
 abbrev pub FollowsBy : Guarantee → List Step → Type 0
@@ -30,28 +27,7 @@ pub record IsDerivation (place : Place) (haves : List Guarantee) (want : Guarant
   pub after : FollowsBy d.sched.to d.after
   pub ends : last_of d ≡ want
 
--- ---- direct derivations
-
 -- every tick as a share: the rate 1 and the error 0
 abbrev pub IsWholeShare : Guarantee → Type 0
 IsWholeShare (Psbe s d) = IsQuotient s 1 1 × IsQuotient d 0 1
 IsWholeShare _ = ⊥
-
--- what a rule is asked for before the scheduler step: at fair queueing the whole share, elsewhere want itself
-abbrev pub IsAskedBefore : Config → (want asked : Guarantee) → Type 0
-IsAskedBefore (Sfq total most) want asked = IsWholeShare asked
-IsAskedBefore _ want asked = asked ≡ want
-
--- each step goes to what its rule answers where this is wanted
-abbrev pub FollowsAnswers : (wanted : Guarantee) → Guarantee → List Step → Type 0
-FollowsAnswers wanted g [] = Unit {0}
-FollowsAnswers wanted g (s ∷ steps) = Answers s.rule g wanted (Some s.to) × FollowsAnswers wanted s.to steps
-
--- each conversion goes to what its rule answers
-pub record IsDirect (place : Place) (haves : List Guarantee) (want : Guarantee) (d : Derivation)
-    : Type 0 where
-  pub derives : IsDerivation place haves want d
-  pub asked : Guarantee
-  pub asks : IsAskedBefore place.config want asked
-  pub before : FollowsAnswers asked d.from d.before
-  pub after : FollowsAnswers want d.sched.to d.after
