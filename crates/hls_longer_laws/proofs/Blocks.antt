@@ -11,7 +11,7 @@ use Rattle.hls_guarantee.specs.Satisfaction.{IsReserved, Satisfies}
 use Rattle.hls_guarantee.proofs.Missed.{missed, missed-le, balance, slow}
 use Rattle.hls_guarantee.proofs.Spans.{Spans, PieceSpans, at}
 use Rattle.hls_guarantee.proofs.Readings.{blocks-spans, spans-windows}
-use Rattle.hls_longer_laws.specs.Further.{Implies}
+use Rattle.hls_longer_laws.specs.Implies.{Implies}
 use Rattle.hls_longer_laws.specs.Least.{least_of_blocks}
 use Rattle.hls_longer_laws.proofs.Late.{late, missed_is, late-satisfies, late-least}
 

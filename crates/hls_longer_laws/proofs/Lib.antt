@@ -1,4 +1,3 @@
-pub mod Times
 mod Further
 mod Late
 mod Windows

@@ -11,7 +11,7 @@ use Rattle.hls_guarantee.proofs.Fractions.{share-less}
 use Rattle.hls_guarantee.proofs.Missed.{missed, balance}
 use Rattle.hls_guarantee.proofs.Readings.{windows-spans, blocks-spans}
 use Rattle.hls_guarantee.proofs.Shares.{span-share, piece-share}
-use Rattle.hls_longer_laws.specs.Further.{Implies}
+use Rattle.hls_longer_laws.specs.Implies.{Implies}
 use Rattle.hls_longer_laws.specs.Shares.{IsShareOf}
 use Rattle.hls_longer_laws.proofs.Late.{late, missed_is, late-satisfies}
 use Rattle.hls_longer_laws.proofs.Blocks.{worst, first_is, later_is, worst-satisfies}

@@ -6,9 +6,10 @@ use Rattle.hls_guarantee.specs.declared.Guarantee.TheVariants.{Resc}
 use Rattle.hls_guarantee.specs.Limits.{IsReservation}
 use Rattle.hls_guarantee.proofs.Missed.{missed, balance}
 use Rattle.hls_guarantee.proofs.Readings.{windows-spans, spans-windows}
-use Rattle.hls_longer_laws.specs.Further.{HasTimes, Implies}
+use Rattle.hls_guarantee.specs.Conversions.{HasTimes}
+use Rattle.hls_longer_laws.specs.Implies.{Implies}
 use Rattle.hls_longer_laws.specs.Least.{least_of_windows}
-use Rattle.hls_longer_laws.proofs.Times.{times_and}
+use Rattle.hls_guarantee.proofs.Times.{times_and}
 use Rattle.hls_longer_laws.proofs.Late.{late, missed_is, late-satisfies, late-least}
 
 pub enough : (hard : Bool) (x y x' y' : ℕ) → IsReservation x y → x' ≤ y' → x' ≤ least_of_windows x y y'

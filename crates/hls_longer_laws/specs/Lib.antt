@@ -1,3 +1,3 @@
-pub mod Further
+pub mod Implies
 pub mod Least
 pub mod Shares

@@ -1,49 +1,24 @@
-//! What holds of the further conversions: each function's contract is a law, and its body does nothing.
+//! What holds of conversions to longer windows: each function's contract is a law, and its body does nothing.
 
-ghost use Rattle.std.specs.Prelude.{ℕ, ◌*◌, ◌/◌, ◌≤◌, ◌↔◌, Bool, false, List};
+ghost use Rattle.std.specs.Prelude.{ℕ, ◌*◌, ◌/◌, ◌≤◌, ◌↔◌};
 ghost use Rattle.hls_guarantee.specs.Limits.{IsReservation};
-ghost use Rattle.hls_guarantee.specs.Satisfaction.{ListSatisfies};
-ghost use Rattle.hls_guarantee.specs.Cap.{KeepsCap, ListKeepsCap};
-ghost use Rattle.hls_guarantee.specs.Supply.{Supplies};
-ghost use Rattle.hls_guarantee.specs.Conversions.{Leads};
-ghost use Rattle.hls_longer_laws.specs.Further.{HasTimes, ConvertsFurther, LeadsFurther, Implies};
+ghost use Rattle.hls_guarantee.specs.Conversions.{HasTimes, Leads};
+ghost use Rattle.hls_longer_laws.specs.Implies.{Implies};
 ghost use Rattle.hls_longer_laws.specs.Least.{least_of_windows, least_of_blocks};
 ghost use Rattle.hls_longer_laws.specs.Shares.{IsShareOf};
 
-use crate::FurtherRule;
 use hls_frac::Frac;
 use hls_guarantee::{Guarantee, RuleName};
 
-/// Where a further rule leads from one guarantee to another, ticks that satisfy the one satisfy the other.
-pub fn further_conversions_keep_satisfaction(rule: FurtherRule, g: Guarantee, h: Guarantee)
-    requires { ConvertsFurther rule g h }
-    ensures ticks { Implies g h }
-    ensures list { (list : List Bool) → ListSatisfies g list → ListSatisfies h list }
-{}
-
-/// What a further rule leads to has no cap: all ticks keep it.
-pub fn further_conversions_have_no_caps(rule: FurtherRule, g: Guarantee, h: Guarantee)
-    requires { ConvertsFurther rule g h }
-    ensures ticks { (served : ℕ → Bool) (lo hi : ℕ) → KeepsCap h served lo hi }
-    ensures list { (list : List Bool) → ListKeepsCap h list }
-{}
-
-/// So a schedule that supplies the one supplies the other.
-pub fn further_conversions_keep_supply(rule: FurtherRule, g: Guarantee, h: Guarantee)
-    requires { ConvertsFurther rule g h }
-    ensures { (served asks : ℕ → Bool) (lo hi : ℕ) → Supplies g served asks lo hi →
-        Supplies h served asks lo hi }
-{}
-
 /// `R10` reaches what `R3` reaches, and more.
 pub fn blocks_lead_further(g: Guarantee, h: Guarantee)
-    ensures { Leads RuleName.R3 g h → LeadsFurther FurtherRule.R10 g h }
+    ensures { Leads RuleName.R3 g h → Leads RuleName.R10 g h }
 {}
 
 /// `R11` reaches all windows that `R1` reaches from soft windows: those of one times the budget and the period.
 pub fn windows_lead_further(x: u32, y: u32, less: u32, longer: u32)
     ensures { Leads RuleName.R1 (Guarantee.Resc false x y) (Guarantee.Resc false less longer) →
-        LeadsFurther FurtherRule.R11 (Guarantee.Resc false x y) (Guarantee.Resc false less longer) }
+        Leads RuleName.R11 (Guarantee.Resc false x y) (Guarantee.Resc false less longer) }
 {}
 
 /// The most that `R11` reaches is by the whole periods of the longer window.
@@ -59,7 +34,7 @@ pub fn blocks_lead_no_further(hard: bool, x: u32, y: u32, less: u32, longer: u32
     requires to { IsReservation less longer }
     requires within { less ≤ x }
     ensures { Implies (Guarantee.Resb hard x y) (Guarantee.Resc false less longer) →
-        LeadsFurther FurtherRule.R10 (Guarantee.Resb hard x y) (Guarantee.Resc false less longer) }
+        Leads RuleName.R10 (Guarantee.Resb hard x y) (Guarantee.Resc false less longer) }
 {}
 
 /// From windows, no windows of so many whole periods follow but by `R11`: there are ticks that satisfy the windows, and
@@ -68,7 +43,7 @@ pub fn windows_lead_no_further(hard: bool, x: u32, y: u32, less: u32, times: u32
     requires from { IsReservation x y }
     requires some { 1 ≤ times }
     ensures { Implies (Guarantee.Resc hard x y) (Guarantee.Resc false less (times * y)) →
-        LeadsFurther FurtherRule.R11 (Guarantee.Resc hard x y) (Guarantee.Resc false less (times * y)) }
+        Leads RuleName.R11 (Guarantee.Resc hard x y) (Guarantee.Resc false less (times * y)) }
 {}
 
 /// From windows exactly those windows follow that ask for no more than windows of their length have at least: a budget

@@ -1,8 +1,4 @@
-//! What more follows of reservations by blocks and by sliding windows: two further rules of conversion, and exactly
-//! which windows and shares follow.
+//! What follows of reservations by blocks and by sliding windows: exactly which windows and shares.
 #![tactic(auto)]
 
 pub mod laws;
-mod rule;
-
-pub use rule::FurtherRule;

@@ -10,7 +10,7 @@ use Rattle.hls_frac.proofs.Quotients.{quotient-same}
 use Rattle.hls_guarantee.specs.declared.Guarantee.{Guarantee}
 use Rattle.hls_guarantee.specs.declared.Guarantee.TheVariants.{All, Null, Resb, Resc, Psbe}
 use Rattle.hls_guarantee.specs.declared.rule.RuleName.{RuleName}
-use Rattle.hls_guarantee.specs.declared.rule.RuleName.TheVariants.{R1, R2, R3, R4, R5, R6, R7, R8, R9}
+use Rattle.hls_guarantee.specs.declared.rule.RuleName.TheVariants.{R1, R2, R3, R4, R5, R6, R7, R8, R9, R10, R11}
 use Rattle.hls_guarantee.specs.Limits.{IsReservation, IsValid}
 use Rattle.hls_guarantee.specs.Conversions.{IsError, Leads, Converts}
 use Rattle.hls_guarantee.proofs.Readings.{error-quotient, quotient-error}
@@ -198,6 +198,8 @@ pub record IsOther (rule : RuleName) : Type 0 where
   pub not_5 : rule ≡ R5 → ⊥
   pub not_7 : rule ≡ R7 → ⊥
   pub not_9 : rule ≡ R9 → ⊥
+  pub not_10 : rule ≡ R10 → ⊥
+  pub not_11 : rule ≡ R11 → ⊥
 
 pub other-lacks : (rule : RuleName) (g h : Guarantee) → IsOther rule → IsStrongest rule g h → ⊥
 other-lacks R1 g h other strongest = other.not_1 refl
@@ -209,6 +211,8 @@ other-lacks R6 g h other strongest = no-share g h strongest
 other-lacks R7 g h other strongest = other.not_7 refl
 other-lacks R8 g h other strongest = no-whole g h strongest
 other-lacks R9 g h other strongest = other.not_9 refl
+other-lacks R10 g h other strongest = other.not_10 refl
+other-lacks R11 g h other strongest = other.not_11 refl
 
 -- ---- rules that conclude one guarantee at most
 
@@ -251,6 +255,8 @@ one_leads R5 (Resc hard x y) (Psbe t e) (Psbe u f) single valid a b =
 one_leads R5 (Resc hard x y) (Psbe t e) k single valid a b = absurd b
 one_leads R7 (Resc hard x y) h k single valid a b = a ∙ sym b
 one_leads R9 g h k single valid a b = a ∙ sym b
+one_leads R10 g h k single valid a b = absurd single
+one_leads R11 g h k single valid a b = absurd single
 one_leads R1 g h k single valid a b = absurd single
 one_leads R3 g h k single valid a b = absurd single
 one_leads R6 g h k single valid a b = absurd single

@@ -1,6 +1,6 @@
 -- Whether a rule leads to a guarantee, and whether it has a strongest conclusion, is decided. So what is
 -- answered is concluded.
-use Rattle.std.proofs.Common.{◌≡◌, ℕ, ◌+◌, ◌*◌, ◌-◌, ◌≤◌, Bool, true, false, ◌⊎◌, inl, inr, refl, sym}
+use Rattle.std.proofs.Common.{◌≡◌, ℕ, ◌+◌, ◌*◌, ◌-◌, ◌/◌, ◌≤◌, Bool, true, false, ◌⊎◌, inl, inr, refl, sym}
 use Rattle.std.proofs.Common.{subst, ◌∙◌, arith}
 use Rattle.std.specs.Prelude.{Option, Some, None, IfSome}
 use Rattle.std.proofs.lemmas.Bool.{cases_lt}
@@ -10,14 +10,16 @@ use Rattle.hls_frac.proofs.Quotients.{quotient_of}
 use Rattle.hls_guarantee.specs.declared.Guarantee.{Guarantee}
 use Rattle.hls_guarantee.specs.declared.Guarantee.TheVariants.{All, Null, Resb, Resc, Psbe}
 use Rattle.hls_guarantee.specs.declared.rule.RuleName.{RuleName}
-use Rattle.hls_guarantee.specs.declared.rule.RuleName.TheVariants.{R1, R2, R3, R4, R5, R6, R7, R8, R9}
+use Rattle.hls_guarantee.specs.declared.rule.RuleName.TheVariants.{R1, R2, R3, R4, R5, R6, R7, R8, R9, R10, R11}
 use Rattle.hls_guarantee.specs.contracts.GuaranteePartialEq.TheImpl.{eq-value}
 use Rattle.hls_guarantee.specs.Limits.{IsReservation, IsValid}
-use Rattle.hls_guarantee.specs.Conversions.{StartsNoLater, IsError, Leads, Converts}
+use Rattle.hls_guarantee.specs.Conversions.{StartsNoLater, IsError, HasTimes, Leads, Converts}
+use Rattle.hls_guarantee.proofs.Times.{most_times, times_of}
 use Rattle.hls_derive.specs.Answers.{IsStrongest, Answers}
 use Rattle.hls_rules.proofs.Equal.{equal-same, equal-self}
 use Rattle.hls_rules.proofs.BestOnes.{IsSingle, single-strongest, no-share, no-whole, blocks-strongest}
 use Rattle.hls_rules.proofs.BestOnes.{windows-strongest}
+use Rattle.hls_rules.proofs.LongerOnes.{one-strongest, blocks-lack, once-strongest, windows-lack}
 
 le_or : (a b : ℕ) → (a ≤ b) ⊎ (a ≤ b → ⊥)
 le_or a b = elim (cases_lt b a) [ inl less ↦ inr (λ most. absurd (omega arith)) | inr most ↦ inl most ]
@@ -46,34 +48,43 @@ same_by g h false e = inr (λ same.
 same_or : (g h : Guarantee) → (g ≡ h) ⊎ (g ≡ h → ⊥)
 same_or g h = same_by g h (eq-value.it g h) refl
 
-leads_or : (rule : RuleName) (g h : Guarantee) → Leads rule g h ⊎ (Leads rule g h → ⊥)
-leads_or R1 (Resc false x y) (Resc false u v) = both_or (u ≤ x) (y ≤ v) (le_or u x) (le_or y v)
-leads_or R1 (Resb false x y) (Resb false u v) = both_or (u ≤ x) (v ≡ y) (le_or u x) (eq_or v y)
-leads_or R1 (Psbe s d) (Psbe t e) =
+times_or : (x y u v : ℕ) → 1 ≤ y → HasTimes x y u v ⊎ (HasTimes x y u v → ⊥)
+times_or x y u v some = elim (both_or (1 ≤ v / y) (u ≤ v / y * x) (le_or 1 (v / y)) (le_or u (v / y * x))) [
+  | inl both ↦ inl (times_of x y u v some both)
+  | inr never ↦ inr (λ has. never (most_times x y u v some has))
+]
+
+leads_or : (rule : RuleName) (g h : Guarantee) → IsValid g → Leads rule g h ⊎ (Leads rule g h → ⊥)
+leads_or R1 (Resc false x y) (Resc false u v) valid = both_or (u ≤ x) (y ≤ v) (le_or u x) (le_or y v)
+leads_or R1 (Resb false x y) (Resb false u v) valid = both_or (u ≤ x) (v ≡ y) (le_or u x) (eq_or v y)
+leads_or R1 (Psbe s d) (Psbe t e) valid =
     both_or (IsAtMost t s) (StartsNoLater s d t e) (le_or (t.num * s.den) (s.num * t.den))
     (le_or (d.num * t.num * (e.den * s.den)) (e.num * s.num * (d.den * t.den)))
-leads_or R2 (Resb true x y) h = same_or h (Resb false x y)
-leads_or R2 (Resc true x y) h = same_or h (Resc false x y)
-leads_or R3 (Resb hard x y) (Resc false u v) =
+leads_or R2 (Resb true x y) h valid = same_or h (Resb false x y)
+leads_or R2 (Resc true x y) h valid = same_or h (Resc false x y)
+leads_or R3 (Resb hard x y) (Resc false u v) valid =
     both_or (u ≤ x) (2 * y ≤ x + v) (le_or u x) (le_or (2 * y) (x + v))
-leads_or R4 (Resb hard x y) (Psbe s d) =
+leads_or R4 (Resb hard x y) (Psbe s d) valid =
     both_or (IsQuotient s x y) (IsError d (2 * x) x y) (eq_or (s.num * y) (x * s.den))
     (eq_or (d.num * y + 2 * x * x * d.den) (2 * x * y * d.den))
-leads_or R5 (Resc hard x y) (Psbe s d) =
+leads_or R5 (Resc hard x y) (Psbe s d) valid =
     both_or (IsQuotient s x y) (IsError d x x y) (eq_or (s.num * y) (x * s.den))
     (eq_or (d.num * y + x * x * d.den) (x * y * d.den))
-leads_or R6 (Psbe s d) (Resc false x y) = le_or ((x * d.den + d.num) * s.den) (s.num * y * d.den)
-leads_or R6 (Psbe s d) (Resb false x y) = le_or ((x * d.den + d.num) * s.den) (s.num * y * d.den)
-leads_or R7 (Resc hard x y) h = same_or h (Resb hard x y)
-leads_or R8 All (Resb false x y) = inl tt
-leads_or R8 All (Resc false x y) = inl tt
-leads_or R8 All (Psbe s d) = inl tt
-leads_or R9 g h = same_or h Null
-leads_or _ _ _ = inr (λ leads. leads)
+leads_or R6 (Psbe s d) (Resc false x y) valid = le_or ((x * d.den + d.num) * s.den) (s.num * y * d.den)
+leads_or R6 (Psbe s d) (Resb false x y) valid = le_or ((x * d.den + d.num) * s.den) (s.num * y * d.den)
+leads_or R7 (Resc hard x y) h valid = same_or h (Resb hard x y)
+leads_or R8 All (Resb false x y) valid = inl tt
+leads_or R8 All (Resc false x y) valid = inl tt
+leads_or R8 All (Psbe s d) valid = inl tt
+leads_or R9 g h valid = same_or h Null
+leads_or R10 (Resb hard x y) (Resc false u v) valid =
+    both_or (u ≤ x) (2 * y + u ≤ 2 * x + v) (le_or u x) (le_or (2 * y + u) (2 * x + v))
+leads_or R11 (Resc hard x y) (Resc false u v) valid = times_or x y u v (omega (arith, valid.some, valid.fits))
+leads_or _ _ _ valid = inr (λ leads. leads)
 
 pub converts-or : (rule : RuleName) (g h : Guarantee) → IsValid g → IsValid h
     → Converts rule g h ⊎ (Converts rule g h → ⊥)
-converts-or rule g h from to = elim (leads_or rule g h) [
+converts-or rule g h from to = elim (leads_or rule g h from) [
   | inl leads ↦ inl (record { from = from; to = to; leads = leads })
   | inr nothing ↦ inr (λ c. nothing c.leads)
 ]
@@ -166,6 +177,28 @@ shares_or hard x y size =
       }),
     )
 
+one_or : (hard : Bool) (x y : ℕ) → IsReservation x y → HasStrongest R10 (Resb hard x y)
+one_or hard x y size = elim (cases_lt 1 x) [
+  | inl many ↦ inr (λ h best. blocks-lack hard x y h (λ one. absurd (omega arith)) best)
+  | inr few ↦ elim (cases_lt 10000 y) [
+    | inl long ↦ inr (λ h best. blocks-lack hard x y h (λ one. long) best)
+    | inr short ↦
+        let is : x ≡ 1 = (let some = size.some in omega arith) in
+        let size1 : IsReservation 1 y = subst (λ n. IsReservation n y) is size in
+        inl (
+          Resc false 1 (2 * y - 1),
+          subst (λ n. IsStrongest R10 (Resb hard n y) (Resc false 1 (2 * y - 1))) (sym is)
+              (one-strongest hard y size1 short),
+        )
+  ]
+]
+
+once_or : (hard : Bool) (x y : ℕ) → IsReservation x y → HasStrongest R11 (Resc hard x y)
+once_or hard x y size = elim (cases_lt 20000 (2 * y)) [
+  | inl far ↦ inl (Resc false x y, once-strongest hard x y size far)
+  | inr short ↦ inr (λ h best. windows-lack hard x y h short best)
+]
+
 -- the one conclusion
 only : (rule : RuleName) (g h : Guarantee) → IsSingle rule → IsValid g → IsValid h → Leads rule g h
     → HasStrongest rule g
@@ -187,6 +220,8 @@ strongest_or R6 g valid = inr (λ h best. no-share g h best)
 strongest_or R7 (Resc hard x y) valid = only R7 (Resc hard x y) (Resb hard x y) tt valid valid refl
 strongest_or R8 g valid = inr (λ h best. no-whole g h best)
 strongest_or R9 g valid = only R9 g Null tt valid tt refl
+strongest_or R10 (Resb hard x y) valid = one_or hard x y valid
+strongest_or R11 (Resc hard x y) valid = once_or hard x y valid
 strongest_or _ _ valid = inr (λ h best. best.concluded.leads)
 
 -- ---- answers

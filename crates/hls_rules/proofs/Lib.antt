@@ -1,7 +1,8 @@
 pub mod Sizes
 pub mod BestOnes
+pub mod LongerOnes
 pub mod Equal
 pub mod Answering
 pub mod Decided
 pub mod Once
-pub mod Nine
+pub mod Eleven

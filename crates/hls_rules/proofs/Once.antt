@@ -6,7 +6,7 @@ use Rattle.std.proofs.lemmas.Option.{slice_get_within}
 use Rattle.std.proofs.lemmas.List.Sums.{sum_by-cons}
 use Rattle.std.proofs.lemmas.Bool.Decides.{nat_tests}
 use Rattle.hls_guarantee.specs.declared.rule.RuleName.{RuleName}
-use Rattle.hls_guarantee.specs.declared.rule.RuleName.TheVariants.{R1, R2, R3, R4, R5, R6, R7, R8, R9}
+use Rattle.hls_guarantee.specs.declared.rule.RuleName.TheVariants.{R1, R2, R3, R4, R5, R6, R7, R8, R9, R10, R11}
 use Rattle.hls_rules.specs.Book.{rule_number, times_named}
 
 number_same : (a b : RuleName) → rule_number a ≡ rule_number b → a ≡ b
@@ -19,6 +19,8 @@ number_same R6 R6 e = refl
 number_same R7 R7 e = refl
 number_same R8 R8 e = refl
 number_same R9 R9 e = refl
+number_same R10 R10 e = refl
+number_same R11 R11 e = refl
 number_same a b e = cc
 
 same_number : (m n : ℕ) → (m == n) ≡ true → m ≡ n

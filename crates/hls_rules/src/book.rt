@@ -4,7 +4,7 @@ ghost use Rattle.hls_rules.specs.Book.{EachOnce};
 
 use crate::Rule;
 
-/// Rules, each of `R1` to `R9` once.
+/// Rules, each of `R1` to `R11` once.
 #[derive(Drop)]
 pub struct RuleBook {
     pub rules: Vec<Rule>,

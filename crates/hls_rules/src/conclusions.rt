@@ -5,6 +5,7 @@ ghost use Rattle.hls_guarantee.specs.Limits.{IsValid, IsShare, IsReservation};
 ghost use Rattle.hls_guarantee.specs.Conversions.{Converts, Leads, StartsNoLater, Covers};
 ghost use Rattle.hls_derive.specs.Answers.{IsStrongest};
 
+use crate::longer::{repeats, slides_sooner, windows_of_one, windows_once};
 use hls_frac::Frac;
 use hls_guarantee::{Guarantee, RuleName};
 
@@ -91,6 +92,8 @@ pub fn strongest(rule: RuleName, g: &Guarantee) -> Option<Guarantee>
         (RuleName::R5, Guarantee::Resc { x, y, .. }) => Some(share_of(x, y, x)),
         (RuleName::R7, Guarantee::Resc { hard, x, y }) => Some(Guarantee::Resb { hard, x, y }),
         (RuleName::R9, _) => Some(Guarantee::Null),
+        (RuleName::R10, Guarantee::Resb { x, y, .. }) => windows_of_one(x, y),
+        (RuleName::R11, Guarantee::Resc { x, y, .. }) => windows_once(x, y),
         _ => None,
     }
 }
@@ -134,6 +137,8 @@ pub fn converts(rule: RuleName, g: &Guarantee, h: &Guarantee) -> bool
         RuleName::R3 => slides(g, h),
         RuleName::R6 => reserves(g, h),
         RuleName::R8 => is_part_of_all(g, h),
+        RuleName::R10 => slides_sooner(g, h),
+        RuleName::R11 => repeats(g, h),
         RuleName::R2 | RuleName::R4 | RuleName::R5 | RuleName::R7 | RuleName::R9 => {
             is_found(strongest(rule, g), *h)
         }

@@ -33,8 +33,8 @@ pub fn books_name_each_rule_at_one_place(name: RuleName)
         ((other : ℕ) → slice_get names other ≡ Some name → other ≡ at) }
 {}
 
-/// The rules that there are name each of `R1` to `R9` once.
-#[tactic(auto, using(crate::proofs::Nine::each_once))]
+/// The rules that there are name each of `R1` to `R11` once.
+#[tactic(auto, using(crate::proofs::Eleven::each_once))]
 pub fn rules_are_named_once()
     ensures { EachOnce RULES }
 {}

@@ -4,9 +4,8 @@
 mod book;
 mod conclusions;
 pub mod laws;
+mod longer;
 mod rule;
-#[cfg(test)]
-mod tests;
 
 pub use book::RuleBook;
 pub use conclusions::{converts, quotient, strongest};

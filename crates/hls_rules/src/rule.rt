@@ -1,15 +1,17 @@
 // Rules, each kept beside what its calls answer.
-ghost use Rattle.std.specs.Prelude.{◌≡◌, IfSome};
+ghost use Rattle.std.specs.Prelude.{◌≡◌, IfSome, false};
 ghost use Rattle.hls_guarantee.specs.Limits.{IsValid};
 ghost use Rattle.hls_guarantee.specs.Conversions.{Converts};
 ghost use Rattle.hls_derive.specs.Answers.{Answers};
+ghost use Rattle.hls_rules.specs.Book.{is_longer};
 
 use crate::{converts, strongest};
 use hls_guarantee::{Guarantee, RuleName};
 
-/// What the rule of that name answers to `have` where `want` is wanted: `want` where the rule concludes it;
-/// else the strongest of its conclusions, which equals or gives by `R1` every other one; else `None`.
+/// What the rule of that name, one of `R1` to `R9`, answers to `have` where `want` is wanted: `want` where the rule
+/// concludes it; else the strongest of its conclusions, which equals or gives by `R1` every other one; else `None`.
 pub fn answer(name: RuleName, have: Guarantee, want: Guarantee) -> Option<Guarantee>
+    requires name { is_longer name ≡ false }
     requires have { IsValid have }
     requires want { IsValid want }
     ensures exact { Answers name have want result }
@@ -23,7 +25,7 @@ pub fn answer(name: RuleName, have: Guarantee, want: Guarantee) -> Option<Guaran
 }
 
 /// The rules that there are.
-pub const RULES: [RuleName; 9] = [
+pub const RULES: [RuleName; 11] = [
     RuleName::R1,
     RuleName::R2,
     RuleName::R3,
@@ -33,6 +35,8 @@ pub const RULES: [RuleName; 9] = [
     RuleName::R7,
     RuleName::R8,
     RuleName::R9,
+    RuleName::R10,
+    RuleName::R11,
 ];
 
 /// What a rule calls: with a guarantee, and one that is wanted.

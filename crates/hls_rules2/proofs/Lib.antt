@@ -1,3 +1,1 @@
-pub mod Strongest
-pub mod Decided
-pub mod Answering
+mod Answering

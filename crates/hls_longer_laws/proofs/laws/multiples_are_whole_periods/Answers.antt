@@ -1,4 +1,4 @@
-use Rattle.hls_longer_laws.proofs.Times.{most_times, times_of}
+use Rattle.hls_guarantee.proofs.Times.{most_times, times_of}
 use Rattle.hls_longer_laws.proofs.laws.multiples_are_whole_periods.Goals as goal
 
 pub returns : goal.returns

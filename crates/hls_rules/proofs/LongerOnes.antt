@@ -1,25 +1,23 @@
--- Which further conclusions are the strongest.
+-- Which longer windows are the strongest conclusions.
 use Rattle.std.proofs.Common.{◌≡◌, ℕ, ◌+◌, ◌*◌, ◌-◌, ◌<◌, ◌≤◌, Bool, false, inl, inr, ap, subst, sym, arith}
 use Rattle.std.specs.Prelude.{Option, Some, None, IfSome}
 use Rattle.std.proofs.Math.Nat.{mul-le-mul_right}
 use Rattle.std.proofs.lemmas.Bool.{cases_lt}
 use Rattle.hls_guarantee.specs.declared.Guarantee.{Guarantee}
 use Rattle.hls_guarantee.specs.declared.Guarantee.TheVariants.{Resb, Resc}
-use Rattle.hls_guarantee.specs.declared.rule.RuleName.TheVariants.{R1}
+use Rattle.hls_guarantee.specs.declared.rule.RuleName.{RuleName}
+use Rattle.hls_guarantee.specs.declared.rule.RuleName.TheVariants.{R1, R10, R11}
 use Rattle.hls_guarantee.specs.Limits.{IsReservation, IsValid}
-use Rattle.hls_guarantee.specs.Conversions.{Converts}
-use Rattle.hls_longer_laws.specs.declared.rule.FurtherRule.{FurtherRule}
-use Rattle.hls_longer_laws.specs.declared.rule.FurtherRule.TheVariants.{R10, R11}
-use Rattle.hls_longer_laws.specs.Further.{HasTimes, ConvertsFurther}
-use Rattle.hls_rules2.specs.Answers.{IsStrongestFurther}
+use Rattle.hls_guarantee.specs.Conversions.{HasTimes, Converts}
+use Rattle.hls_derive.specs.Answers.{IsStrongest}
 
 -- soft windows of which these are the best have no fewer ticks, and are no longer
 pub record IsLeast (x y x' y' : ℕ) : Type 0 where
   pub less : x' ≤ x
   pub longer : y ≤ y'
 
-pub best-least : (rule : FurtherRule) (g : Guarantee) (u v x y : ℕ) → IsStrongestFurther rule g (Resc false u v)
-    → ConvertsFurther rule g (Resc false x y) → IsLeast u v x y
+pub best-least : (rule : RuleName) (g : Guarantee) (u v x y : ℕ) → IsStrongest rule g (Resc false u v)
+    → Converts rule g (Resc false x y) → IsLeast u v x y
 best-least rule g u v x y strongest c = elim (strongest.best (Resc false x y) c) [
   | inl same ↦
       let first : x ≡ u = cc in
@@ -31,7 +29,7 @@ best-least rule g u v x y strongest c = elim (strongest.best (Resc false x y) c)
 -- ---- blocks
 
 one_best : (hard : Bool) (y : ℕ) (k : Guarantee) → IsReservation 1 y → y ≤ 10000
-    → ConvertsFurther R10 (Resb hard 1 y) k → Converts R1 (Resc false 1 (2 * y - 1)) k
+    → Converts R10 (Resb hard 1 y) k → Converts R1 (Resc false 1 (2 * y - 1)) k
 one_best hard y (Resc false u v) size short c =
     let fits = size.fits in
     let wide = c.leads.1 in
@@ -44,7 +42,7 @@ one_best hard y (Resc false u v) size short c =
 one_best hard y _ size short c = absurd c.leads
 
 pub one-strongest : (hard : Bool) (y : ℕ) → IsReservation 1 y → y ≤ 10000
-    → IsStrongestFurther R10 (Resb hard 1 y) (Resc false 1 (2 * y - 1))
+    → IsStrongest R10 (Resb hard 1 y) (Resc false 1 (2 * y - 1))
 one-strongest hard y size short =
     let fits = size.fits in
     record {
@@ -57,12 +55,12 @@ one-strongest hard y size short =
     }
 
 to_windows : (hard : Bool) (x y u v : ℕ) → IsReservation x y → IsReservation u v → u ≤ x → 2 * y + u ≤ 2 * x + v
-    → ConvertsFurther R10 (Resb hard x y) (Resc false u v)
+    → Converts R10 (Resb hard x y) (Resc false u v)
 to_windows hard x y u v from to less wide = record { from = from; to = to; leads = (less, wide) }
 
 -- one tick needs shorter windows, and two need longer ones
 pub blocks-lack : (hard : Bool) (x y : ℕ) (h : Guarantee) → (x ≡ 1 → 10000 < y)
-    → IsStrongestFurther R10 (Resb hard x y) h → ⊥
+    → IsStrongest R10 (Resb hard x y) h → ⊥
 blocks-lack hard x y (Resc false u v) long strongest =
     let c = strongest.concluded in
     let from = c.from in
@@ -111,14 +109,14 @@ once x y u v short has = elim (cases_lt has.times 2) [
 ]
 
 once_best : (hard : Bool) (x y : ℕ) (k : Guarantee) → IsReservation x y → 20000 < 2 * y
-    → ConvertsFurther R11 (Resc hard x y) k → Converts R1 (Resc false x y) k
+    → Converts R11 (Resc hard x y) k → Converts R1 (Resc false x y) k
 once_best hard x y (Resc false u v) size far c =
     let least = once x y u v (omega (arith, c.to.size, far)) c.leads in
     record { from = size; to = c.to; leads = (least.less, least.longer) }
 once_best hard x y _ size far c = absurd c.leads
 
 times_of : (hard : Bool) (x y k : ℕ) → IsReservation x y → 1 ≤ k → k * y ≤ 20000
-    → IsReservation (k * x) (k * y) → ConvertsFurther R11 (Resc hard x y) (Resc false (k * x) (k * y))
+    → IsReservation (k * x) (k * y) → Converts R11 (Resc hard x y) (Resc false (k * x) (k * y))
 times_of hard x y k size some most to = record {
   from = size;
   to = to;
@@ -126,7 +124,7 @@ times_of hard x y k size some most to = record {
 }
 
 pub once-strongest : (hard : Bool) (x y : ℕ) → IsReservation x y → 20000 < 2 * y
-    → IsStrongestFurther R11 (Resc hard x y) (Resc false x y)
+    → IsStrongest R11 (Resc hard x y) (Resc false x y)
 once-strongest hard x y size far = record {
   concluded = record {
     from = size;
@@ -138,7 +136,7 @@ once-strongest hard x y size far = record {
 
 -- one period is no longer, and two have more ticks
 pub windows-lack : (hard : Bool) (x y : ℕ) (h : Guarantee) → 2 * y ≤ 20000
-    → IsStrongestFurther R11 (Resc hard x y) h → ⊥
+    → IsStrongest R11 (Resc hard x y) h → ⊥
 windows-lack hard x y (Resc false u v) short strongest =
     let c = strongest.concluded in
     let from = c.from in
@@ -156,37 +154,37 @@ windows-lack hard x y _ short strongest = absurd strongest.concluded.leads
 
 -- ---- what is found
 
-pub blocks-found : (rule : FurtherRule) (g : Guarantee) (hard : Bool) (x y : ℕ) (found : Option Guarantee)
+pub blocks-found : (rule : RuleName) (g : Guarantee) (hard : Bool) (x y : ℕ) (found : Option Guarantee)
     → rule ≡ R10 → g ≡ Resb hard x y → IsValid g
     → IfSome found (λ h. (h ≡ Resc false 1 (2 * y - 1)) × (x ≡ 1) × (y ≤ 10000))
-    → IfSome found (λ h. IsStrongestFurther rule g h)
+    → IfSome found (λ h. IsStrongest rule g h)
 blocks-found rule g hard x y (Some h) first second valid is =
     let size : IsReservation x y = subst IsValid second valid in
     let size1 : IsReservation 1 y = subst (λ n. IsReservation n y) is.1 size in
     let at = one-strongest hard y size1 is.2 in
-    subst (λ v. IsStrongestFurther v g h) (sym first) (subst (λ v. IsStrongestFurther R10 v h) (sym second)
-    (subst (λ n. IsStrongestFurther R10 (Resb hard n y) h) (sym is.1)
-    (subst (λ v. IsStrongestFurther R10 (Resb hard 1 y) v) (sym is.0) at)))
+    subst (λ v. IsStrongest v g h) (sym first) (subst (λ v. IsStrongest R10 v h) (sym second)
+    (subst (λ n. IsStrongest R10 (Resb hard n y) h) (sym is.1)
+    (subst (λ v. IsStrongest R10 (Resb hard 1 y) v) (sym is.0) at)))
 blocks-found rule g hard x y None first second valid is = tt
 
-pub blocks-none : (rule : FurtherRule) (g h : Guarantee) (hard : Bool) (x y : ℕ) → rule ≡ R10 → g ≡ Resb hard x y
-    → (x ≡ 1 → 10000 < y) → IsStrongestFurther rule g h → ⊥
+pub blocks-none : (rule : RuleName) (g h : Guarantee) (hard : Bool) (x y : ℕ) → rule ≡ R10 → g ≡ Resb hard x y
+    → (x ≡ 1 → 10000 < y) → IsStrongest rule g h → ⊥
 blocks-none rule g h hard x y first second long strongest =
-    blocks-lack hard x y h long (subst (λ v. IsStrongestFurther R10 v h) second
-    (subst (λ v. IsStrongestFurther v g h) first strongest))
+    blocks-lack hard x y h long (subst (λ v. IsStrongest R10 v h) second
+    (subst (λ v. IsStrongest v g h) first strongest))
 
-pub windows-found : (rule : FurtherRule) (g : Guarantee) (hard : Bool) (x y : ℕ) (found : Option Guarantee)
+pub windows-found : (rule : RuleName) (g : Guarantee) (hard : Bool) (x y : ℕ) (found : Option Guarantee)
     → rule ≡ R11 → g ≡ Resc hard x y → IsValid g
-    → IfSome found (λ h. (h ≡ Resc false x y) × (20000 < 2 * y)) → IfSome found (λ h. IsStrongestFurther rule g h)
+    → IfSome found (λ h. (h ≡ Resc false x y) × (20000 < 2 * y)) → IfSome found (λ h. IsStrongest rule g h)
 windows-found rule g hard x y (Some h) first second valid is =
     let size : IsReservation x y = subst IsValid second valid in
     let at = once-strongest hard x y size is.1 in
-    subst (λ v. IsStrongestFurther v g h) (sym first) (subst (λ v. IsStrongestFurther R11 v h) (sym second)
-    (subst (λ v. IsStrongestFurther R11 (Resc hard x y) v) (sym is.0) at))
+    subst (λ v. IsStrongest v g h) (sym first) (subst (λ v. IsStrongest R11 v h) (sym second)
+    (subst (λ v. IsStrongest R11 (Resc hard x y) v) (sym is.0) at))
 windows-found rule g hard x y None first second valid is = tt
 
-pub windows-none : (rule : FurtherRule) (g h : Guarantee) (hard : Bool) (x y : ℕ) → rule ≡ R11 → g ≡ Resc hard x y
-    → 2 * y ≤ 20000 → IsStrongestFurther rule g h → ⊥
+pub windows-none : (rule : RuleName) (g h : Guarantee) (hard : Bool) (x y : ℕ) → rule ≡ R11 → g ≡ Resc hard x y
+    → 2 * y ≤ 20000 → IsStrongest rule g h → ⊥
 windows-none rule g h hard x y first second short strongest =
-    windows-lack hard x y h short (subst (λ v. IsStrongestFurther R11 v h) second
-    (subst (λ v. IsStrongestFurther v g h) first strongest))
+    windows-lack hard x y h short (subst (λ v. IsStrongest R11 v h) second
+    (subst (λ v. IsStrongest v g h) first strongest))

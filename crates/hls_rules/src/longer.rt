@@ -1,21 +1,18 @@
-// What a further rule concludes from a guarantee.
+// What the rules for longer windows conclude.
 ghost use Rattle.std.specs.Prelude.{◌≡◌, ◌*◌, ◌-◌, ◌<◌, ◌≤◌, ◌↔◌, IsTrue, IfSome, IsNone, false};
 ghost use Rattle.hls_guarantee.specs.Limits.{IsValid, IsReservation};
-ghost use Rattle.hls_longer_laws.specs.Further.{HasTimes, ConvertsFurther};
-ghost use Rattle.hls_rules2.specs.Answers.{IsStrongestFurther};
+ghost use Rattle.hls_guarantee.specs.Conversions.{HasTimes, Leads};
 
-use hls_guarantee::Guarantee;
-use hls_longer_laws::FurtherRule;
+use hls_guarantee::{Guarantee, RuleName};
 
-/// Whether the rule concludes `h` from `g`.
-pub fn converts_further(rule: FurtherRule, g: &Guarantee, h: &Guarantee) -> bool
+/// Whether blocks always hold windows of so few of their ticks.
+pub fn slides_sooner(g: &Guarantee, h: &Guarantee) -> bool
     requires from { IsValid g.now }
     requires to { IsValid h.now }
-    ensures { IsTrue result ↔ ConvertsFurther rule g.now h.now }
+    ensures { IsTrue result ↔ Leads RuleName.R10 g.now h.now }
 {
-    match (rule, *g, *h) {
+    match (*g, *h) {
         (
-            FurtherRule::R10,
             Guarantee::Resb { x, y, .. },
             Guarantee::Resc {
                 hard: false,
@@ -23,8 +20,18 @@ pub fn converts_further(rule: FurtherRule, g: &Guarantee, h: &Guarantee) -> bool
                 y: longer,
             },
         ) => fewer <= x && 2 * y + fewer <= 2 * x + longer,
+        _ => false,
+    }
+}
+
+/// Whether windows always hold longer ones of so many periods.
+pub fn repeats(g: &Guarantee, h: &Guarantee) -> bool
+    requires from { IsValid g.now }
+    requires to { IsValid h.now }
+    ensures { IsTrue result ↔ Leads RuleName.R11 g.now h.now }
+{
+    match (*g, *h) {
         (
-            FurtherRule::R11,
             Guarantee::Resc { x, y, .. },
             Guarantee::Resc {
                 hard: false,
@@ -46,22 +53,8 @@ fn has_times(x: u32, y: u32, fewer: u32, longer: u32) -> bool
     1 <= times && fewer <= times * x
 }
 
-/// The strongest conclusion of a rule, which equals or gives by `R1` every other one. None comes exactly
-/// where no conclusion does.
-pub fn strongest_further(rule: FurtherRule, g: &Guarantee) -> Option<Guarantee>
-    requires { IsValid g.now }
-    ensures found { IfSome result (λ h. IsStrongestFurther rule g.now h) }
-    ensures lacks { IsNone result → (h : Guarantee) → IsStrongestFurther rule g.now h → ⊥ }
-{
-    match (rule, *g) {
-        (FurtherRule::R10, Guarantee::Resb { x, y, .. }) => windows_of_one(x, y),
-        (FurtherRule::R11, Guarantee::Resc { x, y, .. }) => windows_once(x, y),
-        _ => None,
-    }
-}
-
 /// The shortest soft windows of one tick that blocks always hold, where the blocks have no more than one.
-fn windows_of_one(x: u32, y: u32) -> Option<Guarantee>
+pub fn windows_of_one(x: u32, y: u32) -> Option<Guarantee>
     requires { IsReservation x y }
     ensures some { IfSome result (λ h. (h ≡ Guarantee.Resc false 1 (2 * y - 1)) × (x ≡ 1) × (y ≤ 10000)) }
     ensures none { IsNone result → x ≡ 1 → 10000 < y }
@@ -77,7 +70,7 @@ fn windows_of_one(x: u32, y: u32) -> Option<Guarantee>
 }
 
 /// The windows themselves, soft, where twice their length is beyond the limits.
-fn windows_once(x: u32, y: u32) -> Option<Guarantee>
+pub fn windows_once(x: u32, y: u32) -> Option<Guarantee>
     requires { IsReservation x y }
     ensures some { IfSome result (λ h. (h ≡ Guarantee.Resc false x y) × (20000 < 2 * y)) }
     ensures none { IsNone result → 2 * y ≤ 20000 }

@@ -1,7 +1,7 @@
 use Rattle.std.proofs.Common.{◌≤◌, ◌*◌, ◌/◌, arith}
 use Rattle.std.proofs.lemmas.Bool.Decides.{nat_tests}
-use Rattle.hls_longer_laws.proofs.Times.{most_times, times_of}
-use Rattle.hls_rules2.proofs.conclusions.has_times.Goals as goal
+use Rattle.hls_guarantee.proofs.Times.{most_times, times_of}
+use Rattle.hls_rules.proofs.longer.has_times.Goals as goal
 
 pub returns-then-times-ge1 : goal.returns-then-times-ge1
 returns-then-times-ge1 c =
