@@ -1,5 +1,5 @@
 -- What a made book keeps, by its kind, and that it keeps its discipline and its promise.
-use Rattle.std.proofs.Common.{◌≡◌, ◌≢◌, ℕ, Some, refl}
+use Rattle.std.proofs.Common.{◌≡◌, ℕ, Some, refl}
 use Rattle.std.proofs.Math.Logic.{∥∥₁_elim}
 use Rattle.std.proofs.Props.{props}
 use Rattle.hls_chron.specs.declared.book.TickRow.{TickRow}
@@ -7,10 +7,7 @@ use Rattle.hls_chron.specs.declared.book.Event.{Event}
 use Rattle.hls_chron.specs.declared.book.Event.TheVariants.{Seat, Leave, Settle}
 use Rattle.hls_chron.specs.declared.plain.Config.{Config}
 use Rattle.hls_chron.specs.declared.plain.Config.TheVariants.{Cpu, Fp, Edf, Sfq, Rr, Wheel, Join}
-use Rattle.hls_chron.specs.declared.plain.Kind.TheVariants as kinds
-use Rattle.hls_chron.specs.Kinds.{kind_of}
 use Rattle.hls_chron.specs.Ledger.{Ledger, now_of, with_row, with_mark, before, IsDated}
-use Rattle.hls_chron.specs.Ranges.{ConfigInRange}
 use Rattle.hls_kinds.specs.Shares.{KeepsShares}
 use Rattle.hls_kinds.specs.Discipline.{KeepsDiscipline}
 use Rattle.hls_kinds.specs.Made.{IsAllowed, IsRow, Making, Begun, Marked, Ticked, IsMade}
@@ -18,10 +15,9 @@ use Rattle.hls_kinds.proofs.DisciplineLaws.{ServesInTick, discipline-mark, disci
 use Rattle.hls_kinds.proofs.Props.{ranges_prop, serves_prop, discipline_prop}
 use Rattle.hls_kinds.proofs.Rooms.{roomless, serves-room, before-last}
 use Rattle.hls_kinds.proofs.ServingLaws.{serves-asks}
-use Rattle.hls_book.specs.Admission.{KeepsAdmission}
 use Rattle.hls_book.specs.Promise.{KeepsPromise}
-use Rattle.hls_book.proofs.AdmissionLaws.{MayMark, admission-mark, admission-row, admission-unwritten}
-use Rattle.hls_book.proofs.PromiseLaws.{fixed_priority_keeps, join_keeps, round_robin_keeps}
+pub use Rattle.hls_book.proofs.Made.{kind_made, range_made, admission_made}
+use Rattle.hls_book.proofs.PromiseLaws.{fixed_priority_keeps, join_keeps}
 use Rattle.hls_book.specs.Books.{KeepsReservations}
 use Rattle.hls_book.specs.Props.{tenant_prop}
 use Rattle.hls_book.proofs.ServerKeeping.{keeps-row, keeps-settle}
@@ -34,40 +30,7 @@ use Rattle.hls_book.proofs.SharePromises.{fair_keeps}
 use Rattle.hls_book.specs.Places.{KeepsPlaces}
 use Rattle.hls_book.proofs.PlaceLaws.{places-unwritten, places-seat, places-leave, places-settle, places-row}
 use Rattle.hls_book.proofs.WheelLaws.{wheel_keeps}
-
--- the configuration
-kind_making : (config : Config) (b : Ledger) → Making config b → kind_of config ≢ kinds.Cpu
-kind_making config b (Begun _ kind range unwritten unmarked) = kind
-kind_making config _ (Marked b event making may) = kind_making config b making
-kind_making config _ (Ticked b row making is) = kind_making config b making
-
-range_making : (config : Config) (b : Ledger) → Making config b → ConfigInRange config
-range_making config b (Begun _ kind range unwritten unmarked) = range
-range_making config _ (Marked b event making may) = range_making config b making
-range_making config _ (Ticked b row making is) = range_making config b making
-
-pub kind_made : (config : Config) (b : Ledger) → IsMade config b → kind_of config ≢ kinds.Cpu
-kind_made config b made = ∥∥₁_elim made (hlevel props) (kind_making config b)
-
-pub range_made : (config : Config) (b : Ledger) → IsMade config b → ConfigInRange config
-range_made config b made = ∥∥₁_elim made (ranges_prop config) (range_making config b)
-
--- admission
-may_mark : (config : Config) (b : Ledger) (event : Event) → IsAllowed config b event → MayMark config b event
-may_mark config b (Seat slot terms) may = (may.2.within, may.1)
-may_mark config b (Leave slot) may = tt
-may_mark config b Settle may = tt
-
-admission_making : (config : Config) (b : Ledger) → Making config b → KeepsAdmission config b
-admission_making config b (Begun _ kind range unwritten unmarked) =
-    admission-unwritten config b unwritten unmarked
-admission_making config _ (Marked b event making may) =
-    admission-mark config b event (may_mark config b event may) (admission_making config b making)
-admission_making config _ (Ticked b row making is) =
-    admission-row config b row is.seats (admission_making config b making)
-
-pub admission_made : (config : Config) (b : Ledger) → IsMade config b → KeepsAdmission config b
-admission_made config b made = ∥∥₁_elim made (hlevel props) (admission_making config b)
+use Rattle.hls_book.proofs.TurnPromises.{turns_keep}
 
 -- reservations
 reserved : (b : Ledger) (event : Event) → IsAllowed Edf b event → KeepsReservations b
@@ -114,7 +77,7 @@ places_making : (frame : ℕ) (b : Ledger) → Making (Wheel frame) b → KeepsP
 places_making frame b (Begun _ kind range unwritten unmarked) = places-unwritten frame b unmarked
 places_making frame _ (Marked b event making may) = placed frame b event may (places_making frame b making)
 places_making frame _ (Ticked b row making is) =
-    places-row frame b row (admission_making (Wheel frame) b making).dated (places_making frame b making)
+    places-row frame b row (admission_made (Wheel frame) b ∣ making ∣₁).dated (places_making frame b making)
 
 pub places_made : (frame : ℕ) (b : Ledger) → IsMade (Wheel frame) b → KeepsPlaces frame b
 places_made frame b made = ∥∥₁_elim made (hlevel props) (places_making frame b)
@@ -135,7 +98,7 @@ module _ (config : Config) (shares : (b : Ledger) → KeepsShares config b) wher
       discipline-mark config b event (discipline_making b making)
   discipline_making _ (Ticked b row making is) =
       discipline-row config b row (discipline_making b making)
-      (row_serves config b row (admission_making config b making).dated is) (shares (with_row b row))
+      (row_serves config b row (admission_made config b ∣ making ∣₁).dated is) (shares (with_row b row))
 
   discipline_kept : (b : Ledger) → IsMade config b → KeepsDiscipline config b
   discipline_kept b made = ∥∥₁_elim made (discipline_prop config b) (discipline_making b)
@@ -154,7 +117,7 @@ pub promise_made : (config : Config) (b : Ledger) → IsMade config b → KeepsP
 promise_made Fp b made = fixed_priority_keeps b (admission_made Fp b made) (discipline_made Fp b made)
 promise_made Edf b made = promise-kept b (reservations_made b made)
 promise_made (Sfq total most) b made = fair_keeps total most b (shares_made total most b made)
-promise_made (Rr quantum) b made = round_robin_keeps quantum b
+promise_made (Rr quantum) b made = turns_keep quantum b made
 promise_made (Wheel frame) b made = wheel_keeps frame b (admission_made (Wheel frame) b made)
     (discipline_made (Wheel frame) b made) (places_made frame b made)
 promise_made (Join ports) b made =

@@ -43,5 +43,13 @@ pub mod OwnerLaws
 pub mod PlaceLaws
 pub mod WheelLaws
 pub mod Leavings
+pub mod Made
+pub mod TurnLaws
+pub mod Turns
+pub mod Circle
+pub mod Rounds
+pub mod TurnTicks
+pub mod TurnRuns
+pub mod TurnPromises
 pub mod Books
 pub mod Vacancies

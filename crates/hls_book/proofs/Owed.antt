@@ -1,5 +1,5 @@
 -- Arithmetic of the demand.
-use Rattle.std.proofs.Common.{◌≡◌, ℕ, ◌+◌, ◌*◌, ◌-◌, ◌/◌, ◌<◌, ◌≤◌, sym, ◌∙◌, arith, inl, inr}
+use Rattle.std.proofs.Common.{◌≡◌, ℕ, ◌+◌, ◌*◌, ◌-◌, ◌<◌, ◌≤◌, sym, ◌∙◌, arith, inl, inr}
 use Rattle.std.specs.Prelude.{min, ◌⊎◌}
 use Rattle.std.proofs.Math.Nat.{mul-le-mul_left, mul-le-mul_right, mul-add, le_of_mul-le-mul_left}
 use Rattle.std.proofs.Math.Nat.{le_of_mul-le-mul_right}

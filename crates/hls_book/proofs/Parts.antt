@@ -1,8 +1,8 @@
 -- What the parts of a reservation come to.
-use Rattle.std.proofs.Common.{ℕ, ◌+◌, ◌*◌, ◌<◌, ◌≤◌, arith, inl, inr}
+use Rattle.std.proofs.Common.{ℕ, ◌*◌, ◌<◌, ◌≤◌, arith, inl, inr}
 use Rattle.std.proofs.Math.Nat.{mul-le-mul, mul-le-mul_right, le_of_mul-le-mul_right}
 use Rattle.std.proofs.lemmas.Bool.{cases_lt}
-use Rattle.hls_chron.specs.Parts.{all_parts, parts}
+use Rattle.hls_chron.specs.Parts.{parts}
 use Rattle.hls_chron.proofs.PartLaws.{parts-rate}
 
 pub parts-paid : (x y : ℕ) → 0 < x → x ≤ y → 0 < parts x y

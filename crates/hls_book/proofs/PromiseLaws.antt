@@ -253,15 +253,3 @@ join_keeps n b kept discipline = record {
     | inr nothing ↦ rw nothing (nothing-supplies (served b slot) (asked b slot) since (now_of b))
   ];
 }
-
--- round robin promises nothing
-turns_lend_nothing : (quantum : ℕ) (m : Terms) (g h : Guarantee) → LendsByTerms (configs.Rr quantum) m g h → ⊥
-turns_lend_nothing quantum m g h lends = lends
-
-pub round_robin_keeps : (quantum : ℕ) (b : Ledger) → KeepsPromise (configs.Rr quantum) b
-round_robin_keeps quantum b = record {
-  kept = λ ports slot since port m g h sits lends supplied. elim lends.lends [
-    | inl by_terms ↦ absurd (turns_lend_nothing quantum m g h by_terms)
-    | inr nothing ↦ rw nothing (nothing-supplies (served b slot) (asked b slot) since (now_of b))
-  ];
-}

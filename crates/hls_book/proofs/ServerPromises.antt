@@ -2,7 +2,6 @@
 use Rattle.std.proofs.Common.{◌≡◌, ℕ, zero, suc, ◌+◌, ◌*◌, ◌-◌, ◌<◌, ◌≤◌, refl, sym, arith, ap, ◌∙◌, inl, inr}
 use Rattle.std.proofs.Common.{Bool, true, false, Some, [], subst}
 use Rattle.std.specs.Prelude.{◌&&◌, ◌==◌, is_some}
-use Rattle.std.proofs.Math.Nat.{mul-le-mul_right}
 use Rattle.hls_chron.specs.Ticks.{count}
 use Rattle.hls_chron.specs.declared.plain.Config.TheVariants.{Edf}
 use Rattle.hls_chron.specs.declared.plain.Terms.{Terms}

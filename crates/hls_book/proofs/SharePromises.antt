@@ -78,7 +78,7 @@ some_asks mask slot asks = elim (cases_eq mask 0) [
 ]
 
 -- a port gives no more than is given
-given_some : (b : Ledger) (port t : ℕ) → given b port t ≡ true → is_some (to_of b t) ≡ true
+pub given_some : (b : Ledger) (port t : ℕ) → given b port t ≡ true → is_some (to_of b t) ≡ true
 unfolding given
 given_some b port t is = both_first (is_some (row_at b t).to) ((row_at b t).port == port) is
 

@@ -9,3 +9,5 @@ pub mod Books
 pub mod Props
 pub mod ShareBook
 pub mod Places
+pub mod Runs
+pub mod Turns

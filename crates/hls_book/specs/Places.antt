@@ -1,7 +1,5 @@
 -- What the seating and leaving of seats leaves of the owners of a frame's places.
 use Rattle.std.specs.Prelude.{◌≡◌, ℕ, ◌≤◌, ◌<◌, Bool, false, Some, None}
-use Rattle.hls_chron.specs.declared.plain.Config.{Config}
-use Rattle.hls_chron.specs.declared.plain.Config.TheVariants.{Wheel}
 use Rattle.hls_chron.specs.declared.plain.Terms.{Terms}
 use Rattle.hls_chron.specs.declared.plain.Terms.TheVariants.{Slots}
 use Rattle.hls_chron.specs.Ledger.{Ledger, now_of, before}

@@ -23,7 +23,7 @@ use Rattle.hls_book.proofs.Rooms.{weights-at, slot-at, fits-at}
 use Rattle.hls_book.proofs.Nexts.{share_at}
 use Rattle.hls_book.proofs.ShareRuns.{has-share}
 use Rattle.hls_book.proofs.Windows.{given_in, served_in}
-use Rattle.hls_book_fairness.specs.Runs.{given_ticks, served_ticks}
+use Rattle.hls_book.specs.Runs.{given_ticks, served_ticks}
 use Rattle.hls_book_fairness.specs.Delays.{IsLevel, IsGivenThroughout, KeepsDelays}
 use Rattle.hls_book_fairness.proofs.Level.{level_share}
 

@@ -15,7 +15,7 @@ use Rattle.hls_book.proofs.Books.{shares_made}
 use Rattle.hls_book.proofs.PromiseLaws.{row_at-later}
 use Rattle.hls_book.specs.ShareBook.{KeepsShareBook}
 use Rattle.hls_book.proofs.SharePromises.{fair_asks}
-use Rattle.hls_book_fairness.specs.Runs.{given_ticks, served_ticks}
+use Rattle.hls_book.specs.Runs.{given_ticks, served_ticks}
 use Rattle.hls_book_fairness.specs.Work.{LosesNoTick}
 
 served_by : (b : Ledger) (slot t : ℕ) → served b slot t ≡ is_slot (row_at b t).to slot

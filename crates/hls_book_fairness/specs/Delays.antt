@@ -5,7 +5,7 @@ use Rattle.hls_chron.specs.Ledger.{Ledger, now_of, row_at}
 use Rattle.hls_kinds.specs.Shares.{AsksThroughout}
 use Rattle.hls_kinds.specs.Tags.{time_by, start_tag}
 use Rattle.hls_book.specs.Promise.{asked_by}
-use Rattle.hls_book_fairness.specs.Runs.{given_ticks, served_ticks}
+use Rattle.hls_book.specs.Runs.{given_ticks, served_ticks}
 
 -- those of so many turns: their share, and a tick for each other seat
 abbrev pub delay : (total most weight turns : ℕ) → ℕ

@@ -2,7 +2,7 @@
 use Rattle.std.specs.Prelude.{ℕ, ◌+◌, ◌*◌, ◌≤◌, ◌<◌}
 use Rattle.hls_chron.specs.Ledger.{Ledger, now_of}
 use Rattle.hls_kinds.specs.Shares.{AsksThroughout}
-use Rattle.hls_book_fairness.specs.Runs.{served_ticks}
+use Rattle.hls_book.specs.Runs.{served_ticks}
 
 -- got / weight and other / rival differ by at most 1 / weight + 1 / rival
 pub record AreAlike (got weight other rival : ℕ) : Type 0 where

@@ -1,4 +1,3 @@
-pub mod Runs
 pub mod Fairness
 pub mod Work
 pub mod Delays

@@ -5,7 +5,7 @@ use Rattle.hls_chron.specs.Ledger.{Ledger, now_of}
 use Rattle.hls_chron.specs.Seats.{asked, served}
 use Rattle.hls_kinds.specs.Slots.{sum_below}
 use Rattle.hls_book.specs.Promise.{asked_by}
-use Rattle.hls_book_fairness.specs.Runs.{given_ticks, served_ticks}
+use Rattle.hls_book.specs.Runs.{given_ticks, served_ticks}
 
 pub record LosesNoTick (total most : ℕ) (b : Ledger) : Type 0 where
   -- the scheduler asks while a seat does

@@ -1,6 +1,5 @@
 pub mod Budgets
 pub mod Tags
-pub mod Turns
 pub mod Places
 pub mod NewBooks
 pub mod TagOrder

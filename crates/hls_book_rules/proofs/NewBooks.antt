@@ -4,11 +4,11 @@ use Rattle.hls_chron.specs.Ledger.{Ledger, now_of}
 use Rattle.hls_kinds.specs.Frames.{owner_at}
 use Rattle.hls_kinds.specs.Reservations.{claim_at}
 use Rattle.hls_kinds.proofs.MarkLaws.{tenant_at-unmarked, settled_at-unmarked}
-use Rattle.hls_rr.proofs.TurnLaws.{left_at-unmarked, slot-settled, ticks-left}
+use Rattle.hls_book.proofs.TurnLaws.{left_at-unmarked, slot-settled, ticks-left}
 use Rattle.hls_book.proofs.States.{time-unwritten}
 use Rattle.hls_book_rules.specs.NewBooks.{IsNew, BeginsAnew}
-use Rattle.hls_book_rules.specs.Turns.{had_of}
-use Rattle.hls_book_rules.proofs.Turns.{had_none, turn_is}
+use Rattle.hls_book.specs.Turns.{had_of}
+use Rattle.hls_book.proofs.Turns.{had_none, turn_is}
 
 unowned_first : (b : Ledger) (place : ℕ) → b.marks ≡ [] → owner_at b place ≡ None
 unfolding owner_at

@@ -4,7 +4,7 @@ use Rattle.hls_chron.specs.Ledger.{Ledger}
 use Rattle.hls_kinds.specs.Frames.{owner_at}
 use Rattle.hls_kinds.specs.Reservations.{claim_at}
 use Rattle.hls_book_rules.specs.Tags.{time_of}
-use Rattle.hls_book_rules.specs.Turns.{turn_of}
+use Rattle.hls_book.specs.Turns.{turn_of}
 
 -- no tick has passed, and nobody was seated
 pub record IsNew (b : Ledger) : Type 0 where

@@ -14,7 +14,7 @@ ghost use Rattle.hls_book_rules.specs.NewBooks.{IsNew, BeginsAnew};
 ghost use Rattle.hls_kinds.specs.Tags.{MeetTagRules};
 ghost use Rattle.hls_kinds.specs.Reservations.{MeetBudgetRules};
 ghost use Rattle.hls_book_rules.specs.Tags.{KeepsTagRules, KeepsTagOrderInTicks};
-ghost use Rattle.hls_book_rules.specs.Turns.{KeepsTurnRules};
+ghost use Rattle.hls_book.specs.Turns.{KeepsTurnRules};
 ghost use Rattle.hls_book_rules.specs.Places.{KeepsPlaceRules};
 ghost use Rattle.hls_book_rules.specs.Stands.{OnlySeatsAsk};
 

@@ -24,13 +24,12 @@ use Rattle.hls_kinds.proofs.MarkLaws.{sits_on, tenant_at-mark, tenant_at-row, te
 use Rattle.hls_kinds.proofs.MarkLaws.{settled_at-unmarked}
 use Rattle.hls_kinds.proofs.Rooms.{before-last}
 use Rattle.hls_kinds.proofs.TenantLaws.{seated_in, seated-terms}
-use Rattle.hls_rr.proofs.TurnLaws.{left_at-unmarked, slot-settled, ticks-left}
+use Rattle.hls_book.proofs.TurnLaws.{left_at-unmarked, slot-settled, ticks-left}
 use Rattle.hls_book.proofs.Books.{admission_made}
-use Rattle.hls_book_rules.specs.Turns.{Turn, had_of, turn_of}
-use Rattle.hls_book_rules.proofs.Turns.{turn_rules, turn_is, had_none}
+use Rattle.hls_book.specs.Turns.{Turn, had_of, most_beside, turn_of}
+use Rattle.hls_book.proofs.Turns.{turn_rules, turn_is, had_none}
 use Rattle.hls_book_turns.specs.Reached.{WaitsLongest}
-use Rattle.hls_book_turns.specs.Waits.{most_beside}
-use Rattle.hls_book_turns.proofs.Ticks.{own_next}
+use Rattle.hls_book.proofs.TurnTicks.{own_next}
 
 abbrev everyone : ℕ
 everyone = 2 ^ 32 - 1

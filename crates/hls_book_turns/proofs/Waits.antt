@@ -15,32 +15,21 @@ use Rattle.hls_kinds.specs.Made.{IsMade}
 use Rattle.hls_kinds.specs.Slots.{sum_below}
 use Rattle.hls_kinds.proofs.MarkLaws.{sits_on}
 use Rattle.hls_kinds.proofs.Sums.{sum-one, sum-suc, sum-zero}
+use Rattle.hls_book.specs.Runs.{given_ticks, served_ticks, ticks_of_others}
+use Rattle.hls_book.specs.Turns.{most_beside}
+use Rattle.hls_book.proofs.Books.{admission_made}
+use Rattle.hls_book.proofs.Circle.{is_other, others}
 use Rattle.hls_book.proofs.PromiseLaws.{served-to, to-served}
-use Rattle.hls_book.proofs.Books.{admission_made, range_made}
-use Rattle.hls_book_fairness.specs.Runs.{given_ticks, served_ticks}
-use Rattle.hls_book_turns.specs.Runs.{AsksForTurns, serves_another, ticks_of_others, rivals}
-use Rattle.hls_book_turns.specs.Waits.{most_beside, PassesNoSeatOver, ServesAlike, KeepsDelays}
+use Rattle.hls_book.proofs.TurnPromises.{others-few, theirs-all, all-ticks, whole, linear, some}
+use Rattle.hls_book.proofs.TurnRuns.{IsPassed, passes_over}
+use Rattle.hls_book.proofs.TurnTicks.{is_theirs, serves_theirs}
+use Rattle.hls_book_turns.specs.Runs.{AsksForTurns, rivals}
+use Rattle.hls_book_turns.specs.Waits.{PassesNoSeatOver, ServesAlike, KeepsDelays}
 use Rattle.hls_book_turns.specs.Shares.{KeepsPart}
-use Rattle.hls_book_turns.proofs.Circle.{is_other, others}
-use Rattle.hls_book_turns.proofs.Ticks.{is_theirs, serves_theirs}
-use Rattle.hls_book_turns.proofs.Runs.{IsPassed, passes_over}
 
 -- ---- the other slots
 
-ones : (f : ℕ → Bool) (n : ℕ) → sum_below (λ k. one_if (f k)) n ≤ n
-ones f zero = rw (sum-zero (λ k. one_if (f k))) (omega arith)
-ones f (suc n) = omega (arith, ones f n, one_if-le (f n), sum-suc (λ k. one_if (f k)) n)
-
--- a slot is none of the others
-pub others-few : (among : ℕ → Bool) (slot : ℕ) → slot < 32 → others among slot ≤ 31
-others-few among slot lt =
-    let here : one_if (is_other among slot slot) + 1 ≤ one_if true + 0 =
-    rw (eq-eqb slot slot refl) (omega arith) in
-    let sum = sum-one (λ s. one_if (is_other among slot s)) (λ s. one_if true) 32 slot 1 0 lt here
-    (λ s below apart. one_if-le (is_other among slot s)) in
-    omega (arith, sum, ones (λ s. true) 32)
-
--- and of one slot there is one
+-- of one slot there is one
 not_it : (other slot s : ℕ) → s ≢ other → one_if (is_other (λ k. k == other) slot s) ≡ 0
 not_it other slot s apart = rw (ne_eqb s other apart) (either (not (s == slot)))
   where
@@ -88,66 +77,14 @@ counted f i n t ge lt hit =
 abbrev pub in_run : Ledger → (i n : ℕ) → ℕ → Bool
 in_run b i n = λ other. nat_lt 0 (served_ticks b other i n)
 
-theirs_by : (b : Ledger) (slot i n t : ℕ) → i ≤ t → t < i + n → (to : Option ℕ) → (row_at b t).to ≡ to
-    → (is_some to && not (is_slot to slot)) ≡ is_theirs (in_run b i n) slot to
-theirs_by b slot i n t ge lt None is = refl
-theirs_by b slot i n t ge lt (Some s) is =
-    let some : nat_lt 0 (served_ticks b s i n) ≡ true =
-    lt-ltb 0 (served_ticks b s i n) (counted (served b s) i n t ge lt (to-served b s s t is refl)) in
-    rw some (either (not (s == slot)))
-  where
-    either : (is : Bool) → is ≡ (is && true)
-    either true = refl
-    either false = refl
-
-pub theirs-all : (b : Ledger) (slot i n : ℕ)
+all_theirs : (b : Ledger) (slot i n : ℕ)
     → ticks_of_others b slot i n ≡ count (serves_theirs b (in_run b i n) slot) i n
-unfolding served
-theirs-all b slot i n =
-    count-agree (serves_another b slot) (serves_theirs b (in_run b i n) slot) i n
-    (λ t ge lt. theirs_by b slot i n t ge lt (row_at b t).to refl)
-
--- ---- all ticks
-
-shared : (to : Option ℕ) (slot : ℕ)
-    → one_if (is_some to) ≡ one_if (is_slot to slot) + one_if (is_some to && not (is_slot to slot))
-shared None slot = refl
-shared (Some at) slot = either (is_slot (Some at) slot)
-  where
-    either : (is : Bool) → 1 ≡ one_if is + one_if (not is)
-    either true = refl
-    either false = refl
-
-pub all-ticks : (b : Ledger) (slot i n : ℕ)
-    → given_ticks b i n ≡ served_ticks b slot i n + ticks_of_others b slot i n
-unfolding served
-all-ticks b slot i zero = omega (
-  arith,
-  count-none (λ t. is_some (row_at b t).to) i,
-  count-none (served b slot) i,
-  count-none (serves_another b slot) i,
-)
-all-ticks b slot i (suc n) = omega (
-  arith,
-  all-ticks b slot i n,
-  count-push (λ t. is_some (row_at b t).to) i n,
-  count-push (served b slot) i n,
-  count-push (serves_another b slot) i n,
-  shared (row_at b (i + n)).to slot,
-)
+all_theirs b slot i n =
+    theirs-all b (in_run b i n) slot i n
+    (λ t s ge lt to.
+    lt-ltb 0 (served_ticks b s i n) (counted (served b s) i n t ge lt (to-served b s s t to refl)))
 
 -- ---- rounds
-
-whole : (n k : ℕ) → 0 < k → k * (n / k) ≤ n
-whole n k some = omega arith
-
--- in ticks, rounds are no more than what was had and a quantum
-pub linear : (quantum few own theirs : ℕ) → 0 < quantum → few ≤ 31 → theirs ≤ few * most_beside quantum own
-    → theirs ≤ 31 * (own + quantum)
-linear quantum few own theirs some le passed =
-    let most : few * most_beside quantum own ≤ 31 * most_beside quantum own =
-    mul-le-mul_right (most_beside quantum own) le in
-    omega (arith, passed, most, whole own quantum some)
 
 pub more_beside : (quantum few own last : ℕ) → 0 < quantum → few ≤ 31 → own ≤ last
     → few * most_beside quantum own ≤ 31 * most_beside quantum last
@@ -161,15 +98,12 @@ more_beside quantum few own last some le early =
     omega (arith, rounds, most)
 
 module _ (quantum : ℕ) (b : Ledger) (made : IsMade (Rr quantum) b) where
-  pub some : 0 < quantum
-  some = let range = range_made (Rr quantum) b made in omega (arith, range.0)
-
   -- slots of a test have at most as much for each of them
   passed : (among : ℕ → Bool) (i n slot : ℕ) → i + n < now_of b → AsksForTurns b slot i n
       → IsPassed quantum b slot among i (n + 1)
   passed among i n slot ends on =
       rw (add-one n) (
-      (passes_over quantum some b made).sat slot on.since i n Turn among ends on.sits on.early
+      (passes_over quantum (some quantum b made) b made).sat slot on.since i n Turn among ends on.sits on.early
       (λ t ge lt. on.asks t ge (omega (arith, lt))))
 
   few : (i n m slot : ℕ) → i + n < now_of b → AsksForTurns b slot i n → rivals b slot i m ≤ 31
@@ -181,7 +115,7 @@ module _ (quantum : ℕ) (b : Ledger) (made : IsMade (Rr quantum) b) where
   all : (i n slot : ℕ) → i + n < now_of b → AsksForTurns b slot i n
       → ticks_of_others b slot i (n + 1)
       ≤ rivals b slot i (n + 1) * most_beside quantum (served_ticks b slot i (n + 1))
-  all i n slot ends on = rw (theirs-all b slot i (n + 1)) (passed (in_run b i (n + 1)) i n slot ends on)
+  all i n slot ends on = rw (all_theirs b slot i (n + 1)) (passed (in_run b i (n + 1)) i n slot ends on)
 
   each : (i n slot other : ℕ) → i + n < now_of b → AsksForTurns b slot i n → other ≢ slot
       → served_ticks b other i (n + 1) ≤ most_beside quantum (served_ticks b slot i (n + 1))
@@ -202,7 +136,7 @@ module _ (quantum : ℕ) (b : Ledger) (made : IsMade (Rr quantum) b) where
     | inl same ↦ rw same (omega arith)
     | inr apart ↦
         let most = each i n slot other ends on apart in
-        omega (arith, most, whole (served_ticks b slot i (n + 1)) quantum some)
+        omega (arith, most, whole (served_ticks b slot i (n + 1)) quantum (some quantum b made))
   ]
 
   pub parts : KeepsPart quantum b
@@ -211,8 +145,10 @@ module _ (quantum : ℕ) (b : Ledger) (made : IsMade (Rr quantum) b) where
       theirs : (i n slot : ℕ) → i + n < now_of b → AsksForTurns b slot i n
           → ticks_of_others b slot i (n + 1) ≤ 31 * (served_ticks b slot i (n + 1) + quantum)
       theirs i n slot ends on =
-          linear quantum (rivals b slot i (n + 1)) (served_ticks b slot i (n + 1))
-          (ticks_of_others b slot i (n + 1)) some (few i n (n + 1) slot ends on) (all i n slot ends on)
+          let most = mul-le-mul_right (most_beside quantum (served_ticks b slot i (n + 1)))
+          (few i n (n + 1) slot ends on) in
+          linear quantum (served_ticks b slot i (n + 1)) (ticks_of_others b slot i (n + 1)) (some quantum b made)
+          (omega (arith, all i n slot ends on, most))
 
       part : (i n slot : ℕ) → i + n < now_of b → AsksForTurns b slot i n
           → given_ticks b i (n + 1) ≤ 32 * served_ticks b slot i (n + 1) + 31 * quantum
@@ -223,7 +159,7 @@ module _ (quantum : ℕ) (b : Ledger) (made : IsMade (Rr quantum) b) where
     | inr enough ↦ enough
     | inl short ↦
         let theirs = all i n slot ends on in
-        let most = more_beside quantum (rivals b slot i (n + 1)) (served_ticks b slot i (n + 1)) (own - 1) some
-        (few i n (n + 1) slot ends on) (omega (arith, short)) in
+        let most = more_beside quantum (rivals b slot i (n + 1)) (served_ticks b slot i (n + 1)) (own - 1)
+        (some quantum b made) (few i n (n + 1) slot ends on) (omega (arith, short)) in
         absurd (omega (arith, theirs, most, had, short, all-ticks b slot i (n + 1)))
   ]

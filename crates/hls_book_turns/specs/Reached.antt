@@ -3,9 +3,9 @@ use Rattle.std.specs.Prelude.{◌≡◌, ℕ, ◌+◌, ◌<◌}
 use Rattle.hls_chron.specs.declared.plain.Config.TheVariants.{Rr}
 use Rattle.hls_chron.specs.Ledger.{Ledger, now_of}
 use Rattle.hls_kinds.specs.Made.{IsMade}
-use Rattle.hls_book_fairness.specs.Runs.{served_ticks}
+use Rattle.hls_book.specs.Runs.{served_ticks}
+use Rattle.hls_book.specs.Turns.{most_beside}
 use Rattle.hls_book_turns.specs.Runs.{AsksForTurns}
-use Rattle.hls_book_turns.specs.Waits.{most_beside}
 
 -- In all the ticks of some book, from 0 to n, the seat at slot 31 asks and has so many, and each of the 31 other slots
 -- has as many as it may.

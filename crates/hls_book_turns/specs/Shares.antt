@@ -1,7 +1,6 @@
 -- What part of the ticks of its scheduler a seat of round robin has.
 use Rattle.std.specs.Prelude.{◌≡◌, ℕ, ◌+◌, ◌*◌, ◌≤◌, ◌<◌, Bool, false}
 use Rattle.hls_frac.specs.declared.Frac.{Frac}
-use Rattle.hls_frac.specs.Frac.{IsQuotient}
 use Rattle.hls_chron.specs.declared.plain.Config.TheVariants.{Rr}
 use Rattle.hls_chron.specs.declared.plain.Terms.TheVariants.{Turn}
 use Rattle.hls_chron.specs.Ledger.{Ledger, now_of}
@@ -10,10 +9,11 @@ use Rattle.hls_kinds.specs.declared.tenant.Tenant.TheVariants.{Sits}
 use Rattle.hls_kinds.specs.Tenants.{tenant_at, settled_at}
 use Rattle.hls_guarantee.specs.declared.Guarantee.{Guarantee}
 use Rattle.hls_guarantee.specs.declared.Guarantee.TheVariants.{All, Resc, Psbe}
+use Rattle.hls_guarantee.specs.Steps.{IsTurnShare}
 use Rattle.hls_guarantee.specs.Supply.{Supplies}
 use Rattle.hls_book.specs.Promise.{given, asked_by}
-use Rattle.hls_book_fairness.specs.Runs.{given_ticks, served_ticks}
-use Rattle.hls_book_turns.specs.Runs.{AsksForTurns, ticks_of_others}
+use Rattle.hls_book.specs.Runs.{given_ticks, served_ticks, ticks_of_others}
+use Rattle.hls_book_turns.specs.Runs.{AsksForTurns}
 use Rattle.hls_book_turns.specs.Waits.{delay}
 
 -- The seat asks from tick i to tick i + n.
@@ -24,13 +24,6 @@ pub record KeepsPart (quantum : ℕ) (b : Ledger) : Type 0 where
   -- so of the ticks that the scheduler is given the seat has one in 32, all but 31 quanta
   pub part : (i n slot : ℕ) → i + n < now_of b → AsksForTurns b slot i n
       → given_ticks b i (n + 1) ≤ 32 * served_ticks b slot i (n + 1) + 31 * quantum
-
--- the share s' with the error d' that a seat has of s with d
-pub record IsTurnShare (quantum : ℕ) (s d s' d' : Frac) : Type 0 where
-  -- s / 32
-  pub rate : IsQuotient s' s.num (s.den * 32)
-  -- (d + 31 * quantum) / 32
-  pub error : IsQuotient d' (d.num + 31 * quantum * d.den) (d.den * 32)
 
 -- where a port has supplied g since the start or the last settling, each seat has been supplied with h since then, or
 -- since its seating if that is later

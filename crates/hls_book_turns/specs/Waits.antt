@@ -1,12 +1,9 @@
 -- What others have while a seat of round robin asks, and how long it waits for its ticks.
-use Rattle.std.specs.Prelude.{◌≢◌, ℕ, ◌+◌, ◌*◌, ◌-◌, ◌/◌, ◌≤◌, ◌<◌}
+use Rattle.std.specs.Prelude.{◌≢◌, ℕ, ◌+◌, ◌*◌, ◌-◌, ◌≤◌, ◌<◌}
 use Rattle.hls_chron.specs.Ledger.{Ledger, now_of}
-use Rattle.hls_book_fairness.specs.Runs.{given_ticks, served_ticks}
-use Rattle.hls_book_turns.specs.Runs.{AsksForTurns, ticks_of_others, rivals}
-
--- a quantum before the seat has its first tick, and one more for each quantum that it has had
-abbrev pub most_beside : (quantum own : ℕ) → ℕ
-most_beside quantum own = quantum * (own / quantum + 1)
+use Rattle.hls_book.specs.Runs.{given_ticks, served_ticks, ticks_of_others}
+use Rattle.hls_book.specs.Turns.{most_beside}
+use Rattle.hls_book_turns.specs.Runs.{AsksForTurns, rivals}
 
 -- A seat asks from tick i to tick i + n.
 pub record PassesNoSeatOver (quantum : ℕ) (b : Ledger) : Type 0 where

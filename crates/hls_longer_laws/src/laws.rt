@@ -1,6 +1,6 @@
 //! What holds of conversions to longer windows: each function's contract is a law, and its body does nothing.
 
-ghost use Rattle.std.specs.Prelude.{ℕ, ◌*◌, ◌/◌, ◌≤◌, ◌↔◌};
+ghost use Rattle.std.specs.Prelude.{ℕ, ◌*◌, ◌/◌, ◌≤◌, ◌↔◌, false};
 ghost use Rattle.hls_guarantee.specs.Limits.{IsReservation};
 ghost use Rattle.hls_guarantee.specs.Conversions.{HasTimes, Leads};
 ghost use Rattle.hls_longer_laws.specs.Implies.{Implies};

@@ -1,4 +1,4 @@
-//! All that the program does, with boxes of all kinds and the nine rules.
+//! All that the program does, with boxes of all kinds and the eleven rules.
 #![tactic(auto)]
 
 mod reporting;

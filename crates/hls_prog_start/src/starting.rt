@@ -16,7 +16,8 @@ use hls_guarantee::Guarantee;
 use hls_io::{Sink, Source, Status};
 use hls_join::Join;
 use hls_rr::Rr;
-use hls_rules::{RULES, Rule, RuleBook, answer};
+use hls_rules::{RULES, Rule, RuleBook};
+use hls_rules2::answer_of;
 use hls_sched::{Kit, Scheduler};
 use hls_sfq::Sfq;
 use hls_top::hls_run;
@@ -26,7 +27,7 @@ use std::alloc::{AllocError, Global};
 /// How many schedulers of each kind can be loaded in a run.
 const BOXES: usize = 64;
 
-/// Runs the program with these boxes and the nine rules.
+/// Runs the program with these boxes and the eleven rules.
 fn run_with_rules<S: Source, K: Sink>(
     alloc: Global,
     words: &Vec<String>,
@@ -50,14 +51,14 @@ fn run_with_rules<S: Source, K: Sink>(
             move |have: Guarantee, want: Guarantee| -> Option<Guarantee>
                 requires have { IsValid have }
                 requires want { IsValid want }
-            { answer(name, have, want) },
+            { answer_of(name, have, want) },
         )?;
         rules.push(Rule::new(name, step))?;
     }
     Ok(hls_run(alloc, words, source, sink, kit, RuleBook::new(rules)))
 }
 
-/// Runs the program with blank boxes of each kind and the nine rules.
+/// Runs the program with blank boxes of each kind and the eleven rules.
 fn run_with_boxes<S: Source, K: Sink>(
     alloc: Global,
     words: &Vec<String>,
@@ -91,7 +92,7 @@ fn run_with_boxes<S: Source, K: Sink>(
     run_with_rules(alloc, words, source, sink, kit)
 }
 
-/// Does all that the program does, as `hls_run` says, with 64 boxes of each kind and the nine rules.
+/// Does all that the program does, as `hls_run` says, with 64 boxes of each kind and the eleven rules.
 pub fn start<S: Source, K: Sink>(
     alloc: Global,
     words: &Vec<String>,

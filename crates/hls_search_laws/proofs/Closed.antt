@@ -18,16 +18,14 @@ pub data Shape (n : ℕ) : Guarantee → Guarantee → Type 0 where
   s1 : {x y : ℕ} → 1 ≤ n → Shape n (Resb true x y) (Resb false x y)
   s2h : {x y e : ℕ} → 2 ≤ n → e ≤ x → Shape n (Resb true x y) (Resb false e y)
   s2s : {x y e : ℕ} → 1 ≤ n → e ≤ x → Shape n (Resb false x y) (Resb false e y)
-  s3 : {hard : Bool} {x y e f : ℕ} → 1 ≤ n → e ≤ x → 2 * y ≤ x + f → Shape n (Resb hard x y) (Resc false e f)
-  s4 : {hard : Bool} {x y e f : ℕ} → 2 ≤ n → e ≤ x → 2 * y ≤ x + f → Shape n (Resb hard x y) (Resb false e f)
+  s3 : {hard : Bool} {x y e f : ℕ} → 1 ≤ n → e ≤ x → 2 * y + e ≤ 2 * x + f → Shape n (Resb hard x y) (Resc false e f)
+  s4 : {hard : Bool} {x y e f : ℕ} → 2 ≤ n → e ≤ x → 2 * y + e ≤ 2 * x + f → Shape n (Resb hard x y) (Resb false e f)
   c1 : {x y : ℕ} → 1 ≤ n → Shape n (Resc true x y) (Resb true x y)
-  c2 : {x y : ℕ} → 1 ≤ n → Shape n (Resc true x y) (Resc false x y)
-  c3h : {x y : ℕ} → 2 ≤ n → Shape n (Resc true x y) (Resb false x y)
-  c3s : {x y : ℕ} → 1 ≤ n → Shape n (Resc false x y) (Resb false x y)
-  c4h : {x y e f : ℕ} → 2 ≤ n → e ≤ x → y ≤ f → Shape n (Resc true x y) (Resc false e f)
-  c4s : {x y e f : ℕ} → 1 ≤ n → e ≤ x → y ≤ f → Shape n (Resc false x y) (Resc false e f)
-  c5h : {x y e f : ℕ} → 3 ≤ n → e ≤ x → y ≤ f → Shape n (Resc true x y) (Resb false e f)
-  c5s : {x y e f : ℕ} → 2 ≤ n → e ≤ x → y ≤ f → Shape n (Resc false x y) (Resb false e f)
+  c3 : {x y : ℕ} → 1 ≤ n → Shape n (Resc false x y) (Resb false x y)
+  c4 : {hard : Bool} {x y e f : ℕ} (k : ℕ) → 1 ≤ n → 1 ≤ k → e ≤ k * x → k * y ≤ f
+      → Shape n (Resc hard x y) (Resc false e f)
+  c5 : {hard : Bool} {x y e f : ℕ} (k : ℕ) → 2 ≤ n → 1 ≤ k → e ≤ k * x → k * y ≤ f
+      → Shape n (Resc hard x y) (Resb false e f)
 
 -- a reservation as a share
 pub data Rates : Guarantee → Guarantee → Type 0 where

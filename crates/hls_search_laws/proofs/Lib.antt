@@ -4,6 +4,7 @@ pub mod Ways
 pub mod Closed
 pub mod Bounds
 pub mod Shapes
+pub mod Chains
 pub mod Reached
 pub mod Makes
 pub mod Finding

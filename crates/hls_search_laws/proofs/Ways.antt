@@ -5,7 +5,7 @@ use Rattle.hls_frac.specs.Frac.{IsAtMost, IsQuotient}
 use Rattle.hls_guarantee.specs.declared.Guarantee.{Guarantee}
 use Rattle.hls_guarantee.specs.declared.Guarantee.TheVariants.{All, Null, Resb, Resc, Psbe}
 use Rattle.hls_guarantee.specs.declared.rule.RuleName.{RuleName}
-use Rattle.hls_guarantee.specs.declared.rule.RuleName.TheVariants.{R1, R2, R3, R4, R5, R6, R7, R8, R9}
+use Rattle.hls_guarantee.specs.declared.rule.RuleName.TheVariants.{R1, R2, R3, R4, R5, R6, R7, R8, R9, R10, R11}
 use Rattle.hls_guarantee.specs.Limits.{IsValid}
 use Rattle.hls_guarantee.specs.Conversions.{StartsNoLater, IsError, Covers, Leads, Converts}
 use Rattle.hls_guarantee.proofs.Readings.{error-quotient, quotient-error}
@@ -28,6 +28,9 @@ pub data Way : RuleName → Guarantee → Guarantee → Type 0 where
   r8b : {e f : ℕ} → Way R8 All (Resb false e f)
   r8p : {s d : Frac} → Way R8 All (Psbe s d)
   r9 : {g : Guarantee} → Way R9 g Null
+  r10 : {hard : Bool} {x y e f : ℕ} → e ≤ x → 2 * y + e ≤ 2 * x + f → Way R10 (Resb hard x y) (Resc false e f)
+  r11 : {hard : Bool} {x y e f : ℕ} (k : ℕ) → 1 ≤ k → e ≤ k * x → k * y ≤ f
+      → Way R11 (Resc hard x y) (Resc false e f)
 
 rest-of : (x y : ℕ) → x ≤ y → y ≡ (y - x) + x
 rest-of x y le = omega arith
@@ -60,6 +63,8 @@ way-of R8 All (Resb false e f) valid leads = r8b
 way-of R8 All (Resc false e f) valid leads = r8c
 way-of R8 All (Psbe s d) valid leads = r8p
 way-of R9 g h valid leads = subst (λ v. Way R9 g v) (sym leads) r9
+way-of R10 (Resb hard x y) (Resc false e f) valid leads = r10 leads.0 leads.1
+way-of R11 (Resc hard x y) (Resc false e f) valid leads = r11 leads.times leads.some leads.enough leads.within
 way-of _ _ _ valid leads = absurd leads
 
 pub converts-way : (rule : RuleName) (g h : Guarantee) → Converts rule g h → Way rule g h
@@ -82,6 +87,8 @@ way-leads valid r8c = tt
 way-leads valid r8b = tt
 way-leads valid r8p = tt
 way-leads valid r9 = refl
+way-leads valid (r10 a b) = (a, b)
+way-leads valid (r11 k some a b) = record { times = k; some = some; enough = a; within = b }
 
 pub way-converts : {rule : RuleName} {g h : Guarantee} → IsValid g → IsValid h → Way rule g h
     → Converts rule g h

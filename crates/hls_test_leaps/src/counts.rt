@@ -7,7 +7,8 @@ use crate::counting::Counted;
 use hls_chron::Kind;
 use hls_guarantee::Guarantee;
 use hls_io::{MemSink, MemSource, Status};
-use hls_rules::{RULES, Rule, RuleBook, answer};
+use hls_rules::{RULES, Rule, RuleBook};
+use hls_rules2::answer_of;
 use hls_sched::{Kit, Scheduler};
 use hls_top::hls_run;
 use std::alloc::{AllocError, Global};
@@ -33,7 +34,7 @@ const LONGEST_REPORT: &str = "hls-report 1\nhorizon 100000\ndepth 3\n\
     schedule\n0..99999 cpu/root/f/a\n\
     accounts\na 0..99999 ALL ready 100000 served 100000\nidle 0\nend\n";
 
-/// What a run of the scenario comes to, with these boxes and the nine rules.
+/// What a run of the scenario comes to, with these boxes and the eleven rules.
 fn run_with(alloc: Global, kit: Kit, sink: &mut MemSink) -> Result<Status, AllocError>
     requires { IsGood (boxed seen) kit }
 {
@@ -44,7 +45,7 @@ fn run_with(alloc: Global, kit: Kit, sink: &mut MemSink) -> Result<Status, Alloc
             move |have: Guarantee, want: Guarantee| -> Option<Guarantee>
                 requires have { IsValid have }
                 requires want { IsValid want }
-            { answer(name, have, want) },
+            { answer_of(name, have, want) },
         )?;
         rules.push(Rule::new(name, step))?;
     }

@@ -13,7 +13,8 @@ use hls_guarantee::Guarantee;
 use hls_join::Join;
 use hls_lang::read_scenario;
 use hls_rr::Rr;
-use hls_rules::{RULES, Rule, RuleBook, answer};
+use hls_rules::{RULES, Rule, RuleBook};
+use hls_rules2::answer_of;
 use hls_sched::{Kit, Scheduler};
 use hls_text::put;
 use hls_tree::Tree;
@@ -75,7 +76,7 @@ fn trial_by_boxes(alloc: Global, kit: Kit, others: Kit) -> Result<Vec<u8>, Alloc
             move |have: Guarantee, want: Guarantee| -> Option<Guarantee>
                 requires have { IsValid have }
                 requires want { IsValid want }
-            { answer(name, have, want) },
+            { answer_of(name, have, want) },
         )?;
         rules.push(Rule::new(name, step))?;
     }

@@ -5,7 +5,8 @@ ghost use Rattle.hls_report_text.specs.WellFormed.{IsWellFormed};
 use crate::ways::first_other_path;
 use hls_guarantee::Guarantee;
 use hls_report::{Report, read_report, write_report};
-use hls_rules::{RULES, Rule, RuleBook, answer};
+use hls_rules::{RULES, Rule, RuleBook};
+use hls_rules2::answer_of;
 use hls_test_accounts::{accounts_of, idle_of};
 use hls_test_answers::first_other_answer;
 use std::alloc::{AllocError, Global};
@@ -81,7 +82,7 @@ fn found(
     }
 }
 
-/// What is found of a text, which tells of a run with 64 boxes of each kind and the nine rules.
+/// What is found of a text, which tells of a run with 64 boxes of each kind and the eleven rules.
 ///
 /// # Errors
 ///
@@ -94,7 +95,7 @@ pub fn judged(alloc: Global, text: &[u8]) -> Result<Finding, AllocError> {
             move |have: Guarantee, want: Guarantee| -> Option<Guarantee>
                 requires have { IsValid have }
                 requires want { IsValid want }
-            { answer(name, have, want) },
+            { answer_of(name, have, want) },
         )?;
         rules.push(Rule::new(name, step))?;
     }

@@ -2,6 +2,7 @@
 
 ghost use Rattle.hls_chron.specs.Ledger.{Ledger};
 ghost use Rattle.hls_kinds.specs.Discipline.{KeepsDiscipline};
+ghost use Rattle.hls_kinds.specs.Made.{IsMade};
 ghost use Rattle.hls_book.specs.Admission.{KeepsAdmission};
 ghost use Rattle.hls_book.specs.Promise.{KeepsPromise};
 
@@ -20,7 +21,9 @@ pub fn joins_promise(ports: u8)
         KeepsPromise (Config.Join ports) b }
 {}
 
-/// Round robin promises nothing, and keeps that.
+/// Round robin keeps its promise in every book that came about as it may: a seat that asks is one of at most 32
+/// that have turns of `quantum` ticks one after the other. So of a share that a port supplies it has the 32nd part,
+/// whoever comes, leaves or blocks meanwhile, and it starts later by at most 31 turns of others, those 32nd parts.
 pub fn round_robin_promises(quantum: u32)
-    ensures { (b : Ledger) → KeepsPromise (Config.Rr quantum) b }
+    ensures { (b : Ledger) → IsMade (Config.Rr quantum) b → KeepsPromise (Config.Rr quantum) b }
 {}

@@ -1,4 +1,4 @@
-use Rattle.hls_book_rules.proofs.Turns.{turn_rules}
+use Rattle.hls_book.proofs.Turns.{turn_rules}
 use Rattle.hls_book_rules.proofs.laws.turns_meet_their_rules.Goals as goal
 
 pub returns : goal.returns

@@ -1,7 +1,7 @@
 use Rattle.std.proofs.Common.{arith, map, string_bytes, subst}
 use Rattle.hls_top.specs.Exchange.{exchange}
 use Rattle.hls_offer.specs.Ends.{Ends}
-use Rattle.hls_rules.proofs.Nine.{once}
+use Rattle.hls_rules.proofs.Eleven.{once}
 use Rattle.hls_offer_start.proofs.starting.run_with_rules.Goals as goal
 
 pub new-requires-2 : goal.new-requires-2

@@ -1,5 +1,5 @@
 use Rattle.std.proofs.Common.{arith}
-use Rattle.hls_rules.proofs.Nine.{once}
+use Rattle.hls_rules.proofs.Eleven.{once}
 use Rattle.hls_test_leaps.proofs.counts.run_with.Goals as goal
 
 pub new-requires-3 : goal.new-requires-3

@@ -1,5 +1,5 @@
 use Rattle.std.proofs.Common.{arith}
-use Rattle.hls_rules.proofs.Nine.{once}
+use Rattle.hls_rules.proofs.Eleven.{once}
 use Rattle.hls_test_report.proofs.judging.judged.Goals as goal
 
 pub new-book-requires : goal.new-book-requires

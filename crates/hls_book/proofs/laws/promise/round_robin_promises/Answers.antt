@@ -1,5 +1,5 @@
-use Rattle.hls_book.proofs.PromiseLaws.{round_robin_keeps}
+use Rattle.hls_book.proofs.TurnPromises.{turns_keep}
 use Rattle.hls_book.proofs.laws.promise.round_robin_promises.Goals as goal
 
 pub returns : goal.returns
-returns c = round_robin_keeps c.args.quantum
+returns c = λ b made. turns_keep c.args.quantum b made

@@ -25,12 +25,12 @@ use Rattle.hls_kinds.specs.Tenants.{after_leaving, after_settling, tenant_at}
 use Rattle.hls_kinds.specs.Turns.{turn_slot, turn_ticks, turn_goes_on, turns_after}
 use Rattle.hls_kinds.proofs.MarkLaws.{sits_on, tenant_at-mark, tenant_at-row, tenant_at-unmarked}
 use Rattle.hls_kinds.proofs.MarkLaws.{settled_at-unmarked}
-use Rattle.hls_rr.proofs.TurnLaws.{slot-settled, slot-served, slot-idle}
-use Rattle.hls_book.proofs.Books.{admission_made}
-use Rattle.hls_book_rules.specs.Turns.{Turn, had_of, turn_of, over, KeepsTurnRules}
-use Rattle.hls_book_rules.proofs.Turns.{turn_rules}
-use Rattle.hls_book_turns.proofs.Circle.{is_other}
-use Rattle.hls_book_turns.proofs.Rounds.{Waits, at_first, serves_on, waits_on, begins_own, begins_another, is_over}
+use Rattle.hls_book.proofs.TurnLaws.{slot-settled, slot-served, slot-idle}
+use Rattle.hls_book.proofs.Made.{admission_made}
+use Rattle.hls_book.specs.Turns.{Turn, had_of, turn_of, over, KeepsTurnRules}
+use Rattle.hls_book.proofs.Turns.{turn_rules}
+use Rattle.hls_book.proofs.Circle.{is_other}
+use Rattle.hls_book.proofs.Rounds.{Waits, at_first, serves_on, waits_on, begins_own, begins_another, is_over}
 
 abbrev pub Asking : Ledger → (slot i n : ℕ) → Type 0
 Asking b slot i n = (t : ℕ) → i ≤ t → t < i + n → asked b slot t ≡ true

@@ -1,5 +1,5 @@
 -- The rules of the turns of round robin.
-use Rattle.std.specs.Prelude.{◌≡◌, ◌≢◌, ◌⊎◌, ◌↔◌, ℕ, ◌+◌, ◌<◌, ◌%◌, ◌==◌, Some, None, true, if◌then◌else◌}
+use Rattle.std.specs.Prelude.{◌≡◌, ◌≢◌, ◌⊎◌, ◌↔◌, ℕ, ◌+◌, ◌*◌, ◌<◌, ◌%◌, ◌/◌, ◌==◌, Some, None, true, if◌then◌else◌}
 use Rattle.hls_chron.specs.declared.book.TickRow.{TickRow}
 use Rattle.hls_chron.specs.declared.book.Event.TheVariants.{Seat, Leave, Settle}
 use Rattle.hls_chron.specs.declared.plain.Terms.{Terms}
@@ -46,3 +46,8 @@ pub record KeepsTurnRules (quantum : ℕ) (b : Ledger) : Type 0 where
   pub seated : (slot : ℕ) (terms : Terms) → turn_of quantum (with_mark b (Seat slot terms)) ≡ turn_of quantum b
   -- after a settling, as at the start, the first slot is next
   pub settled : turn_of quantum (with_mark b Settle) ≡ record { slot = 31; had = quantum }
+
+-- what another slot may have while a seat asks: a quantum before the seat has its first tick, and one more for each
+-- quantum that it has had
+abbrev pub most_beside : (quantum own : ℕ) → ℕ
+most_beside quantum own = quantum * (own / quantum + 1)

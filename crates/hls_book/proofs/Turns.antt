@@ -20,10 +20,10 @@ use Rattle.hls_kinds.specs.Made.{IsMade, Making, Begun, Marked, Ticked}
 use Rattle.hls_kinds.specs.Tenants.{settled_at, left_at}
 use Rattle.hls_kinds.specs.Turns.{turn_slot, turn_ticks, turn_goes_on}
 use Rattle.hls_kinds.proofs.MarkLaws.{settled_at-mark, settled_at-row, settled_at-unmarked}
-use Rattle.hls_rr.proofs.TurnLaws.{left_at-mark, left_at-row, left_at-unmarked, slot-mark, ticks-mark}
-use Rattle.hls_rr.proofs.TurnLaws.{slot-settled, ticks-left, ticks-unbroken, ticks-broken, slot-served}
-use Rattle.hls_rr.proofs.TurnLaws.{slot-idle, ticks-other}
-use Rattle.hls_book_rules.specs.Turns.{had_of, turn_of, over, KeepsTurnRules}
+use Rattle.hls_book.proofs.TurnLaws.{left_at-mark, left_at-row, left_at-unmarked, slot-mark, ticks-mark}
+use Rattle.hls_book.proofs.TurnLaws.{slot-settled, ticks-left, ticks-unbroken, ticks-broken, slot-served}
+use Rattle.hls_book.proofs.TurnLaws.{slot-idle, ticks-other}
+use Rattle.hls_book.specs.Turns.{had_of, turn_of, over, KeepsTurnRules}
 
 -- ---- when a slot was left
 

@@ -6,9 +6,9 @@ use Rattle.std.proofs.Math.Nat.{mul-le-mul_left}
 use Rattle.std.proofs.lemmas.Bool.{cases_eq, cases_lt}
 use Rattle.hls_chron.specs.Ticks.{one_if}
 use Rattle.hls_kinds.specs.Turns.{turns_after}
-use Rattle.hls_book_rules.specs.Turns.{Turn, over}
-use Rattle.hls_book_turns.proofs.Circle.{others, ahead, ahead-few, ahead-fewer, ahead-next, ahead-less}
-use Rattle.hls_book_turns.proofs.Circle.{after-one}
+use Rattle.hls_book.specs.Turns.{Turn, over}
+use Rattle.hls_book.proofs.Circle.{others, ahead, ahead-few, ahead-fewer, ahead-next, ahead-less}
+use Rattle.hls_book.proofs.Circle.{after-one}
 
 -- what is left of the quantum, where the slot of the turn may use it
 abbrev left_over : (quantum : ℕ) (may : Bool) (had : ℕ) → ℕ

@@ -21,12 +21,12 @@ use Rattle.hls_kinds.specs.Made.{IsMade, Making, IsRow, Begun, Marked, Ticked}
 use Rattle.hls_kinds.specs.Tenants.{tenant_at, tenant_then}
 use Rattle.hls_kinds.proofs.MarkLaws.{tenant_at-row, tenant_at-same, tenant_at-unmarked}
 use Rattle.hls_kinds.proofs.Rooms.{before-last}
-use Rattle.hls_book.proofs.Books.{admission_made}
-use Rattle.hls_book_rules.specs.Turns.{turn_of}
-use Rattle.hls_book_turns.proofs.Circle.{others}
-use Rattle.hls_book_turns.proofs.Rounds.{all_waits}
-use Rattle.hls_book_turns.proofs.Ticks.{Asking, AreSame, serves_theirs, own-same, theirs-same, asking-same, sat}
-use Rattle.hls_book_turns.proofs.Ticks.{below, same_asking, past_same, up_to_now}
+use Rattle.hls_book.proofs.Made.{admission_made}
+use Rattle.hls_book.specs.Turns.{turn_of}
+use Rattle.hls_book.proofs.Circle.{others}
+use Rattle.hls_book.proofs.Rounds.{all_waits}
+use Rattle.hls_book.proofs.TurnTicks.{Asking, AreSame, serves_theirs, own-same, theirs-same, asking-same, sat}
+use Rattle.hls_book.proofs.TurnTicks.{below, same_asking, past_same, up_to_now}
 
 abbrev pub IsPassed : (quantum : ℕ) → Ledger → (slot : ℕ) → (among : ℕ → Bool) → (i n : ℕ) → Type 0
 IsPassed quantum b slot among i n =

@@ -1,9 +1,0 @@
-pub mod Numbers
-pub mod Closed
-pub mod Shapes
-pub mod Reached
-pub mod Finding
-pub mod Gains
-pub mod Ends
-pub mod Alone
-pub mod Needed

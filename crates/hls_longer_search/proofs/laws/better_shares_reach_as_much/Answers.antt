@@ -1,6 +1,0 @@
-use Rattle.hls_longer_search.proofs.Ends.{reach-better}
-use Rattle.hls_longer_search.proofs.laws.better_shares_reach_as_much.Goals as goal
-
-pub returns : goal.returns
-returns c = λ chain r.
-    let a = c.args in reach-better chain a.s a.d a.rate a.error a.h c.requires r
