@@ -98,8 +98,8 @@ module _ (haves : List Guarantee) (n port : ℕ) (two : 2 ≤ n) (have : Guarant
         valid = vl;
         room = n - 1;
         enough = λ k least.
-            let most = part-most takes.weight takes.total takes.others share lent (takes.is.part share lent lends) least in
-            omega arith;
+            let part = takes.is.part share lent lends in
+            let most = part-most takes.weight takes.total takes.others share lent part least in omega arith;
         also = λ other vo soft on.
             let last = closed-leads (n - 1) lent other vl vo on in
             offered place haves other n 1 (n - 1) port have share lent first.0 last.0 there
