@@ -1,9 +1,9 @@
 -- What the scheduler has is divided among its seats, shares and windows.
-use Rattle.std.proofs.Common.{◌≡◌, ℕ, ◌+◌, ◌-◌, ◌≤◌, Bool, false, arith, inl, inr}
+use Rattle.std.proofs.Common.{ℕ, ◌+◌, ◌-◌, ◌≤◌, Bool, false, arith, inl, inr}
 use Rattle.std.proofs.lemmas.Bool.{cases_lt}
 use Rattle.hls_chron.specs.declared.plain.Config.TheVariants.{Rr}
 use Rattle.hls_chron.specs.declared.plain.Terms.TheVariants.{Turn}
-use Rattle.hls_chron.specs.Ledger.{Ledger, now_of}
+use Rattle.hls_chron.specs.Ledger.{Ledger}
 use Rattle.hls_chron.specs.Ticks.{count}
 use Rattle.hls_kinds.specs.Made.{IsMade}
 use Rattle.hls_guarantee.specs.declared.Guarantee.TheVariants.{All, Resc}

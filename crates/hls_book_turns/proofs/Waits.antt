@@ -1,20 +1,20 @@
 -- What other slots have while a seat asks, each and together.
-use Rattle.std.proofs.Common.{◌≡◌, ◌≢◌, ℕ, zero, suc, ◌+◌, ◌-◌, ◌*◌, ◌<◌, ◌≤◌, Some, None, Bool, true, false}
+use Rattle.std.proofs.Common.{◌≡◌, ◌≢◌, ℕ, zero, suc, ◌+◌, ◌-◌, ◌*◌, ◌<◌, ◌≤◌, Bool, true, false}
 use Rattle.std.proofs.Common.{refl, ap, ◌∙◌, arith, inl, inr, add-one}
-use Rattle.std.specs.Prelude.{Option, is_some, not, ◌&&◌, ◌/◌, ◌==◌, nat_lt}
+use Rattle.std.specs.Prelude.{not, ◌&&◌, ◌/◌, ◌==◌, nat_lt}
 use Rattle.std.proofs.Math.Nat.{mul-le-mul_left, mul-le-mul_right}
 use Rattle.std.proofs.lemmas.Bool.{cases_eq, cases_lt, lt-ltb, eq-eqb, ne_eqb}
 use Rattle.std.proofs.lemmas.Nat.{le-div}
 use Rattle.hls_chron.specs.declared.plain.Config.TheVariants.{Rr}
 use Rattle.hls_chron.specs.declared.plain.Terms.TheVariants.{Turn}
-use Rattle.hls_chron.specs.Ledger.{Ledger, now_of, row_at, before}
-use Rattle.hls_chron.specs.Seats.{is_slot, served}
+use Rattle.hls_chron.specs.Ledger.{Ledger, now_of, before}
+use Rattle.hls_chron.specs.Seats.{served}
 use Rattle.hls_chron.specs.Ticks.{one_if, count}
-use Rattle.hls_chron.proofs.CountLaws.{one_if-le, count-within, count-none, count-push, count-agree, count-more}
+use Rattle.hls_chron.proofs.CountLaws.{one_if-le, count-within, count-none, count-push, count-more}
 use Rattle.hls_kinds.specs.Made.{IsMade}
 use Rattle.hls_kinds.specs.Slots.{sum_below}
 use Rattle.hls_kinds.proofs.MarkLaws.{sits_on}
-use Rattle.hls_kinds.proofs.Sums.{sum-one, sum-suc, sum-zero}
+use Rattle.hls_kinds.proofs.Sums.{sum-suc, sum-zero}
 use Rattle.hls_book.specs.Runs.{given_ticks, served_ticks, ticks_of_others}
 use Rattle.hls_book.specs.Turns.{most_beside}
 use Rattle.hls_book.proofs.Books.{admission_made}

@@ -21,9 +21,10 @@ pub fn joins_promise(ports: u8)
         KeepsPromise (Config.Join ports) b }
 {}
 
-/// Round robin keeps its promise in every book that came about as it may: a seat that asks is one of at most 32
-/// that have turns of `quantum` ticks one after the other. So of a share that a port supplies it has the 32nd part,
-/// whoever comes, leaves or blocks meanwhile, and it starts later by at most 31 turns of others, those 32nd parts.
+/// Round robin keeps its promise in every book that came about as it may: a seat that asks is one of at
+/// most 32, which have turns of `quantum` ticks in the cyclic order of their slots. So of a share with the
+/// error `d` that a port supplies it has the 32nd part, with the error `(d + 31 * quantum) / 32`, whoever
+/// comes, leaves or blocks meanwhile.
 pub fn round_robin_promises(quantum: u32)
     ensures { (b : Ledger) → IsMade (Config.Rr quantum) b → KeepsPromise (Config.Rr quantum) b }
 {}
