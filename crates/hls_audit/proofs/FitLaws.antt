@@ -70,10 +70,10 @@ load_fits configs.Edf [] is = absurd is
 load_fits configs.Edf (perch ∷ []) is =
     record { config = is.0; ports = refl; haves = one_valid perch.want (valid_narrow perch.want is.1.want) }
 load_fits configs.Edf (perch ∷ other ∷ perches) is = absurd is
-load_fits (configs.Sfq total most) [] is = absurd is
-load_fits (configs.Sfq total most) (perch ∷ []) is =
+load_fits (configs.Sfq total most quantum) [] is = absurd is
+load_fits (configs.Sfq total most quantum) (perch ∷ []) is =
     record { config = is.0; ports = refl; haves = one_valid perch.want (valid_narrow perch.want is.1.want) }
-load_fits (configs.Sfq total most) (perch ∷ other ∷ perches) is = absurd is
+load_fits (configs.Sfq total most quantum) (perch ∷ other ∷ perches) is = absurd is
 load_fits (configs.Rr quantum) [] is = absurd is
 load_fits (configs.Rr quantum) (perch ∷ []) is =
     record { config = is.0; ports = refl; haves = one_valid perch.want (valid_narrow perch.want is.1.want) }
@@ -266,8 +266,8 @@ one_seat : (config : Config) (perches : List Perch) (perch : Perch) → IsLoad c
 one_seat configs.Cpu perches perch load is single = absurd load
 one_seat configs.Fp perches perch load is single = (tt, is)
 one_seat configs.Edf perches perch load is single = (tt, is)
-one_seat (configs.Sfq total most) perches perch load is single =
-    ((load_fits (configs.Sfq total most) perches load).config, is)
+one_seat (configs.Sfq total most quantum) perches perch load is single =
+    ((load_fits (configs.Sfq total most quantum) perches load).config, is)
 one_seat (configs.Rr quantum) perches perch load is single =
     ((load_fits (configs.Rr quantum) perches load).config, is)
 one_seat (configs.Wheel frame) perches perch load is single =

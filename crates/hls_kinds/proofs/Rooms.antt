@@ -35,7 +35,7 @@ unfolding start_tags asked served row_at tenant_at before settled_at left_at
 tags-room quantum b zero = refl
 tags-room quantum b (suc n) = λ i t slot. start_by quantum b (tags-room quantum b n i) t slot
 
-tag-room : (quantum : ℕ) (b : Ledger) (t : ℕ) → start_tag quantum (roomless b) t ≡ start_tag quantum b t
+pub tag-room : (quantum : ℕ) (b : Ledger) (t : ℕ) → start_tag quantum (roomless b) t ≡ start_tag quantum b t
 tag-room quantum b t = λ i slot. tags-room quantum b (t + 1) i t slot
 
 least-room : (b : Ledger) (mask slot : ℕ) → HasLeastPriority b mask slot
@@ -48,7 +48,7 @@ turn-room : (quantum : ℕ) (b : Ledger) (key : ℕ → ℕ) (mask slot : ℕ) �
 unfolding asked served row_at settled_at left_at
 turn-room quantum b key mask slot turn = record { goes_on = turn.goes_on; passes = turn.passes }
 
-slot-room : (b : Ledger) → turn_slot (roomless b) ≡ turn_slot b
+pub slot-room : (b : Ledger) → turn_slot (roomless b) ≡ turn_slot b
 unfolding row_at settled_at
 slot-room b = refl
 

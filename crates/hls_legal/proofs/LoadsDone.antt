@@ -86,8 +86,8 @@ load_shape (configs.Join ports) perches is = record {
 }
 load_shape configs.Fp (perch ∷ []) is = lone_shape configs.Fp perch (λ e. cc) refl is.0 is.1
 load_shape configs.Edf (perch ∷ []) is = lone_shape configs.Edf perch (λ e. cc) refl is.0 is.1
-load_shape (configs.Sfq total most) (perch ∷ []) is =
-    lone_shape (configs.Sfq total most) perch (λ e. cc) refl is.0 is.1
+load_shape (configs.Sfq total most quantum) (perch ∷ []) is =
+    lone_shape (configs.Sfq total most quantum) perch (λ e. cc) refl is.0 is.1
 load_shape (configs.Rr quantum) (perch ∷ []) is = lone_shape (configs.Rr quantum) perch (λ e. cc) refl is.0 is.1
 load_shape (configs.Wheel frame) (perch ∷ []) is = lone_shape (configs.Wheel frame) perch (λ e. cc) refl is.0 is.1
 load_shape _ [] is = absurd is

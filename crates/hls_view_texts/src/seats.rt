@@ -16,6 +16,19 @@ fn put_blank_number(text: &mut Vec<u8>, number: u32) -> Result<(), AllocError>
     put_number(text, u128::from(number))
 }
 
+fn put_queue(text: &mut Vec<u8>, total: u32, most: u32, quantum: u32) -> Result<(), AllocError>
+    ensures { OnOk result (text.new.items ≡ text.old.items
+        ++ joined (texts.config_forms (Config.Sfq total most quantum))) }
+{
+    put(text, b"sfq")?;
+    put_blank_number(text, total)?;
+    put_blank_number(text, most)?;
+    if quantum != 1 {
+        put_blank_number(text, quantum)?;
+    }
+    Ok(())
+}
+
 fn config_text(alloc: Global, config: &Config) -> Result<Vec<u8>, AllocError>
     ensures { IfOk result (λ text. text.items ≡ joined (config_forms config.now)) }
 {
@@ -24,11 +37,11 @@ fn config_text(alloc: Global, config: &Config) -> Result<Vec<u8>, AllocError>
         Config::Cpu => {}
         Config::Fp => put(&mut text, b"fp")?,
         Config::Edf => put(&mut text, b"edf")?,
-        Config::Sfq { total, most } => {
-            put(&mut text, b"sfq")?;
-            put_blank_number(&mut text, *total)?;
-            put_blank_number(&mut text, *most)?;
-        }
+        Config::Sfq {
+            total,
+            most,
+            quantum,
+        } => put_queue(&mut text, *total, *most, *quantum)?,
         Config::Rr { quantum } => {
             put(&mut text, b"rr")?;
             put_blank_number(&mut text, *quantum)?;
