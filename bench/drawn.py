@@ -1,7 +1,7 @@
 #!/usr/bin/env python3
 """Scenarios that are drawn from a number, for bench/fuzz.py.
 
-Usage: bench/drawn.py PROFILE NUMBER > FILE
+Usage: bench/drawn.py PROFILE NUMBER [VERSION] > FILE
 
 kinds    schedulers of all kinds, and threads that come, wake, sleep, move and go
 derive   guarantees that just follow from others, or just do not
@@ -10,7 +10,7 @@ hard     a few threads with guarantees, blocked and woken all the time
 limits   as many schedulers, threads, seats, shares or levels as there may be, and more
 text     a scenario in another dress, mostly with a bad line
 
-A text is the same every time for its profile and number.
+A text is the same every time for its profile, number and version of the language.
 """
 import random
 import sys
@@ -61,9 +61,12 @@ def lent(kind, config, terms, have):
     if kind == "wheel" and have == ALL:
         return "RESCH", terms[1], config[0]
     if kind == "sfq" and rate_of(have):
-        (rate, error), (total, most), weight = rate_of(have), config, terms[1]
-        share = Fraction(min(weight, total), total)
-        return "PSBE", rate * share, share * (error + most - 1) + 1 - share
+        (rate, error), (total, most, *quantum), weight = rate_of(have), config, terms[1]
+        share, turn = Fraction(min(weight, total), total), quantum[0] if quantum else 1
+        return "PSBE", rate * share, share * (error + (most - 1) * turn) + turn * (1 - share)
+    if kind == "rr" and rate_of(have):
+        rate, error = rate_of(have)
+        return "PSBE", rate / 32, (error + 31 * config[0]) / 32
     return have if kind == "join" and have[0] in ("ALL", "RESBS", "RESCS", "PSBE") else NULL
 
 
@@ -119,6 +122,8 @@ class Place:
 class Drawing:
     """The commands of a scenario, each drawn beside what the ones before it would mostly have done."""
 
+    version = 1
+
     def __init__(self, draw, depth=None, kinds=None):
         self.draw, self.depth, self.kinds = draw, depth, kinds or KINDS
         self.tick, self.items = 0, []
@@ -134,7 +139,8 @@ class Drawing:
     def config(self, kind):
         choose = self.draw.choice
         if kind == "sfq":
-            return choose([1, 2, 4, 5, 10, 40, 100]), choose([1, 2, 3, 5, 20])
+            turn = (choose([1, 1, 2, 3, 5, 100]),) if self.version == 2 else ()
+            return choose([1, 2, 4, 5, 10, 40, 100]), choose([1, 2, 3, 5, 20]), *turn
         if kind == "rr":
             return (choose([1, 1, 2, 3, 100]),)
         return (choose([1, 2, 3, 5, 7, 10, 40, 1000]),) if kind == "wheel" else ()
@@ -172,7 +178,10 @@ class Drawing:
             kind, x, y = have
             other = {"RESBH": "RESBS", "RESCH": choose(["RESCS", "RESBH"]), "RESCS": "RESBS"}.get(kind, kind)
             rate, error = rate_of(have)
-            return choose([(other, x, y), (kind, number(1, x), y), ("PSBE", rate, error), ("RESCS", x, y - off),
+            fewer, times = number(1, x), number(1, 4)
+            longer = ("RESCS", fewer, 2 * (y - x) + fewer - off) if kind.startswith("RESB") \
+                else ("RESCS", times * x, times * y - off)
+            return choose([(other, x, y), (kind, fewer, y), ("PSBE", rate, error), ("RESCS", x, y - off), longer,
                            ("RESCS", x, 2 * y - x - off if kind.startswith("RESB") else y)])
         return have
 
@@ -283,7 +292,7 @@ class Drawing:
                 self.act(actions)
 
     def text(self, horizon):
-        head = ["hls 1", f"horizon {horizon}"] + ([] if self.depth is None else [f"depth {self.depth}"])
+        head = [f"hls {self.version}", f"horizon {horizon}"] + ([] if self.depth is None else [f"depth {self.depth}"])
         return "\n".join(head + [f"at {tick} {command}" for tick, command in self.items]).encode() + b"\n"
 
 
@@ -310,7 +319,7 @@ def kinds(draw):
 
 
 def derive(draw):
-    depth, first = draw.choice([None, 0, 1, 2, 3, 4, 6]), draw.choice(["fp", "edf", "sfq", "wheel"])
+    depth, first = draw.choice([None, 0, 1, 2, 3, 4, 6]), draw.choice(["fp", "edf", "sfq", "wheel", "rr"])
     it = begun(draw, depth, first, draw.randint(2, 6), 3)
     it.go_on(4, 0.95, {it.thread: 12, it.load: 3, it.end: 8, it.move: 6, it.unload: 1})
     return it.text(20)
@@ -322,7 +331,8 @@ class Settling(Drawing):
     def __init__(self, draw, kind):
         super().__init__(draw)
         choose = draw.choice
-        numbers = {"sfq": " 40 20", "rr": f" {choose([1, 2, 3, 5])}", "wheel": f" {choose([3, 5, 7])}"}.get(kind, "")
+        queue = "40 20" if self.version == 1 else f"40 20 {choose([1, 2, 3, 7])}"
+        numbers = {"sfq": f" {queue}", "rr": f" {choose([1, 2, 3, 5])}", "wheel": f" {choose([3, 5, 7])}"}.get(kind, "")
         self.busy = Scheduler(kind, (40, 20) if kind == "sfq" else (3,), NULL)
         self.movers = ["s", "m"]
         self.say("load root fp on cpu as ALL")
@@ -444,16 +454,17 @@ def text(draw):
 PROFILES = {"kinds": kinds, "derive": derive, "settle": settle, "hard": hard, "limits": limits, "text": text}
 
 
-def drawn(profile, number):
-    """The text of a profile and a number."""
+def drawn(profile, number, version=1):
+    """The text of a profile and a number, in a version of the language."""
+    Drawing.version = version
     return PROFILES[profile](random.Random(f"{profile} {number}"))
 
 
 def main():
-    if len(sys.argv) != 3 or sys.argv[1] not in PROFILES or not sys.argv[2].isdigit():
+    if len(sys.argv) not in (3, 4) or sys.argv[1] not in PROFILES or not "".join(sys.argv[2:]).isdigit():
         print(__doc__.strip())
         return 2
-    sys.stdout.buffer.write(drawn(sys.argv[1], int(sys.argv[2])))
+    sys.stdout.buffer.write(drawn(sys.argv[1], *map(int, sys.argv[2:])))
     return 0
 
 

@@ -2,9 +2,9 @@
 """Gives random scenarios and changed reports to the program, and to any other that does the same job.
 
 Usage: bench/fuzz.py [--prog COMMAND] [--other COMMAND] [--cases N] [--from NUMBER] [--profiles P,P] [--jobs N]
-                     [--keep FOLDER]
+                     [--version N] [--keep FOLDER]
 (default: crates/hls_prog/out/hls_prog, which ./hls builds, and no other; 1,000 cases from 0; all profiles; as many
-jobs as processors; nothing is kept)
+jobs as processors; version 1 of the language; nothing is kept)
 
 The profiles are those of bench/drawn.py, and `report`: the report of one of their scenarios, with a few changes. A
 COMMAND is followed by the word `run` or `check`. What is asked of each case:
@@ -75,11 +75,11 @@ def changed_answer(draw, report):
     return report[:found.start()] + other + report[found.end():]
 
 
-def changed_report(command, number):
+def changed_report(command, number, version):
     """The report of a scenario, with up to three changes."""
     draw = random.Random(f"report {number}")
     profile = draw.choice(["kinds", "kinds", "hard", "hard", "derive", "settle", "limits"])
-    report = answer(command, "run", drawn(profile, number))[1]
+    report = answer(command, "run", drawn(profile, number, version))[1]
     for _ in range(draw.choice([0, 1, 1, 1, 2, 3])):
         kind = draw.choice([changed_run, changed_run, changed_run, changed_number, changed_answer, None])
         report = kind(draw, report) if kind else changed_text(draw, report, 1)
@@ -112,12 +112,12 @@ def on_report(commands, text):
     return f"check {status}", wrong
 
 
-def on_case(commands, profile, number):
+def on_case(commands, version, profile, number):
     """The text of a case, how it ended, and what is wrong."""
     if profile == "report":
-        text = changed_report(commands[-1], number)
+        text = changed_report(commands[-1], number, version)
         return text, *on_report(commands, text)
-    text = drawn(profile, number)
+    text = drawn(profile, number, version)
     return text, *on_scenario(commands, text)
 
 
@@ -135,6 +135,7 @@ def options():
     words.add_argument("--from", type=int, default=0, dest="first")
     words.add_argument("--profiles", default=",".join([*PROFILES, "report"]))
     words.add_argument("--jobs", type=int, default=os.cpu_count())
+    words.add_argument("--version", type=int, choices=[1, 2], default=1)
     words.add_argument("--keep")
     return words.parse_args()
 
@@ -146,7 +147,7 @@ def main():
     ends, differences = collections.Counter(), 0
     with concurrent.futures.ProcessPoolExecutor(given.jobs) as pool:
         cases = [(profiles[number % len(profiles)], number) for number in range(given.first, given.first + given.cases)]
-        each = pool.map(on_case, [commands] * len(cases), *zip(*cases), chunksize=16)
+        each = pool.map(on_case, [commands] * len(cases), [given.version] * len(cases), *zip(*cases), chunksize=16)
         for (profile, number), (text, end, wrong) in zip(cases, each):
             ends[f"{profile}: {end}"] += 1
             for word in wrong:

@@ -1,4 +1,5 @@
 pub mod ShareSizes
+pub mod TurnSizes
 pub mod Stepping
 pub mod Lendings
 pub mod Failing

@@ -6,7 +6,7 @@ use Rattle.hls_frac.proofs.Limits.{sum_fits, product_fits}
 use Rattle.hls_guarantee.specs.Limits.{IsShare}
 use Rattle.hls_rules.proofs.Sizes.{quotient-within, product-within}
 
-sum-within : {n d m e : ℕ} (f a b : Frac) → IsWithin a n d → IsWithin b m e → IsSum f a b
+pub sum-within : {n d m e : ℕ} (f a b : Frac) → IsWithin a n d → IsWithin b m e → IsSum f a b
     → IsWithin f (n * e + m * d) (d * e)
 sum-within f a b first second sum =
     let left = mul-le-mul first.num second.den in

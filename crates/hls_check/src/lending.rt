@@ -44,6 +44,9 @@ pub fn lent(place: &Place, g: &Guarantee) -> Option<Guarantee>
         (Config::Sfq { total, most }, Terms::Weight(weight), Guarantee::Psbe { s, d }) => {
             share_lent(total, most, weight, &s, &d)
         }
+        (Config::Rr { quantum }, Terms::Turn, Guarantee::Psbe { s, d }) => {
+            Some(turn_lent(quantum, &s, &d))
+        }
         (Config::Join { .. }, Terms::Sole, _) => soft(g),
         _ => None,
     }
@@ -82,6 +85,20 @@ fn share_lent(total: u32, most: u32, weight: u32, s: &Frac, d: &Frac) -> Option<
         s: s.mul(&part),
         d: d.add(&others).mul(&part).add(&rest),
     })
+}
+
+/// The share of a turn, one of 32 at most.
+fn turn_lent(quantum: u32, s: &Frac, d: &Frac) -> Guarantee
+    requires config { ConfigInRange (Config.Rr quantum) }
+    requires share { IsShare (10 ^ 13) (10 ^ 8) s.now d.now }
+    ensures { LendsByTerms (Config.Rr quantum) Terms.Turn (Guarantee.Psbe s.now d.now) result }
+{
+    let part = quotient(1, 32);
+    let others = quotient(31 * quantum as u128, 1);
+    Guarantee::Psbe {
+        s: s.mul(&part),
+        d: d.add(&others).mul(&part),
+    }
 }
 
 /// The guarantee itself where more service never breaks it.

@@ -38,7 +38,7 @@ lent-of-valid configs.Cpu its have lent rc rt narrow lends = lent-valid configs.
 lent-of-valid configs.Fp its have lent rc rt narrow lends = lent-valid configs.Fp its have lent rc rt narrow lends
 lent-of-valid configs.Edf its have lent rc rt narrow lends = lent-valid configs.Edf its have lent rc rt narrow lends
 lent-of-valid (configs.Rr quantum) its have lent rc rt narrow lends =
-    lent-valid (configs.Rr quantum) its have lent rc rt narrow lends
+    lent-valid (configs.Rr quantum) its lends.0 lent rc rt (narrow-share have lends.0 narrow lends.1) lends.2
 lent-of-valid (configs.Wheel frame) its have lent rc rt narrow lends =
     lent-valid (configs.Wheel frame) its have lent rc rt narrow lends
 lent-of-valid (configs.Sfq total most) its have lent rc rt narrow lends =

@@ -10,7 +10,7 @@ ghost use Rattle.hls_offer_best.specs.Inside.Trying.{IsUpTo};
 use crate::seat::Seat;
 use hls_guarantee::Guarantee;
 use hls_offer_laws::laws::windows_have_candidates;
-use hls_offer_laws::{lent_of, own_ticks, shared_ticks};
+use hls_offer_laws::{block_ticks, lent_of, own_ticks, shared_ticks};
 use hls_rules::RuleBook;
 use std::alloc::{AllocError, Global};
 
@@ -84,6 +84,7 @@ fn through_port(
         return Ok(most);
     };
     let most = greater(alloc, book, window, own_ticks(&lent, window.y), most)?;
+    let most = greater(alloc, book, window, block_ticks(&lent, window.y), most)?;
     greater(alloc, book, window, shared_ticks(&lent, window.y), most)
 }
 

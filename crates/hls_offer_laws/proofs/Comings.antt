@@ -15,25 +15,28 @@ use Rattle.hls_guarantee.specs.Satisfaction.{IsSoft}
 use Rattle.hls_guarantee.specs.Limits.{IsValid, IsNarrow}
 use Rattle.hls_guarantee.specs.Conversions.{Converts}
 use Rattle.hls_chron.specs.Kinds.{IsPort}
-use Rattle.hls_guarantee.specs.Steps.{IsFairShare, LendsByTerms, LendsNothing}
+use Rattle.hls_guarantee.specs.Steps.{LendsByTerms, LendsNothing}
 use Rattle.hls_derive.specs.declared.derivation.Place.{Place}
 use Rattle.hls_derive.specs.declared.derivation.Step.{Step}
 use Rattle.hls_derive.specs.declared.derivation.Derivation.{Derivation}
 use Rattle.hls_derive.specs.Derivation.{conversions}
 use Rattle.hls_derive.specs.Derives.{IsDerivation, IsWholeShare}
-use Rattle.hls_search_laws.proofs.Quads.{IsBetter, quad, quad-ok, better-trans, better-scaled, scaled, scaled-ok}
+use Rattle.hls_search_laws.proofs.Quads.{IsBetter, quad, quad-ok}
 use Rattle.hls_search_laws.proofs.Closed.{Closed}
 use Rattle.hls_search_laws.proofs.Makes.{narrow-valid}
 use Rattle.hls_search_laws.proofs.Ends.{closed-null}
 use Rattle.hls_search.specs.Search.{CanSearch}
 use Rattle.hls_search.specs.Inside.Chains.{LeadsTo}
-use Rattle.hls_search.specs.Inside.Places.{HitsByBest, LendsOfAll}
-use Rattle.hls_search.proofs.Completing.{Parts, parts, weight-of, derived-after, derived-shares, narrow-at}
+use Rattle.hls_search.specs.Inside.Parts.{IsPart, PartOf}
+use Rattle.hls_search.specs.Inside.Places.{HitsByBest, HitsByGoal, LendsOfAll, LendsShares}
+use Rattle.hls_search.proofs.BestShares.{whole-narrow, whole-better}
+use Rattle.hls_search.proofs.Completing.{Parts, parts, derived-after, derived-shares, narrow-at}
 use Rattle.hls_search.proofs.Deriving.{lent-valid, leads-none}
-use Rattle.hls_search.proofs.Fair.{whole-narrow, whole-better}
-use Rattle.hls_search.proofs.Shares.{others_error, fair-of, fair-better, better-fair}
+use Rattle.hls_search.proofs.Shares.{part-of, parts-better}
+use Rattle.hls_search.proofs.Taking.{LendsPart, parted}
 use Rattle.hls_offer_laws.specs.Offered.{CanOffer, IsOffered, IsShareOf, IsLentOf, IsLent}
 use Rattle.hls_offer_laws.proofs.Leading.{closed-leads, found-reached, offered}
+use Rattle.hls_offer_laws.proofs.Lent.{share-by}
 use Rattle.hls_offer_laws.proofs.Shares.{narrow-share, best-share, best-leads, better-converts}
 
 pub record Comes (place : Place) (haves : List Guarantee) (n : ℕ) (wanted : Guarantee) : Type 0 where
@@ -152,28 +155,26 @@ pub record ByGoal (place : Place) (haves : List Guarantee) (n : ℕ) (wanted : G
   pub gives : Converts R1 lent wanted
   pub offers : IsOffered place haves n lent
 
-module _ (total most weight : ℕ) (rc : ConfigInRange (configs.Sfq total most))
-    (rt : TermsInRange (terms.Weight weight)) (haves : List Guarantee) (n : ℕ) where
-  abbrev fair : Place
-  fair = record { config = configs.Sfq total most; terms = terms.Weight weight }
+module _ (config : Config) (its : Terms) (rc : ConfigInRange config) (rt : TermsInRange its) (of : LendsShares config)
+    (haves : List Guarantee) (n port : ℕ) (port_of : IsPort config port) where
+  abbrev sharing : Place
+  sharing = record { config = config; terms = its }
 
-  share-comes : (have wanted : Guarantee) → slice_get haves 0 ≡ Some have → IsNarrow have → IsValid wanted
-      → (wanted ≡ Null → ⊥) → HitsByBest (configs.Sfq total most) (terms.Weight weight) n have wanted
-      → Comes fair haves n wanted
+  share-comes : (have wanted : Guarantee) → slice_get haves port ≡ Some have → IsNarrow have → IsValid wanted
+      → (wanted ≡ Null → ⊥) → HitsByBest config its n have wanted → Comes sharing haves n wanted
   share-comes have wanted there narrow vw some hit =
       let is : IsShareOf have hit.best = best-share hit.is in
       let nb : IsNarrow hit.best = narrow-share have hit.best narrow is in
-      let vl : IsValid hit.lent =
-      lent-valid (configs.Sfq total most) (terms.Weight weight) hit.best hit.lent rc rt nb hit.lends in
+      let vl : IsValid hit.lent = lent-valid config its hit.best hit.lent rc rt nb hit.lends in
       let reached = found-reached (n - hit.count) hit.lent wanted vl vw hit.found in
       let first = best-leads hit.is in
       record {
         lent = hit.lent;
         is = record {
-          port = 0;
+          port = port;
           have = have;
           there = there;
-          lends = (hit.best, is, hit.lends);
+          lends = share-by config its have hit.lent of (hit.best, is, hit.lends);
           some = not-null reached.2 some;
         };
         valid = vl;
@@ -182,33 +183,28 @@ module _ (total most weight : ℕ) (rc : ConfigInRange (configs.Sfq total most))
         closed = reached.2;
         also = λ other vo soft on.
             let last = closed-leads reached.0 hit.lent other vl vo on in
-            offered fair haves other n hit.count reached.0 0 have hit.best hit.lent first.0 last.0 there
-            (record { from = narrow-valid hit.best nb; to = vl; port_of = refl; lends = inl hit.lends }) first.1
+            offered sharing haves other n hit.count reached.0 port have hit.best hit.lent first.0 last.0 there
+            (record { from = narrow-valid hit.best nb; to = vl; port_of = port_of; lends = inl hit.lends }) first.1
             last.1 (let a = hit.fits in let b = reached.1 in omega arith);
       }
 
-  goal-comes : (s d p e : Frac) → slice_get haves 0 ≡ Some All → 1 ≤ n → IsValid (Psbe s d) → IsValid (Psbe p e)
-      → IsFairShare total most weight s d p e → ByGoal fair haves n (Psbe p e)
-  goal-comes s d p e there some vs vp given =
-      let size = weight-of total most weight given.rest rc rt given.weights in
-      let lost : ℕ = others_error total most weight in
+  goal-part : (weight total others : ℕ) (s d p e : Frac) → LendsPart config its weight total others
+      → slice_get haves port ≡ Some All → 1 ≤ n → IsValid (Psbe s d) → IsValid (Psbe p e)
+      → IsPart weight total others s d p e → ByGoal sharing haves n (Psbe p e)
+  goal-part weight total others s d p e takes there some vs vp part =
       let one = quotient_of 1 1 (omega arith) in
       let zero = quotient_of 0 1 (omega arith) in
       let whole : Guarantee = Psbe one.0 zero.0 in
       let is : IsWholeShare whole = (one.1, zero.1) in
       let nw : IsNarrow whole = whole-narrow one.0 zero.0 is in
       let vw : IsValid whole = narrow-valid whole nw in
-      let o = fair-of total most weight one.0 zero.0 size in
+      let o = part-of weight total others one.0 zero.0 takes.size in
       let lent : Guarantee = Psbe o.0 o.1 in
-      let vo : IsValid lent = lent-valid (configs.Sfq total most) (terms.Weight weight) whole lent rc rt nw o.2 in
-      let up : IsBetter (scaled (quad whole) weight total lost) (scaled (quad (Psbe s d)) weight total lost) =
-      better-scaled (quad whole) (quad (Psbe s d)) weight total lost
-      (whole-better one.0 zero.0 (quad (Psbe s d)) is (quad-ok (Psbe s d) vs)) in
+      let lends : LendsByTerms config its whole lent = takes.lends whole lent o.2 in
+      let vo : IsValid lent = lent-valid config its whole lent rc rt nw lends in
       let better : IsBetter (quad lent) (quad (Psbe p e)) =
-      better-trans (scaled-ok (quad whole) weight total lost (quad-ok whole vw) size.some size.fits)
-      (fair-better total most weight one.0 zero.0 o.0 o.1 o.2)
-      (better-trans (scaled-ok (quad (Psbe s d)) weight total lost (quad-ok (Psbe s d) vs) size.some size.fits) up
-      (better-fair total most weight s d p e given)) in
+      parts-better weight total others one.0 zero.0 o.0 o.1 s d p e takes.size vw vs o.2 part
+      (whole-better one.0 zero.0 (quad (Psbe s d)) is (quad-ok (Psbe s d) vs)) in
       let step : Step = record { rule = R8; to = whole } in
       let first : LeadsTo 1 All whole (step ∷ []) = record {
         follows = (record { from = tt; to = vw; leads = tt }, tt);
@@ -221,25 +217,33 @@ module _ (total most weight : ℕ) (rc : ConfigInRange (configs.Sfq total most))
         is_share = refl;
         lent = lent;
         is = record {
-          port = 0;
+          port = port;
           have = All;
           there = there;
-          lends = (whole, is, o.2);
+          lends = share-by config its All lent of (whole, is, lends);
           some = λ null. (let no : ⊥ = cc in no);
         };
         valid = vo;
         itself = refl;
         gives = better-converts o.0 o.1 p e vo vp better;
-        offers = offered fair haves lent n 1 0 0 All whole lent (step ∷ []) [] there
-            (record { from = vw; to = vo; port_of = refl; lends = inl o.2 }) first (leads-none lent) (omega arith);
+        offers = offered sharing haves lent n 1 0 port All whole lent (step ∷ []) [] there
+            (record { from = vw; to = vo; port_of = port_of; lends = inl lends }) first (leads-none lent) (omega arith);
       }
 
-  goal-hit : (have goal wanted : Guarantee) → slice_get haves 0 ≡ Some have → have ≡ All → 1 ≤ n → IsValid goal
-      → IsValid wanted → LendsByTerms (configs.Sfq total most) (terms.Weight weight) goal wanted
-      → ByGoal fair haves n wanted
-  goal-hit have (Psbe s d) (Psbe p e) there all some vg vw lends =
-      goal-comes s d p e (subst (λ v. slice_get haves 0 ≡ Some v) all there) some vg vw lends
-  goal-hit have goal wanted there all some vg vw lends = absurd lends
+  goal-comes : (weight total others : ℕ) (goal wanted : Guarantee) → LendsPart config its weight total others
+      → slice_get haves port ≡ Some All → 1 ≤ n → IsValid goal → IsValid wanted
+      → PartOf weight total others goal wanted → ByGoal sharing haves n wanted
+  goal-comes weight total others (Psbe s d) (Psbe p e) takes there some vg vw part =
+      goal-part weight total others s d p e takes there some vg vw part
+  goal-comes weight total others goal wanted takes there some vg vw part = absurd part
+
+  goal-hit : (have wanted : Guarantee) → slice_get haves port ≡ Some have → IsValid wanted
+      → HitsByGoal config its n have wanted → ByGoal sharing haves n wanted
+  goal-hit have wanted there vw hit =
+      let takes = parted config its hit.goal wanted rc rt of hit.lends in
+      goal-comes takes.weight takes.total takes.others hit.goal wanted takes.is
+      (subst (λ v. slice_get haves port ≡ Some v) hit.whole there) hit.fits hit.valid vw
+      (takes.is.part hit.goal wanted hit.lends)
 
 -- ---- what is offered comes in one of these ways
 
@@ -257,23 +261,23 @@ module _ (haves : List Guarantee) (wanted : Guarantee) (d : Derivation) (n : ℕ
       after-comes haves wanted n d.sched.port d.from is.starts have some place hit.0 reached.0
       is.sched.through.port_of vl hit.1 (same hit.0 hit.1) reached.1 reached.2
 
-  by-share : (total most weight : ℕ)
-      → CanOffer (record { config = configs.Sfq total most; terms = terms.Weight weight }) haves
-      → IsDerivation (record { config = configs.Sfq total most; terms = terms.Weight weight }) haves wanted d
-      → Comes (record { config = configs.Sfq total most; terms = terms.Weight weight }) haves n wanted
-      ⊎ ByGoal (record { config = configs.Sfq total most; terms = terms.Weight weight }) haves n wanted
-  by-share total most weight can is =
-      let place : Place = record { config = configs.Sfq total most; terms = terms.Weight weight } in
-      let there : slice_get haves 0 ≡ Some d.from =
-      subst (λ k. slice_get haves k ≡ Some d.from) is.sched.through.port_of is.starts in
+  by-share : (config : Config) (its : Terms) → CanOffer (record { config = config; terms = its }) haves
+      → IsDerivation (record { config = config; terms = its }) haves wanted d → LendsShares config
+      → Comes (record { config = config; terms = its }) haves n wanted
+      ⊎ ByGoal (record { config = config; terms = its }) haves n wanted
+  by-share config its can is of =
+      let place : Place = record { config = config; terms = its } in
+      let port_of = is.sched.through.port_of in
+      let have = narrow-at haves d.sched.port d.from can.each_have is.starts in
       let valid : IsValid wanted = narrow-valid wanted narrow in
-      elim (derived-shares place haves wanted d n (can-search place haves wanted can narrow) some is few tt) [
+      elim (derived-shares place haves wanted d n (can-search place haves wanted can narrow)
+      (λ nothing. some (nothing-null config wanted nothing)) is few of) [
         | inl hit ↦
-            inl (share-comes total most weight can.config can.terms haves n d.from wanted there
-            (narrow-at haves 0 d.from can.each_have there) valid some hit)
+            inl (share-comes config its can.config can.terms of haves n d.sched.port port_of d.from wanted is.starts
+            have valid some hit)
         | inr hit ↦
-            inr (goal-hit total most weight can.config can.terms haves n d.from hit.goal wanted there hit.whole
-            hit.fits hit.valid valid hit.lends)
+            inr (goal-hit config its can.config can.terms of haves n d.sched.port port_of d.from wanted is.starts
+            valid hit)
       ]
 
   -- the parts of a derivation whose place is taken apart
@@ -290,13 +294,12 @@ module _ (haves : List Guarantee) (wanted : Guarantee) (d : Derivation) (n : ℕ
       inl (join-comes haves wanted n d.sched.port d.from is.starts p.narrow some ports (p.i + p.j)
       is.sched.through.port_of p.fits
       (p.through (subst (λ v. Closed p.i d.from v) (sym p.lends.1) p.before)))
-  come (configs.Sfq total most) (terms.Weight weight) can is p = by-share total most weight can is
+  come (configs.Sfq total most) its can is p = by-share (configs.Sfq total most) its can is tt
+  come (configs.Rr quantum) its can is p = by-share (configs.Rr quantum) its can is tt
   come configs.Cpu its can is p =
       inl (by-all (record { config = configs.Cpu; terms = its }) can is tt (λ lent lends. lends))
   come configs.Edf its can is p =
       inl (by-all (record { config = configs.Edf; terms = its }) can is tt (λ lent lends. lends))
-  come (configs.Rr quantum) its can is p =
-      inl (by-all (record { config = configs.Rr quantum; terms = its }) can is tt (λ lent lends. lends))
   come (configs.Wheel frame) its can is p =
       inl (by-all (record { config = configs.Wheel frame; terms = its }) can is tt (λ lent lends. lends))
   come _ _ can is p = absurd p.lends

@@ -1,6 +1,6 @@
 -- The candidates as numbers that are computed.
 use Rattle.std.proofs.Common.{◌≡◌, ℕ, ◌*◌, ◌-◌, ◌/◌, ◌^◌, ◌≤◌, ◌<◌, ◌↔◌, ◌∙◌, sym, subst, ap, arith, mul-pos}
-use Rattle.std.specs.Prelude.{Some, None}
+use Rattle.std.specs.Prelude.{Option, Some, None}
 use Rattle.std.proofs.Math.Nat.{div-le_of_le-mul, le-div_iff_mul-le, mul-le-mul_right}
 use Rattle.hls_frac.specs.declared.Frac.{Frac}
 use Rattle.hls_guarantee.specs.declared.Guarantee.{Guarantee}
@@ -31,6 +31,20 @@ some-only {P} n held only x =
 
 none-only : {P : ℕ → Type 0} → ((m : ℕ) → P m → ⊥) → (x : ℕ) → (None ≡ Some x) ↔ P x
 none-only none x = (λ is. absurd (let no : ⊥ = cc in no), λ held. absurd (none x held))
+
+-- the most that are computed, if one or more
+pub most-if-some : {P : ℕ → Type 0} (found : Option ℕ) (n x : ℕ)
+    → ((v : ℕ) → (found ≡ Some v) ↔ ((1 ≤ v) × (v ≡ n))) → (1 ≤ n → IsMost P n) → ((m : ℕ) → P m → m ≤ n)
+    → (found ≡ Some x) ↔ ((1 ≤ x) × IsMost P x)
+most-if-some {P} found n x exact most below = (
+  λ is.
+      let both = (exact x).0 is in
+      let same : x ≡ n = both.1 in
+      (both.0, subst (λ v. IsMost P v) (sym same) (most (omega (arith, both.0)))),
+  λ its.
+      let le : x ≤ n = below x its.1.meets in
+      (exact x).1 (its.0, most-one its.1 (most (omega (arith, its.0)))),
+)
 
 -- ---- the most ticks
 

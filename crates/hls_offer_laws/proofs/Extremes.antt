@@ -1,13 +1,15 @@
--- The most ticks that a share gives, and the least within which it gives one.
+-- The most ticks that a share, windows and blocks give, and the least within which a share gives one.
 use Rattle.std.proofs.Common.{◌≡◌, ℕ, zero, suc, ◌+◌, ◌*◌, ◌-◌, ◌/◌}
-use Rattle.std.proofs.Common.{◌%◌, ◌≤◌, ◌<◌, ◌⊎◌, inl, inr, subst, arith, mul-pos}
+use Rattle.std.proofs.Common.{◌%◌, ◌≤◌, ◌<◌, ◌⊎◌, inl, inr, subst, ap, arith, mul-pos}
 use Rattle.std.specs.Prelude.{min}
-use Rattle.std.proofs.Math.Nat.{le-div_iff_mul-le, lt_of_mul-lt-mul_right}
+use Rattle.std.proofs.Math.Nat.{le-div_iff_mul-le, lt_of_mul-lt-mul_right, mul-le-mul_left, mul-le-mul_right}
+use Rattle.std.proofs.Math.Nat.{le_of_mul-le-mul_right}
 use Rattle.std.proofs.lemmas.Bool.{cases_lt}
 use Rattle.std.proofs.lemmas.Grind.{div_ceil_times}
 use Rattle.hls_frac.specs.declared.Frac.{Frac}
-use Rattle.hls_guarantee.specs.Conversions.{Covers}
-use Rattle.hls_offer_laws.specs.Candidates.{IsLeast, IsMost}
+use Rattle.hls_guarantee.specs.Conversions.{Covers, HasTimes}
+use Rattle.hls_guarantee.proofs.Times.{most_times, times_of}
+use Rattle.hls_offer_laws.specs.Candidates.{IsLeast, IsMost, Slides}
 
 -- of y ticks, in parts of a rate a / b and an error p / q
 abbrev pub most_of : (a b p q y : ℕ) → ℕ
@@ -56,6 +58,60 @@ least-wait s d some =
       meets = omega (arith, least.meets);
       least = λ less under. least.least less (omega (arith, under));
     }
+
+-- ---- so many windows
+
+repeated-some : (ticks times : ℕ) → 1 ≤ times * ticks → 1 ≤ times
+repeated-some ticks times some = elim (cases_lt times 1) [
+  | inl none ↦ (let gone : times * ticks ≡ 0 * ticks = ap (λ (v : ℕ). v * ticks) (omega arith) in absurd (omega arith))
+  | inr le ↦ le
+]
+
+pub repeated-most : (ticks period y : ℕ) → 1 ≤ period → 1 ≤ y / period * ticks
+    → IsMost (λ more. HasTimes ticks period more y) (y / period * ticks)
+repeated-most ticks period y pos some = record {
+  meets = times_of ticks period (y / period * ticks) y pos (repeated-some ticks (y / period) some, omega arith);
+  most = λ more has. (most_times ticks period more y pos has).1;
+}
+
+pub times-repeated : (ticks period x y : ℕ) → 1 ≤ period → HasTimes ticks period x y → x ≤ y / period * ticks
+times-repeated ticks period x y pos has = (most_times ticks period x y pos has).1
+
+-- no more ticks than there are
+pub times-fit : (ticks period x y : ℕ) → ticks ≤ period → HasTimes ticks period x y → x ≤ y
+times-fit ticks period x y fits has =
+    let more : has.times * ticks ≤ has.times * period = mul-le-mul_left has.times fits in
+    omega (arith, more, has.enough, has.within)
+
+-- of one window its own
+pub own-most : (ticks period : ℕ) → 1 ≤ period → IsMost (λ more. HasTimes ticks period more period) ticks
+own-most ticks period some = record {
+  meets = record { times = 1; some = omega arith; enough = omega arith; within = omega arith };
+  most = λ more has.
+      let few : has.times ≤ 1 = le_of_mul-le-mul_right {k = period} (omega (arith, has.within)) some in
+      let own : has.times * ticks ≤ 1 * ticks = mul-le-mul_right ticks few in
+      omega (arith, own, has.enough);
+}
+
+-- ---- blocks as windows
+
+abbrev pub span_of : (ticks period y : ℕ) → ℕ
+span_of ticks period y = min ticks (y - 2 * (period - ticks))
+
+pub span-most : (ticks period y : ℕ) → ticks ≤ period → 1 ≤ span_of ticks period y
+    → IsMost (λ more. Slides more y ticks period) (span_of ticks period y)
+span-most ticks period y fits some = record {
+  meets = (omega arith, omega arith);
+  most = λ more slides. (let a = slides.0 in let b = slides.1 in omega arith);
+}
+
+pub slides-span : (x y ticks period : ℕ) → ticks ≤ period → Slides x y ticks period → x ≤ span_of ticks period y
+slides-span x y ticks period fits slides = (let a = slides.0 in let b = slides.1 in omega arith)
+
+pub slides-fit : (x y ticks period : ℕ) → ticks ≤ period → Slides x y ticks period → x ≤ y
+slides-fit x y ticks period fits slides = (let a = slides.1 in omega arith)
+
+-- ---- a least one
 
 -- what holds of some number and can be told of each, holds of a least one
 below : (P : ℕ → Type 0) → ((n : ℕ) → P n ⊎ (P n → ⊥)) → (n : ℕ)

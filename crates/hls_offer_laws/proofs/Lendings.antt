@@ -17,8 +17,11 @@ use Rattle.hls_derive.specs.declared.derivation.Place.{Place}
 use Rattle.hls_search_laws.proofs.Closed.{Least, Closed}
 use Rattle.hls_search_laws.proofs.Closed.Least.{least-all, least-blocks, least-windows, least-share}
 use Rattle.hls_search_laws.proofs.Makes.{narrow-valid}
+use Rattle.hls_search.specs.Inside.Parts.{PartOf}
+use Rattle.hls_search.specs.Inside.Places.{LendsShares}
 use Rattle.hls_search.proofs.Completing.{narrow-at}
 use Rattle.hls_search.proofs.Deriving.{lent-valid}
+use Rattle.hls_search.proofs.Taking.{parted}
 use Rattle.hls_offer_laws.specs.Offered.{CanOffer, IsOffered, IsShareOf, IsLentOf, IsLent}
 use Rattle.hls_offer_laws.proofs.Leading.{closed-leads, offered}
 use Rattle.hls_offer_laws.proofs.Shares.{narrow-share, share-leads}
@@ -41,6 +44,10 @@ least-most least-share = omega arith
 
 share-most : {s d : Frac} {k : ℕ} → Least (Psbe s d) k → k ≤ 1
 share-most least-share = omega arith
+
+part-most : {k : ℕ} (weight total others : ℕ) (g h : Guarantee) → PartOf weight total others g h → Least h k → k ≤ 1
+part-most weight total others (Psbe s d) (Psbe p e) part least = share-most least
+part-most weight total others g h part least = absurd part
 
 pub least-some : (g : Guarantee) → (g ≡ Null → ⊥) → (k : ℕ) × Least g k
 least-some All some = (1, least-all)
@@ -77,27 +84,28 @@ module _ (haves : List Guarantee) (n port : ℕ) (two : 2 ≤ n) (have : Guarant
             other vo on;
       }
 
-  of-share : (total most weight : ℕ) (share lent : Guarantee)
-      → CanOffer (record { config = configs.Sfq total most; terms = terms.Weight weight }) haves → port ≡ 0
-      → IsShareOf have share → LendsByTerms (configs.Sfq total most) (terms.Weight weight) share lent
-      → Lending (record { config = configs.Sfq total most; terms = terms.Weight weight }) haves n lent
-  of-share total most weight (Psbe s d) (Psbe p e) can port_of is lends =
-      let place : Place = record { config = configs.Sfq total most; terms = terms.Weight weight } in
-      let ns : IsNarrow (Psbe s d) = narrow-share have (Psbe s d) narrow is in
-      let vl : IsValid (Psbe p e) =
-      lent-valid (configs.Sfq total most) (terms.Weight weight) (Psbe s d) (Psbe p e) can.config can.terms ns lends in
-      let first = share-leads have (Psbe s d) (narrow-valid have narrow) is in
+  of-share : (config : Config) (its : Terms) (share lent : Guarantee)
+      → CanOffer (record { config = config; terms = its }) haves → IsPort config port → LendsShares config
+      → IsShareOf have share → LendsByTerms config its share lent
+      → Lending (record { config = config; terms = its }) haves n lent
+  of-share config its share lent can port_of of is lends =
+      let place : Place = record { config = config; terms = its } in
+      let ns : IsNarrow share = narrow-share have share narrow is in
+      let vl : IsValid lent = lent-valid config its share lent can.config can.terms ns lends in
+      let takes = parted config its share lent can.config can.terms of lends in
+      let first = share-leads have share (narrow-valid have narrow) is in
       record {
         valid = vl;
         room = n - 1;
-        enough = λ k least. (let most = share-most least in omega arith);
+        enough = λ k least.
+            let part = takes.is.part share lent lends in
+            let most = part-most takes.weight takes.total takes.others share lent part least in omega arith;
         also = λ other vo soft on.
-            let last = closed-leads (n - 1) (Psbe p e) other vl vo on in
-            offered place haves other n 1 (n - 1) port have (Psbe s d) (Psbe p e) first.0 last.0 there
-            (record { from = narrow-valid (Psbe s d) ns; to = vl; port_of = port_of; lends = inl lends }) first.1 last.1
+            let last = closed-leads (n - 1) lent other vl vo on in
+            offered place haves other n 1 (n - 1) port have share lent first.0 last.0 there
+            (record { from = narrow-valid share ns; to = vl; port_of = port_of; lends = inl lends }) first.1 last.1
             (omega arith);
       }
-  of-share total most weight share lent can port_of is lends = absurd lends
 
   lend : (config : Config) (its : Terms) (lent : Guarantee) → CanOffer (record { config = config; terms = its }) haves
       → IsPort config port → IsLentOf config its have lent
@@ -108,15 +116,14 @@ module _ (haves : List Guarantee) (n port : ℕ) (two : 2 ≤ n) (have : Guarant
   lend (configs.Join ports) terms.Sole lent can port_of lends =
       let place : Place = record { config = configs.Join ports; terms = terms.Sole } in
       subst (Lending place haves n) (sym lends) (passed place port_of (λ other soft. (soft, refl)))
-  lend (configs.Sfq total most) (terms.Weight weight) lent can port_of lends =
-      of-share total most weight lends.0 lent can port_of lends.1 lends.2
-  lend (configs.Sfq total most) its lent can port_of lends = absurd lends.2
+  lend (configs.Sfq total most) its lent can port_of lends =
+      of-share (configs.Sfq total most) its lends.0 lent can port_of tt lends.1 lends.2
+  lend (configs.Rr quantum) its lent can port_of lends =
+      of-share (configs.Rr quantum) its lends.0 lent can port_of tt lends.1 lends.2
   lend configs.Cpu its lent can port_of lends =
       of-all (record { config = configs.Cpu; terms = its }) lent can port_of lends
   lend configs.Edf its lent can port_of lends =
       of-all (record { config = configs.Edf; terms = its }) lent can port_of lends
-  lend (configs.Rr quantum) its lent can port_of lends =
-      of-all (record { config = configs.Rr quantum; terms = its }) lent can port_of lends
   lend (configs.Wheel frame) its lent can port_of lends =
       of-all (record { config = configs.Wheel frame; terms = its }) lent can port_of lends
   lend _ _ lent can port_of lends = absurd lends

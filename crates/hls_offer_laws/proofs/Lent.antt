@@ -10,22 +10,23 @@ use Rattle.hls_guarantee.proofs.Lendings.{lends-one}
 use Rattle.hls_guarantee.specs.declared.Guarantee.{Guarantee}
 use Rattle.hls_guarantee.specs.declared.Guarantee.TheVariants.{Null}
 use Rattle.hls_guarantee.specs.Steps.{LendsByTerms}
-use Rattle.hls_offer_laws.specs.Offered.{IsShareOf, IsLentOf}
+use Rattle.hls_search.specs.Inside.Places.{LendsShares}
+use Rattle.hls_offer_laws.specs.Offered.{LendsOfShare, IsLentOf}
 use Rattle.hls_offer_laws.proofs.Shares.{share-one}
 
--- neither a join nor fair queueing
+-- a place that lends neither what its ports have nor parts of shares
 abbrev pub IsPlain : Config → Type 0
 IsPlain (configs.Join ports) = ⊥
 IsPlain (configs.Sfq total most) = ⊥
+IsPlain (configs.Rr quantum) = ⊥
 IsPlain _ = Unit {0}
 
 pub plain : {config : Config} → (config ≡ configs.Cpu) ⊎ ((config ≡ configs.Fp) ⊎ ((config ≡ configs.Edf)
-    ⊎ (((quantum : ℕ) × config ≡ configs.Rr quantum) ⊎ ((frame : ℕ) × config ≡ configs.Wheel frame)))) → IsPlain config
+    ⊎ ((frame : ℕ) × config ≡ configs.Wheel frame))) → IsPlain config
 plain (inl is) = subst IsPlain (sym is) tt
 plain (inr (inl is)) = subst IsPlain (sym is) tt
 plain (inr (inr (inl is))) = subst IsPlain (sym is) tt
-plain (inr (inr (inr (inl is)))) = subst IsPlain (sym is.1) tt
-plain (inr (inr (inr (inr is)))) = subst IsPlain (sym is.1) tt
+plain (inr (inr (inr is))) = subst IsPlain (sym is.1) tt
 
 pub of-plain : (config : Config) (its : Terms) (have lent : Guarantee) → IsPlain config
     → IsLentOf config its have lent → LendsByTerms config its have lent
@@ -33,7 +34,7 @@ of-plain configs.Cpu its have lent is lends = lends
 of-plain configs.Fp its have lent is lends = lends
 of-plain configs.Edf its have lent is lends = lends
 of-plain (configs.Sfq total most) its have lent is lends = absurd is
-of-plain (configs.Rr quantum) its have lent is lends = lends
+of-plain (configs.Rr quantum) its have lent is lends = absurd is
 of-plain (configs.Wheel frame) its have lent is lends = lends
 of-plain (configs.Join ports) its have lent is lends = absurd is
 
@@ -43,16 +44,27 @@ plain-of configs.Cpu its have lent is lends = lends
 plain-of configs.Fp its have lent is lends = lends
 plain-of configs.Edf its have lent is lends = lends
 plain-of (configs.Sfq total most) its have lent is lends = absurd is
-plain-of (configs.Rr quantum) its have lent is lends = lends
+plain-of (configs.Rr quantum) its have lent is lends = absurd is
 plain-of (configs.Wheel frame) its have lent is lends = lends
 plain-of (configs.Join ports) its have lent is lends = absurd is
 
-pub of-share : (config : Config) (its : Terms) (total most : ℕ) (have lent : Guarantee)
-    → config ≡ configs.Sfq total most → IsLentOf config its have lent
-    → (share : Guarantee) × IsShareOf have share × LendsByTerms config its share lent
-of-share config its total most have lent is lends =
-    subst (λ v. (share : Guarantee) × IsShareOf have share × LendsByTerms v its share lent) (sym is)
-    (subst (λ v. IsLentOf v its have lent) is lends)
+-- a place that lends parts of shares
+pub shares : {config : Config} → ((total most : ℕ) × config ≡ configs.Sfq total most)
+    ⊎ ((quantum : ℕ) × config ≡ configs.Rr quantum) → LendsShares config
+shares (inl is) = subst LendsShares (sym is.2) tt
+shares (inr is) = subst LendsShares (sym is.1) tt
+
+pub of-share : (config : Config) (its : Terms) (have lent : Guarantee) → LendsShares config
+    → IsLentOf config its have lent → LendsOfShare config its have lent
+of-share (configs.Sfq total most) its have lent of lends = lends
+of-share (configs.Rr quantum) its have lent of lends = lends
+of-share _ its have lent of lends = absurd of
+
+pub share-by : (config : Config) (its : Terms) (have lent : Guarantee) → LendsShares config
+    → LendsOfShare config its have lent → IsLentOf config its have lent
+share-by (configs.Sfq total most) its have lent of lends = lends
+share-by (configs.Rr quantum) its have lent of lends = lends
+share-by _ its have lent of lends = absurd of
 
 -- two facts that say the same of each guarantee
 pub on-each : {found : Option Guarantee} {P Q : Guarantee → Type 0} → ((g : Guarantee) → P g → Q g)
@@ -88,21 +100,12 @@ join-by config ports its have lent is sole same =
     subst (λ v. IsLentOf v its have lent) (sym is)
     (subst (λ v. IsLentOf (configs.Join ports) v have lent) (sym sole) same)
 
-pub share-by : (config : Config) (its : Terms) (total most : ℕ) (have share lent : Guarantee)
-    → config ≡ configs.Sfq total most → IsShareOf have share → LendsByTerms config its share lent
-    → IsLentOf config its have lent
-share-by config its total most have share lent is its_share lends =
-    subst (λ v. IsLentOf v its have lent) (sym is)
-    (share, its_share, subst (λ v. LendsByTerms v its share lent) is lends)
-
 -- what is lent of one guarantee is one guarantee
 pub lent-one : (config : Config) (its : Terms) (have lent other : Guarantee) → ConfigInRange config
     → IsLentOf config its have lent → IsLentOf config its have other → lent ≡ other
 lent-one configs.Cpu its have lent other range a b = lends-one configs.Cpu its have lent other range a b
 lent-one configs.Fp its have lent other range a b = lends-one configs.Fp its have lent other range a b
 lent-one configs.Edf its have lent other range a b = lends-one configs.Edf its have lent other range a b
-lent-one (configs.Rr quantum) its have lent other range a b =
-    lends-one (configs.Rr quantum) its have lent other range a b
 lent-one (configs.Wheel frame) its have lent other range a b =
     lends-one (configs.Wheel frame) its have lent other range a b
 lent-one (configs.Join ports) its have lent other range a b =
@@ -111,3 +114,6 @@ lent-one (configs.Join ports) its have lent other range a b =
 lent-one (configs.Sfq total most) its have lent other range a b =
     lends-one (configs.Sfq total most) its a.0 lent other range a.2
     (subst (λ v. LendsByTerms (configs.Sfq total most) its v other) (share-one have b.0 a.0 b.1 a.1) b.2)
+lent-one (configs.Rr quantum) its have lent other range a b =
+    lends-one (configs.Rr quantum) its a.0 lent other range a.2
+    (subst (λ v. LendsByTerms (configs.Rr quantum) its v other) (share-one have b.0 a.0 b.1 a.1) b.2)

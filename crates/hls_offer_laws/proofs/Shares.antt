@@ -21,7 +21,7 @@ use Rattle.hls_search_laws.proofs.Makes.{blocks-most, windows-most}
 use Rattle.hls_search.specs.Inside.Chains.{LeadsTo}
 use Rattle.hls_search.specs.Inside.Places.{IsBestShare}
 use Rattle.hls_search.specs.Inside.Places.IsBestShare.{itself, of_blocks, of_windows, of_all}
-use Rattle.hls_search.proofs.Fair.{whole-narrow, whole-better}
+use Rattle.hls_search.proofs.BestShares.{whole-narrow, whole-better}
 use Rattle.hls_offer_laws.specs.Offered.{IsShareOf}
 
 -- a share of the same rate and error

@@ -36,7 +36,7 @@ same-told a b = elim (both-told (le-told a b) (le-told b a)) [
 ]
 
 slides-told : (ticks period y x : ℕ) → Slides ticks period x y ⊎ (Slides ticks period x y → ⊥)
-slides-told ticks period y x = both-told (le-told ticks x) (le-told (2 * y) (x + period))
+slides-told ticks period y x = both-told (le-told ticks x) (le-told (2 * y + ticks) (2 * x + period))
 
 spreads-told : (ticks period y x : ℕ) → Spreads ticks period x y ⊎ (Spreads ticks period x y → ⊥)
 spreads-told ticks period y x = le-told (ticks * y + x * (2 * (y - x))) (x * period)

@@ -12,8 +12,12 @@ use Rattle.hls_offer_laws.proofs.SizeLaws.{spreads-some}
 use Rattle.hls_offer_laws.proofs.Extremes.{ceiling, ceiling-least}
 use Rattle.hls_offer_laws.proofs.Counting.{least-one}
 
-pub slides-least : (ticks period y : ℕ) → IsLeast (λ size. Slides ticks period size y) (max ticks (2 * y - period))
-slides-least ticks period y = record {
+abbrev pub slide_of : (ticks period y : ℕ) → ℕ
+slide_of ticks period y = max ticks (y - (period - ticks) / 2)
+
+pub slides-least : (ticks period y : ℕ) → ticks ≤ period
+    → IsLeast (λ size. Slides ticks period size y) (slide_of ticks period y)
+slides-least ticks period y fits = record {
   meets = (omega arith, omega arith);
   least = λ less both. (let low = both.0 in let high = both.1 in omega arith);
 }

@@ -1,12 +1,13 @@
 -- What is lent gives one tick within no shorter a time than one of the candidates, within which it gives one as soon.
 use Rattle.std.proofs.Common.{◌≡◌, ℕ, ◌+◌, ◌*◌, ◌-◌, ◌≤◌, inl, inr, false, refl, sym, subst, arith}
+use Rattle.std.proofs.Math.Nat.{mul-le-mul_right}
 use Rattle.hls_guarantee.specs.declared.Guarantee.{Guarantee}
 use Rattle.hls_guarantee.specs.declared.Guarantee.TheVariants.{Resb, Resc, Psbe}
 use Rattle.hls_guarantee.specs.Limits.{IsReservation, IsValid}
 use Rattle.hls_search_laws.proofs.Quads.{IsQuad, quad, quad-ok, IsCovered, covered-from}
 use Rattle.hls_search_laws.proofs.Closed.{Least, Closed}
 use Rattle.hls_search_laws.proofs.Closed.Rates.{by4, by5}
-use Rattle.hls_search_laws.proofs.Closed.Shape.{s3, c2, c4h, c4s}
+use Rattle.hls_search_laws.proofs.Closed.Shape.{s3, c4}
 use Rattle.hls_search_laws.proofs.Closed.Gives.{windows}
 use Rattle.hls_search_laws.proofs.Closed.Closed.{bound, shape, same, rates}
 use Rattle.hls_offer_laws.specs.Candidates.{IsLeast, Assures, IsWait}
@@ -57,35 +58,23 @@ best-wait wait vl vw same = record {
   closed = same;
 }
 best-wait wait vl vw (shape (s3 {x = a} {y = b} c d k)) =
-    let whole : 2 * b - a + a ≡ 2 * b = omega (arith, vl.fits) in
+    let whole : 2 * (b - a) + 1 + 2 * a ≡ 2 * b + 1 = omega (arith, vl.fits) in
     record {
-      best = 2 * b - a;
+      best = 2 * (b - a) + 1;
       candidate = inr (inl whole);
-      no_longer = omega arith;
-      some = omega (arith, vl.some, vl.fits);
-      closed = shape (s3 c d (omega arith));
+      no_longer = omega (arith, k, vl.fits);
+      some = omega arith;
+      closed = shape (s3 c d (omega (arith, vl.fits)));
     }
-best-wait wait vl vw (shape (c2 c)) = record {
-  best = wait;
-  candidate = inl refl;
-  no_longer = omega arith;
-  some = vw.fits;
-  closed = shape (c2 c);
-}
-best-wait wait vl vw (shape (c4h {y = b} c d k)) = record {
-  best = b;
-  candidate = inl refl;
-  no_longer = k;
-  some = omega (arith, vl.some, vl.fits);
-  closed = shape (c4h c d (omega arith));
-}
-best-wait wait vl vw (shape (c4s {y = b} c d k)) = record {
-  best = b;
-  candidate = inl refl;
-  no_longer = k;
-  some = omega (arith, vl.some, vl.fits);
-  closed = shape (c4s c d (omega arith));
-}
+best-wait wait vl vw (shape (c4 {x = a} {y = b} k c some d far)) =
+    let once : 1 * b ≤ k * b = mul-le-mul_right b some in
+    record {
+      best = b;
+      candidate = inl refl;
+      no_longer = omega (arith, once, far);
+      some = omega (arith, vl.some, vl.fits);
+      closed = shape (c4 1 c (omega arith) (omega (arith, vl.some)) (omega arith));
+    }
 best-wait wait vl vw (rates le (by4 way)) = elim way [ ]
 best-wait wait vl vw (rates le (by5 way)) = elim way [ ]
 best-wait {lent = lent} wait vl vw (bound least le (windows u)) = bound-wait lent wait vl least le u

@@ -5,7 +5,7 @@ use Rattle.hls_chron.specs.declared.plain.Config.TheVariants.{Edf}
 use Rattle.hls_chron.specs.declared.plain.Terms.TheVariants.{Res}
 use Rattle.hls_guarantee.specs.declared.Guarantee.{Guarantee}
 use Rattle.hls_guarantee.specs.declared.Guarantee.TheVariants.{Null, Resb, Resc, Psbe}
-use Rattle.hls_guarantee.specs.Conversions.{Covers}
+use Rattle.hls_guarantee.specs.Conversions.{Covers, HasTimes}
 use Rattle.hls_derive.specs.declared.derivation.Place.{Place}
 use Rattle.hls_offer_laws.specs.Offered.{IsShareOf}
 
@@ -22,13 +22,24 @@ abbrev pub Assures : Guarantee → (x y : ℕ) → Type 0
 Assures (Psbe s d) x y = Covers s d x y
 Assures _ x y = ⊥
 
+-- ---- blocks as windows
+
+-- x of each block of y are so many of any so many ticks
+abbrev pub Slides : (ticks period x y : ℕ) → Type 0
+Slides ticks period x y = (ticks ≤ x) × (2 * y + ticks ≤ 2 * x + period)
+
 -- ---- windows: how many ticks of any y, or of each block of y, what is lent gives
 
--- its own number of ticks, of no longer windows
+-- its own of the same blocks, or the most of so many times its windows
 abbrev pub HasTicks : Guarantee → (x y : ℕ) → Type 0
-HasTicks (Resb hard ticks period) x y = (x ≡ ticks) × (x ≤ y)
-HasTicks (Resc hard ticks period) x y = (x ≡ ticks) × (x ≤ y)
+HasTicks (Resb hard ticks period) x y = (x ≡ ticks) × (y ≡ period)
+HasTicks (Resc hard ticks period) x y = (1 ≤ x) × IsMost (λ more. HasTimes ticks period more y) x
 HasTicks _ x y = ⊥
+
+-- the most that its blocks give of windows
+abbrev pub SpansTicks : Guarantee → (x y : ℕ) → Type 0
+SpansTicks (Resb hard ticks period) x y = (1 ≤ x) × IsMost (λ more. Slides more y ticks period) x
+SpansTicks _ x y = ⊥
 
 -- the most that its share gives
 pub record SharesTicks (lent : Guarantee) (x y : ℕ) : Type 0 where
@@ -38,7 +49,7 @@ pub record SharesTicks (lent : Guarantee) (x y : ℕ) : Type 0 where
   pub most : IsMost (λ ticks. Assures share ticks y) x
 
 abbrev pub IsWindow : (lent : Guarantee) → (x y : ℕ) → Type 0
-IsWindow lent x y = HasTicks lent x y ⊎ SharesTicks lent x y
+IsWindow lent x y = HasTicks lent x y ⊎ (SpansTicks lent x y ⊎ SharesTicks lent x y)
 
 -- ---- waits: within how many ticks one comes
 
@@ -47,9 +58,9 @@ HasPeriod (Resb hard ticks y) period = period ≡ y
 HasPeriod (Resc hard ticks y) period = period ≡ y
 HasPeriod _ period = ⊥
 
--- by blocks the ticks of one may come first and those of the next one last
+-- by blocks the ticks of one may come first and those of the next one last: one comes behind all between them
 abbrev pub SpansBlocks : Guarantee → (wait : ℕ) → Type 0
-SpansBlocks (Resb hard ticks period) wait = wait + ticks ≡ 2 * period
+SpansBlocks (Resb hard ticks period) wait = wait + 2 * ticks ≡ 2 * period + 1
 SpansBlocks _ wait = ⊥
 
 -- the least within which its share gives one
@@ -66,10 +77,6 @@ IsWait lent wait = HasPeriod lent wait ⊎ (SpansBlocks lent wait ⊎ SharesWait
 -- a seat by deadline
 abbrev pub reservation : (hard : Bool) (x y : ℕ) → Place
 reservation hard x y = record { config = Edf; terms = Res hard x y }
-
--- x of each block of y are so many of any so many ticks
-abbrev pub Slides : (ticks period x y : ℕ) → Type 0
-Slides ticks period x y = (ticks ≤ x) × (2 * y ≤ x + period)
 
 -- and the share of x of each block of y gives so many of so many ticks
 abbrev pub Spreads : (ticks period x y : ℕ) → Type 0

@@ -38,12 +38,17 @@ IsShareOf (Resb hard x y) share = Converts R4 (Resb hard x y) share
 IsShareOf (Resc hard x y) share = Converts R5 (Resc hard x y) share
 IsShareOf (Psbe s d) share = share ≡ Psbe s d
 
+-- what the terms lend of the share of a guarantee
+abbrev pub LendsOfShare : Config → Terms → (have lent : Guarantee) → Type 0
+LendsOfShare config its have lent =
+    (share : Guarantee) × IsShareOf have share × LendsByTerms config its share lent
+
 -- what the terms lend of a guarantee, for offers: at a join what the port has, even if it is hard, since
--- conversions may make it soft; at fair queueing a part of its share
+-- conversions may make it soft; at fair queueing and in a round a part of its share
 abbrev pub IsLentOf : Config → Terms → (have lent : Guarantee) → Type 0
 IsLentOf (configs.Join ports) terms.Sole have lent = lent ≡ have
-IsLentOf (configs.Sfq total most) its have lent =
-    (share : Guarantee) × IsShareOf have share × LendsByTerms (configs.Sfq total most) its share lent
+IsLentOf (configs.Sfq total most) its have lent = LendsOfShare (configs.Sfq total most) its have lent
+IsLentOf (configs.Rr quantum) its have lent = LendsOfShare (configs.Rr quantum) its have lent
 IsLentOf config its have lent = LendsByTerms config its have lent
 
 -- what the place lends through one of its ports, if it is more than nothing

@@ -1,7 +1,7 @@
 // A few numbers among which the best one of a form is.
 ghost use Rattle.std.specs.Prelude.{◌≡◌, ◌≤◌, ◌^◌, ◌↔◌, ℕ, Some};
-ghost use Rattle.hls_guarantee.specs.Conversions.{Covers};
-ghost use Rattle.hls_guarantee.specs.Limits.{IsShare, IsValid};
+ghost use Rattle.hls_guarantee.specs.Conversions.{Covers, HasTimes};
+ghost use Rattle.hls_guarantee.specs.Limits.{IsReservation, IsShare, IsValid};
 ghost use Rattle.hls_offer_laws.specs.Candidates.{
   HasPeriod,
   HasTicks,
@@ -9,7 +9,9 @@ ghost use Rattle.hls_offer_laws.specs.Candidates.{
   IsMost,
   SharesTicks,
   SharesWait,
+  Slides,
   SpansBlocks,
+  SpansTicks,
 };
 
 use crate::lending::share_of;
@@ -19,14 +21,53 @@ use hls_guarantee::Guarantee;
 /// The longest period of a reservation, in ticks.
 const LONGEST: u32 = 20_000;
 
-/// How many ticks what is lent names itself, if no more than `y`.
+/// How many ticks of a block of `y`, or of any `y` in a row, what is lent names itself: of blocks of that length, or of
+/// windows so many of which are no longer.
 pub fn own_ticks(lent: &Guarantee, y: u32) -> Option<u32>
+    requires { IsValid lent.now }
     ensures { (x : ℕ) → (result ≡ Some x) ↔ HasTicks lent.now x y }
 {
     match *lent {
-        Guarantee::Resb { x, .. } | Guarantee::Resc { x, .. } if x <= y => Some(x),
+        Guarantee::Resb { x, y: period, .. } if y == period => Some(x),
+        Guarantee::Resc { x, y: period, .. } => repeated_ticks(x, period, y),
         _ => None,
     }
+}
+
+/// The most of any `y` ticks in a row that so many windows give, of `ticks` of any `period` each, if one or more.
+fn repeated_ticks(ticks: u32, period: u32, y: u32) -> Option<u32>
+    requires { IsReservation ticks period }
+    ensures { (x : ℕ) → (result ≡ Some x) ↔ ((1 ≤ x) × IsMost (λ more. HasTimes ticks period more y) x) }
+{
+    if_some(y / period * ticks)
+}
+
+/// The most of any `y` ticks in a row that the blocks of what is lent give, if one or more.
+pub fn block_ticks(lent: &Guarantee, y: u32) -> Option<u32>
+    requires { IsValid lent.now }
+    ensures { (x : ℕ) → (result ≡ Some x) ↔ SpansTicks lent.now x y }
+{
+    match *lent {
+        Guarantee::Resb { x, y: period, .. } => spanned_ticks(x, period, y),
+        _ => None,
+    }
+}
+
+/// The most of any `y` ticks in a row that blocks of `ticks` of each `period` give, if one or more.
+fn spanned_ticks(ticks: u32, period: u32, y: u32) -> Option<u32>
+    requires { IsReservation ticks period }
+    ensures { (x : ℕ) → (result ≡ Some x) ↔ ((1 ≤ x) × IsMost (λ more. Slides more y ticks period) x) }
+{
+    if_some(ticks.min(y.saturating_sub(2 * (period - ticks))))
+}
+
+fn if_some(ticks: u32) -> Option<u32>
+    ensures { (x : ℕ) → (result ≡ Some x) ↔ ((1 ≤ x) × (x ≡ ticks)) }
+{
+    if ticks == 0 {
+        return None;
+    }
+    Some(ticks)
 }
 
 /// The most of any `y` ticks in a row that the share of what is lent gives, if one or more.
@@ -67,13 +108,13 @@ pub fn own_period(lent: &Guarantee) -> Option<u32>
     }
 }
 
-/// Within how many ticks those of one block follow those of the block before, from the first of these on.
+/// The least number of ticks in a row that have one of those of a block, wherever in their blocks they come.
 pub fn block_wait(lent: &Guarantee) -> Option<u32>
     requires { IsValid lent.now }
     ensures { (wait : ℕ) → (result ≡ Some wait) ↔ SpansBlocks lent.now wait }
 {
     match *lent {
-        Guarantee::Resb { x, y, .. } => Some(2 * y - x),
+        Guarantee::Resb { x, y, .. } => Some(2 * (y - x) + 1),
         _ => None,
     }
 }

@@ -48,9 +48,8 @@ pub fn lent_of(place: &Place, have: &Guarantee) -> Option<Guarantee>
 {
     match place.config {
         Config::Join { .. } => passed_on(&place.terms, have),
-        Config::Sfq { .. } => lent_by_terms(place, &share_of(have)?),
-        Config::Cpu | Config::Fp | Config::Edf | Config::Rr { .. } | Config::Wheel { .. } =>
-            lent_by_terms(place, have),
+        Config::Sfq { .. } | Config::Rr { .. } => lent_by_terms(place, &share_of(have)?),
+        Config::Cpu | Config::Fp | Config::Edf | Config::Wheel { .. } => lent_by_terms(place, have),
     }
 }
 

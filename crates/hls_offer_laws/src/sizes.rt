@@ -67,10 +67,10 @@ pub fn spread_size(wanted: &Guarantee, y: u32) -> Option<u32>
 
 /// The least number of ticks of each block of `y` that are `ticks` of any `period`, if no more than `y`.
 fn sliding_size(ticks: u32, period: u32, y: u32) -> Option<u32>
-    requires size { y ≤ 20000 }
+    requires { IsReservation ticks period }
     ensures { (x : ℕ) → (result ≡ Some x) ↔ (IsLeast (λ size. Slides ticks period size y) x × (x ≤ y)) }
 {
-    up_to(ticks.max((2 * y).saturating_sub(period)) as u128, y)
+    up_to(ticks.max(y.saturating_sub((period - ticks) / 2)) as u128, y)
 }
 
 /// The least number of ticks of each block of `y` that provides the share `s` with the error `d`, if no more than `y`.

@@ -16,7 +16,6 @@ use Rattle.hls_derive.specs.declared.derivation.Place.{Place}
 use Rattle.hls_derive.specs.declared.derivation.Derivation.{Derivation}
 use Rattle.hls_derive.specs.Derivation.{conversions, end_of}
 use Rattle.hls_derive.specs.Derives.{IsDerivation}
-use Rattle.hls_check.proofs.ShareSizes.{IsWeight}
 use Rattle.hls_search_laws.specs.Words.{IsFound}
 use Rattle.hls_search_laws.proofs.Closed.{Closed}
 use Rattle.hls_search_laws.proofs.Makes.{narrow-valid}
@@ -25,7 +24,8 @@ use Rattle.hls_search_laws.proofs.Finding.{found-closed}
 use Rattle.hls_search_laws.proofs.Ends.{closed-null, closed-all, soft-on, found-more}
 use Rattle.hls_search.specs.Search.{CanSearch}
 use Rattle.hls_search.specs.Inside.Places.{PassesOn, LendsShares, LendsOfAll, HitsByBest, HitsByGoal}
-use Rattle.hls_search.proofs.Fair.{fair-hits}
+use Rattle.hls_search.proofs.Taking.{parted}
+use Rattle.hls_search.proofs.BestShares.{part-hits}
 
 -- the guarantee of a port is within the limits of a scenario
 pub narrow-at : (haves : List Guarantee) (port : ℕ) (have : Guarantee) → Each IsNarrow haves
@@ -133,32 +133,22 @@ after-hits (configs.Wheel frame) (terms.Slots places) n i j have All out want vh
 )
 after-hits configs.Fp its n i j have into out want vh vw vo of lends before after room = absurd of
 after-hits (configs.Sfq total most) its n i j have into out want vh vw vo of lends before after room = absurd of
+after-hits (configs.Rr quantum) its n i j have into out want vh vw vo of lends before after room = absurd of
 after-hits (configs.Join ports) its n i j have into out want vh vw vo of lends before after room = absurd of
 after-hits config its n i j have into out want vh vw vo of lends before after room = absurd lends
 
-pub weight-of : (total most weight rest : ℕ) → ConfigInRange (configs.Sfq total most)
-    → TermsInRange (terms.Weight weight) → weight + rest ≡ total → IsWeight total most weight
-weight-of total most weight rest config its sum = record {
-  some = its.0;
-  light = its.1;
-  fits = omega arith;
-  small = config.0.1;
-  seats = config.1.0;
-  few = config.1.1;
-}
-
+-- where it lends parts of shares, conversions may stand on both sides
 share-hits : (config : Config) (its : Terms) (n i j : ℕ) (have into out want : Guarantee)
     → ConfigInRange config → TermsInRange its → IsNarrow have
     → IsNarrow want → IsValid into → IsValid out → LendsShares config → LendsByTerms config its into out
     → Closed i have into → Closed j out want → i + j ≤ n
     → HitsByBest config its n have want ⊎ HitsByGoal config its n have want
-share-hits (configs.Sfq total most) (terms.Weight weight) n i j have (Psbe s d) (Psbe p e) want rc rt vh vw vi vo of
-    lends before after room =
-    fair-hits total most weight (weight-of total most weight lends.rest rc rt lends.weights) n i j s d p e vh vw vi
-    vo lends before after room
-share-hits (configs.Sfq total most) its n i j have into out want rc rt vh vw vi vo of lends before after room =
-    absurd lends
-share-hits config its n i j have into out want rc rt vh vw vi vo of lends before after room = absurd of
+share-hits config its n i j have (Psbe s d) (Psbe p e) want rc rt vh vw vi vo of lends before after room =
+    let by = parted config its (Psbe s d) (Psbe p e) rc rt of lends in
+    part-hits config its by.weight by.total by.others by.is n i j s d p e vh vw vi vo
+    (by.is.part (Psbe s d) (Psbe p e) lends) before after room
+share-hits config its n i j have into out want rc rt vh vw vi vo of lends before after room =
+    absurd (let by = parted config its into out rc rt of lends in by.is.part into out lends)
 
 -- ---- the same of a derivation
 

@@ -1,5 +1,5 @@
 -- Derivations from their parts, and what a place lends.
-use Rattle.std.proofs.Common.{◌≡◌, ◌≢◌, ℕ, ◌+◌, ◌≤◌, ◌<◌, ◌⊎◌, inl, inr, List, [], length, refl, sym, subst, arith}
+use Rattle.std.proofs.Common.{◌≡◌, ◌≢◌, ℕ, ◌+◌, ◌*◌, ◌≤◌, ◌⊎◌, inl, inr, List, [], length, refl, sym, subst, arith}
 use Rattle.std.specs.Prelude.{Some, slice_get}
 use Rattle.std.proofs.lemmas.Option.{slice_get_within}
 use Rattle.hls_chron.specs.declared.plain.Config.{Config}
@@ -10,7 +10,7 @@ use Rattle.hls_chron.specs.Ranges.{ConfigInRange, TermsInRange}
 use Rattle.hls_guarantee.specs.declared.Guarantee.{Guarantee}
 use Rattle.hls_guarantee.specs.declared.Guarantee.TheVariants.{All, Psbe}
 use Rattle.hls_guarantee.specs.Limits.{IsValid, IsNarrow}
-use Rattle.hls_chron.specs.Kinds.{IsPort, port_count, kind_of}
+use Rattle.hls_chron.specs.Kinds.{IsPort, kind_of}
 use Rattle.hls_guarantee.specs.Steps.{LendsByTerms, LendsNothing, LendsThrough}
 use Rattle.hls_derive.specs.declared.derivation.Place.{Place}
 use Rattle.hls_derive.specs.declared.derivation.Step.{Step}
@@ -20,9 +20,9 @@ use Rattle.hls_search.specs.Inside.Found.{through, Derives}
 use Rattle.hls_search.specs.Inside.Places.{LendsOfAll, LendsShares, LendsOfAllOf, LendsSharesOf}
 use Rattle.hls_chron.specs.declared.plain.Kind.{Kind}
 use Rattle.hls_chron.specs.declared.plain.Kind.TheVariants as kinds
-use Rattle.hls_search.proofs.Shares.{fair-valid, fair-error}
-use Rattle.hls_search.proofs.Completing.{weight-of}
-use Rattle.hls_chron.proofs.ConfigLaws.{some_port, first_port, sole_port}
+use Rattle.hls_search.proofs.Shares.{part-valid}
+use Rattle.hls_search.proofs.Taking.{others_of, fair-size, fair-part, turn-size, turn-part}
+use Rattle.hls_chron.proofs.ConfigLaws.{first_port, sole_port}
 
 -- what is lent of a narrow guarantee is valid
 pub lent-valid : (config : Config) (its : Terms) (g h : Guarantee) → ConfigInRange config → TermsInRange its
@@ -35,8 +35,11 @@ lent-valid configs.Edf (terms.Res hard x y) All h rc rt narrow lends =
 lent-valid (configs.Wheel frame) (terms.Slots places) All h rc rt narrow lends =
     subst IsValid (sym lends.1) (record { some = rt.0; fits = lends.0; size = omega (arith, rc.1) })
 lent-valid (configs.Sfq total most) (terms.Weight weight) (Psbe s d) (Psbe p e) rc rt narrow lends =
-    fair-valid total most weight s d p e (weight-of total most weight lends.rest rc rt lends.weights) narrow
-    lends.rate (fair-error total most weight s d p e lends)
+    let fits : weight ≤ total = (let sum = lends.weights in omega arith) in
+    part-valid weight total (others_of total most weight) s d p e (fair-size total most weight rc rt fits) narrow
+    (fair-part total most weight s d p e lends)
+lent-valid (configs.Rr quantum) terms.Turn (Psbe s d) (Psbe p e) rc rt narrow lends =
+    part-valid 1 32 (31 * quantum) s d p e (turn-size quantum rc) narrow (turn-part quantum s d p e lends)
 lent-valid (configs.Join ports) terms.Sole g h rc rt narrow lends =
     subst IsValid (sym lends.1) (narrow-valid g narrow)
 lent-valid _ _ _ _ rc rt narrow lends = absurd lends

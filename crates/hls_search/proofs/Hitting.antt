@@ -31,7 +31,7 @@ use Rattle.hls_search_laws.proofs.Makes.{blocks-most, windows-most}
 use Rattle.hls_search_laws.proofs.Finding.{single-answers}
 use Rattle.hls_search.specs.Inside.Places.{IsBestShare, ToShare, HitsByBest, LendsOfAll, LendsShares}
 use Rattle.hls_search.specs.Inside.Places.IsBestShare.{itself, of_blocks, of_windows, of_all}
-use Rattle.hls_search.proofs.Fair.{whole-narrow}
+use Rattle.hls_search.proofs.BestShares.{whole-narrow}
 use Rattle.hls_search.proofs.Deriving.{sole-port}
 
 -- ---- the best share

@@ -1,7 +1,8 @@
 pub mod Naming
 pub mod Walking
 pub mod Shares
-pub mod Fair
+pub mod Taking
+pub mod BestShares
 pub mod Completing
 pub mod Deriving
 pub mod Hitting

@@ -1,3 +1,4 @@
 pub mod Chains
+pub mod Parts
 pub mod Places
 pub mod Found

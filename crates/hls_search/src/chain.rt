@@ -5,10 +5,10 @@ use hls_derive::Step;
 use hls_guarantee::{Guarantee, RuleName};
 use std::marker::Model;
 
-/// At most three conversions, one after the other. Contracts see their list.
+/// At most two conversions, one after the other. Contracts see their list.
 #[derive(Drop)]
 pub struct Chain {
-    steps: [Step; 3],
+    steps: [Step; 2],
     len: usize,
 }
 
@@ -20,7 +20,7 @@ impl Model for Chain {
 
     ghost view = { λ chain. take chain.len chain.steps };
 
-    ghost invariant = { λ chain. chain.len ≤ 3 };
+    ghost invariant = { λ chain. chain.len ≤ 2 };
 }
 
 impl Chain {
@@ -33,7 +33,7 @@ impl Chain {
             to: Guarantee::Null,
         };
         Chain {
-            steps: [unused; 3],
+            steps: [unused; 2],
             len: 0,
         }
     }
@@ -49,7 +49,7 @@ impl Chain {
 
     /// One conversion more.
     pub fn push(&mut self, step: Step)
-        requires { length self.old < 3 }
+        requires { length self.old < 2 }
         ensures { self.new ≡ self.old ++ step ∷ [] }
     {
         self.steps[self.len] = step;

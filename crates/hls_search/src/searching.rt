@@ -28,7 +28,7 @@ use std::alloc::{AllocError, Global};
 
 /// A derivation at the place, from what its ports have, to what is wanted, with at most `depth` conversions.
 /// None comes exactly where there is none, whatever the guarantees in between. The rules of the book are called,
-/// at most about thirty times a port, and nothing else is known of them than what they answer. Memory is taken
+/// at most about twenty-five times a port, and nothing else is known of them than what they answer. Memory is taken
 /// for the derivation alone, once it is found.
 ///
 /// # Errors
@@ -89,8 +89,8 @@ fn find(
 {
     match place.config {
         Config::Fp | Config::Join { .. } => converted_before(book, place, haves, want, depth),
-        Config::Sfq { .. } => shared(book, place, haves, want, depth),
-        Config::Cpu | Config::Edf | Config::Rr { .. } | Config::Wheel { .. } => {
+        Config::Sfq { .. } | Config::Rr { .. } => shared(book, place, haves, want, depth),
+        Config::Cpu | Config::Edf | Config::Wheel { .. } => {
             converted_after(book, place, haves, want, depth)
         }
     }

@@ -1,11 +1,12 @@
-// Shares of shares, at fair queueing.
+// Shares of shares, at fair queueing and in rounds of turns.
 ghost use Rattle.std.specs.Prelude.{◌≡◌, ℕ, ◌*◌, ◌≤◌, ◌^◌, IfSome, IsNone, IsSome, length};
 ghost use Rattle.hls_chron.specs.Ranges.{ConfigInRange, TermsInRange};
 ghost use Rattle.hls_guarantee.specs.Limits.{IsNarrow, IsShare, IsValid};
 ghost use Rattle.hls_guarantee.specs.Conversions.{Converts};
-ghost use Rattle.hls_guarantee.specs.Steps.{IsFairShare, LendsByTerms};
+ghost use Rattle.hls_guarantee.specs.Steps.{LendsByTerms};
 ghost use Rattle.hls_derive.specs.Derives.{IsWholeShare};
 ghost use Rattle.hls_search.specs.Inside.Chains.{LeadsTo};
+ghost use Rattle.hls_search.specs.Inside.Parts.{IsPartSize, PartOf};
 ghost use Rattle.hls_search.specs.Inside.Places.{IsBestShare, LendsShares, ToShare};
 
 use crate::chain::Chain;
@@ -87,27 +88,66 @@ pub fn share_for(place: &Place, want: &Guarantee) -> Option<Guarantee>
             Config::Sfq { total, most },
             Terms::Weight(weight),
             Guarantee::Psbe { s: rate, d: error },
-        ) => share_before(total, most, weight, &rate, &error),
+        ) => fair_before(total, most, weight, &rate, &error),
+        (Config::Rr { quantum }, Terms::Turn, Guarantee::Psbe { s: rate, d: error }) => {
+            turn_before(quantum, &rate, &error)
+        }
         _ => None,
     }
 }
 
 /// The share of which a seat of this weight is lent the share `rate` with the error `error`, if there is one.
-fn share_before(total: u32, most: u32, weight: u32, rate: &Frac, error: &Frac) -> Option<Guarantee>
+fn fair_before(total: u32, most: u32, weight: u32, rate: &Frac, error: &Frac) -> Option<Guarantee>
     requires config { ConfigInRange (Config.Sfq total most) }
     requires terms { TermsInRange (Terms.Weight weight) }
     requires narrow { IsShare (10 ^ 10) (10 ^ 6) rate.now error.now }
     ensures some { IfSome result (λ goal. LendsByTerms (Config.Sfq total most) (Terms.Weight weight) goal
         (Guarantee.Psbe rate.now error.now)) }
     ensures of_all { IfSome result (λ goal. Converts RuleName.R8 Guarantee.All goal) }
-    ensures none { IsNone result → (s d : Frac) → IsShare (10 ^ 13) (10 ^ 8) s d →
-        IsFairShare total most weight s d rate.now error.now → ⊥ }
+    ensures none { IsNone result → (goal : Guarantee) → IsValid goal →
+        LendsByTerms (Config.Sfq total most) (Terms.Weight weight) goal (Guarantee.Psbe rate.now error.now) → ⊥ }
 {
     if weight > total {
         return None;
     }
-    let others = (most as u128 - 1) * weight as u128 + (total - weight) as u128;
-    let lost = others * error.den;
+    share_before(
+        weight,
+        total,
+        (most - 1) * weight + (total - weight),
+        rate,
+        error,
+    )
+}
+
+/// The same of a turn in a round.
+fn turn_before(quantum: u32, rate: &Frac, error: &Frac) -> Option<Guarantee>
+    requires config { ConfigInRange (Config.Rr quantum) }
+    requires narrow { IsShare (10 ^ 10) (10 ^ 6) rate.now error.now }
+    ensures some { IfSome result (λ goal. LendsByTerms (Config.Rr quantum) Terms.Turn goal
+        (Guarantee.Psbe rate.now error.now)) }
+    ensures of_all { IfSome result (λ goal. Converts RuleName.R8 Guarantee.All goal) }
+    ensures none { IsNone result → (goal : Guarantee) → IsValid goal →
+        LendsByTerms (Config.Rr quantum) Terms.Turn goal (Guarantee.Psbe rate.now error.now) → ⊥ }
+{
+    share_before(1, 32, 31 * quantum, rate, error)
+}
+
+/// The share of which such a part is the share `rate` with the error `error`, if there is one.
+fn share_before(
+    weight: u32,
+    total: u32,
+    others: u32,
+    rate: &Frac,
+    error: &Frac,
+) -> Option<Guarantee>
+    requires size { IsPartSize weight total others }
+    requires narrow { IsShare (10 ^ 10) (10 ^ 6) rate.now error.now }
+    ensures some { IfSome result (λ goal. PartOf weight total others goal (Guarantee.Psbe rate.now error.now)) }
+    ensures of_all { IfSome result (λ goal. Converts RuleName.R8 Guarantee.All goal) }
+    ensures none { IsNone result → (goal : Guarantee) → IsValid goal →
+        PartOf weight total others goal (Guarantee.Psbe rate.now error.now) → ⊥ }
+{
+    let lost = others as u128 * error.den;
     let num = rate.num * total as u128;
     let den = rate.den * weight as u128;
     let owed = error.num * total as u128;

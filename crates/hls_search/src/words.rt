@@ -13,7 +13,8 @@ use hls_guarantee::{Guarantee, RuleName};
 use hls_rules::{Rule, RuleBook};
 
 /// Rules that are asked one after the other. What conversions reach at all, one of these words reaches with
-/// no more of them.
+/// no more of them. `R10` concludes all that `R3` does, which stands before it so that derivations name the
+/// older rule where they can.
 const WORDS: [&[RuleName]; 19] = [
     &[],
     &[RuleName::R1],
@@ -25,15 +26,15 @@ const WORDS: [&[RuleName]; 19] = [
     &[RuleName::R7],
     &[RuleName::R8],
     &[RuleName::R9],
-    &[RuleName::R1, RuleName::R7],
+    &[RuleName::R10],
+    &[RuleName::R11],
     &[RuleName::R2, RuleName::R1],
-    &[RuleName::R2, RuleName::R7],
-    &[RuleName::R3, RuleName::R7],
     &[RuleName::R4, RuleName::R1],
     &[RuleName::R4, RuleName::R6],
     &[RuleName::R5, RuleName::R1],
     &[RuleName::R5, RuleName::R6],
-    &[RuleName::R2, RuleName::R1, RuleName::R7],
+    &[RuleName::R10, RuleName::R7],
+    &[RuleName::R11, RuleName::R7],
 ];
 
 /// At most `room` conversions from one guarantee to another: the first word that leads there.
@@ -54,7 +55,7 @@ fn first_walk(
     want: &Guarantee,
     room: usize,
 ) -> Option<Chain>
-    requires short { All (λ (word : _). length word.now ≤ 3) words.now }
+    requires short { All (λ (word : _). length word.now ≤ 2) words.now }
     requires from { IsValid from.now }
     requires want { IsValid want.now }
     ensures found { IfSome result (λ chain. LeadsTo room from.now want.now chain) }
@@ -73,7 +74,7 @@ fn first_walk(
 
 /// The conversions of a word, where its rules lead to what is wanted.
 fn walk(book: &RuleBook, word: &[RuleName], from: &Guarantee, want: &Guarantee) -> Option<Chain>
-    requires short { length word.now ≤ 3 }
+    requires short { length word.now ≤ 2 }
     requires from { IsValid from.now }
     requires want { IsValid want.now }
     ensures found { IfSome result (λ chain. LeadsTo (length word.now) from.now want.now chain) }

@@ -26,12 +26,12 @@ PassesOnOf _ = ⊥
 
 abbrev pub LendsSharesOf : Kind → Type 0
 LendsSharesOf kinds.Sfq = Unit {0}
+LendsSharesOf kinds.Rr = Unit {0}
 LendsSharesOf _ = ⊥
 
 abbrev pub LendsOfAllOf : Kind → Type 0
 LendsOfAllOf kinds.Cpu = Unit {0}
 LendsOfAllOf kinds.Edf = Unit {0}
-LendsOfAllOf kinds.Rr = Unit {0}
 LendsOfAllOf kinds.Wheel = Unit {0}
 LendsOfAllOf _ = ⊥
 

@@ -1,9 +1,10 @@
 use Rattle.std.proofs.Common.{subst}
 use Rattle.hls_guarantee.specs.Steps.{LendsByTerms}
+use Rattle.hls_search.specs.Inside.Places.{LendsShares}
 use Rattle.hls_search_laws.proofs.Makes.{narrow-valid}
 use Rattle.hls_offer_laws.proofs.Shares.{share-valid, share-one}
 use Rattle.hls_offer_laws.proofs.Lent.{IsPlain, plain, of-plain, plain-of}
-use Rattle.hls_offer_laws.proofs.Lent.{of-share, share-by, by-join, join-by, on-each}
+use Rattle.hls_offer_laws.proofs.Lent.{shares, of-share, share-by, by-join, join-by, on-each}
 use Rattle.hls_offer_laws.proofs.lending.lent_of.Goals as goal
 
 pub lent_by_terms-requires-clause-from : goal.lent_by_terms-requires-clause-from
@@ -27,13 +28,13 @@ pub returns-in_ok-share_of-in-Sfq : goal.returns-in_ok-share_of-in-Sfq
 returns-in_ok-share_of-in-Sfq c =
     let place = c.args.place.now in
     let have = c.args.have.now in
-    let sfq = c.in-Sfq in
+    let takes : LendsShares place.config = shares c.in-Sfq.is in
     let share = c.in_ok-share_of-in-Sfq.field-0 in
     let is = c.in_ok-share_of-in-Sfq.ensures.share in
     on-each {found = c.lent_by_terms.result}
-    (λ lent lends. share-by place.config place.terms sfq.total sfq.most have share lent sfq.is is lends)
+    (λ lent lends. share-by place.config place.terms have lent takes (share, is, lends))
     (λ lent lends.
-    let its = of-share place.config place.terms sfq.total sfq.most have lent sfq.is lends in
+    let its = of-share place.config place.terms have lent takes lends in
     subst (λ v. LendsByTerms place.config place.terms v lent) (share-one have its.0 share its.1 is) its.2)
     c.lent_by_terms.ensures
 

@@ -1,35 +1,30 @@
-use Rattle.std.proofs.Common.{◌-◌, ◌≤◌, arith}
-use Rattle.hls_search.proofs.Shares.{back-rate, back-error, fair-back, back-valid}
-use Rattle.hls_search.proofs.Completing.{weight-of}
+use Rattle.std.proofs.Common.{arith}
+use Rattle.hls_search.proofs.Shares.{part-at_most, part-back, back-valid}
 use Rattle.hls_search.proofs.sharing.share_before.Goals as goal
 use Rattle.hls_search.proofs.sharing.share_before.Goals.{then-num-den-via-then-num-den}
 use Rattle.hls_search.proofs.sharing.share_before.Goals.{then-num-den-via-else-num-den+then-lost-owed}
 
 pub returns-then-num-den-clause-none : goal.returns-then-num-den-clause-none
-returns-then-num-den-clause-none c = λ none s d share fair.
-    let p = c.args.rate.now in
-    let e = c.args.error.now in
-    let rate = back-rate c.args.total c.args.most c.args.weight s d p e share fair in
-    let error = back-error c.args.total c.args.most c.args.weight s d p e fair in
+returns-then-num-den-clause-none c = λ none given valid part.
+    let a = c.args in
+    let back = part-at_most a.weight a.total a.others given a.rate.now a.error.now valid part in
     elim c.then-num-den.branch [
-      | then-num-den-via-then-num-den w ↦ absurd (omega (arith, rate))
-      | then-num-den-via-else-num-den+then-lost-owed w ↦ absurd (omega (arith, error))
+      | then-num-den-via-then-num-den w ↦ absurd (omega (arith, back.0))
+      | then-num-den-via-else-num-den+then-lost-owed w ↦ absurd (omega (arith, back.1))
     ]
 
 pub returns-clause-some : goal.returns-clause-some
 returns-clause-some c =
-    fair-back c.args.total c.args.most c.args.weight c.quotient.result c.quotient-2.result c.args.rate.now
-    c.args.error.now c.requires.config.1.0 (omega arith) (omega arith) c.quotient.ensures c.quotient-2.ensures
+    let a = c.args in
+    part-back a.weight a.total a.others c.quotient.result c.quotient-2.result a.rate.now a.error.now (omega arith)
+    c.quotient.ensures c.quotient-2.ensures
 
 pub returns-clause-of_all : goal.returns-clause-of_all
 returns-clause-of_all c =
-    let total = c.args.total in
-    let weight = c.args.weight in
-    let fits : weight ≤ total = omega arith in
+    let a = c.args in
     record {
       from = tt;
-      to = back-valid total c.args.most weight c.quotient.result c.quotient-2.result c.args.rate.now
-          c.args.error.now (weight-of total c.args.most weight (total - weight) c.requires.config c.requires.terms
-          (omega arith)) c.requires.narrow (omega arith) c.quotient.ensures c.quotient-2.ensures;
+      to = back-valid a.weight a.total a.others c.quotient.result c.quotient-2.result a.rate.now a.error.now
+          c.requires.size c.requires.narrow (omega arith) c.quotient.ensures c.quotient-2.ensures;
       leads = tt;
     }

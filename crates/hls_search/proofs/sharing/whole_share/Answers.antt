@@ -1,6 +1,6 @@
 use Rattle.hls_guarantee.specs.declared.Guarantee.TheVariants.{Psbe}
 use Rattle.hls_search_laws.proofs.Makes.{narrow-valid}
-use Rattle.hls_search.proofs.Fair.{whole-narrow}
+use Rattle.hls_search.proofs.BestShares.{whole-narrow}
 use Rattle.hls_search.proofs.sharing.whole_share.Goals as goal
 
 pub returns-clause-valid : goal.returns-clause-valid
