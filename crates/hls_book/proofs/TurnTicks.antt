@@ -228,7 +228,7 @@ module _ (quantum : ℕ) (some : 0 < quantum) where
     rules : KeepsTurnRules quantum b
     rules = turn_rules quantum b some made
 
-    takes : (s : ℕ) → row.to ≡ Some s → TakesTurn quantum b row.mask s
+    takes : (s : ℕ) → row.to ≡ Some s → TakesTurn quantum b (turns_after (turn_slot b)) row.mask s
     takes s to = is.serves s to
 
     -- where the turn does not go on though its slot asks, its quantum is used up

@@ -28,11 +28,11 @@ use Rattle.hls_book.specs.Turns.{had_of, turn_of, over, KeepsTurnRules}
 -- ---- when a slot was left
 
 -- not after the present tick, nor before the last settling
-record IsLeft (b : Ledger) (slot : ℕ) : Type 0 where
-  settled : settled_at b ≤ left_at b slot
-  left : left_at b slot ≤ now_of b
+pub record IsLeft (b : Ledger) (slot : ℕ) : Type 0 where
+  pub settled : settled_at b ≤ left_at b slot
+  pub left : left_at b slot ≤ now_of b
 
-left_marked : (b : Ledger) (event : Event) (slot : ℕ) → IsLeft b slot → IsLeft (with_mark b event) slot
+pub left_marked : (b : Ledger) (event : Event) (slot : ℕ) → IsLeft b slot → IsLeft (with_mark b event) slot
 left_marked b (Seat at terms) slot is = record {
   settled = rw (settled_at-mark b (Seat at terms), left_at-mark b (Seat at terms) slot) is.settled;
   left = rw (left_at-mark b (Seat at terms) slot) is.left;
@@ -94,7 +94,7 @@ module _ (quantum : ℕ) (some : 0 < quantum) where
   had_whole : (ticks : ℕ) → ticks % quantum ≡ 0 → had_of quantum ticks ≡ quantum
   had_whole ticks is = rw is refl
 
-  next_rest : (ticks : ℕ) → (ticks + 1) % quantum ≡ (ticks % quantum + 1) % quantum
+  pub next_rest : (ticks : ℕ) → (ticks + 1) % quantum ≡ (ticks % quantum + 1) % quantum
   next_rest ticks = sym (mod-add-mod ticks quantum 1)
 
   -- one tick more of a quantum that is not over, and the first of one
@@ -153,15 +153,15 @@ and_parts false y on = absurd cc
 rest_some : (rest : ℕ) → not (rest == 0) ≡ true → rest ≢ 0
 rest_some rest on none = let same = eq-eqb rest 0 none in cc
 
-unbroken : (row : TickRow) (slot : ℕ) → row.to ≡ Some slot → SlotAsks row.mask slot
+pub unbroken : (row : TickRow) (slot : ℕ) → row.to ≡ Some slot → SlotAsks row.mask slot
     → ((is_some row.to && not (is_slot row.to slot)) || not (bit_at row.mask slot == 1)) ≡ false
 unbroken row slot to asks = rw (to, asks, eq-eqb slot slot refl) refl
 
-unbroken_idle : (row : TickRow) (slot : ℕ) → row.to ≡ None → SlotAsks row.mask slot
+pub unbroken_idle : (row : TickRow) (slot : ℕ) → row.to ≡ None → SlotAsks row.mask slot
     → ((is_some row.to && not (is_slot row.to slot)) || not (bit_at row.mask slot == 1)) ≡ false
 unbroken_idle row slot to asks = rw (to, asks) refl
 
-broken : (row : TickRow) (slot : ℕ) → row.to ≡ None → (SlotAsks row.mask slot → ⊥)
+pub broken : (row : TickRow) (slot : ℕ) → row.to ≡ None → (SlotAsks row.mask slot → ⊥)
     → ((is_some row.to && not (is_slot row.to slot)) || not (bit_at row.mask slot == 1)) ≡ true
 broken row slot to silent = rw (to, ne_eqb (bit_at row.mask slot) 1 silent) refl
 
