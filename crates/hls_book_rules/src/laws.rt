@@ -59,8 +59,8 @@ pub fn start_tags_are_the_only_ones()
         tags t slot ≡ start_tag quantum b t slot }
 {}
 
-/// The virtual time never falls, and is not past the start tag of a seat that asks. A start tag is fixed when its seat begins to ask: it stays while the seat asks and
-/// waits, and is a step later once it was served.
+/// The virtual time never falls, and is not past the start tag of a seat that asks. A start tag is fixed when its seat
+/// begins to ask: it stays while the seat asks and waits, and is a step later once it was served.
 pub fn tags_keep_their_order(total: u32, most: u32, quantum: u32)
     ensures { (b : Ledger) → IsMade (Config.Sfq total most quantum) b → KeepsTagOrderInTicks total most quantum b }
 {}
@@ -79,7 +79,8 @@ pub fn places_meet_their_rules()
 {}
 
 /// Each scheduler stands for the present tick: deadlines lie ahead, a turn has some of its quantum left, whose turn
-/// begins has the least tag, and a place is its owner's. So `stands_of`, which says one tick at least, says no more than these numbers do.
+/// begins has the least tag, and a place is its owner's. So `stands_of`, which says one tick at least, says no more than
+/// these numbers do.
 pub fn each_stands_for_the_present_tick(total: u32, most: u32, quantum: u32)
     requires { 0 < quantum }
     ensures reservations { (b : Ledger) (mask : ℕ) (choice : Option ℕ) → IsMade Config.Edf b → OnlySeatsAsk b mask →
