@@ -1,10 +1,10 @@
 -- What is said of a book does not go by the room that it has for more.
-use Rattle.std.proofs.Common.{◌≡◌, ℕ, zero, suc, ◌+◌, inl, inr, refl, sym, ap, ◌∙◌, subst, arith}
+use Rattle.std.proofs.Common.{◌≡◌, ℕ, inl, inr, refl, sym, ap, ◌∙◌, subst, arith}
 use Rattle.std.proofs.lemmas.Bool.{cases_lt}
 use Rattle.hls_chron.specs.declared.plain.Config.{Config}
 use Rattle.hls_chron.specs.declared.plain.Config.TheVariants.{Cpu, Fp, Edf, Sfq, Rr, Wheel, Join}
 use Rattle.hls_chron.specs.declared.plain.Terms.{Terms}
-use Rattle.hls_chron.specs.Ledger.{Ledger, now_of, row_at, before}
+use Rattle.hls_chron.specs.Ledger.{Ledger, now_of, row_at}
 use Rattle.hls_chron.specs.Seats.{terms_at, asked, served}
 use Rattle.hls_kinds.specs.declared.fault.SeatFault.{SeatFault}
 use Rattle.hls_kinds.specs.declared.fault.SeatFault.TheVariants as faults
@@ -21,7 +21,6 @@ use Rattle.hls_kinds.proofs.Rooms.{roomless, tag-room, slot-room, serves-room}
 pub terms-bare : (b : Ledger) (slot : ℕ) → terms_at (roomless b) slot ≡ terms_at b slot
 unfolding terms_at
 terms-bare b slot = refl
-
 
 least-bare : (b : Ledger) (mask slot : ℕ) → HasLeastPriority (roomless b) mask slot → HasLeastPriority b mask slot
 unfolding terms_at

@@ -95,7 +95,8 @@ whole_report r =
     (ended-runs r)
     ∙ ap (λ (t : Text). ended (head_lines r.version r.horizon r.depth)
     ++ (flat_map (λ a. ended (answered_lines r.version a)) r.answered ++ (codes "schedule\n"
-    ++ (flat_map (λ run. with_end (stretch_text (stretch_of r.names run))) r.runs ++ (codes "accounts\n" ++ (t ++ ended (end_lines r.idle)))))))
+    ++ (flat_map (λ run. with_end (stretch_text (stretch_of r.names run))) r.runs
+    ++ (codes "accounts\n" ++ (t ++ ended (end_lines r.idle)))))))
     (ended-map account_text r.accounts))
 
 head_join : (h d : Text) → h ++ (10 ∷ (codes "depth " ++ (d ++ 10 ∷ [])))
