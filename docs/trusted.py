@@ -253,9 +253,9 @@ FOOTER = """
 ## Why these are the definitions meant
 
 Laws say of many what the field says: budgets, tags, turns and places go by the rules that are known of them, which
-`hls_book_rules` writes down; blocked threads do not run, a tick is idle only where the root does not ask, refusals are
-exactly what the machine forbids. Wrong readings are shown to be ruled out. Tests hold slow functions that compute the
-definitions against worked schedules, answers and reports.
+`hls_book_rules` writes down, and `hls_book` those of turns; blocked threads do not run, a tick is idle only where the
+root does not ask, refusals are exactly what the machine forbids. Wrong readings are shown to be ruled out. Tests hold
+slow functions that compute the definitions against worked schedules, answers and reports.
 
 ## And besides
 
