@@ -242,9 +242,9 @@ def laws():
 HEADER = """# What a reader has to believe
 
 The theorems speak of the definitions below and of nothing else. `docs/trusted.py` writes this page: it lists what the
-clauses of the two public calls of the program, `hls_run` and `start`, unfold to, file by file and in reading order, then
-what those of the two programs beside it do, and then those of the laws. What only private clauses cite need not be read,
-and neither do proofs. Types that are named here are those of the code.
+clauses of the two public calls of the program, `hls_run` and `start`, unfold to, file by file and in reading order,
+then what those of the two programs beside it do, and then those of the laws. What only private clauses cite need not be
+read, and neither do proofs. Types that are named here are those of the code.
 
 What comes first is what is promised of `run`. A reader who asks only that may stop there.
 """
