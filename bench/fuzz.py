@@ -50,7 +50,7 @@ def changed_run(draw, report):
     if not runs:
         return report
     run, path = draw.choice(runs), draw.choice(runs)[3]
-    first, last = int(run[1]), int(run[2])
+    first, last = sorted((int(run[1]), int(run[2])))
     cut = draw.randint(first, last)
     pieces = [b"%d..%d %s" % (first, cut, run[3])] + ([b"%d..%d %s" % (cut + 1, last, path)] if cut < last else [])
     if draw.random() < 0.5:
