@@ -125,9 +125,9 @@ fn prints_a_command_without_its_tick(rt: HostRuntime) -> Result<(), Fail> {
         name,
         burst: Some(3),
     };
-    for version in [1, 2] {
-        let text = print_command(rt.alloc(), version, &wake)?;
-        assert_eq!(rt; text.as_slice(), b"wake a for 3".as_slice());
-    }
+    let first = print_command(rt.alloc(), 1, &wake)?;
+    assert_eq!(rt; first.as_slice(), b"wake a for 3".as_slice());
+    let second = print_command(rt.alloc(), 2, &wake)?;
+    assert_eq!(rt; second.as_slice(), b"wake a for 3".as_slice());
     Ok(())
 }
