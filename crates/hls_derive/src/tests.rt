@@ -29,7 +29,13 @@ fn reads_and_writes(rt: HostRuntime) -> Result<(), Fail> {
         (b"ALL JOIN 3 ALL R9 NULL", Kind::Join, 3, 1, Guarantee::Null),
         (SIX, Kind::Edf, 0, 6, Guarantee::Null),
         (b"NULL RR NULL", Kind::Rr, 0, 0, Guarantee::Null),
-        (b"ALL RR ALL R10 NULL R11 NULL", Kind::Rr, 0, 2, Guarantee::Null),
+        (
+            b"ALL RR ALL R10 NULL R11 NULL",
+            Kind::Rr,
+            0,
+            2,
+            Guarantee::Null,
+        ),
         (
             b"ALL WHEEL RESCH 1 4 R5 PSBE 1/4 3/4",
             Kind::Wheel,
