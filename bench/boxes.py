@@ -7,13 +7,11 @@ It builds a small program in a copy of the crates that boxes stand on, and runs 
 which takes some minutes. What it prints are nanoseconds a call (or a pair of calls), on the smaller and on the
 greater book. A cost that grew with the book would show in the second number.
 """
-import os
-import shutil
 import subprocess
 import sys
 import tempfile
 
-TOP = os.path.dirname(os.path.dirname(os.path.abspath(__file__)))
+from copies import copied
 
 BOXES = ["hls_fp", "hls_edf", "hls_sfq", "hls_rr", "hls_wheel", "hls_join"]
 
@@ -90,7 +88,7 @@ fn main(rt: HostRuntime) -> io::Result<()> {
         let alloc = rt.alloc();
         measure!(rt, "fp", Fp::blank(alloc), Config::Fp, [Terms::Prio(0), Terms::Prio(1), Terms::Prio(2)], 3u32, marks);
         measure!(rt, "edf", Edf::blank(alloc), Config::Edf, [res, res, res], 3u32, marks);
-        measure!(rt, "sfq", Sfq::blank(alloc), Config::Sfq { total: 100, most: 20 }, [Terms::Weight(1), Terms::Weight(2), Terms::Weight(3)], 3u32, marks);
+        measure!(rt, "sfq", Sfq::blank(alloc), Config::Sfq { total: 100, most: 20, quantum: 1 }, [Terms::Weight(1), Terms::Weight(2), Terms::Weight(3)], 3u32, marks);
         measure!(rt, "rr", Rr::blank(alloc), Config::Rr { quantum: 2 }, [Terms::Turn, Terms::Turn, Terms::Turn], 3u32, marks);
         measure!(rt, "wheel", Wheel::blank(alloc), Config::Wheel { frame: 1000 }, [Terms::Slots(5), Terms::Slots(5), Terms::Slots(5)], 3u32, marks);
         measure!(rt, "join", Join::blank(alloc), Config::Join { ports: 2 }, [Terms::Sole, Terms::Sole, Terms::Sole], 1u32, marks);
@@ -102,22 +100,7 @@ fn main(rt: HostRuntime) -> io::Result<()> {
 
 def build(folder):
     """The program, in a copy of what boxes stand on."""
-    with open(os.path.join(TOP, "crates.txt")) as lines:
-        deps = {line.split(":")[0]: line.split(":")[1].split() for line in lines if ":" in line and line[0] != "#"}
-    wanted = []
-    for name in BOXES:
-        wanted += [below for below in [name] + deps[name] if below not in wanted]
-    for name in [name for name in wanted if name in deps]:
-        shutil.copytree(os.path.join(TOP, "crates", name), os.path.join(folder, "crates", name))
-    lines = [f"{name}: {' '.join(deps[name])}\n" for name in deps if name in wanted]
-    with open(os.path.join(folder, "crates.txt"), "w") as out:
-        out.write("".join(lines) + "box_times: " + " ".join(wanted) + "\n")
-    shutil.copy(os.path.join(TOP, "HANDLES"), folder)
-    crate = os.path.join(folder, "crates", "box_times")
-    os.makedirs(os.path.join(crate, "src"))
-    with open(os.path.join(crate, "src", "main.rt"), "w") as out:
-        out.write(MAIN)
-    return crate
+    return copied(folder, "box_times", BOXES + ["hls_sched", "hls_chron"], {"src/main.rt": MAIN})
 
 
 def main():

@@ -13,7 +13,7 @@ import subprocess
 import sys
 import tempfile
 
-TOP = os.path.dirname(os.path.dirname(os.path.abspath(__file__)))
+from copies import copied
 
 MAIN = """//! Times reading a report and writing it again.
 #![tactic(auto)]
@@ -49,20 +49,7 @@ fn main(rt: HostRuntime) -> io::Result<ExitCode> {
 
 def build(folder):
     """Builds the program in a copy of what the crate of reports stands on."""
-    with open(os.path.join(TOP, "crates.txt")) as lines:
-        below = next(line.split(":")[1].split() for line in lines if line.startswith("hls_report:"))
-    crates = [name for name in ["hls_report"] + below if os.path.isdir(os.path.join(TOP, "crates", name))]
-    for name in crates:
-        shutil.copytree(os.path.join(TOP, "crates", name), os.path.join(folder, "crates", name))
-    with open(os.path.join(TOP, "crates.txt")) as lines:
-        kept = [line for line in lines if line.split(":")[0] in crates]
-    with open(os.path.join(folder, "crates.txt"), "w") as out:
-        out.write("".join(kept) + "report_times: hls_report " + " ".join(below) + "\n")
-    shutil.copy(os.path.join(TOP, "HANDLES"), folder)
-    crate = os.path.join(folder, "crates", "report_times")
-    os.makedirs(os.path.join(crate, "src"))
-    with open(os.path.join(crate, "src", "main.rt"), "w") as out:
-        out.write(MAIN)
+    crate = copied(folder, "report_times", ["hls_report"], {"src/main.rt": MAIN})
     subprocess.run(["rt", "run"], cwd=crate, input=b"", capture_output=True)
     return os.path.join(crate, "out", "report_times")
 

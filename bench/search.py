@@ -4,7 +4,7 @@
 Usage: bench/search.py [PROGRAM]
 
 Without PROGRAM it proves and builds a small one in a copy of the repository, which takes some minutes. The
-program makes a book of the nine rules, repeats each search, and prints its name, whether it finds a derivation,
+program makes a book of the eleven rules, repeats each search, and prints its name, whether it finds a derivation,
 and the nanoseconds that one search takes.
 """
 import os
@@ -13,23 +13,39 @@ import subprocess
 import sys
 import tempfile
 
-TOP = os.path.dirname(os.path.dirname(os.path.abspath(__file__)))
+from copies import copied
+
+CITED = ["hls_search", "hls_rules2", "hls_rules", "hls_derive", "hls_guarantee", "hls_chron"]
 
 MAIN = """//! Times searches for derivations.
 #![tactic(auto)]
 
+mod timing;
+
+use crate::timing::time_all;
+use std::io;
+use std::process::ExitCode;
+
+fn main(rt: HostRuntime) -> io::Result<ExitCode> {
+    let alloc = rt.alloc();
+    time_all(&rt, alloc)?;
+    Ok(ExitCode::from(0))
+}
+"""
+
+TIMING = """// Searches at places of each kind, over a book of all rules.
 ghost use Rattle.std.specs.Prelude.{◌≡◌, IfSome};
 ghost use Rattle.hls_guarantee.specs.Limits.{IsNarrow, IsValid};
 ghost use Rattle.hls_search.specs.Search.{CanSearch};
 
 use hls_chron::{Config, Terms};
 use hls_derive::Place;
-use hls_guarantee::{Guarantee, RuleName, narrow, read_guarantee};
-use hls_rules::{Rule, RuleBook, answer};
+use hls_guarantee::{Guarantee, narrow, read_guarantee};
+use hls_rules::{RULES, Rule, RuleBook};
+use hls_rules2::answer_of;
 use hls_search::search;
 use std::alloc::Global;
 use std::io;
-use std::process::ExitCode;
 use std::rt::Clock;
 use std::time::Instant;
 
@@ -126,7 +142,7 @@ fn reserved(rt: &(impl Clock + Print), alloc: Global, book: &RuleBook) -> io::Re
 
 fn fair_queueing(rt: &(impl Clock + Print), alloc: Global, book: &RuleBook) -> io::Result<()> {
     let place = Place {
-        config: Config::Sfq { total: 4, most: 2 },
+        config: Config::Sfq { total: 4, most: 2, quantum: 1 },
         terms: Terms::Weight(3),
     };
     timed(rt, alloc, book, "sfq", &place, &[read("RESBS 3 10")], &read("PSBE 9/40 83/20"))?;
@@ -135,108 +151,54 @@ fn fair_queueing(rt: &(impl Clock + Print), alloc: Global, book: &RuleBook) -> i
     timed(rt, alloc, book, "sfq", &place, &[Guarantee::All], &read("PSBE 3/4 1/4"))
 }
 
-fn main(rt: HostRuntime) -> io::Result<ExitCode> {
-    let alloc = rt.alloc();
-    let r1 = Box::new(
-        alloc,
-        |have: Guarantee, want: Guarantee| -> Option<Guarantee>
-            requires have { IsValid have }
-            requires want { IsValid want }
-        { answer(RuleName::R1, have, want) },
-    )?;
-    let r2 = Box::new(
-        alloc,
-        |have: Guarantee, want: Guarantee| -> Option<Guarantee>
-            requires have { IsValid have }
-            requires want { IsValid want }
-        { answer(RuleName::R2, have, want) },
-    )?;
-    let r3 = Box::new(
-        alloc,
-        |have: Guarantee, want: Guarantee| -> Option<Guarantee>
-            requires have { IsValid have }
-            requires want { IsValid want }
-        { answer(RuleName::R3, have, want) },
-    )?;
-    let r4 = Box::new(
-        alloc,
-        |have: Guarantee, want: Guarantee| -> Option<Guarantee>
-            requires have { IsValid have }
-            requires want { IsValid want }
-        { answer(RuleName::R4, have, want) },
-    )?;
-    let r5 = Box::new(
-        alloc,
-        |have: Guarantee, want: Guarantee| -> Option<Guarantee>
-            requires have { IsValid have }
-            requires want { IsValid want }
-        { answer(RuleName::R5, have, want) },
-    )?;
-    let r6 = Box::new(
-        alloc,
-        |have: Guarantee, want: Guarantee| -> Option<Guarantee>
-            requires have { IsValid have }
-            requires want { IsValid want }
-        { answer(RuleName::R6, have, want) },
-    )?;
-    let r7 = Box::new(
-        alloc,
-        |have: Guarantee, want: Guarantee| -> Option<Guarantee>
-            requires have { IsValid have }
-            requires want { IsValid want }
-        { answer(RuleName::R7, have, want) },
-    )?;
-    let r8 = Box::new(
-        alloc,
-        |have: Guarantee, want: Guarantee| -> Option<Guarantee>
-            requires have { IsValid have }
-            requires want { IsValid want }
-        { answer(RuleName::R8, have, want) },
-    )?;
-    let r9 = Box::new(
-        alloc,
-        |have: Guarantee, want: Guarantee| -> Option<Guarantee>
-            requires have { IsValid have }
-            requires want { IsValid want }
-        { answer(RuleName::R9, have, want) },
-    )?;
+/// All of them, with the names of their places.
+pub fn time_all(rt: &(impl Clock + Print), alloc: Global) -> io::Result<()> {
     let mut rules = Vec::new(alloc);
-    rules.push(Rule::new(RuleName::R1, r1))?;
-    rules.push(Rule::new(RuleName::R2, r2))?;
-    rules.push(Rule::new(RuleName::R3, r3))?;
-    rules.push(Rule::new(RuleName::R4, r4))?;
-    rules.push(Rule::new(RuleName::R5, r5))?;
-    rules.push(Rule::new(RuleName::R6, r6))?;
-    rules.push(Rule::new(RuleName::R7, r7))?;
-    rules.push(Rule::new(RuleName::R8, r8))?;
-    rules.push(Rule::new(RuleName::R9, r9))?;
+    for name in RULES {
+        let step = Box::new(
+            alloc,
+            move |have: Guarantee, want: Guarantee| -> Option<Guarantee>
+                requires have { IsValid have }
+                requires want { IsValid want }
+            { answer_of(name, have, want) },
+        )?;
+        rules.push(Rule::new(name, step))?;
+    }
     let book = RuleBook::new(rules);
-    fixed_priority(&rt, alloc, &book)?;
-    joins(&rt, alloc, &book)?;
-    of_all(&rt, alloc, &book)?;
-    reserved(&rt, alloc, &book)?;
-    fair_queueing(&rt, alloc, &book)?;
-    Ok(ExitCode::from(0))
+    fixed_priority(rt, alloc, &book)?;
+    joins(rt, alloc, &book)?;
+    of_all(rt, alloc, &book)?;
+    reserved(rt, alloc, &book)?;
+    fair_queueing(rt, alloc, &book)
 }
 """
 
+# That each rule is in the book once: what the loop keeps, and the one goal of its end.
+PROOFS = {
+    "Invariants.antt": """use Rattle.std.proofs.Common.{◌≡◌, map, take}
+use Rattle.search_times.proofs.timing.time_all.Given as goal
+
+abbrev pub invariant-loop-name : goal.invariant-loop-name
+invariant-loop-name g l = map (λ (rule : _). rule.name) l.rules.items ≡ take l.name-index l.name-items
+""",
+    "Answers.antt": """use Rattle.std.proofs.Common.{arith}
+use Rattle.hls_rules.proofs.Eleven.{once}
+use Rattle.search_times.proofs.timing.time_all.Goals as goal
+
+pub new-book-requires : goal.new-book-requires
+new-book-requires g c =
+    let last = c.loop-name.auto.name-index-end in
+    let end = c.loop-name-test.false in
+    once _ c.loop-name.name-index c.loop-name.invariant (omega (arith, last, end))
+""",
+}
+
 
 def build(folder):
-    """Builds the program in a copy of what the search stands on."""
-    with open(os.path.join(TOP, "crates.txt")) as lines:
-        below = next(line.split(":")[1].split() for line in lines if line.startswith("hls_search:"))
-    crates = [name for name in ["hls_search"] + below if os.path.isdir(os.path.join(TOP, "crates", name))]
-    for name in crates:
-        shutil.copytree(os.path.join(TOP, "crates", name), os.path.join(folder, "crates", name))
-    with open(os.path.join(TOP, "crates.txt")) as lines:
-        kept = [line for line in lines if line.split(":")[0] in crates]
-    with open(os.path.join(folder, "crates.txt"), "w") as out:
-        out.write("".join(kept) + "search_times: hls_search " + " ".join(below) + "\n")
-    shutil.copy(os.path.join(TOP, "HANDLES"), folder)
-    crate = os.path.join(folder, "crates", "search_times")
-    os.makedirs(os.path.join(crate, "src"))
-    with open(os.path.join(crate, "src", "main.rt"), "w") as out:
-        out.write(MAIN)
+    """Builds the program in a copy of what the search and the rules stand on."""
+    texts = {"src/main.rt": MAIN, "src/timing.rt": TIMING}
+    texts.update({f"proofs/timing/time_all/{name}": text for name, text in PROOFS.items()})
+    crate = copied(folder, "search_times", CITED, texts)
     subprocess.run(["rt", "run"], cwd=crate, input=b"", capture_output=True)
     return os.path.join(crate, "out", "search_times")
 

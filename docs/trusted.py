@@ -242,9 +242,9 @@ def laws():
 HEADER = """# What a reader has to believe
 
 The theorems speak of the definitions below and of nothing else. `docs/trusted.py` writes this page: it lists what the
-clauses of the two public calls of the program, `hls_run` and `start`, unfold to, file by file and in reading order, then
-what those of the two programs beside it do, and then those of the laws. What only private clauses cite need not be read,
-and neither do proofs. Types that are named here are those of the code.
+clauses of the two public calls of the program, `hls_run` and `start`, unfold to, file by file and in reading order,
+then what those of the two programs beside it do, and then those of the laws. What only private clauses cite need not be
+read, and neither do proofs. Types that are named here are those of the code.
 
 What comes first is what is promised of `run`. A reader who asks only that may stop there.
 """
@@ -253,9 +253,9 @@ FOOTER = """
 ## Why these are the definitions meant
 
 Laws say of many what the field says: budgets, tags, turns and places go by the rules that are known of them, which
-`hls_book_rules` writes down; blocked threads do not run, a tick is idle only where the root does not ask, refusals are
-exactly what the machine forbids. Wrong readings are shown to be ruled out. Tests hold slow functions that compute the
-definitions against worked schedules, answers and reports.
+`hls_book_rules` writes down, and `hls_book` those of turns; blocked threads do not run, a tick is idle only where the
+root does not ask, refusals are exactly what the machine forbids. Wrong readings are shown to be ruled out. Tests hold
+slow functions that compute the definitions against worked schedules, answers and reports.
 
 ## And besides
 

@@ -18,7 +18,7 @@ use Rattle.hls_scenario.specs.declared.scenario.Spot.TheVariants.{Cpu, Under}
 use Rattle.hls_scenario.specs.declared.scenario.Perch.{Perch}
 use Rattle.hls_scenario.specs.declared.scenario.Command.{Command}
 use Rattle.hls_scenario.specs.declared.scenario.Command.TheVariants as said
-use Rattle.hls_scenario.specs.Grammar.{IsLoad, IsPerch, IsCommand}
+use Rattle.hls_scenario.specs.Grammar.{IsConfig, IsLoad, IsPerch}
 use Rattle.hls_scenario.proofs.CanonicalPrinting.{load_perches}
 use Rattle.hls_report_text.specs.declared.report.Answered.{Answered}
 use Rattle.hls_legal.specs.Commands.{is_done}
@@ -34,6 +34,7 @@ use Rattle.hls_audit_clauses.specs.Misplaced.{is_taken, is_unknown, is_of_wrong_
 use Rattle.hls_audit_clauses.specs.Misplaced.{is_wrong_spot, is_misplaced}
 use Rattle.hls_audit_clauses.specs.Dues.{config_in, config_at, wants, haves_at, due_at, dues_from, due_under}
 use Rattle.hls_audit_clauses.specs.Dues.{is_at, dues_under, dues}
+use Rattle.hls_audit_threads.specs.Inside.Order.{IsOfGrammar}
 use Rattle.hls_audit.specs.Inside.Fits.{HasSeats, IsFit, IsFitDue}
 use Rattle.hls_chron.proofs.ConfigLaws.{one_port, kind_no_join}
 
@@ -55,33 +56,34 @@ record IsFitAt (set : Config) (has : List Guarantee) : Type 0 where
 one_valid : (g : Guarantee) → IsValid g → All IsValid (g ∷ [])
 one_valid g is = All-cons IsValid g [] is (All-nil IsValid)
 
-load_fits : (config : Config) (perches : List Perch) → IsLoad config perches → IsFitAt config (wants perches)
-load_fits configs.Cpu perches is = absurd is
-load_fits (configs.Join ports) perches is = record {
+load_fits : (version : ℕ) (config : Config) (perches : List Perch) → IsLoad version config perches
+    → IsFitAt config (wants perches)
+load_fits version configs.Cpu perches is = absurd is
+load_fits version (configs.Join ports) perches is = record {
   config = is.1;
   ports = length-map perches (λ (perch : Perch). perch.want) ∙ sym is.0;
-  haves = wants_valid perches (load_perches (configs.Join ports) perches is);
+  haves = wants_valid perches (load_perches version (configs.Join ports) perches is);
 }
-load_fits configs.Fp [] is = absurd is
-load_fits configs.Fp (perch ∷ []) is =
-    record { config = is.0; ports = refl; haves = one_valid perch.want (valid_narrow perch.want is.1.want) }
-load_fits configs.Fp (perch ∷ other ∷ perches) is = absurd is
-load_fits configs.Edf [] is = absurd is
-load_fits configs.Edf (perch ∷ []) is =
-    record { config = is.0; ports = refl; haves = one_valid perch.want (valid_narrow perch.want is.1.want) }
-load_fits configs.Edf (perch ∷ other ∷ perches) is = absurd is
-load_fits (configs.Sfq total most) [] is = absurd is
-load_fits (configs.Sfq total most) (perch ∷ []) is =
-    record { config = is.0; ports = refl; haves = one_valid perch.want (valid_narrow perch.want is.1.want) }
-load_fits (configs.Sfq total most) (perch ∷ other ∷ perches) is = absurd is
-load_fits (configs.Rr quantum) [] is = absurd is
-load_fits (configs.Rr quantum) (perch ∷ []) is =
-    record { config = is.0; ports = refl; haves = one_valid perch.want (valid_narrow perch.want is.1.want) }
-load_fits (configs.Rr quantum) (perch ∷ other ∷ perches) is = absurd is
-load_fits (configs.Wheel frame) [] is = absurd is
-load_fits (configs.Wheel frame) (perch ∷ []) is =
-    record { config = is.0; ports = refl; haves = one_valid perch.want (valid_narrow perch.want is.1.want) }
-load_fits (configs.Wheel frame) (perch ∷ other ∷ perches) is = absurd is
+load_fits version configs.Fp [] is = absurd is
+load_fits version configs.Fp (perch ∷ []) is =
+    record { config = is.0.0; ports = refl; haves = one_valid perch.want (valid_narrow perch.want is.1.want) }
+load_fits version configs.Fp (perch ∷ other ∷ perches) is = absurd is
+load_fits version configs.Edf [] is = absurd is
+load_fits version configs.Edf (perch ∷ []) is =
+    record { config = is.0.0; ports = refl; haves = one_valid perch.want (valid_narrow perch.want is.1.want) }
+load_fits version configs.Edf (perch ∷ other ∷ perches) is = absurd is
+load_fits version (configs.Sfq total most quantum) [] is = absurd is
+load_fits version (configs.Sfq total most quantum) (perch ∷ []) is =
+    record { config = is.0.0; ports = refl; haves = one_valid perch.want (valid_narrow perch.want is.1.want) }
+load_fits version (configs.Sfq total most quantum) (perch ∷ other ∷ perches) is = absurd is
+load_fits version (configs.Rr quantum) [] is = absurd is
+load_fits version (configs.Rr quantum) (perch ∷ []) is =
+    record { config = is.0.0; ports = refl; haves = one_valid perch.want (valid_narrow perch.want is.1.want) }
+load_fits version (configs.Rr quantum) (perch ∷ other ∷ perches) is = absurd is
+load_fits version (configs.Wheel frame) [] is = absurd is
+load_fits version (configs.Wheel frame) (perch ∷ []) is =
+    record { config = is.0.0; ports = refl; haves = one_valid perch.want (valid_narrow perch.want is.1.want) }
+load_fits version (configs.Wheel frame) (perch ∷ other ∷ perches) is = absurd is
 
 -- whoever is found is fit
 IsFitFound : Option Member → Type 0
@@ -102,7 +104,7 @@ found_fit (m ∷ tree) name are =
 
 sort_fits : (sort : Sort) (perches : List Perch) → HasSeats sort perches → is_scheduler_sort (Some sort) ≡ true
     → IsFitAt (config_in (Some sort)) (wants perches)
-sort_fits (Scheduler config) perches fit is = load_fits config perches fit
+sort_fits (Scheduler config) perches fit is = load_fits fit.0 config perches fit.1
 sort_fits Thread perches fit is = absurd (cc)
 
 sched_fits : (found : Option Member) → IsFitFound found → is_scheduler_sort (sort_of found) ≡ true
@@ -156,7 +158,7 @@ seats_fit tree command name port (perch ∷ perches) fit are is =
 -- ---- seats on a scheduler that is moved
 
 sort_perches : (sort : Sort) (perches : List Perch) → HasSeats sort perches → AllByRecursion IsPerch perches
-sort_perches (Scheduler config) perches is = load_perches config perches is
+sort_perches (Scheduler config) perches is = load_perches is.0 config perches is.1
 sort_perches Thread [] is = absurd is
 sort_perches Thread (perch ∷ []) is = (is, tt)
 sort_perches Thread (perch ∷ other ∷ perches) is = absurd is
@@ -172,7 +174,7 @@ one_if_no_join config is = one_port config (kind_no_join config is)
 sort_config : (sort : Sort) (perches : List Perch) → HasSeats sort perches → is_join_sort (Some sort) ≡ false
     → HasOnePort (config_in (Some sort))
 sort_config (Scheduler config) perches fit is =
-    record { config = (load_fits config perches fit).config; port = one_if_no_join config is }
+    record { config = (load_fits fit.0 config perches fit.1).config; port = one_if_no_join config is }
 sort_config Thread perches fit is = record { config = tt; port = refl }
 
 moved_config : (found : Option Member) → IsFitFound found → is_join_sort (sort_of found) ≡ false
@@ -233,21 +235,21 @@ placed tree command is =
     none_of (is_taken tree (new_name command)) (is_unknown tree (old_name command)) (is_of_wrong_sort tree command)
     (is_occupied tree command) (is_cycle tree command) (list_any (is_wrong_spot tree command) (spots_of command)) is
 
-pub dues_fit : (tree : List Member) (command : Command) → AllByRecursion IsFit tree → IsCommand command
+pub dues_fit : (tree : List Member) (command : Command) → AllByRecursion IsFit tree → IsOfGrammar command
     → is_misplaced tree command ≡ false → AllByRecursion IsFitDue (dues tree command)
 dues_fit tree (said.Load name config perches) fit is at =
-    seats_fit tree (said.Load name config perches) name 0 perches fit (load_perches config perches is.1)
+    seats_fit tree (said.Load name config perches) name 0 perches fit (load_perches is.version config perches is.is.1)
     (placed tree (said.Load name config perches) at).1
 dues_fit tree (said.Thread name perch) fit is at =
-    seats_fit tree (said.Thread name perch) name 0 (perch ∷ []) fit (is.1, tt)
+    seats_fit tree (said.Thread name perch) name 0 (perch ∷ []) fit (is.is.1, tt)
     (placed tree (said.Thread name perch) at).1
 dues_fit tree (said.Move name perch) fit is at =
     let parts = placed tree (said.Move name perch) at in
-    let new = seats_fit tree (said.Move name perch) name 0 (perch ∷ []) fit (is.1, tt) parts.1 in (
+    let new = seats_fit tree (said.Move name perch) name 0 (perch ∷ []) fit (is.is.1, tt) parts.1 in (
       new.0,
       on_fit tree name perch.want tree
           (moved_config (member_of tree name) (found_fit tree name fit) parts.0)
-          (valid_narrow perch.want is.1.want) fit,
+          (valid_narrow perch.want is.is.1.want) fit,
     )
 dues_fit tree (said.End name) fit is at = tt
 dues_fit tree (said.Unload name) fit is at = tt
@@ -261,22 +263,24 @@ without_fit : (test : Member → Bool) (tree : List Member) → AllByRecursion I
 without_fit test [] fit = tt
 without_fit test (m ∷ tree) fit = either_all IsFit (test m) m (filter test tree) fit.0 (without_fit test tree fit.1)
 
-one_seat : (config : Config) (perches : List Perch) (perch : Perch) → IsLoad config perches → IsPerch perch
-    → is_join_sort (Some (Scheduler config)) ≡ false → IsLoad config (perch ∷ [])
-one_seat configs.Cpu perches perch load is single = absurd load
-one_seat configs.Fp perches perch load is single = (tt, is)
-one_seat configs.Edf perches perch load is single = (tt, is)
-one_seat (configs.Sfq total most) perches perch load is single =
-    ((load_fits (configs.Sfq total most) perches load).config, is)
-one_seat (configs.Rr quantum) perches perch load is single =
-    ((load_fits (configs.Rr quantum) perches load).config, is)
-one_seat (configs.Wheel frame) perches perch load is single =
-    ((load_fits (configs.Wheel frame) perches load).config, is)
-one_seat (configs.Join ports) perches perch load is single = absurd (cc)
+-- what is loaded, and is no join, has its numbers in their ranges
+load_config : (version : ℕ) (config : Config) (perches : List Perch) → IsLoad version config perches
+    → is_join_sort (Some (Scheduler config)) ≡ false → IsConfig version config
+load_config version configs.Cpu perches load single = absurd load
+load_config version (configs.Join ports) perches load single = absurd (cc)
+load_config version config (perch ∷ []) load single = load.0
+load_config version config _ load single = absurd load
+
+one_seat : (version : ℕ) (config : Config) (perches : List Perch) (perch : Perch) → IsLoad version config perches
+    → IsPerch perch → is_join_sort (Some (Scheduler config)) ≡ false → IsLoad version config (perch ∷ [])
+one_seat version configs.Cpu perches perch load is single = absurd load
+one_seat version (configs.Join ports) perches perch load is single = absurd (cc)
+one_seat version config perches perch load is single = (load_config version config perches load single, is)
 
 sort_seat : (sort : Sort) (perches : List Perch) (perch : Perch) → HasSeats sort perches → IsPerch perch
     → is_join_sort (Some sort) ≡ false → HasSeats sort (perch ∷ [])
-sort_seat (Scheduler config) perches perch fit is single = one_seat config perches perch fit is single
+sort_seat (Scheduler config) perches perch fit is single =
+    (fit.0, one_seat fit.0 config perches perch fit.1 is single)
 sort_seat Thread perches perch fit is single = is
 
 moved_fit : (tree : List Member) (perch : Perch) (found : Option Member) → AllByRecursion IsFit tree
@@ -289,14 +293,15 @@ moved_fit tree perch (Some m) fit found is single =
     (without_fit (λ other. not (has_name m.name other)) tree fit)
     (sort_seat m.sort m.perches perch found is single, tt)
 
-after_fit : (tree : List Member) (command : Command) → AllByRecursion IsFit tree → IsCommand command
+after_fit : (tree : List Member) (command : Command) → AllByRecursion IsFit tree → IsOfGrammar command
     → is_misplaced tree command ≡ false → AllByRecursion IsFit (after tree command)
 after_fit tree (said.Load name config perches) fit is at =
-    both_all IsFit tree (record { name = name; sort = Scheduler config; perches = perches } ∷ []) fit (is.1, tt)
+    both_all IsFit tree (record { name = name; sort = Scheduler config; perches = perches } ∷ []) fit
+    ((is.version, is.is.1), tt)
 after_fit tree (said.Thread name perch) fit is at =
-    both_all IsFit tree (record { name = name; sort = Thread; perches = perch ∷ [] } ∷ []) fit (is.1, tt)
+    both_all IsFit tree (record { name = name; sort = Thread; perches = perch ∷ [] } ∷ []) fit (is.is.1, tt)
 after_fit tree (said.Move name perch) fit is at =
-    moved_fit tree perch (member_of tree name) fit (found_fit tree name fit) is.1
+    moved_fit tree perch (member_of tree name) fit (found_fit tree name fit) is.is.1
     (placed tree (said.Move name perch) at).0
 after_fit tree (said.End name) fit is at = without_fit (λ m. not (has_name name m)) tree fit
 after_fit tree (said.Unload name) fit is at = without_fit (λ m. not (has_name name m)) tree fit
@@ -309,7 +314,7 @@ either_fits true tree other are more = are refl
 either_fits false tree other are more = more
 
 -- a command that was carried out is not to be misplaced
-pub answer_fit : (tree : List Member) (a : Answered) → AllByRecursion IsFit tree → IsCommand a.command
+pub answer_fit : (tree : List Member) (a : Answered) → AllByRecursion IsFit tree → IsOfGrammar a.command
     → (is_done a.answer ≡ true → is_misplaced tree a.command ≡ false) → AllByRecursion IsFit (after_answer tree a)
 answer_fit tree a fit is at =
     either_fits (is_done a.answer) (after tree a.command) tree
@@ -318,7 +323,7 @@ answer_fit tree a fit is at =
 -- ---- what all commands leave
 
 fits_from : (tree : List Member) (answered : List Answered) → AllByRecursion IsFit tree
-    → AllByRecursion (λ (a : Answered). IsCommand a.command) answered
+    → AllByRecursion (λ (a : Answered). IsOfGrammar a.command) answered
     → ((at : ℕ) (a : Answered) → slice_get answered at ≡ Some a → is_done a.answer ≡ true
     → is_misplaced (fold after_answer tree (take at answered)) a.command ≡ false)
     → AllByRecursion IsFit (fold after_answer tree answered)
@@ -328,7 +333,7 @@ fits_from tree (a ∷ answered) fit are at =
     (λ place b there done. at (suc place) b there done)
 
 -- where no command that was carried out was misplaced
-pub tree_fit : (answered : List Answered) → AllByRecursion (λ (a : Answered). IsCommand a.command) answered
+pub tree_fit : (answered : List Answered) → AllByRecursion (λ (a : Answered). IsOfGrammar a.command) answered
     → ((at : ℕ) (a : Answered) → slice_get answered at ≡ Some a → is_done a.answer ≡ true
     → is_misplaced (tree_of (take at answered)) a.command ≡ false)
     → AllByRecursion IsFit (tree_of answered)

@@ -1,11 +1,11 @@
 // The seats that a command takes or derives anew, and their derivations.
 ghost use Rattle.std.specs.Prelude.{◌≡◌, ◌↔◌, ◌++◌, IfOk, IsTrue, OnOk, map, false, ◌∷◌};
 ghost use Rattle.std.specs.List.{AllByRecursion};
-ghost use Rattle.hls_scenario.specs.Grammar.{IsCommand};
 ghost use Rattle.hls_report_text.specs.WellFormed.{IsSeated};
 ghost use Rattle.hls_legal.specs.Tells as tells;
 ghost use Rattle.hls_legal.specs.Dues as answers;
 ghost use Rattle.hls_derive.specs.Derivation.{conversions, IsWithinGrammar};
+ghost use Rattle.hls_audit_threads.specs.Inside.Order.{IsOfGrammar};
 ghost use Rattle.hls_audit_clauses.specs.Dues as clause;
 ghost use Rattle.hls_audit_clauses.specs.Names.{member_of, sort_of};
 ghost use Rattle.hls_audit_clauses.specs.Misplaced as misplaced;
@@ -48,7 +48,7 @@ impl Tree {
         seats: &[Seated],
     ) -> Result<bool, AllocError>
         requires fit { AllByRecursion IsFit self.now.members.items }
-        requires command { IsCommand command.now }
+        requires command { IsOfGrammar command.now }
         requires placed { misplaced.is_misplaced self.now.members.items command.now ≡ false }
         requires seats { AllByRecursion IsSeated seats.now }
         ensures { IfOk result (λ lacks. (lacks ≡ false) ↔

@@ -9,8 +9,6 @@ use Rattle.std.proofs.lemmas.Slice.Eq.{bytes_eq-Decides}
 use Rattle.hls_text.specs.Lines.{Text}
 use Rattle.hls_chron.specs.declared.plain.Config.{Config}
 use Rattle.hls_chron.specs.declared.plain.Config.TheVariants as configs
-use Rattle.hls_chron.specs.declared.plain.Kind.TheVariants as kinds
-use Rattle.hls_chron.specs.Kinds.{kind_of}
 use Rattle.hls_scenario.specs.declared.scenario.Spot.{Spot}
 use Rattle.hls_scenario.specs.declared.scenario.Spot.TheVariants.{Cpu, Under}
 use Rattle.hls_scenario.specs.declared.scenario.Perch.{Perch}
@@ -147,27 +145,27 @@ ports_first [] are port e = absurd (cc)
 ports_first (perch ∷ perches) are zero e = refl
 ports_first (perch ∷ perches) are (suc port) e = absurd (no_later perch.spot perches are.1 port e)
 
-load_first : (config : Config) (perches : List Perch) → grammar.IsLoad config perches → (port : ℕ)
+load_first : (version : ℕ) (config : Config) (perches : List Perch) → grammar.IsLoad version config perches → (port : ℕ)
     → slice_get (map (λ (perch : Perch). perch.spot) perches) port ≡ Some Cpu → port ≡ 0
-load_first configs.Cpu perches is port e = absurd is
-load_first (configs.Join ports) perches is port e = ports_first perches is.2 port e
-load_first config (perch ∷ []) is zero e = refl
-load_first config (perch ∷ []) is (suc port) e = absurd (cc)
-load_first config _ is port e = absurd is
+load_first version configs.Cpu perches is port e = absurd is
+load_first version (configs.Join ports) perches is port e = ports_first perches is.2 port e
+load_first version config (perch ∷ []) is zero e = refl
+load_first version config (perch ∷ []) is (suc port) e = absurd (cc)
+load_first version config _ is port e = absurd is
 
 one_first : (perch : Perch) (port : ℕ) → slice_get (perch.spot ∷ []) port ≡ Some Cpu → port ≡ 0
 one_first perch zero e = refl
 one_first perch (suc port) e = absurd (cc)
 
-cpu_first : (command : Command) → grammar.IsCommand command → (port : ℕ)
+cpu_first : (version : ℕ) (command : Command) → grammar.IsCommand version command → (port : ℕ)
     → slice_get (spots_of command) port ≡ Some Cpu → port ≡ 0
-cpu_first (said.Load name config perches) is port e = load_first config perches is.1 port e
-cpu_first (said.Thread name perch) is port e = one_first perch port e
-cpu_first (said.End name) is port e = absurd (cc)
-cpu_first (said.Unload name) is port e = absurd (cc)
-cpu_first (said.Move name perch) is port e = one_first perch port e
-cpu_first (said.Wake name burst) is port e = absurd (cc)
-cpu_first (said.Block name) is port e = absurd (cc)
+cpu_first version (said.Load name config perches) is port e = load_first version config perches is.1 port e
+cpu_first version (said.Thread name perch) is port e = one_first perch port e
+cpu_first version (said.End name) is port e = absurd (cc)
+cpu_first version (said.Unload name) is port e = absurd (cc)
+cpu_first version (said.Move name perch) is port e = one_first perch port e
+cpu_first version (said.Wake name burst) is port e = absurd (cc)
+cpu_first version (said.Block name) is port e = absurd (cc)
 
 -- ---- an unload
 
@@ -478,10 +476,10 @@ module _ (m : Moment) (tree : List Member) (reached : IsReached m.hierarchy) (t 
       only = λ other same g. none other (of other (same ∙ is)) (inl g);
     }))
 
-    no_root : grammar.IsCommand command → (port : ℕ) → slice_get (spots_of command) port ≡ Some Cpu
-        → is_some h.root ≡ true → ⊥
-    no_root is port e taken =
-        let first = cpu_first command is port e in
+    no_root : (version : ℕ) → grammar.IsCommand version command → (port : ℕ)
+        → slice_get (spots_of command) port ≡ Some Cpu → is_some h.root ≡ true → ⊥
+    no_root version is port e taken =
+        let first = cpu_first version command is port e in
         none (refusals.SeatsFull None 1) tt (inr (record {
           first = record {
             at = 0;
@@ -496,16 +494,17 @@ module _ (m : Moment) (tree : List Member) (reached : IsReached m.hierarchy) (t 
           only = λ other same g. no_eighteen m command other same g;
         }))
 
-    spot_free : grammar.IsCommand command → (port : ℕ) (spot : Spot) → slice_get (spots_of command) port ≡ Some spot
+    spot_free : (version : ℕ) → grammar.IsCommand version command → (port : ℕ) (spot : Spot)
+        → slice_get (spots_of command) port ≡ Some spot
         → is_wrong_spot tree command spot ≡ true → ⊥
-    spot_free is port Cpu e on =
+    spot_free version is port Cpu e on =
         elim (or_cases (places_thread tree command) (list_any sits_at_cpu tree) on) [
           | inl thread ↦
               no_place 12 of_twelve (port + 1) port (omega arith) Cpu e (refusals.WrongSort None) refl
               (thread_there command thread)
-          | inr taken ↦ no_root is port e (root_some taken)
+          | inr taken ↦ no_root version is port e (root_some taken)
         ]
-    spot_free is port (Under sched terms) e on =
+    spot_free version is port (Under sched terms) e on =
         by (node_of h sched) refl
       where
         by : (node : Option Node) → node_of h sched ≡ node → ⊥
@@ -523,15 +522,17 @@ module _ (m : Moment) (tree : List Member) (reached : IsReached m.hierarchy) (t 
             let wrong : true ≡ false = sym there ∙ not_true (is_scheduler tree sched) on in
             cc
 
-    spots_free : grammar.IsCommand command → list_any (is_wrong_spot tree command) (spots_of command) ≡ false
-    spots_free is = false_from_ne_true (list_any (is_wrong_spot tree command) (spots_of command))
+    spots_free : (version : ℕ) → grammar.IsCommand version command
+        → list_any (is_wrong_spot tree command) (spots_of command) ≡ false
+    spots_free version is =
+        false_from_ne_true (list_any (is_wrong_spot tree command) (spots_of command))
         (λ on. let r = at_any (is_wrong_spot tree command) (spots_of command) on in
-        spot_free is r.at r.x r.there r.passes)
+        spot_free version is r.at r.x r.there r.passes)
 
-    pub allowed : AnswersReach h → grammar.IsCommand command → is_misplaced tree command ≡ false
-    allowed reach is =
+    pub allowed : AnswersReach h → (version : ℕ) → grammar.IsCommand version command → is_misplaced tree command ≡ false
+    allowed reach version is =
         none_of h tree reached t (is_taken tree (new_name command)) (is_unknown tree (old_name command))
         (is_of_wrong_sort tree command) (is_occupied tree command) (is_cycle tree command)
         (list_any (is_wrong_spot tree command) (spots_of command))
         (taken_free command none (new_name command) refl) (unknown_free command none (old_name command) refl)
-        (sort_free command none) (occupied_free reach command none) (cycle_free command none) (spots_free is)
+        (sort_free command none) (occupied_free reach command none) (cycle_free command none) (spots_free version is)

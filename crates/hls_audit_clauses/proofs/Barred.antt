@@ -6,11 +6,7 @@ use Rattle.std.specs.List.{list_any}
 use Rattle.std.specs.Str.{bytes_eq}
 use Rattle.std.proofs.lemmas.Bool.{and_from, or_left, or_right}
 use Rattle.hls_text.specs.Lines.{Text}
-use Rattle.hls_chron.specs.declared.plain.Config.{Config}
-use Rattle.hls_chron.specs.declared.plain.Config.TheVariants as configs
 use Rattle.hls_chron.specs.declared.plain.Terms.{Terms}
-use Rattle.hls_chron.specs.declared.plain.Kind.TheVariants as kinds
-use Rattle.hls_chron.specs.Kinds.{kind_of}
 use Rattle.hls_chron.specs.Ledger.{Ledger}
 use Rattle.hls_chron.specs.Seats.{terms_at}
 use Rattle.hls_scenario.specs.declared.scenario.Spot.{Spot}
@@ -35,7 +31,6 @@ use Rattle.hls_legal.specs.Refusals as reasons
 use Rattle.hls_legal.specs.Answers.{RefusesCommand, RefusesPlace, Applies}
 use Rattle.hls_legal.proofs.Found.{named_there, named_is, found_named}
 use Rattle.hls_audit_clauses.specs.declared.member.Sort.{Sort}
-use Rattle.hls_audit_clauses.specs.declared.member.Sort.TheVariants as sorts
 use Rattle.hls_audit_clauses.specs.declared.member.Member.{Member}
 use Rattle.hls_audit_clauses.specs.Names.{member_of, is_there, sort_of, is_scheduler_sort, is_thread_sort, is_join_sort}
 use Rattle.hls_audit_clauses.specs.Names.{is_scheduler, is_thread, perches_of, sits, sits_on, sits_at_cpu, is_cpu}

@@ -7,10 +7,6 @@ use Rattle.std.specs.Str.{bytes_eq}
 use Rattle.std.proofs.lemmas.Bool.{cases_Bool, or_cases, and_right}
 use Rattle.std.proofs.lemmas.Slice.Eq.{bytes_eq-Decides}
 use Rattle.hls_text.specs.Lines.{Text}
-use Rattle.hls_chron.specs.declared.plain.Config.{Config}
-use Rattle.hls_chron.specs.declared.plain.Config.TheVariants as configs
-use Rattle.hls_chron.specs.declared.plain.Kind.TheVariants as kinds
-use Rattle.hls_chron.specs.Kinds.{kind_of}
 use Rattle.hls_scenario.specs.declared.scenario.Spot.{Spot}
 use Rattle.hls_scenario.specs.declared.scenario.Spot.TheVariants.{Cpu, Under}
 use Rattle.hls_scenario.specs.declared.scenario.Perch.{Perch}
@@ -32,7 +28,6 @@ use Rattle.hls_legal.proofs.Reached.{IsReached, listed as lists_of, seated as se
 use Rattle.hls_legal.specs.Moment.{Boxes, new_name, old_name, spots_of}
 use Rattle.hls_legal.specs.Along.{AnswersAlong}
 use Rattle.hls_audit_clauses.specs.declared.member.Sort.{Sort}
-use Rattle.hls_audit_clauses.specs.declared.member.Sort.TheVariants as sorts
 use Rattle.hls_audit_clauses.specs.declared.member.Member.{Member}
 use Rattle.hls_audit_clauses.specs.Names.{member_of, is_there, sort_of, is_scheduler_sort, is_thread_sort, is_join_sort}
 use Rattle.hls_audit_clauses.specs.Names.{is_scheduler, perches_of, sits, sits_on, sits_at_cpu, is_cpu}

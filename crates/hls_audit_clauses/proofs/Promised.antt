@@ -31,19 +31,19 @@ use Rattle.hls_audit_clauses.proofs.Decided.{satisfies_stable, satisfies_none, c
 
 -- ---- what is guaranteed for a stay was wanted in a command
 
-commands_in : (horizon last : ℕ) (answered : List Answered) → AreAnswered horizon last answered
-    → AllByRecursion (λ (a : Answered). IsCommand a.command) answered
-commands_in horizon last [] are = tt
-commands_in horizon last (a ∷ answered) are = (are.0, commands_in horizon a.tick answered are.4)
+commands_in : (version horizon last : ℕ) (answered : List Answered) → AreAnswered version horizon last answered
+    → AllByRecursion (λ (a : Answered). IsCommand version a.command) answered
+commands_in version horizon last [] are = tt
+commands_in version horizon last (a ∷ answered) are = (are.0, commands_in version horizon a.tick answered are.4)
 
-narrow_in : (command : Command) → IsCommand command → IsNarrow (want_in command)
-narrow_in (said.Load name config perches) is = tt
-narrow_in (said.Thread name perch) is = is.1.want
-narrow_in (said.End name) is = tt
-narrow_in (said.Unload name) is = tt
-narrow_in (said.Move name perch) is = is.1.want
-narrow_in (said.Wake name burst) is = tt
-narrow_in (said.Block name) is = tt
+narrow_in : (version : ℕ) (command : Command) → IsCommand version command → IsNarrow (want_in command)
+narrow_in version (said.Load name config perches) is = tt
+narrow_in version (said.Thread name perch) is = is.1.want
+narrow_in version (said.End name) is = tt
+narrow_in version (said.Unload name) is = tt
+narrow_in version (said.Move name perch) is = is.1.want
+narrow_in version (said.Wake name burst) is = tt
+narrow_in version (said.Block name) is = tt
 
 found_keeps : {X : Type 0} (Q : Option X → Type 0) (test : X → Bool) (xs : List X) → Q None
     → AllByRecursion (λ (x : X). Q (Some x)) xs → Q (find test xs)
@@ -59,40 +59,40 @@ all_reverse P (x ∷ xs) all =
     subst (AllByRecursion P) (sym (reverse-append (x ∷ []) xs))
     (all_append P (reverse xs) (x ∷ []) (all_reverse P xs all.1) (all.0, tt))
 
-abbrev AreCommands : List Answered → Type 0
-AreCommands answered = AllByRecursion (λ (a : Answered). IsCommand a.command) answered
+abbrev AreCommands : (version : ℕ) → List Answered → Type 0
+AreCommands version answered = AllByRecursion (λ (a : Answered). IsCommand version a.command) answered
 
-narrow_want : (name : Text) (commands : List Answered) → AreCommands commands
+narrow_want : (version : ℕ) (name : Text) (commands : List Answered) → AreCommands version commands
     → IsNarrow (want_of (last_seating name commands))
 unfolding last_seating
-narrow_want name commands are =
+narrow_want version name commands are =
     found_keeps (λ (o : Option Answered). IsNarrow (want_of o)) (has_done (seats name)) (reverse commands) tt
     (all_reverse (λ (a : Answered). IsNarrow (want_in a.command)) commands (narrow_all commands are))
   where
-    narrow_all : (commands : List Answered) → AreCommands commands
+    narrow_all : (commands : List Answered) → AreCommands version commands
         → AllByRecursion (λ (a : Answered). IsNarrow (want_in a.command)) commands
     narrow_all [] are = tt
-    narrow_all (a ∷ commands) are = (narrow_in a.command are.0, narrow_all commands are.1)
+    narrow_all (a ∷ commands) are = (narrow_in version a.command are.0, narrow_all commands are.1)
 
 abbrev AreNarrow : List Stay → Type 0
 AreNarrow all = AllByRecursion (λ (stay : Stay). IsNarrow stay.kept) all
 
-narrow_each : (commands after : List Answered) (since : ℕ) (names : List Text) → AreCommands commands
-    → AreNarrow (map (stay_of commands after since) names)
-narrow_each commands after since [] are = tt
-narrow_each commands after since (name ∷ names) are =
-    (narrow_want name commands are, narrow_each commands after since names are)
+narrow_each : (version : ℕ) (commands after : List Answered) (since : ℕ) (names : List Text)
+    → AreCommands version commands → AreNarrow (map (stay_of commands after since) names)
+narrow_each version commands after since [] are = tt
+narrow_each version commands after since (name ∷ names) are =
+    (narrow_want version name commands are, narrow_each version commands after since names are)
 
-narrow_from : (before after : List Answered) → AreCommands before → AreCommands after
+narrow_from : (version : ℕ) (before after : List Answered) → AreCommands version before → AreCommands version after
     → AreNarrow (stays_from before after)
 unfolding stays_from
-narrow_from before [] are rest = tt
-narrow_from before (a ∷ after) are rest =
-    let more = all_append (λ (x : Answered). IsCommand x.command) before (a ∷ []) are (rest.0, tt) in
+narrow_from version before [] are rest = tt
+narrow_from version before (a ∷ after) are rest =
+    let more = all_append (λ (x : Answered). IsCommand version x.command) before (a ∷ []) are (rest.0, tt) in
     all_append (λ (stay : Stay). IsNarrow stay.kept) (stays_with before after a)
     (stays_from (before ++ a ∷ []) after)
-    (narrow_each (before ++ a ∷ []) after a.tick (opened before a) more)
-    (narrow_from (before ++ a ∷ []) after more rest.1)
+    (narrow_each version (before ++ a ∷ []) after a.tick (opened before a) more)
+    (narrow_from version (before ++ a ∷ []) after more rest.1)
 
 -- ---- the longest window that ends before a tick
 
@@ -179,4 +179,4 @@ stays_promised c is kept =
     All-from_recursion (IsKeptBy c) (stays c.answered)
     (each_stay (λ (stay : Stay). IsNarrow stay.kept) (IsKeptBy c) (stays c.answered)
     (λ n stay e narrow. kept_by c kept stay n e narrow)
-    (narrow_from [] c.answered tt (commands_in c.horizon 0 c.answered is.answered)))
+    (narrow_from c.version [] c.answered tt (commands_in c.version c.horizon 0 c.answered is.answered)))

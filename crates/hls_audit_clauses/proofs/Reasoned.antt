@@ -1,5 +1,5 @@
 -- What the tree of names allows, and what the machine refuses, where a legal run leads.
-use Rattle.std.proofs.Common.{◌≡◌, List, false, refl, sym, subst}
+use Rattle.std.proofs.Common.{◌≡◌, ℕ, List, false, refl, sym, subst}
 use Rattle.std.specs.Prelude.{◌↔◌}
 use Rattle.hls_scenario.specs.declared.scenario.Command.{Command}
 use Rattle.hls_scenario.specs.Grammar.{IsCommand}
@@ -22,9 +22,9 @@ use Rattle.hls_audit_clauses.proofs.Barred.{barred}
 use Rattle.hls_audit_clauses.proofs.Allowed.{allowed}
 
 pub allowed_both : (c : Content) (steps : List Step) → IsLegal start steps → Tells c steps → (m : Moment)
-    → m.hierarchy ≡ state start steps → (command : Command) → IsCommand command
+    → m.hierarchy ≡ state start steps → (version : ℕ) (command : Command) → IsCommand version command
     → (is_misplaced (tree_of c.answered) command ≡ false) ↔ ((r : Refusal) → IsOfNames r → ¬ Applies m command r)
-allowed_both c steps legal tells m is command within =
+allowed_both c steps legal tells m is version command within =
     let tree = tree_of c.answered in
     let at_end : IsReached (state start steps) = record { steps = steps; legal = legal; leads = refl } in
     let go : IsReached m.hierarchy = subst IsReached (sym is) at_end in
@@ -33,5 +33,5 @@ allowed_both c steps legal tells m is command within =
     let reach : AnswersReach m.hierarchy =
     subst (λ (h : Hierarchy). AnswersReach h) (sym is) (reached steps legal) in (
       λ off r of. barred m tree go t command off r of,
-      λ none. allowed m tree go t command none reach within,
+      λ none. allowed m tree go t command none reach version within,
     )

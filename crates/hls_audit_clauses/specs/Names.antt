@@ -4,7 +4,6 @@ use Rattle.std.specs.Prelude.{find, filter, fold, length, nat_le, is_some, if◌
 use Rattle.std.specs.List.{list_any}
 use Rattle.std.specs.Str.{bytes_eq}
 use Rattle.hls_text.specs.Lines.{Text}
-use Rattle.hls_chron.specs.declared.plain.Config.TheVariants as configs
 use Rattle.hls_scenario.specs.declared.scenario.Spot.{Spot}
 use Rattle.hls_scenario.specs.declared.scenario.Spot.TheVariants.{Cpu, Under}
 use Rattle.hls_scenario.specs.declared.scenario.Perch.{Perch}

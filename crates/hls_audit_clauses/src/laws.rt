@@ -52,7 +52,7 @@ pub fn reports_are_broken_once()
 /// names, sorts and seats: none of the numbers 10, 11, 12, 15 and 19, and not 18 at the processor.
 pub fn trees_allow_what_names_do_not_refuse()
     ensures { (c : Content) (steps : List Step) → IsLegal start steps → Tells c steps → (m : Moment) →
-        m.hierarchy ≡ state start steps → (command : Command) → IsCommand command →
+        m.hierarchy ≡ state start steps → (version : ℕ) (command : Command) → IsCommand version command →
         (is_misplaced (tree_of c.answered) command ≡ false) ↔ ((r : Refusal) → IsOfNames r → ¬ Applies m command r) }
 {}
 

@@ -87,7 +87,7 @@ impl Spans {
 
     /// How many of the ticks there are among so many from one on.
     pub fn count(&self, from: u32, ticks: u32) -> u32
-        requires few { from + ticks ≤ 100000 }
+        requires few { from + ticks ≤ 1000000 }
         ensures { (f : ℕ → Bool) (end : ℕ) → Tell f self.now.spans.items end → from + ticks ≤ end →
             result ≡ count f from ticks }
     {

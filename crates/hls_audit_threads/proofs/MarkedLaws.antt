@@ -12,6 +12,7 @@ use Rattle.hls_report_text.specs.declared.report.Run.{Run}
 use Rattle.hls_report_text.specs.declared.report.Report.{Report}
 use Rattle.hls_report_text.specs.Content.{Content, content_of, stretch_of, path_names}
 use Rattle.hls_report_text.specs.WellFormed.{Cover, IsContent}
+use Rattle.hls_report_text.proofs.LineTexts.{horizon_fits}
 use Rattle.hls_legal.specs.Schedule.{has_tick, path_at, is_served}
 use Rattle.hls_audit_threads.specs.declared.chains.Chains.{Chains}
 use Rattle.hls_audit_threads.specs.Inside.Chains.{Keys, HasKey, IsNextAt, IsNext, AreChains, next_of}
@@ -209,10 +210,10 @@ run_order r items at d formed same lt =
     (room r at (get_or items at d) formed (run_there r items at d same lt)).order
 
 pub run_few : (r : Report) (items : List Run) (at : ℕ) (d : Run) → IsContent (content_of r) → items ≡ r.runs
-    → at < length r.runs → (get_or items at d).to < 100000
+    → at < length r.runs → (get_or items at d).to < 1000000
 run_few r items at d formed same lt =
     let within = (room r at (get_or items at d) formed (run_there r items at d same lt)).within in
-    let most = formed.horizon.1 in omega (arith, within, most)
+    let most = horizon_fits r.version r.horizon formed.horizon in omega (arith, within, most)
 
 -- none is served before it
 off_before : (r : Report) (keys : Keys) (name : Text) (spans : List Span) (at : ℕ) (run : Run)

@@ -16,7 +16,7 @@ use std::alloc::{AllocError, Global};
 /// Adds the ticks of a run, behind all others.
 fn add_run(served: &mut Spans, run: &Run) -> Result<(), AllocError>
     requires order { run.now.from ≤ run.now.to }
-    requires few { run.now.to < 100000 }
+    requires few { run.now.to < 1000000 }
     ensures { OnOk result ((f : ℕ → Bool) → Tell f served.old.spans.items run.now.from →
         ((t : ℕ) → run.now.from ≤ t → t < run.now.to + 1 → f t ≡ true) →
         Tell f served.new.spans.items (run.now.to + 1)) }

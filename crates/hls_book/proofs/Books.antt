@@ -48,23 +48,26 @@ pub reservations_made : (b : Ledger) → IsMade Edf b → KeepsReservations b
 reservations_made b made = ∥∥₁_elim made (hlevel (props, tenant_prop)) (reservations_making b)
 
 -- fair queueing
-in_range : (total most : ℕ) (b : Ledger) (event : Event) → IsAllowed (Sfq total most) b event
-    → MayMarkInRange total most b event
-in_range total most b (Seat slot terms) may = ((may.2.within, may.1), may.0)
-in_range total most b (Leave slot) may = tt
-in_range total most b Settle may = tt
+in_range : (total most quantum : ℕ) (b : Ledger) (event : Event) → IsAllowed (Sfq total most quantum) b event
+    → MayMarkInRange total most quantum b event
+in_range total most quantum b (Seat slot terms) may = ((may.2.within, may.1), may.0, may.2.free)
+in_range total most quantum b (Leave slot) may = tt
+in_range total most quantum b Settle may = tt
 
-shares_making : (total most : ℕ) (b : Ledger) → Making (Sfq total most) b → KeepsShareBook total most b
-shares_making total most b (Begun _ kind range unwritten unmarked) =
-    share_book-unwritten total most b range unwritten unmarked
-shares_making total most _ (Marked b event making may) =
-    share_book-mark total most b event (in_range total most b event may) (shares_making total most b making)
-shares_making total most _ (Ticked b row making is) =
-    share_book-row total most b row is.seats is.serves (shares_making total most b making)
+shares_making : (total most quantum : ℕ) (b : Ledger) → Making (Sfq total most quantum) b
+    → KeepsShareBook total most quantum b
+shares_making total most quantum b (Begun _ kind range unwritten unmarked) =
+    share_book-unwritten total most quantum b range unwritten unmarked
+shares_making total most quantum _ (Marked b event making may) =
+    share_book-mark total most quantum b event (in_range total most quantum b event may)
+    (shares_making total most quantum b making)
+shares_making total most quantum _ (Ticked b row making is) =
+    share_book-row total most quantum b row is.seats is.serves (shares_making total most quantum b making)
 
-pub shares_made : (total most : ℕ) (b : Ledger) → IsMade (Sfq total most) b → KeepsShareBook total most b
-shares_made total most b made =
-    ∥∥₁_elim made (hlevel (props, ranges_prop, serves_prop)) (shares_making total most b)
+pub shares_made : (total most quantum : ℕ) (b : Ledger) → IsMade (Sfq total most quantum) b
+    → KeepsShareBook total most quantum b
+shares_made total most quantum b made =
+    ∥∥₁_elim made (hlevel (props, ranges_prop, serves_prop)) (shares_making total most quantum b)
 
 -- frames
 placed : (frame : ℕ) (b : Ledger) (event : Event) → IsAllowed (Wheel frame) b event → KeepsPlaces frame b
@@ -104,7 +107,8 @@ module _ (config : Config) (shares : (b : Ledger) → KeepsShares config b) wher
   discipline_kept b made = ∥∥₁_elim made (discipline_prop config b) (discipline_making b)
 
 pub discipline_made : (config : Config) (b : Ledger) → IsMade config b → KeepsDiscipline config b
-discipline_made (Sfq total most) b made = keeps-discipline total most b (shares_made total most b made)
+discipline_made (Sfq total most quantum) b made =
+    keeps-discipline total most quantum b (shares_made total most quantum b made)
 discipline_made Cpu b made = discipline_kept Cpu (λ b. tt) b made
 discipline_made Fp b made = discipline_kept Fp (λ b. tt) b made
 discipline_made Edf b made = discipline_kept Edf (λ b. tt) b made
@@ -116,7 +120,7 @@ discipline_made (Join ports) b made = discipline_kept (Join ports) (λ b. tt) b 
 pub promise_made : (config : Config) (b : Ledger) → IsMade config b → KeepsPromise config b
 promise_made Fp b made = fixed_priority_keeps b (admission_made Fp b made) (discipline_made Fp b made)
 promise_made Edf b made = promise-kept b (reservations_made b made)
-promise_made (Sfq total most) b made = fair_keeps total most b (shares_made total most b made)
+promise_made (Sfq total most quantum) b made = fair_keeps total most quantum b (shares_made total most quantum b made)
 promise_made (Rr quantum) b made = turns_keep quantum b made
 promise_made (Wheel frame) b made = wheel_keeps frame b (admission_made (Wheel frame) b made)
     (discipline_made (Wheel frame) b made) (places_made frame b made)

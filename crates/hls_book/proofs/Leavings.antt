@@ -125,7 +125,7 @@ used_left : (config : Config) (b : Ledger) (at : ℕ)
 used_left Edf b at =
     sum-le (λ slot. parts_in (occupant_at Edf (with_mark b (Leave at)) slot))
     (λ slot. parts_in (occupant_at Edf b slot)) 32 (λ slot lt. parts_left b at slot)
-used_left (Sfq total most) b at =
+used_left (Sfq total most quantum) b at =
     sum-le (λ slot. weight_in (terms_at (with_mark b (Leave at)) slot)) (λ slot. weight_in (terms_at b slot)) 32
     (λ slot lt. let after = ap weight_in (terms_at-mark b (Leave at) slot) in
     let less = weight_left at slot (terms_at b slot) in omega (arith, after, less))

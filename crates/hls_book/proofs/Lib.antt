@@ -31,6 +31,8 @@ pub mod Moves
 pub mod Spans
 pub mod Shares
 pub mod ShareAgree
+pub mod ShareLeavings
+pub mod ShareTurns
 pub mod Nexts
 pub mod Rooms
 pub mod Follows

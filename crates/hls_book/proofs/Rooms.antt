@@ -81,17 +81,17 @@ pub weight-is : (b : Ledger) (slot : ℕ) → (share_in (tenant_at b slot)).weig
 weight-is b slot = weight_same (tenant_at b slot) ∙ ap weight_in (seated-terms b slot)
 
 -- books with the same marks have the same weights
-pub room-same : (total most : ℕ) (a b : Ledger) → a.marks ≡ b.marks
-    → room_used (Sfq total most) a ≡ room_used (Sfq total most) b
-room-same total most a b same =
+pub room-same : (total most quantum : ℕ) (a b : Ledger) → a.marks ≡ b.marks
+    → room_used (Sfq total most quantum) a ≡ room_used (Sfq total most quantum) b
+room-same total most quantum a b same =
     sum-eq (λ slot. weight_in (terms_at a slot)) (λ slot. weight_in (terms_at b slot)) 32
     (λ slot lt. ap weight_in (terms_at-same a b slot same))
 
-pub weights-same : (total most : ℕ) (a b : Ledger) → a.marks ≡ b.marks → HasWeights total most b
-    → HasWeights total most a
-weights-same total most a b same had = record {
+pub weights-same : (total most quantum : ℕ) (a b : Ledger) → a.marks ≡ b.marks → HasWeights total most quantum b
+    → HasWeights total most quantum a
+weights-same total most quantum a b same had = record {
   ranged = λ slot m is. had.ranged slot m (sym (terms_at-same a b slot same) ∙ is);
-  fits = let e = room-same total most a b same in omega (arith, e, had.fits);
+  fits = let e = room-same total most quantum a b same in omega (arith, e, had.fits);
 }
 
 -- before its choice, the present tick has all the marks
@@ -103,7 +103,7 @@ pub tenant-now : (b : Ledger) (slot : ℕ) → IsDated b → tenant_then b slot 
 tenant-now b slot dated = tenant_at-same (before (now_of b) b) b slot (marks-now b dated)
 
 -- terms of the kind have a weight
-weighs : (m : Terms) → terms_kind m ≡ kind_of (Sfq 0 0)
+weighs : (m : Terms) → terms_kind m ≡ kind_of (Sfq 0 0 0)
     → ((weight : ℕ) → Some m ≡ Some (terms.Weight weight) → IsWithin 1 20 weight) → 0 < weight_in (Some m)
 weighs (terms.Weight weight) is range = omega (arith, (range weight refl).0)
 weighs terms.Cpu is range = absurd cc
@@ -124,24 +124,24 @@ taken_is : (m : Option Terms) → 0 < weight_in m → m ≢ None
 taken_is None some none = omega (arith, some)
 taken_is (Some n) some none = cc
 
-module _ (T M : ℕ) (b : Ledger) (kept : KeepsShareBook T M b) where
+module _ (T M Q : ℕ) (b : Ledger) (kept : KeepsShareBook T M Q b) where
   -- at each tick up to the present
-  pub seats-at : (t : ℕ) → t ≤ now_of b → HasSeats (Sfq T M) (before t b)
+  pub seats-at : (t : ℕ) → t ≤ now_of b → HasSeats (Sfq T M Q) (before t b)
   seats-at t le = elim (cases_lt t (now_of b)) [
     | inl lt ↦ kept.admission.had t lt
     | inr ge ↦
         let e : now_of b ≡ t = omega (arith, le, ge) in
-        subst (λ z. HasSeats (Sfq T M) (before z b)) e
-        (seats-same (Sfq T M) (before (now_of b) b) b (marks-now b kept.admission.dated) kept.admission.seats)
+        subst (λ z. HasSeats (Sfq T M Q) (before z b)) e
+        (seats-same (Sfq T M Q) (before (now_of b) b) b (marks-now b kept.admission.dated) kept.admission.seats)
   ]
 
-  pub weights-at : (t : ℕ) → t ≤ now_of b → HasWeights T M (before t b)
+  pub weights-at : (t : ℕ) → t ≤ now_of b → HasWeights T M Q (before t b)
   weights-at t le = elim (cases_lt t (now_of b)) [
     | inl lt ↦ kept.had t lt
     | inr ge ↦
         let e : now_of b ≡ t = omega (arith, le, ge) in
-        subst (λ z. HasWeights T M (before z b)) e
-        (weights-same T M (before (now_of b) b) b (marks-now b kept.admission.dated) kept.weights)
+        subst (λ z. HasWeights T M Q (before z b)) e
+        (weights-same T M Q (before (now_of b) b) b (marks-now b kept.admission.dated) kept.weights)
   ]
 
   range-at : (t slot : ℕ) → t ≤ now_of b → 0 < (share_at b t slot).weight

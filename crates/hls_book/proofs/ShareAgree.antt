@@ -1,10 +1,11 @@
 -- Start tags at a tick go by the rows before it and the marks up to it.
 use Rattle.std.proofs.Common.{◌≡◌, ℕ, zero, suc, ◌+◌, ◌-◌, ◌*◌, ◌<◌, ◌≤◌, max, refl, sym, ap, ◌∙◌, arith}
 use Rattle.std.proofs.Common.{List, [], ◌∷◌, filter, Bool, false, inl, inr}
-use Rattle.std.specs.Prelude.{Option, Some, None, is_some, not, nat_le, if◌then◌else◌}
+use Rattle.std.specs.Prelude.{Option, Some, None, is_some, not, ◌&&◌, nat_le, if◌then◌else◌}
 use Rattle.std.proofs.lemmas.Bool.{cases_Bool, cases_lt, lt-ltb, le-ltb}
 use Rattle.std.proofs.lemmas.Bool.Decides.{nat_tests}
-use Rattle.std.proofs.lemmas.List.{get_or-take, length-take-le}
+use Rattle.std.proofs.lemmas.List.{get_or-take, length-take-le, take-take}
+use Rattle.hls_chron.specs.declared.book.TickRow.{TickRow}
 use Rattle.hls_chron.specs.declared.book.Mark.{Mark}
 use Rattle.hls_chron.specs.Ledger.{Ledger, now_of, row_at, before, no_row}
 use Rattle.hls_chron.specs.Seats.{asked, served}
@@ -13,7 +14,9 @@ use Rattle.hls_chron.proofs.CountLaws.{count-agree}
 use Rattle.hls_kinds.specs.declared.tags.Share.{Share}
 use Rattle.hls_kinds.specs.Ticks.{last_of, next_or}
 use Rattle.hls_kinds.specs.Tenants.{tenant_then}
-use Rattle.hls_kinds.specs.Tags.{tag_step, share_in, slot_or, tag_served, time_by, finish_after, finish_by}
+use Rattle.hls_kinds.specs.Turns.{turn_goes_on}
+use Rattle.hls_kinds.specs.Tags.{begins_turn, tag_step, share_in, slot_or, tag_served, time_by, finish_after}
+use Rattle.hls_kinds.specs.Tags.{finish_by}
 use Rattle.hls_kinds.specs.Tags.{asking_since, start_of, start_by, start_tags, start_tag}
 use Rattle.hls_kinds.proofs.MarkLaws.{tenant_at-same}
 use Rattle.hls_kinds.proofs.TickLaws.{after_last-le}
@@ -36,6 +39,7 @@ last-agree f g i (suc n) same =
 pub record SameRows (a b : Ledger) (t : ℕ) : Type 0 where
   pub start : a.start ≡ b.start
   pub rows : (z : ℕ) → z < t → row_at a z ≡ row_at b z
+  pub befores : (z : ℕ) → z < t → before z a ≡ before z b
 
 -- and of who sits in them and in t
 pub record SameUpTo (a b : Ledger) (t : ℕ) : Type 0 where
@@ -61,34 +65,43 @@ tag_served-same a b f g t None same agree before = refl
 tag_served-same a b f g t (Some z) same agree before =
     rw (same.rows z (before z refl)) (agree z (slot_or (row_at b z).to) (before z refl))
 
-pub time-same : (a b : Ledger) (f g : ℕ → ℕ → ℕ) (t r : ℕ) → SameRows a b t → r ≤ t → AgreeBefore f g t
-    → time_by a f r ≡ time_by b g r
-time-same a b f g t r same le agree =
-    let one : ℕ → Bool = λ z. is_some (row_at a z).to in
-    let two : ℕ → Bool = λ z. is_some (row_at b z).to in
+-- in it a turn begins in the one where it does in the other
+begins-same : (quantum : ℕ) (a b : Ledger) (z : ℕ) → row_at a z ≡ row_at b z → before z a ≡ before z b
+    → begins_turn quantum a z ≡ begins_turn quantum b z
+begins-same quantum a b z row book =
+    ap (λ (r : TickRow). is_some r.to && not (turn_goes_on quantum (before z a) r.mask)) row
+    ∙ ap (λ (m : Ledger). is_some (row_at b z).to && not (turn_goes_on quantum m (row_at b z).mask)) book
+
+pub time-same : (quantum : ℕ) (a b : Ledger) (f g : ℕ → ℕ → ℕ) (t r : ℕ) → SameRows a b t → r ≤ t → AgreeBefore f g t
+    → time_by quantum a f r ≡ time_by quantum b g r
+time-same quantum a b f g t r same le agree =
+    let one : ℕ → Bool = begins_turn quantum a in
+    let two : ℕ → Bool = begins_turn quantum b in
     let last : last_of one b.start (r - b.start) ≡ last_of two b.start (r - b.start) =
-    last-agree one two b.start (r - b.start) (λ z lo hi. rw (same.rows z (omega arith)) refl) in
+    last-agree one two b.start (r - b.start)
+    (λ z lo hi. begins-same quantum a b z (same.rows z (omega arith)) (same.befores z (omega arith))) in
     ap (λ i. tag_served a f (last_of one i (r - i))) same.start ∙ ap (tag_served a f) last
     ∙ tag_served-same a b f g t (last_of two b.start (r - b.start)) same agree
     (λ z is. let lt = last-before two b.start r z is in omega (arith, lt, le))
 
-finish_after-same : (a b : Ledger) (f g : ℕ → ℕ → ℕ) (t : ℕ) (share : Share) (slot : ℕ) (last : Option ℕ)
+finish_after-same : (quantum : ℕ) (a b : Ledger) (f g : ℕ → ℕ → ℕ) (t : ℕ) (share : Share) (slot : ℕ) (last : Option ℕ)
     → SameRows a b t → share.since ≤ t → AgreeBefore f g t → ((z : ℕ) → last ≡ Some z → z < t)
-    → finish_after a f share slot last ≡ finish_after b g share slot last
-finish_after-same a b f g t share slot None same le agree before =
-    ap (λ v. v + tag_step share.weight) (time-same a b f g t share.since same le agree)
-finish_after-same a b f g t share slot (Some z) same le agree before =
+    → finish_after quantum a f share slot last ≡ finish_after quantum b g share slot last
+finish_after-same quantum a b f g t share slot None same le agree before =
+    ap (λ v. v + quantum * tag_step share.weight) (time-same quantum a b f g t share.since same le agree)
+finish_after-same quantum a b f g t share slot (Some z) same le agree before =
     ap (λ v. v + tag_step share.weight) (agree z slot (before z refl))
 
-pub finish-same : (a b : Ledger) (f g : ℕ → ℕ → ℕ) (t r : ℕ) (share : Share) (slot : ℕ) → SameRows a b t
-    → share.since ≤ t → r ≤ t → AgreeBefore f g t → finish_by a f share slot r ≡ finish_by b g share slot r
-finish-same a b f g t r share slot same since le agree =
+pub finish-same : (quantum : ℕ) (a b : Ledger) (f g : ℕ → ℕ → ℕ) (t r : ℕ) (share : Share) (slot : ℕ) → SameRows a b t
+    → share.since ≤ t → r ≤ t → AgreeBefore f g t
+    → finish_by quantum a f share slot r ≡ finish_by quantum b g share slot r
+finish-same quantum a b f g t r share slot same since le agree =
     let last : last_of (served a slot) share.since (r - share.since) ≡
     last_of (served b slot) share.since (r - share.since) =
     last-agree (served a slot) (served b slot) share.since (r - share.since)
     (λ z lo hi. served-same a b slot z (same.rows z (omega arith))) in
-    ap (finish_after a f share slot) last
-    ∙ finish_after-same a b f g t share slot (last_of (served b slot) share.since (r - share.since)) same
+    ap (finish_after quantum a f share slot) last
+    ∙ finish_after-same quantum a b f g t share slot (last_of (served b slot) share.since (r - share.since)) same
     since agree
     (λ z is. let lt = last-before (served b slot) share.since r z is in omega (arith, lt, le))
 
@@ -99,61 +112,66 @@ asking_since-same a b t z since slot same le =
     (λ u lo hi. ap not (asked-same a b slot u (same.rows u (omega arith)))))
 
 -- from where it asks on, the virtual time and the finish tag there, and the ticks served
-start_from : (share : Share) (a b : Ledger) (f g : ℕ → ℕ → ℕ) (slot z : ℕ) (r q : ℕ) → q ≡ r
-    → time_by a f r ≡ time_by b g r → finish_by a f share slot r ≡ finish_by b g share slot r
+start_from : (quantum : ℕ) (share : Share) (a b : Ledger) (f g : ℕ → ℕ → ℕ) (slot z : ℕ) (r q : ℕ) → q ≡ r
+    → time_by quantum a f r ≡ time_by quantum b g r
+    → finish_by quantum a f share slot r ≡ finish_by quantum b g share slot r
     → count (served a slot) r (z - r) ≡ count (served b slot) r (z - r)
-    → max (time_by a f q) (finish_by a f share slot q) + count (served a slot) q (z - q) * tag_step
+    → max (time_by quantum a f q) (finish_by quantum a f share slot q) + count (served a slot) q (z - q) * tag_step
     share.weight
-    ≡ max (time_by b g r) (finish_by b g share slot r) + count (served b slot) r (z - r) * tag_step
+    ≡ max (time_by quantum b g r) (finish_by quantum b g share slot r) + count (served b slot) r (z - r) * tag_step
     share.weight
-start_from share a b f g slot z r q same time finish counts =
-    ap (λ x. max (time_by a f x) (finish_by a f share slot x)
+start_from quantum share a b f g slot z r q same time finish counts =
+    ap (λ x. max (time_by quantum a f x) (finish_by quantum a f share slot x)
     + count (served a slot) x (z - x) * tag_step share.weight) same
-    ∙ ap (λ x. max x (finish_by a f share slot r) + count (served a slot) r (z - r) * tag_step share.weight)
+    ∙ ap (λ x. max x (finish_by quantum a f share slot r) + count (served a slot) r (z - r) * tag_step share.weight)
     time
-    ∙ ap (λ x. max (time_by b g r) x + count (served a slot) r (z - r) * tag_step share.weight) finish
-    ∙ ap (λ x. max (time_by b g r) (finish_by b g share slot r) + x * tag_step share.weight) counts
+    ∙ ap (λ x. max (time_by quantum b g r) x + count (served a slot) r (z - r) * tag_step share.weight) finish
+    ∙ ap (λ x. max (time_by quantum b g r) (finish_by quantum b g share slot r) + x * tag_step share.weight) counts
 
-start_of-same : (a b : Ledger) (f g : ℕ → ℕ → ℕ) (t z : ℕ) (share : Share) (slot : ℕ) → SameRows a b t → z ≤ t
-    → share.since ≤ z → AgreeBefore f g z → start_of a f share z slot ≡ start_of b g share z slot
-start_of-same a b f g t z share slot same le since agree =
+start_of-same : (quantum : ℕ) (a b : Ledger) (f g : ℕ → ℕ → ℕ) (t z : ℕ) (share : Share) (slot : ℕ)
+    → SameRows a b t → z ≤ t
+    → share.since ≤ z → AgreeBefore f g z → start_of quantum a f share z slot ≡ start_of quantum b g share z slot
+start_of-same quantum a b f g t z share slot same le since agree =
     let less : SameRows a b z = record {
       start = same.start;
       rows = λ u lt. same.rows u (omega arith);
+      befores = λ u lt. same.befores u (omega arith);
     } in
     let r = asking_since b share.since slot z in
     let early : asking_since b share.since slot z ≤ z =
     omega (arith, since, after_last-le (λ u. not (asked b slot u)) share.since (z - share.since)) in
     let counts = count-agree (served a slot) (served b slot) r (z - r)
     (λ u lo hi. served-same a b slot u (same.rows u (omega arith))) in
-    start_from share a b f g slot z r (asking_since a share.since slot z)
+    start_from quantum share a b f g slot z r (asking_since a share.since slot z)
     (asking_since-same a b t z share.since slot same le)
-    (time-same a b f g z r less early agree)
-    (finish-same a b f g z r share slot less since early agree)
+    (time-same quantum a b f g z r less early agree)
+    (finish-same quantum a b f g z r share slot less since early agree)
     counts
 
-start_by-same : (a b : Ledger) (f g : ℕ → ℕ → ℕ) (t z slot : ℕ) → SameUpTo a b t → z ≤ t → AgreeBefore f g z
-    → start_by a f z slot ≡ start_by b g z slot
-start_by-same a b f g t z slot same le agree =
-    ap (λ tenant. start_of a f (share_in tenant) z slot) (same.tenants z slot le)
-    ∙ start_of-same a b f g t z (share_in (tenant_then b slot z)) slot same.before le (since-then b slot z)
+start_by-same : (quantum : ℕ) (a b : Ledger) (f g : ℕ → ℕ → ℕ) (t z slot : ℕ) → SameUpTo a b t → z ≤ t
+    → AgreeBefore f g z
+    → start_by quantum a f z slot ≡ start_by quantum b g z slot
+start_by-same quantum a b f g t z slot same le agree =
+    ap (λ tenant. start_of quantum a f (share_in tenant) z slot) (same.tenants z slot le)
+    ∙ start_of-same quantum a b f g t z (share_in (tenant_then b slot z)) slot same.before le (since-then b slot z)
     agree
 
-pub start_tags-same : (a b : Ledger) (t n z slot : ℕ) → SameUpTo a b t → z ≤ t
-    → start_tags a n z slot ≡ start_tags b n z slot
-start_tags-same a b t zero z slot same le = start_tags-zero a z slot ∙ sym (start_tags-zero b z slot)
-start_tags-same a b t (suc n) z slot same le =
-    start_tags-more a (suc n) n z slot (omega arith)
-    ∙ start_by-same a b (start_tags a n) (start_tags b n) t z slot same le
-    (λ u k lt. start_tags-same a b t n u k same (omega arith))
-    ∙ sym (start_tags-more b (suc n) n z slot (omega arith))
+pub start_tags-same : (quantum : ℕ) (a b : Ledger) (t n z slot : ℕ) → SameUpTo a b t → z ≤ t
+    → start_tags quantum a n z slot ≡ start_tags quantum b n z slot
+start_tags-same quantum a b t zero z slot same le = start_tags-zero quantum a z slot
+    ∙ sym (start_tags-zero quantum b z slot)
+start_tags-same quantum a b t (suc n) z slot same le =
+    start_tags-more quantum a (suc n) n z slot (omega arith)
+    ∙ start_by-same quantum a b (start_tags quantum a n) (start_tags quantum b n) t z slot same le
+    (λ u k lt. start_tags-same quantum a b t n u k same (omega arith))
+    ∙ sym (start_tags-more quantum b (suc n) n z slot (omega arith))
 
-pub start_tag-same : (a b : Ledger) (t z slot : ℕ) → SameUpTo a b t → z ≤ t
-    → start_tag a z slot ≡ start_tag b z slot
-start_tag-same a b t z slot same le = start_tags-same a b t (z + 1) z slot same le
+pub start_tag-same : (quantum : ℕ) (a b : Ledger) (t z slot : ℕ) → SameUpTo a b t → z ≤ t
+    → start_tag quantum a z slot ≡ start_tag quantum b z slot
+start_tag-same quantum a b t z slot same le = start_tags-same quantum a b t (z + 1) z slot same le
 
 -- the book as it stood before a tick
-row_before : (t z : ℕ) (b : Ledger) → z < t → row_at (before t b) z ≡ row_at b z
+pub row_before : (t z : ℕ) (b : Ledger) → z < t → row_at (before t b) z ≡ row_at b z
 unfolding row_at before
 row_before t z b lt = elim (cases_lt z b.start) [
   | inl early ↦ rw (lt-ltb z b.start early) refl
@@ -178,13 +196,23 @@ marks_before : (t z : ℕ) (b : Ledger) → z ≤ t → (before z (before t b)).
 unfolding before
 marks_before t z b le = filter_twice z t b.marks le
 
-start_before : (t : ℕ) (b : Ledger) → (before t b).start ≡ b.start
+pub start_before : (t : ℕ) (b : Ledger) → (before t b).start ≡ b.start
 unfolding before
 start_before t b = refl
 
+before_twice : (t z : ℕ) (b : Ledger) → z ≤ t → before z (before t b) ≡ before z b
+unfolding before
+before_twice t z b le =
+    let fewer : z - b.start ≤ t - b.start = omega (arith, le) in
+    rw (take-take (z - b.start) (t - b.start) b.rows fewer, filter_twice z t b.marks le) refl
+
 pub same-before : (t : ℕ) (b : Ledger) → SameUpTo (before t b) b t
 same-before t b = record {
-  before = record { start = start_before t b; rows = λ z lt. row_before t z b lt };
+  before = record {
+    start = start_before t b;
+    rows = λ z lt. row_before t z b lt;
+    befores = λ z lt. before_twice t z b (omega (arith, lt));
+  };
   tenants = λ z slot le. tenant_at-same (before z (before t b)) (before z b) slot (marks_before t z b le);
 }
 

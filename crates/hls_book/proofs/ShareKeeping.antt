@@ -16,17 +16,18 @@ use Rattle.hls_chron.proofs.BookLaws.{row_at-now, row_at-unwritten, before-mark,
 use Rattle.hls_chron.proofs.BookLaws.{dated-mark, dated-row}
 use Rattle.hls_kinds.specs.declared.tenant.Tenant.TheVariants.{Sits}
 use Rattle.hls_kinds.specs.Slots.{sum_below}
-use Rattle.hls_kinds.specs.Tags.{start_tag}
 use Rattle.hls_kinds.specs.Tenants.{tenant_at, tenant_then}
 use Rattle.hls_kinds.specs.Room.{weight_in, room_used}
 use Rattle.hls_kinds.specs.Fits.{Fits}
 use Rattle.hls_kinds.specs.Discipline.{Serves}
 use Rattle.hls_kinds.proofs.MarkLaws.{tenant_at-same, tenant_at-unmarked}
+use Rattle.hls_kinds.proofs.Rooms.{serves-room, before-last}
 use Rattle.hls_book.proofs.AdmissionLaws.{MayMark, SatBefore, Before, Since, sat_before}
 use Rattle.hls_book.proofs.AdmissionLaws.{admission-mark, admission-row, admission-unwritten}
 use Rattle.hls_book.specs.ShareBook.{KeepsSittings, HasWeights, KeepsShareBook}
 use Rattle.hls_kinds.proofs.Sums.{sum-eq, sum-le, sum-one}
-use Rattle.hls_book.proofs.ShareAgree.{SameUpTo, start_tag-same, same-before, now-before}
+use Rattle.hls_book.proofs.ShareAgree.{SameUpTo}
+use Rattle.hls_book.proofs.ShareLeavings.{IsSeatedFree, leavings-row, leavings-mark, leavings-unwritten}
 use Rattle.hls_book.proofs.Rooms.{weights-same, tenant-now}
 
 -- who sits, by the rows
@@ -38,7 +39,7 @@ pub then_row : (b : Ledger) (row : TickRow) (slot t : ℕ)
     → tenant_then (with_row b row) slot t ≡ tenant_then b slot t
 then_row b row slot t = tenant_at-same (before t (with_row b row)) (before t b) slot (marks_row b row t)
 
-module _ (T M : ℕ) (b : Ledger) (row : TickRow) (kept : KeepsShareBook T M b) where
+module _ (T M Q : ℕ) (b : Ledger) (row : TickRow) (kept : KeepsShareBook T M Q b) where
   -- in the tick after the row, who sat in the present one
   pub then_late : (slot : ℕ) → tenant_then b slot (now_of b + 1) ≡ tenant_then b slot (now_of b)
   then_late slot =
@@ -68,65 +69,55 @@ module _ (T M : ℕ) (b : Ledger) (row : TickRow) (kept : KeepsShareBook T M b) 
         ∙ row_next t slot since terms lt (sym (then_row b row slot (t + 1)) ∙ sits) old;
   }
 
-  row_had : (t : ℕ) → t < now_of (with_row b row) → HasWeights T M (before t (with_row b row))
+  row_had : (t : ℕ) → t < now_of (with_row b row) → HasWeights T M Q (before t (with_row b row))
   row_had t lt = elim (cases_lt t (now_of b)) [
     | inl past ↦ rw (before-row b row t past) (kept.had t past)
     | inr late ↦
         let here : now_of b ≡ t = omega (arith, now_of-row b row, lt, late) in
-        subst (λ z. HasWeights T M (before z (with_row b row))) here
-        (weights-same T M (before (now_of b) (with_row b row)) b (before-now b row kept.admission.dated)
+        subst (λ z. HasWeights T M Q (before z (with_row b row))) here
+        (weights-same T M Q (before (now_of b) (with_row b row)) b (before-now b row kept.admission.dated)
         kept.weights)
   ]
 
   pub same_row : SameUpTo (with_row b row) b (now_of b)
   same_row = record {
-    before = record { start = refl; rows = λ z lt. row_at-past b row z lt };
+    before = record {
+      start = refl;
+      rows = λ z lt. row_at-past b row z lt;
+      befores = λ z lt. before-row b row z lt;
+    };
     tenants = λ z slot le. then_row b row slot z;
   }
 
-  -- before the row, the start tags of the present tick are those of the book
-  tag_row : (slot : ℕ) → start_tag (before (now_of b) (with_row b row))
-      (now_of (before (now_of b) (with_row b row))) slot ≡ start_tag b (now_of b) slot
-  tag_row slot =
-      let now = now-before (now_of b) (with_row b row) (omega arith) (omega (arith, now_of-row b row)) in
-      ap (λ n. start_tag (before (now_of b) (with_row b row)) n slot) now
-      ∙ start_tag-same (before (now_of b) (with_row b row)) (with_row b row) (now_of b) (now_of b) slot
-      (same-before (now_of b) (with_row b row)) (omega arith)
-      ∙ start_tag-same (with_row b row) b (now_of b) (now_of b) slot same_row (omega arith)
+  pub serves-row : (mask slot : ℕ) → Serves (Sfq T M Q) b mask slot
+      → Serves (Sfq T M Q) (before (now_of b) (with_row b row)) mask slot
+  serves-row mask slot serves =
+      rw (before-last b row kept.admission.dated) (serves-room (Sfq T M Q) b mask slot serves)
 
-  pub serves-row : (mask slot : ℕ) → Serves (Sfq T M) b mask slot
-      → Serves (Sfq T M) (before (now_of b) (with_row b row)) mask slot
-  serves-row mask slot serves = record {
-    within = serves.within;
-    chosen = serves.chosen;
-    least = λ other below asks. let le = serves.least other below asks in
-        omega (arith, le, tag_row slot, tag_row other);
-    first = λ other below asks e. serves.first other below asks (sym (tag_row slot) ∙ e ∙ tag_row other);
-  }
-
-  row_served : ((slot : ℕ) → row.to ≡ Some slot → Serves (Sfq T M) b row.mask slot) → (t slot : ℕ)
+  row_served : ((slot : ℕ) → row.to ≡ Some slot → Serves (Sfq T M Q) b row.mask slot) → (t slot : ℕ)
       → t < now_of (with_row b row) → (row_at (with_row b row) t).to ≡ Some slot
-      → Serves (Sfq T M) (before t (with_row b row)) (row_at (with_row b row) t).mask slot
+      → Serves (Sfq T M Q) (before t (with_row b row)) (row_at (with_row b row) t).mask slot
   row_served serves t slot lt = elim (cases_lt t (now_of b)) [
     | inl past ↦ rw (row_at-past b row t past, before-row b row t past) (λ is. kept.served t slot past is)
     | inr late ↦
         let here : now_of b ≡ t = omega (arith, now_of-row b row, lt, late) in
         let P : ℕ → Type 0 = λ z. (row_at (with_row b row) z).to ≡ Some slot
-        → Serves (Sfq T M) (before z (with_row b row)) (row_at (with_row b row) z).mask slot in
+        → Serves (Sfq T M Q) (before z (with_row b row)) (row_at (with_row b row) z).mask slot in
         subst P here (rw (row_at-now b row) (λ is. serves-row row.mask slot (serves slot is)))
   ]
 
-pub share_book-row : (T M : ℕ) (b : Ledger) (row : TickRow)
+pub share_book-row : (T M Q : ℕ) (b : Ledger) (row : TickRow)
     → ((slot : ℕ) → SlotAsks row.mask slot → terms_at b slot ≢ None)
-    → ((slot : ℕ) → row.to ≡ Some slot → Serves (Sfq T M) b row.mask slot)
-    → KeepsShareBook T M b → KeepsShareBook T M (with_row b row)
-share_book-row T M b row only serves kept = record {
+    → ((slot : ℕ) → row.to ≡ Some slot → Serves (Sfq T M Q) b row.mask slot)
+    → KeepsShareBook T M Q b → KeepsShareBook T M Q (with_row b row)
+share_book-row T M Q b row only serves kept = record {
   range = kept.range;
-  admission = admission-row (Sfq T M) b row only kept.admission;
-  sittings = sittings-row T M b row kept;
-  weights = weights-same T M (with_row b row) b refl kept.weights;
-  had = λ t lt. row_had T M b row kept t lt;
-  served = λ t slot lt. row_served T M b row kept serves t slot lt;
+  admission = admission-row (Sfq T M Q) b row only kept.admission;
+  sittings = sittings-row T M Q b row kept;
+  leavings = leavings-row b row kept.admission.dated kept.leavings;
+  weights = weights-same T M Q (with_row b row) b refl kept.weights;
+  had = λ t lt. row_had T M Q b row kept t lt;
+  served = λ t slot lt. row_served T M Q b row kept serves t slot lt;
 }
 
 -- the weights after a mark
@@ -156,9 +147,9 @@ leave_weight b at slot = elim (cases_eq at slot) [
   | inr other ↦ let e = ap weight_in (leave_other b at slot other) in omega (arith, e)
 ]
 
-seated_room : (T M : ℕ) (b : Ledger) (at : ℕ) (terms : Terms)
-    → room_used (Sfq T M) (with_mark b (Seat at terms)) ≤ room_used (Sfq T M) b + weight_in (Some terms)
-seated_room T M b at terms =
+seated_room : (T M Q : ℕ) (b : Ledger) (at : ℕ) (terms : Terms)
+    → room_used (Sfq T M Q) (with_mark b (Seat at terms)) ≤ room_used (Sfq T M Q) b + weight_in (Some terms)
+seated_room T M Q b at terms =
     let f : ℕ → ℕ = λ slot. weight_in (terms_at (with_mark b (Seat at terms)) slot) in
     let g : ℕ → ℕ = λ slot. weight_in (terms_at b slot) in
     elim (cases_lt at 32) [
@@ -173,56 +164,62 @@ seated_room T M b at terms =
     ]
 
 -- a weight that fits is within what is left
-fits_left : (T M : ℕ) (b : Ledger) (terms : Terms) → Fits (Sfq T M) b terms → TermsInRange terms
-    → room_used (Sfq T M) b ≤ T → room_used (Sfq T M) b + weight_in (Some terms) ≤ T
-fits_left T M b (Weight weight) fits range used = elim (cases_lt (T - room_used (Sfq T M) b) weight) [
-  | inl lacks ↦ absurd (fits.room (T - room_used (Sfq T M) b) weight
+fits_left : (T M Q : ℕ) (b : Ledger) (terms : Terms) → Fits (Sfq T M Q) b terms → TermsInRange terms
+    → room_used (Sfq T M Q) b ≤ T → room_used (Sfq T M Q) b + weight_in (Some terms) ≤ T
+fits_left T M Q b (Weight weight) fits range used = elim (cases_lt (T - room_used (Sfq T M Q) b) weight) [
+  | inl lacks ↦ absurd (fits.room (T - room_used (Sfq T M Q) b) weight
       (record { left = refl; asks = refl; lacks = lacks }))
   | inr enough ↦ omega (arith, enough, used)
 ]
-fits_left T M b _ fits range used = omega (arith, used)
+fits_left T M Q b _ fits range used = omega (arith, used)
 
--- a mark that a scheduler may be told of, in its ranges
-abbrev pub MayMarkInRange : (T M : ℕ) → Ledger → Event → Type 0
-MayMarkInRange T M b (Seat slot terms) = MayMark (Sfq T M) b (Seat slot terms) × TermsInRange terms
-MayMarkInRange T M b (Leave slot) = Unit {0}
-MayMarkInRange T M b Settle = Unit {0}
+-- a mark that a scheduler may be told of, in its ranges, where a seat is taken at a free slot
+abbrev pub MayMarkInRange : (T M Q : ℕ) → Ledger → Event → Type 0
+MayMarkInRange T M Q b (Seat slot terms) =
+    MayMark (Sfq T M Q) b (Seat slot terms) × TermsInRange terms × (terms_at b slot ≡ None)
+MayMarkInRange T M Q b (Leave slot) = Unit {0}
+MayMarkInRange T M Q b Settle = Unit {0}
 
-may_mark : (T M : ℕ) (b : Ledger) (event : Event) → MayMarkInRange T M b event → MayMark (Sfq T M) b event
-may_mark T M b (Seat slot terms) may = may.0
-may_mark T M b (Leave slot) may = tt
-may_mark T M b Settle may = tt
+may_mark : (T M Q : ℕ) (b : Ledger) (event : Event) → MayMarkInRange T M Q b event → MayMark (Sfq T M Q) b event
+may_mark T M Q b (Seat slot terms) may = may.0
+may_mark T M Q b (Leave slot) may = tt
+may_mark T M Q b Settle may = tt
 
-ranged_seat : (T M : ℕ) (b : Ledger) (at : ℕ) (new : Terms) → HasWeights T M b → TermsInRange new
+seated_free : (T M Q : ℕ) (b : Ledger) (event : Event) → MayMarkInRange T M Q b event → IsSeatedFree b event
+seated_free T M Q b (Seat slot terms) may = may.2
+seated_free T M Q b (Leave slot) may = tt
+seated_free T M Q b Settle may = tt
+
+ranged_seat : (T M Q : ℕ) (b : Ledger) (at : ℕ) (new : Terms) → HasWeights T M Q b → TermsInRange new
     → (slot weight : ℕ) → terms_at (with_mark b (Seat at new)) slot ≡ Some (Weight weight) → IsWithin 1 20 weight
-ranged_seat T M b at new had range slot weight is = elim (cases_eq at slot) [
+ranged_seat T M Q b at new had range slot weight is = elim (cases_eq at slot) [
   | inl same ↦
       let one = seat_here b at slot new same in
       let e : new ≡ Weight weight = cc in subst TermsInRange e range
   | inr other ↦ had.ranged slot weight (sym (seat_other b at slot new other) ∙ is)
 ]
 
-ranged_leave : (T M : ℕ) (b : Ledger) (at : ℕ) → HasWeights T M b
+ranged_leave : (T M Q : ℕ) (b : Ledger) (at : ℕ) → HasWeights T M Q b
     → (slot weight : ℕ) → terms_at (with_mark b (Leave at)) slot ≡ Some (Weight weight) → IsWithin 1 20 weight
-ranged_leave T M b at had slot weight is = elim (cases_eq at slot) [
+ranged_leave T M Q b at had slot weight is = elim (cases_eq at slot) [
   | inl same ↦ absurd (let clash = sym (leave_here b at slot same) ∙ is in cc)
   | inr other ↦ had.ranged slot weight (sym (leave_other b at slot other) ∙ is)
 ]
 
-pub weights-mark : (T M : ℕ) (b : Ledger) (event : Event) → MayMarkInRange T M b event → HasWeights T M b
-    → HasWeights T M (with_mark b event)
-weights-mark T M b (Seat at new) may had = record {
-  ranged = λ slot terms is. ranged_seat T M b at new had may.1 slot terms is;
-  fits = omega (arith, seated_room T M b at new, fits_left T M b new may.0.1 may.1 had.fits);
+pub weights-mark : (T M Q : ℕ) (b : Ledger) (event : Event) → MayMarkInRange T M Q b event → HasWeights T M Q b
+    → HasWeights T M Q (with_mark b event)
+weights-mark T M Q b (Seat at new) may had = record {
+  ranged = λ slot terms is. ranged_seat T M Q b at new had may.1 slot terms is;
+  fits = omega (arith, seated_room T M Q b at new, fits_left T M Q b new may.0.1 may.1 had.fits);
 }
-weights-mark T M b (Leave at) may had = record {
-  ranged = λ slot terms is. ranged_leave T M b at had slot terms is;
+weights-mark T M Q b (Leave at) may had = record {
+  ranged = λ slot terms is. ranged_leave T M Q b at had slot terms is;
   fits =
       let less = sum-le (λ slot. weight_in (terms_at (with_mark b (Leave at)) slot))
       (λ slot. weight_in (terms_at b slot)) 32 (λ slot below. leave_weight b at slot) in
       omega (arith, less, had.fits);
 }
-weights-mark T M b Settle may had = record {
+weights-mark T M Q b Settle may had = record {
   ranged = λ slot terms is. had.ranged slot terms (sym (terms_at-mark b Settle slot) ∙ is);
   fits =
       let same = sum-eq (λ slot. weight_in (terms_at (with_mark b Settle) slot))
@@ -230,7 +227,7 @@ weights-mark T M b Settle may had = record {
       omega (arith, same, had.fits);
 }
 
-module _ (T M : ℕ) (b : Ledger) (event : Event) (kept : KeepsShareBook T M b) where
+module _ (T M Q : ℕ) (b : Ledger) (event : Event) (kept : KeepsShareBook T M Q b) where
   now_mark : (slot since : ℕ) (terms : Terms)
       → tenant_then (with_mark b event) slot (now_of b) ≡ Sits terms since
       → SatBefore b slot since terms
@@ -271,17 +268,19 @@ module _ (T M : ℕ) (b : Ledger) (event : Event) (kept : KeepsShareBook T M b) 
         ]
   ]
 
-pub share_book-mark : (T M : ℕ) (b : Ledger) (event : Event) → MayMarkInRange T M b event
-    → KeepsShareBook T M b → KeepsShareBook T M (with_mark b event)
-share_book-mark T M b event may kept = record {
+pub share_book-mark : (T M Q : ℕ) (b : Ledger) (event : Event) → MayMarkInRange T M Q b event
+    → KeepsShareBook T M Q b → KeepsShareBook T M Q (with_mark b event)
+share_book-mark T M Q b event may kept = record {
   range = kept.range;
-  admission = admission-mark (Sfq T M) b event (may_mark T M b event may) kept.admission;
+  admission = admission-mark (Sfq T M Q) b event (may_mark T M Q b event may) kept.admission;
   sittings = record {
-    first = λ slot since terms sits. mark_first T M b event kept slot since terms sits;
-    next = λ t slot since terms lt sits old. past_mark T M b event kept slot t lt
-        ∙ mark_next T M b event kept t slot since terms lt sits old;
+    first = λ slot since terms sits. mark_first T M Q b event kept slot since terms sits;
+    next = λ t slot since terms lt sits old. past_mark T M Q b event kept slot t lt
+        ∙ mark_next T M Q b event kept t slot since terms lt sits old;
   };
-  weights = weights-mark T M b event may kept.weights;
+  leavings =
+      leavings-mark b event kept.admission.dated (seated_free T M Q b event may) kept.leavings;
+  weights = weights-mark T M Q b event may kept.weights;
   had = λ t lt. rw (before-mark b event t lt) (kept.had t lt);
   served = λ t slot lt. rw (row_at-mark b event t, before-mark b event t lt) (kept.served t slot lt);
 }
@@ -296,8 +295,8 @@ unfolding sum_below
 sum-none zero = refl
 sum-none (suc n) = omega (arith, sum-none n)
 
-weights-unmarked : (T M : ℕ) (b : Ledger) → b.marks ≡ [] → HasWeights T M b
-weights-unmarked T M b unmarked = record {
+weights-unmarked : (T M Q : ℕ) (b : Ledger) → b.marks ≡ [] → HasWeights T M Q b
+weights-unmarked T M Q b unmarked = record {
   ranged = λ slot terms is. absurd (let none = terms_at-unmarked b slot unmarked in let clash = sym none ∙ is
       in cc);
   fits =
@@ -306,11 +305,11 @@ weights-unmarked T M b unmarked = record {
       let none = sum-none 32 in omega (arith, same, none);
 }
 
-pub share_book-unwritten : (T M : ℕ) (b : Ledger) → ConfigInRange (Sfq T M) → b.rows ≡ [] → b.marks ≡ []
-    → KeepsShareBook T M b
-share_book-unwritten T M b range unwritten unmarked = record {
+pub share_book-unwritten : (T M Q : ℕ) (b : Ledger) → ConfigInRange (Sfq T M Q) → b.rows ≡ [] → b.marks ≡ []
+    → KeepsShareBook T M Q b
+share_book-unwritten T M Q b range unwritten unmarked = record {
   range = range;
-  admission = admission-unwritten (Sfq T M) b unwritten unmarked;
+  admission = admission-unwritten (Sfq T M Q) b unwritten unmarked;
   sittings = record {
     first = λ slot since terms sits. absurd (
         let none = tenant_at-unmarked (before b.start b) slot (no_marks b b.start unmarked) in
@@ -319,8 +318,9 @@ share_book-unwritten T M b range unwritten unmarked = record {
         let none = tenant_at-unmarked (before (t + 1) b) slot (no_marks b (t + 1) unmarked) in
         let clash = sym none ∙ sits in cc);
   };
-  weights = weights-unmarked T M b unmarked;
-  had = λ t lt. weights-unmarked T M (before t b) (no_marks b t unmarked);
+  leavings = leavings-unwritten b unwritten unmarked;
+  weights = weights-unmarked T M Q b unmarked;
+  had = λ t lt. weights-unmarked T M Q (before t b) (no_marks b t unmarked);
   served = λ t slot lt is. absurd (
       let none = row_at-unwritten b t unwritten in let clash : None ≡ Some slot = rw none at is in cc);
 }

@@ -54,18 +54,19 @@ reduced sn sd en ed rn rd fn fd w T d n N sd_pos ed_pos T_pos rate error part =
     mul-le-mul_right (rd * fd * T) part in
     le_of_mul-le-mul_right {k = (sd * T) * (ed * T)} (omega (arith, left, right, whole)) pos
 
-pub fair-share : (T M w : ℕ) (s d s' d' : Frac) (n G N : ℕ) → 1 ≤ T → IsFairShare T M w s d s' d'
-    → HasShare s d n G → w * G ≤ T * N + (T - w) * 1 + w * ((M - 1) * 1) → HasShare s' d' n N
-fair-share T M w s d s' d' n G N some fair given got =
+pub fair-share : (T M Q w : ℕ) (s d s' d' : Frac) (n G N : ℕ) → 1 ≤ T → IsFairShare T M Q w s d s' d'
+    → HasShare s d n G → w * G ≤ T * N + (T - w) * Q + w * ((M - 1) * Q) → HasShare s' d' n N
+fair-share T M Q w s d s' d' n G N some fair given got =
     let rest : T - w ≡ fair.rest = omega (arith, fair.weights) in
     let others : M - 1 ≡ fair.others = omega (arith, fair.seats) in
-    let has : w * G ≤ T * N + fair.rest + w * fair.others = (
-    let more : w * ((M - 1) * 1) ≡ w * fair.others = ap (λ x. w * (x * 1)) others ∙ omega arith in
-    omega (arith, got, rest, more)) in
+    let has : w * G ≤ T * N + fair.rest * Q + w * (fair.others * Q) = (
+    let more : w * ((M - 1) * Q) ≡ w * (fair.others * Q) = ap (λ x. w * (x * Q)) others in
+    let less : (T - w) * Q ≡ fair.rest * Q = ap (λ x. x * Q) rest in
+    omega (arith, got, less, more)) in
     reduced s.num s.den d.num d.den s'.num s'.den d'.num d'.den w T
-    ((d.num + fair.others * d.den) * w + fair.rest * d.den) n N s.positive d.positive some fair.rate
+    ((d.num + fair.others * Q * d.den) * w + fair.rest * Q * d.den) n N s.positive d.positive some fair.rate
     fair.error
-    (part_of s.num s.den d.num d.den w T fair.others fair.rest n G N given has)
+    (part_of s.num s.den d.num d.den w T (fair.others * Q) (fair.rest * Q) n G N given has)
 
 both_first : (a c : Bool) → (a && c) ≡ true → a ≡ true
 both_first true c is = refl
@@ -82,8 +83,8 @@ pub given_some : (b : Ledger) (port t : ℕ) → given b port t ≡ true → is_
 unfolding given
 given_some b port t is = both_first (is_some (row_at b t).to) ((row_at b t).port == port) is
 
-module _ (T M : ℕ) (b : Ledger) (kept : KeepsShareBook T M b) where
-  pub fair_asks : (slot t : ℕ) → asked b slot t ≡ true → asked_by (Sfq T M) b t ≡ true
+module _ (T M Q : ℕ) (b : Ledger) (kept : KeepsShareBook T M Q b) where
+  pub fair_asks : (slot t : ℕ) → asked b slot t ≡ true → asked_by (Sfq T M Q) b t ≡ true
   unfolding asked_by
   fair_asks slot t asks = some_asks (row_at b t).mask slot (asked-slot b slot t asks)
 
@@ -95,7 +96,7 @@ module _ (T M : ℕ) (b : Ledger) (kept : KeepsShareBook T M b) where
   part_met : (slot since port weight i n : ℕ) (s d s' d' : Frac)
       → tenant_at b slot ≡ Sits (terms.Weight weight) since
       → since ≤ i → i + n ≤ now_of b → ((t : ℕ) → i ≤ t → t < i + n → asked b slot t ≡ true)
-      → IsFairShare T M weight s d s' d' → HasShare s d n (count (given b port) i n)
+      → IsFairShare T M Q weight s d s' d' → HasShare s d n (count (given b port) i n)
       → HasShare s' d' n (count (served b slot) i n)
   part_met slot since port weight i zero s d s' d' sits early le on fair lent = omega arith
   part_met slot since port weight i (suc n) s d s' d' sits early le on fair lent =
@@ -103,20 +104,20 @@ module _ (T M : ℕ) (b : Ledger) (kept : KeepsShareBook T M b) where
       let last = sat-at b slot since (i + n) (now_of b) (terms.Weight weight) kept.sittings
       (omega (arith, le))
       (omega arith) (omega (arith, early)) now in
-      let h = has-share T M b kept slot since weight i n le early last on in
+      let h = has-share T M Q b kept slot since weight i n le early last on in
       let less = count-more (given b port) (λ z. is_some (to_of b z)) i (suc n)
       (λ t is. given_some b port t is) in
       let few = mul-le-mul_left weight less in
       let got : weight * count (given b port) i (suc n)
-      ≤ T * count (served b slot) i (suc n) + (T - weight) * 1 + weight * ((M - 1) * 1) =
+      ≤ T * count (served b slot) i (suc n) + (T - weight) * Q + weight * ((M - 1) * Q) =
       rw (served_count slot i (suc n)) (omega (arith, h, few)) in
-      fair-share T M weight s d s' d' (suc n) (count (given b port) i (suc n))
+      fair-share T M Q weight s d s' d' (suc n) (count (given b port) i (suc n))
       (count (served b slot) i (suc n))
       kept.range.0.0 fair lent got
 
   share_supplied : (slot since port weight : ℕ) (s d s' d' : Frac)
-      → tenant_at b slot ≡ Sits (terms.Weight weight) since → IsFairShare T M weight s d s' d'
-      → Supplies (Psbe s d) (given b port) (asked_by (Sfq T M) b) (settled_at b) (now_of b)
+      → tenant_at b slot ≡ Sits (terms.Weight weight) since → IsFairShare T M Q weight s d s' d'
+      → Supplies (Psbe s d) (given b port) (asked_by (Sfq T M Q) b) (settled_at b) (now_of b)
       → Supplies (Psbe s' d') (served b slot) (asked b slot) since (now_of b)
   share_supplied slot since port weight s d s' d' sits fair supplied =
       let later = kept.admission.stood.later slot since (terms.Weight weight) sits in
@@ -131,14 +132,14 @@ module _ (T M : ℕ) (b : Ledger) (kept : KeepsShareBook T M b) where
       }
 
   fair_lends : (slot since port : ℕ) (m : Terms) (g h : Guarantee) → tenant_at b slot ≡ Sits m since
-      → LendsByTerms (Sfq T M) m g h
-      → Supplies g (given b port) (asked_by (Sfq T M) b) (settled_at b) (now_of b)
+      → LendsByTerms (Sfq T M Q) m g h
+      → Supplies g (given b port) (asked_by (Sfq T M Q) b) (settled_at b) (now_of b)
       → Supplies h (served b slot) (asked b slot) since (now_of b)
   fair_lends slot since port (terms.Weight weight) (Psbe s d) (Psbe s' d') sits lends supplied =
       share_supplied slot since port weight s d s' d' sits lends supplied
   fair_lends slot since port _ _ _ sits lends supplied = absurd lends
 
-  pub fair_keeps : KeepsPromise (Sfq T M) b
+  pub fair_keeps : KeepsPromise (Sfq T M Q) b
   fair_keeps = record {
     kept = λ ports slot since port m g h sits lends supplied. elim lends.lends [
       | inl by_terms ↦ fair_lends slot since port m g h sits by_terms supplied

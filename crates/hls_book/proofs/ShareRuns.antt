@@ -18,7 +18,7 @@ use Rattle.hls_book.proofs.Windows.{given_in, served_in, Passes, AsksOn}
 use Rattle.hls_book.proofs.Nexts.{v_of, share_at, f_of}
 use Rattle.hls_book.proofs.Rooms.{slot-at, taken-at}
 use Rattle.hls_book.proofs.Follows.{tags_of, clock_of, asks_of, to_of, At, tag-taken, room-of, serves-at}
-use Rattle.hls_book.proofs.Follows.{v-next}
+use Rattle.hls_book.proofs.Follows.{v-next, some_quantum}
 use Rattle.hls_book.proofs.Follows.{tag-stays, churn-at, at-all}
 use Rattle.hls_book.proofs.Shares.{differ}
 use Rattle.hls_book.proofs.Spans.{share}
@@ -59,45 +59,45 @@ sat-at b slot since t last terms kept le within early sits =
     sat-since b slot since t (last - t) terms kept (omega (arith, e, within)) early
     (ap (tenant_then b slot) e ∙ sits)
 
-module _ (T M : ℕ) (b : Ledger) (kept : KeepsShareBook T M b) where
-  all_at : (t : ℕ) → b.start ≤ t → t ≤ now_of b → At b t
-  all_at t lo le = at-all T M b kept t lo le
+module _ (T M Q : ℕ) (b : Ledger) (kept : KeepsShareBook T M Q b) where
+  all_at : (t : ℕ) → b.start ≤ t → t ≤ now_of b → At Q b t
+  all_at t lo le = at-all T M Q b kept t lo le
 
   -- the start tag of a seat is near the virtual time
   pub near-time : (slot since weight t : ℕ) → b.start ≤ t → t ≤ now_of b
       → tenant_then b slot t ≡ Sits (terms.Weight weight) since → 0 < weight
-      → (time_by b (start_tag b) t ≤ start_tag b t slot)
-      × (start_tag b t slot ≤ time_by b (start_tag b) t + tag_step weight)
+      → (time_by Q b (start_tag Q b) t ≤ start_tag Q b t slot)
+      × (start_tag Q b t slot ≤ time_by Q b (start_tag Q b) t + Q * tag_step weight)
   near-time slot since weight t lo le sits heavy =
       let here = all_at t lo le in
       let w : (share_at b t slot).weight ≡ weight = ap (λ tenant. (share_in tenant).weight) sits in
       let some : 0 < (share_at b t slot).weight = omega (arith, w, heavy) in
       let below : slot < 32 = (
-      let lt_most = slot-at T M b kept t slot le some in omega (arith, lt_most, kept.range.1.1)) in
+      let lt_most = slot-at T M Q b kept t slot le some in omega (arith, lt_most, kept.range.1.1)) in
       let start = here.start slot some in
-      let near : (tags_of b t slot).f ≤ v_of b t + 1 * (tags_of b t slot).step = here.kept.near slot below in
-      let f = tag-taken (share_at b t slot) (f_of b t slot) some in
-      let step : tag_step (share_at b t slot).weight ≡ tag_step weight = ap tag_step w in
+      let near : (tags_of Q b t slot).f ≤ v_of Q b t + Q * (tags_of Q b t slot).step = here.kept.near slot below in
+      let f = tag-taken (share_at b t slot) (f_of Q b t slot) some in
+      let step : Q * tag_step (share_at b t slot).weight ≡ Q * tag_step weight = ap (λ n. Q * tag_step n) w in
       (omega (arith, start), omega (arith, start, near, f, step))
 
   passes : (from until : ℕ) → b.start ≤ from → until ≤ now_of b
-      → Passes 1 unit_tag T M 32 from until (clock_of b) (tags_of b) (asks_of b) (to_of b)
+      → Passes Q unit_tag T M 32 from until (clock_of Q b) (tags_of Q b) (asks_of b) (to_of b)
   passes from until lo le = record {
     kept = λ t ge lt. (all_at t (omega (arith, lo, ge)) (omega (arith, lt, le))).kept;
-    fits = λ t ge lt. room-of T M b kept t (omega (arith, lt, le));
-    serves = λ t k ge lt is. serves-at T M b kept t k (omega (arith, lo, ge)) (omega (arith, lt, le))
+    fits = λ t ge lt. room-of T M Q b kept t (omega (arith, lt, le));
+    serves = λ t k ge lt is. serves-at T M Q b kept t k (omega (arith, lo, ge)) (omega (arith, lt, le))
         (all_at t (omega (arith, lo, ge)) (omega (arith, lt, le))) is;
-    taken = λ t k ge lt below asks. taken-at T M b kept t k (omega (arith, lt, le)) asks;
-    v = λ t ge lt. v-next T M b kept t (omega (arith, lo, ge)) (omega (arith, lt, le))
+    taken = λ t k ge lt below asks. taken-at T M Q b kept t k (omega (arith, lt, le)) asks;
+    v = λ t ge lt. v-next T M Q b kept t (omega (arith, lo, ge)) (omega (arith, lt, le))
         (all_at t (omega (arith, lo, ge)) (omega (arith, lt, le)));
-    churn = λ t ge lt. churn-at T M b kept t (omega (arith, lo, ge)) (omega (arith, lt, le))
+    churn = λ t ge lt. churn-at T M Q b kept t (omega (arith, lo, ge)) (omega (arith, lt, le))
         (all_at t (omega (arith, lo, ge)) (omega (arith, lt, le)));
   }
 
   asks_on : (slot since weight from len : ℕ) → b.start ≤ from → from + suc len ≤ now_of b → since ≤ from
       → tenant_then b slot (from + len) ≡ Sits (terms.Weight weight) since
       → ((t : ℕ) → from ≤ t → t < from + suc len → asked b slot t ≡ true)
-      → AsksOn from (from + suc len) slot (clock_of b) (tags_of b) (asks_of b) (to_of b)
+      → AsksOn from (from + suc len) slot (clock_of Q b) (tags_of Q b) (asks_of b) (to_of b)
   asks_on slot since weight from len lo le early sits on = record {
     ready = λ t ge lt. on t ge lt;
     stays = λ t ge lt.
@@ -106,12 +106,12 @@ module _ (T M : ℕ) (b : Ledger) (kept : KeepsShareBook T M b) where
         (omega (arith, le)) (omega (arith, ge, early)) sits in
         let now = sat-at b slot since t (from + len) (terms.Weight weight) kept.sittings (omega (arith, lt))
         (omega (arith, le)) (omega (arith, ge, early)) sits in
-        tag-stays T M b kept t slot (omega (arith, lo, ge)) (omega (arith, lt, le))
+        tag-stays T M Q b kept t slot (omega (arith, lo, ge)) (omega (arith, lt, le))
         (all_at t (omega (arith, lo, ge)) (omega (arith, lt, le))) (ap share_in (later ∙ sym now));
   }
 
   weight_of : (slot since weight from len : ℕ) → from + suc len ≤ now_of b → since ≤ from
-      → tenant_then b slot (from + len) ≡ Sits (terms.Weight weight) since → (tags_of b from slot).w ≡ weight
+      → tenant_then b slot (from + len) ≡ Sits (terms.Weight weight) since → (tags_of Q b from slot).w ≡ weight
   weight_of slot since weight from len le early sits =
       ap (λ tenant. (share_in tenant).weight) (sat-at b slot since from (from + len) (terms.Weight weight)
       kept.sittings (omega arith) (omega (arith, le)) early sits)
@@ -120,8 +120,8 @@ module _ (T M : ℕ) (b : Ledger) (kept : KeepsShareBook T M b) where
       → tenant_then b slot (from + len) ≡ Sits (terms.Weight weight) since → asked b slot from ≡ true
       → slot < 32
   slot_below slot since weight from len le early sits asks =
-      let some = taken-at T M b kept from slot (omega (arith, le)) asks in
-      let lt = slot-at T M b kept from slot (omega (arith, le)) some in
+      let some = taken-at T M Q b kept from slot (omega (arith, le)) asks in
+      let lt = slot-at T M Q b kept from slot (omega (arith, le)) some in
       omega (arith, lt, kept.range.1.1)
 
   -- the share of a seat in a run of ticks in which it asks, of what is given to the scheduler
@@ -129,17 +129,17 @@ module _ (T M : ℕ) (b : Ledger) (kept : KeepsShareBook T M b) where
       → tenant_then b slot (from + len) ≡ Sits (terms.Weight weight) since
       → ((t : ℕ) → from ≤ t → t < from + suc len → asked b slot t ≡ true)
       → weight * given_in (to_of b) from (suc len)
-      ≤ T * served_in (to_of b) slot from (suc len) + (T - weight) * 1 + weight * ((M - 1) * 1)
+      ≤ T * served_in (to_of b) slot from (suc len) + (T - weight) * Q + weight * ((M - 1) * Q)
   has-share slot since weight from len le early sits on =
       let asks = on from (omega arith) (omega arith) in
       let lo = asked-started b slot from asks in
       let w = weight_of slot since weight from len le early sits in
-      let h = share 1 unit_tag T M 32 slot from len (clock_of b) (tags_of b) (asks_of b) (to_of b)
-      (omega arith)
+      let h = share Q unit_tag T M 32 slot from len (clock_of Q b) (tags_of Q b) (asks_of b) (to_of b)
+      (some_quantum T M Q b kept)
       (omega arith) (slot_below slot since weight from len le early sits asks)
       (passes from (from + suc len) lo le) (asks_on slot since weight from len lo le early sits on) in
       subst (λ n. n * given_in (to_of b) from (suc len)
-      ≤ T * served_in (to_of b) slot from (suc len) + (T - n) * 1 + n * ((M - 1) * 1)) w h
+      ≤ T * served_in (to_of b) slot from (suc len) + (T - n) * Q + n * ((M - 1) * Q)) w h
 
   served_count : (slot from n : ℕ) → count (served b slot) from n ≡ served_in (to_of b) slot from n
   unfolding served
@@ -151,26 +151,26 @@ module _ (T M : ℕ) (b : Ledger) (kept : KeepsShareBook T M b) where
       → tenant_then b other (i + n) ≡ Sits (terms.Weight rival) since'
       → ((t : ℕ) → i ≤ t → t < i + suc n → asked b slot t ≡ true)
       → ((t : ℕ) → i ≤ t → t < i + suc n → asked b other t ≡ true)
-      → count (served b slot) i (suc n) * rival ≤ count (served b other) i (suc n) * weight + (weight + rival)
+      → count (served b slot) i (suc n) * rival ≤ count (served b other) i (suc n) * weight + Q * (weight + rival)
   differ_by i n slot other weight rival since since' le early early' sits sits' on on' =
       let asks = on i (omega arith) (omega arith) in
       let asks' = on' i (omega arith) (omega arith) in
       let lo = asked-started b slot i asks in
       let w = weight_of slot since weight i n le early sits in
       let u = weight_of other since' rival i n le early' sits' in
-      let d = differ 1 unit_tag T M 32 slot other i n (clock_of b) (tags_of b) (asks_of b) (to_of b)
-      (omega arith)
+      let d = differ Q unit_tag T M 32 slot other i n (clock_of Q b) (tags_of Q b) (asks_of b) (to_of b)
+      (some_quantum T M Q b kept)
       (omega arith) (slot_below slot since weight i n le early sits asks)
       (slot_below other since' rival i n le early' sits' asks') (passes i (i + suc n) lo le)
       (asks_on slot since weight i n lo le early sits on) (asks_on other since' rival i n lo le early' sits'
       on') in
-      let e = subst (λ x. served_in (to_of b) slot i (suc n) * (tags_of b i other).w
-      ≤ served_in (to_of b) other i (suc n) * x + 1 * (tags_of b i other).w + 1 * x) w d in
+      let e = subst (λ x. served_in (to_of b) slot i (suc n) * (tags_of Q b i other).w
+      ≤ served_in (to_of b) other i (suc n) * x + Q * (tags_of Q b i other).w + Q * x) w d in
       let f = subst (λ x. served_in (to_of b) slot i (suc n) * x
-      ≤ served_in (to_of b) other i (suc n) * weight + 1 * x + 1 * weight) u e in
+      ≤ served_in (to_of b) other i (suc n) * weight + Q * x + Q * weight) u e in
       rw (served_count slot i (suc n), served_count other i (suc n)) (omega (arith, f))
 
-  pub keeps-shares : KeepsSharesByWeight b
+  pub keeps-shares : KeepsSharesByWeight Q b
   keeps-shares = λ i n slot other weight rival lt one two.
       let d = differ_by i n slot other weight rival one.since two.since (omega (arith, lt)) one.early
       two.early

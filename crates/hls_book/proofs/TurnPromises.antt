@@ -108,7 +108,7 @@ linear quantum own theirs some passed = omega (arith, passed, whole own quantum 
 
 -- A seat has the share of a weight of 1 in 32, beside as many others of a tick each as 31 quanta have ticks besides 31.
 as_fair : (quantum : ℕ) (s d s' d' : Frac) → 0 < quantum → IsTurnShare quantum s d s' d'
-    → IsFairShare 32 (31 * quantum - 30) 1 s d s' d'
+    → IsFairShare 32 (31 * quantum - 30) 1 1 s d s' d'
 as_fair quantum s d s' d' pos share = record {
   others = 31 * quantum - 31;
   rest = 31;
@@ -118,8 +118,9 @@ as_fair quantum s d s' d' pos share = record {
   error =
       let all : (31 * quantum - 31 + 31) * d.den ≡ 31 * quantum * d.den =
       ap (λ n. n * d.den) (let same : 31 * quantum - 31 + 31 ≡ 31 * quantum = omega (arith, pos) in same) in
-      let num : (d.num + (31 * quantum - 31) * d.den) * 1 + 31 * d.den ≡ d.num + 31 * quantum * d.den =
-      omega (arith, all) in
+      let one : (31 * quantum - 31) * 1 ≡ 31 * quantum - 31 = omega arith in
+      let num : (d.num + (31 * quantum - 31) * 1 * d.den) * 1 + 31 * 1 * d.den ≡ d.num + 31 * quantum * d.den =
+      rw one (omega (arith, all)) in
       share.error ∙ ap (λ n. n * d'.den) (sym num);
 }
 
@@ -174,7 +175,7 @@ module _ (quantum : ℕ) (b : Ledger) (made : IsMade (Rr quantum) b) where
             parts_met (λ k n got. HasShare s d n got) (λ k n got. HasShare s' d' n got) slot since port i j sits from to
             asks
             (λ k n is lent.
-            fair-share 32 (31 * quantum - 30) 1 s d s' d' n (count (given b port) k n) (served_ticks b slot k n)
+            fair-share 32 (31 * quantum - 30) 1 1 s d s' d' n (count (given b port) k n) (served_ticks b slot k n)
             (omega arith) (as_fair quantum s d s' d' some share) lent
             (omega (
               arith,

@@ -198,7 +198,7 @@ module _ (quantum : ℕ) (some : 0 < quantum) where
   marked : (b : Ledger) (event : Event) → IsMade (Rr quantum) b → IsMade (Rr quantum) (with_mark b event)
       → IsUpToNow quantum b → IsUpToNow quantum (with_mark b event)
   marked b event made more up = record {
-    within = within_marked b event (turn_rules quantum b some made) up.within;
+    within = within_marked b event (turn_rules (Rr quantum) quantum b some made) up.within;
     waits = λ slot since i n terms among sits early ends asks.
         let lt = below (with_mark b event) slot since terms more sits in
         elim (cases_lt since (now_of b)) [
@@ -206,12 +206,13 @@ module _ (quantum : ℕ) (some : 0 < quantum) where
               let none : n ≡ 0 = omega (arith, now, early, ends) in
               rw none
               (from_now (with_mark b event) slot i among lt
-              (within_marked b event (turn_rules quantum b some made) up.within))
+              (within_marked b event (turn_rules (Rr quantum) quantum b some made) up.within))
           | inl past ↦ elim (sat b slot since terms event sits) [
             | inl here ↦ absurd (omega (arith, here, past))
             | inr sits' ↦
                 turn_marked b event slot since terms among (count (served (with_mark b event) slot) i n)
-                (count (serves_theirs (with_mark b event) among slot) i n) lt (turn_rules quantum b some made) past sits
+                (count (serves_theirs (with_mark b event) among slot) i n) lt (turn_rules
+                (Rr quantum) quantum b some made) past sits
                 (same_ticks b event slot i n among (turn_of quantum b)
                 (up.waits slot since i n terms among sits' early ends (same_asking b event slot i n asks)))
           ]
@@ -226,9 +227,9 @@ module _ (quantum : ℕ) (some : 0 < quantum) where
     c = turn_slot b
 
     rules : KeepsTurnRules quantum b
-    rules = turn_rules quantum b some made
+    rules = turn_rules (Rr quantum) quantum b some made
 
-    takes : (s : ℕ) → row.to ≡ Some s → TakesTurn quantum b row.mask s
+    takes : (s : ℕ) → row.to ≡ Some s → TakesTurn quantum b (turns_after (turn_slot b)) row.mask s
     takes s to = is.serves s to
 
     -- where the turn does not go on though its slot asks, its quantum is used up

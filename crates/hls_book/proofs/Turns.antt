@@ -11,7 +11,6 @@ use Rattle.hls_chron.specs.declared.book.TickRow.{TickRow}
 use Rattle.hls_chron.specs.declared.book.Event.{Event}
 use Rattle.hls_chron.specs.declared.book.Event.TheVariants.{Seat, Leave, Settle}
 use Rattle.hls_chron.specs.declared.plain.Config.{Config}
-use Rattle.hls_chron.specs.declared.plain.Config.TheVariants.{Rr}
 use Rattle.hls_chron.specs.Ledger.{Ledger, now_of, with_row, with_mark}
 use Rattle.hls_chron.specs.Seats.{SlotAsks, is_slot}
 use Rattle.hls_chron.specs.Ticks.{one_if}
@@ -28,11 +27,11 @@ use Rattle.hls_book.specs.Turns.{had_of, turn_of, over, KeepsTurnRules}
 -- ---- when a slot was left
 
 -- not after the present tick, nor before the last settling
-record IsLeft (b : Ledger) (slot : ℕ) : Type 0 where
-  settled : settled_at b ≤ left_at b slot
-  left : left_at b slot ≤ now_of b
+pub record IsLeft (b : Ledger) (slot : ℕ) : Type 0 where
+  pub settled : settled_at b ≤ left_at b slot
+  pub left : left_at b slot ≤ now_of b
 
-left_marked : (b : Ledger) (event : Event) (slot : ℕ) → IsLeft b slot → IsLeft (with_mark b event) slot
+pub left_marked : (b : Ledger) (event : Event) (slot : ℕ) → IsLeft b slot → IsLeft (with_mark b event) slot
 left_marked b (Seat at terms) slot is = record {
   settled = rw (settled_at-mark b (Seat at terms), left_at-mark b (Seat at terms) slot) is.settled;
   left = rw (left_at-mark b (Seat at terms) slot) is.left;
@@ -74,7 +73,7 @@ left_making config _ slot (Ticked b row making is) =
       left = omega (arith, left_at-row b row slot, now_of-row b row, before.left);
     }
 
-left_made : (config : Config) (b : Ledger) (slot : ℕ) → IsMade config b → IsLeft b slot
+pub left_made : (config : Config) (b : Ledger) (slot : ℕ) → IsMade config b → IsLeft b slot
 left_made config b slot made = ∥∥₁_elim made (hlevel props) (left_making config b slot)
 
 -- ---- parts of a quantum
@@ -94,7 +93,7 @@ module _ (quantum : ℕ) (some : 0 < quantum) where
   had_whole : (ticks : ℕ) → ticks % quantum ≡ 0 → had_of quantum ticks ≡ quantum
   had_whole ticks is = rw is refl
 
-  next_rest : (ticks : ℕ) → (ticks + 1) % quantum ≡ (ticks % quantum + 1) % quantum
+  pub next_rest : (ticks : ℕ) → (ticks + 1) % quantum ≡ (ticks % quantum + 1) % quantum
   next_rest ticks = sym (mod-add-mod ticks quantum 1)
 
   -- one tick more of a quantum that is not over, and the first of one
@@ -153,24 +152,24 @@ and_parts false y on = absurd cc
 rest_some : (rest : ℕ) → not (rest == 0) ≡ true → rest ≢ 0
 rest_some rest on none = let same = eq-eqb rest 0 none in cc
 
-unbroken : (row : TickRow) (slot : ℕ) → row.to ≡ Some slot → SlotAsks row.mask slot
+pub unbroken : (row : TickRow) (slot : ℕ) → row.to ≡ Some slot → SlotAsks row.mask slot
     → ((is_some row.to && not (is_slot row.to slot)) || not (bit_at row.mask slot == 1)) ≡ false
 unbroken row slot to asks = rw (to, asks, eq-eqb slot slot refl) refl
 
-unbroken_idle : (row : TickRow) (slot : ℕ) → row.to ≡ None → SlotAsks row.mask slot
+pub unbroken_idle : (row : TickRow) (slot : ℕ) → row.to ≡ None → SlotAsks row.mask slot
     → ((is_some row.to && not (is_slot row.to slot)) || not (bit_at row.mask slot == 1)) ≡ false
 unbroken_idle row slot to asks = rw (to, asks) refl
 
-broken : (row : TickRow) (slot : ℕ) → row.to ≡ None → (SlotAsks row.mask slot → ⊥)
+pub broken : (row : TickRow) (slot : ℕ) → row.to ≡ None → (SlotAsks row.mask slot → ⊥)
     → ((is_some row.to && not (is_slot row.to slot)) || not (bit_at row.mask slot == 1)) ≡ true
 broken row slot to silent = rw (to, ne_eqb (bit_at row.mask slot) 1 silent) refl
 
-module _ (quantum : ℕ) (b : Ledger) (some : 0 < quantum) (made : IsMade (Rr quantum) b) where
+module _ (config : Config) (quantum : ℕ) (b : Ledger) (some : 0 < quantum) (made : IsMade config b) where
   left : (slot : ℕ) → left_at b slot ≤ now_of b
-  left slot = (left_made (Rr quantum) b slot made).left
+  left slot = (left_made config b slot made).left
 
   settled : settled_at b ≤ now_of b
-  settled = let is = left_made (Rr quantum) b 0 made in omega (arith, is.settled, is.left)
+  settled = let is = left_made config b 0 made in omega (arith, is.settled, is.left)
 
   goes : (mask : ℕ) → (turn_goes_on quantum b mask ≡ true)
       ↔ (SlotAsks mask (turn_slot b) × ((turn_of quantum b).had < quantum))
@@ -221,7 +220,7 @@ module _ (quantum : ℕ) (b : Ledger) (some : 0 < quantum) (made : IsMade (Rr qu
           ∙ whole_of quantum some (turn_ticks b (turn_slot b)) all
     ]
     | inr apart ↦
-        let is = left_made (Rr quantum) b slot made in
+        let is = left_made config b slot made in
         ap (λ n. n % quantum) (ticks-other b slot is.settled is.left apart) ∙ zero-mod quantum
   ]
 

@@ -8,9 +8,10 @@ use Rattle.hls_book.proofs.Books.{shares_made}
 use Rattle.hls_book.proofs.ShareRuns.{keeps-shares}
 use Rattle.hls_book_fairness.specs.Fairness.{ServesAlike}
 
-pub serves_alike : (total most : ℕ) (b : Ledger) → IsMade (Sfq total most) b → ServesAlike b
-serves_alike total most b made =
-    let shares : KeepsSharesByWeight b = keeps-shares total most b (shares_made total most b made) in
+pub serves_alike : (total most quantum : ℕ) (b : Ledger) → IsMade (Sfq total most quantum) b → ServesAlike quantum b
+serves_alike total most quantum b made =
+    let shares : KeepsSharesByWeight quantum b =
+    keeps-shares total most quantum b (shares_made total most quantum b made) in
     λ i n slot weight other rival lt one two.
     let more = shares i n slot other weight rival lt one two in
     let less = shares i n other slot rival weight lt two one in

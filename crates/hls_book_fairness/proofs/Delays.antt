@@ -1,4 +1,4 @@
--- When a seat has had its turns.
+-- When a seat has had its ticks.
 use Rattle.std.proofs.Common.{◌≡◌, ℕ, ◌+◌, ◌*◌, ◌-◌, ◌<◌, ◌≤◌, zero, suc, Bool, refl, sym, arith, ap, ◌∙◌, true}
 use Rattle.std.proofs.Common.{add-one, inl, inr}
 use Rattle.std.specs.Prelude.{◌/◌, is_some}
@@ -17,7 +17,7 @@ use Rattle.hls_kinds.proofs.MarkLaws.{sits_on}
 use Rattle.hls_kinds.proofs.Sums.{sum-at}
 use Rattle.hls_book.proofs.Books.{shares_made}
 use Rattle.hls_book.specs.ShareBook.{KeepsShareBook}
-use Rattle.hls_book.proofs.Follows.{to_of}
+use Rattle.hls_book.proofs.Follows.{to_of, some_quantum}
 use Rattle.hls_book.proofs.SharePromises.{fair_asks}
 use Rattle.hls_book.proofs.Rooms.{weights-at, slot-at, fits-at}
 use Rattle.hls_book.proofs.Nexts.{share_at}
@@ -39,40 +39,56 @@ count-all test i (suc n) all =
 rounded : (n w : ℕ) → 0 < w → n < w * (n / w) + w
 rounded n w some = omega arith
 
--- a share of T, with an error of r ticks of weight w and what is less than a turn
-in_time : (w T r N G turns rest q : ℕ) → 0 < w → w * G ≤ T * N + rest + w * r → T * turns < w * q + w
-    → T + rest ≤ T * 1 + (T - w) → w ≤ T → q + r ≤ G → turns ≤ N
-in_time w T r N G turns rest q some share part small less had = elim (cases_lt N turns) [
+-- a share of T, with an error of r ticks of weight w, of a quantum of the rest, and of what is less than a tick
+in_time : (w T Q r N G ticks q : ℕ) → 0 < w → 0 < Q → w * G ≤ T * N + (T - w) * Q + w * r
+    → T * (ticks + (Q - 1)) < w * q + w → w ≤ T → q + r - (Q - 1) ≤ G → ticks ≤ N
+in_time w T Q r N G ticks q some pos share part less had = elim (cases_lt N ticks) [
   | inl few ↦
-      let turn : T * (N + 1) ≤ T * turns = mul-le-mul_left T (omega (arith, few)) in
-      let all : w * (q + r) ≤ w * G = mul-le-mul_left w had in
-      let split = mul-add w q r in
-      let one = mul-add T N 1 in
-      absurd (omega (arith, share, part, small, less, turn, all, split, one))
+      let tick : T * (N + 1) ≤ T * ticks = mul-le-mul_left T (omega (arith, few)) in
+      let all : w * (q + r) ≤ w * (G + (Q - 1)) = mul-le-mul_left w (omega (arith, had)) in
+      let whole : T ≡ w + (T - w) = omega (arith, less) in
+      let quantum : Q ≡ (Q - 1) + 1 = omega (arith, pos) in
+      let rest : T * Q ≡ w * Q + (T - w) * Q = ap (λ n. n * Q) whole ∙ omega arith in
+      let own : w * Q ≡ w * (Q - 1) + w = ap (λ n. w * n) quantum ∙ mul-add w (Q - 1) 1 ∙ omega arith in
+      let one : T * Q ≡ T * (Q - 1) + T = ap (λ n. T * n) quantum ∙ mul-add T (Q - 1) 1 ∙ omega arith in
+      absurd (omega (
+        arith,
+        share,
+        part,
+        tick,
+        all,
+        rest,
+        own,
+        one,
+        mul-add w q r,
+        mul-add w G (Q - 1),
+        mul-add T N 1,
+        mul-add T ticks (Q - 1),
+      ))
   | inr enough ↦ enough
 ]
 
-level_in_time : (w T r N G turns q : ℕ) → 0 < w → w * G ≤ T * N + w * r → T * (turns - 1) < w * q + w → q + (r + 1) ≤ G
-    → turns ≤ N
-level_in_time w T r N G turns q some share part had = elim (cases_lt N turns) [
+level_in_time : (w T r N G ticks q : ℕ) → 0 < w → w * G ≤ T * N + w * r → T * (ticks - 1) < w * q + w → q + (r + 1) ≤ G
+    → ticks ≤ N
+level_in_time w T r N G ticks q some share part had = elim (cases_lt N ticks) [
   | inl few ↦
-      let turn : T * N ≤ T * (turns - 1) = mul-le-mul_left T (omega (arith, few)) in
+      let tick : T * N ≤ T * (ticks - 1) = mul-le-mul_left T (omega (arith, few)) in
       let all : w * (q + (r + 1)) ≤ w * G = mul-le-mul_left w had in
       let split : w * (q + (r + 1)) ≡ w * q + (w * r + w) = mul-add w q (r + 1) ∙ ap (λ n. w * q + n) (mul-add w r 1
       ∙ omega arith) in
-      absurd (omega (arith, share, part, turn, all, split))
+      absurd (omega (arith, share, part, tick, all, split))
   | inr enough ↦ enough
 ]
 
-module _ (T M : ℕ) (b : Ledger) (made : IsMade (Sfq T M) b) where
-  book : KeepsShareBook T M b
-  book = shares_made T M b made
+module _ (T M Q : ℕ) (b : Ledger) (made : IsMade (Sfq T M Q) b) where
+  book : KeepsShareBook T M Q b
+  book = shares_made T M Q b made
 
   served_same : (slot from n : ℕ) → count (served b slot) from n ≡ served_in (to_of b) slot from n
   unfolding served
   served_same slot from n = refl
 
-  module _ (i n slot weight turns : ℕ) (lt : i + n < now_of b) (on : AsksThroughout b slot weight i n) where
+  module _ (i n slot weight ticks : ℕ) (lt : i + n < now_of b) (on : AsksThroughout b slot weight i n) where
     le : i + suc n ≤ now_of b
     le = omega (arith, lt)
 
@@ -81,16 +97,16 @@ module _ (T M : ℕ) (b : Ledger) (made : IsMade (Sfq T M) b) where
 
     some : 0 < weight
     some =
-        let range = (weights-at T M b book (i + n) (omega (arith, lt))).ranged slot weight
+        let range = (weights-at T M Q b book (i + n) (omega (arith, lt))).ranged slot weight
         (sits_on _ slot on.since (Weight weight) on.sits) in
         omega (arith, range.0)
 
     fits : weight ≤ T
     fits =
         let here : (share_at b (i + n) slot).weight ≡ weight = ap (λ tenant. (share_in tenant).weight) on.sits in
-        let below = slot-at T M b book (i + n) slot (omega (arith, lt)) (omega (arith, here, some)) in
+        let below = slot-at T M Q b book (i + n) slot (omega (arith, lt)) (omega (arith, here, some)) in
         let one = sum-at (λ k. (share_at b (i + n) k).weight) 32 slot (omega (arith, below, book.range.1.1)) in
-        let all = fits-at T M b book (i + n) (omega (arith, lt)) in
+        let all = fits-at T M Q b book (i + n) (omega (arith, lt)) in
         omega (arith, one, all, here)
 
     served_more : served_in (to_of b) slot i (suc n) ≡ served_ticks b slot i (n + 1)
@@ -99,33 +115,31 @@ module _ (T M : ℕ) (b : Ledger) (made : IsMade (Sfq T M) b) where
     given_more : given_in (to_of b) i (suc n) ≡ given_ticks b i (n + 1)
     given_more = ap (given_in (to_of b) i) (sym (add-one n))
 
-    any : T * turns / weight + (M - 1) ≤ given_ticks b i (n + 1) → turns ≤ served_ticks b slot i (n + 1)
+    any : T * (ticks + (Q - 1)) / weight + (M - 1) * Q - (Q - 1) ≤ given_ticks b i (n + 1)
+        → ticks ≤ served_ticks b slot i (n + 1)
     any had =
-        let share = has-share T M b book slot on.since weight i n le on.early on.sits asks in
+        let share = has-share T M Q b book slot on.since weight i n le on.early on.sits asks in
         let share' : weight * given_ticks b i (n + 1)
-        ≤ T * served_ticks b slot i (n + 1) + (T - weight) + weight * (M - 1) =
-        rw (← given_more, ← served_more) (
-        let one : (M - 1) * 1 ≡ M - 1 = omega arith in
-        let same = ap (λ r. weight * r) one in
-        omega (arith, share, same)) in
-        in_time weight T (M - 1) (served_ticks b slot i (n + 1)) (given_ticks b i (n + 1)) turns (T - weight)
-        (T * turns / weight) some share' (rounded (T * turns) weight some) (omega arith) fits had
-
-    level : IsLevel b slot i → T * (turns - 1) / weight + M ≤ given_ticks b i (n + 1)
-        → turns ≤ served_ticks b slot i (n + 1)
-    level is had =
-        let share = level_share T M b book slot on.since weight i n le on.early on.sits asks is in
-        let share' : weight * given_ticks b i (n + 1) ≤ T * served_ticks b slot i (n + 1) + weight * (M - 1) =
+        ≤ T * served_ticks b slot i (n + 1) + (T - weight) * Q + weight * ((M - 1) * Q) =
         rw (← given_more, ← served_more) share in
-        let others : M ≡ M - 1 + 1 = omega (arith, book.range.1.0) in
-        level_in_time weight T (M - 1) (served_ticks b slot i (n + 1)) (given_ticks b i (n + 1)) turns
-        (T * (turns - 1) / weight) some share' (rounded (T * (turns - 1)) weight some) (omega (arith, others, had))
+        in_time weight T Q ((M - 1) * Q) (served_ticks b slot i (n + 1)) (given_ticks b i (n + 1)) ticks
+        (T * (ticks + (Q - 1)) / weight) some (some_quantum T M Q b book) share'
+        (rounded (T * (ticks + (Q - 1))) weight some) fits had
 
-  whole : (i n slot weight : ℕ) → i + n < now_of b → AsksThroughout b slot weight i n → IsGivenThroughout T M b i n
+    level : IsLevel Q b slot i → T * (ticks - 1) / weight + ((M - 1) * Q + 1) ≤ given_ticks b i (n + 1)
+        → ticks ≤ served_ticks b slot i (n + 1)
+    level is had =
+        let share = level_share T M Q b book slot on.since weight i n le on.early on.sits asks is in
+        let share' : weight * given_ticks b i (n + 1) ≤ T * served_ticks b slot i (n + 1) + weight * ((M - 1) * Q) =
+        rw (← given_more, ← served_more) share in
+        level_in_time weight T ((M - 1) * Q) (served_ticks b slot i (n + 1)) (given_ticks b i (n + 1)) ticks
+        (T * (ticks - 1) / weight) some share' (rounded (T * (ticks - 1)) weight some) had
+
+  whole : (i n slot weight : ℕ) → i + n < now_of b → AsksThroughout b slot weight i n → IsGivenThroughout T M Q b i n
       → given_ticks b i (n + 1) ≡ n + 1
   whole i n slot weight lt on has =
       count-all (λ t. is_some (row_at b t).to) i (n + 1)
-      (λ t ge less. has t ge (omega (arith, less)) (fair_asks T M b book slot t (on.asks t ge (omega (arith, less)))))
+      (λ t ge less. has t ge (omega (arith, less)) (fair_asks T M Q b book slot t (on.asks t ge (omega (arith, less)))))
 
-  pub keeps_delays : KeepsDelays T M b
+  pub keeps_delays : KeepsDelays T M Q b
   keeps_delays = record { any = any; level = level; whole = whole }

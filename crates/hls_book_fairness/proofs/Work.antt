@@ -2,16 +2,19 @@
 use Rattle.std.proofs.Common.{◌≡◌, ℕ, ◌+◌, ◌≤◌, ◌<◌, zero, suc, Some, None, true, Bool, refl, sym, ap, ◌∙◌}
 use Rattle.std.proofs.Common.{arith, inl, inr}
 use Rattle.std.specs.Prelude.{Option, is_some}
+use Rattle.std.specs.Int.{bit_at}
 use Rattle.std.proofs.lemmas.Bool.{cases_lt, eq-eqb, ne_eqb, eqb-true}
 use Rattle.hls_chron.specs.declared.plain.Config.TheVariants.{Sfq}
-use Rattle.hls_chron.specs.Ledger.{Ledger, now_of, row_at}
+use Rattle.hls_chron.specs.Ledger.{Ledger, now_of, row_at, before}
 use Rattle.hls_chron.specs.Seats.{asked, served, is_slot}
 use Rattle.hls_chron.specs.Ticks.{one_if}
 use Rattle.hls_chron.proofs.CountLaws.{count-none, count-push}
 use Rattle.hls_kinds.specs.Made.{IsMade}
 use Rattle.hls_kinds.specs.Slots.{sum_below}
 use Rattle.hls_kinds.proofs.Sums.{sum-zero, sum-suc, sum-eq, sum-add}
+use Rattle.hls_kinds.proofs.ServingLaws.{serves-slot}
 use Rattle.hls_book.proofs.Books.{shares_made}
+use Rattle.hls_book.proofs.Follows.{below-at}
 use Rattle.hls_book.proofs.PromiseLaws.{row_at-later}
 use Rattle.hls_book.specs.ShareBook.{KeepsShareBook}
 use Rattle.hls_book.proofs.SharePromises.{fair_asks}
@@ -59,18 +62,22 @@ one_tick : (to : Option ℕ) → ((slot : ℕ) → to ≡ Some slot → slot < 3
 one_tick None within = none_of 32
 one_tick (Some at) within = one_below at 32 (within at refl)
 
-module _ (total most : ℕ) (b : Ledger) (made : IsMade (Sfq total most) b) where
-  book : KeepsShareBook total most b
-  book = shares_made total most b made
+module _ (total most quantum : ℕ) (b : Ledger) (made : IsMade (Sfq total most quantum) b) where
+  book : KeepsShareBook total most quantum b
+  book = shares_made total most quantum b made
 
   serves : (slot t : ℕ) → served b slot t ≡ true → asked b slot t ≡ true
   unfolding asked
   serves slot t is =
       let to = its_slot (row_at b t).to slot (sym (served_by b slot t) ∙ is) in
-      (book.served t slot (passed b t slot to) to).chosen
+      eq-eqb (bit_at (row_at b t).mask slot) 1
+      (serves-slot (Sfq total most quantum) (before t b) (row_at b t).mask slot
+      (book.served t slot (passed b t slot to) to))
 
   within : (t slot : ℕ) → (row_at b t).to ≡ Some slot → slot < 32
-  within t slot to = (book.served t slot (passed b t slot to) to).within
+  within t slot to =
+      below-at total most quantum b book t slot (passed b t slot to)
+      (serves slot t (served_by b slot t ∙ ap (λ o. is_slot o slot) to ∙ eq-eqb slot slot refl))
 
   shares : (i n : ℕ) → sum_below (λ slot. served_ticks b slot i n) 32 ≡ given_ticks b i n
   shares i zero =
@@ -86,9 +93,9 @@ module _ (total most : ℕ) (b : Ledger) (made : IsMade (Sfq total most) b) wher
       ∙ rw (shares i n, one_tick (row_at b (i + n)).to (within (i + n)))
       (sym (count-push (λ t. is_some (row_at b t).to) i n))
 
-  pub loses_none : LosesNoTick total most b
+  pub loses_none : LosesNoTick total most quantum b
   loses_none = record {
-    asks = λ slot t is. fair_asks total most b book slot t is;
+    asks = λ slot t is. fair_asks total most quantum b book slot t is;
     serves = serves;
     shares = λ i n le. shares i n;
   }

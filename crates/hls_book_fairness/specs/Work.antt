@@ -7,9 +7,9 @@ use Rattle.hls_kinds.specs.Slots.{sum_below}
 use Rattle.hls_book.specs.Promise.{asked_by}
 use Rattle.hls_book.specs.Runs.{given_ticks, served_ticks}
 
-pub record LosesNoTick (total most : ℕ) (b : Ledger) : Type 0 where
+pub record LosesNoTick (total most quantum : ℕ) (b : Ledger) : Type 0 where
   -- the scheduler asks while a seat does
-  pub asks : (slot t : ℕ) → asked b slot t ≡ true → asked_by (Sfq total most) b t ≡ true
+  pub asks : (slot t : ℕ) → asked b slot t ≡ true → asked_by (Sfq total most quantum) b t ≡ true
   -- who is served asks
   pub serves : (slot t : ℕ) → served b slot t ≡ true → asked b slot t ≡ true
   -- and the seats have what the scheduler was given, all of it

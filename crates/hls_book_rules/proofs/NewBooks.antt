@@ -23,7 +23,7 @@ new_begins b new =
     let none : length b.rows ≡ 0 = ap length new.unwritten in
     let now : now_of b ≡ b.start = omega (arith, none) in
     record {
-      time = time-unwritten b new.unwritten;
+      time = λ quantum. time-unwritten quantum b new.unwritten;
       turn = λ quantum some.
           turn_is quantum b 31 quantum
           (slot-settled b (settled_at-unmarked b new.unmarked ∙ sym now))

@@ -14,15 +14,16 @@ use Rattle.hls_kinds.specs.Tags.{MeetTagRules}
 use Rattle.hls_kinds.specs.Reservations.{MeetBudgetRules}
 use Rattle.hls_book_rules.proofs.Budgets.{budget_rules}
 
-module _ (b : Ledger) (tags : ℕ → ℕ → ℕ) (rules : MeetTagRules b tags) where
+module _ (quantum : ℕ) (b : Ledger) (tags : ℕ → ℕ → ℕ) (rules : MeetTagRules quantum b tags) where
   -- where the tags of all earlier ticks are the same
-  same_tag : (t slot : ℕ) → AgreeBefore tags (start_tag b) t → tags t slot ≡ start_tag b t slot
+  same_tag : (t slot : ℕ) → AgreeBefore tags (start_tag quantum b) t → tags t slot ≡ start_tag quantum b t slot
   same_tag t slot before =
       rules t slot
-      ∙ start_of-agree b tags (start_tag b) (share_in (tenant_then b slot t)) t slot (since-then b slot t) before
-      ∙ sym (start_tag-is b t slot)
+      ∙ start_of-agree quantum b tags (start_tag quantum b) (share_in (tenant_then b slot t)) t slot
+      (since-then b slot t) before
+      ∙ sym (start_tag-is quantum b t slot)
 
-  same_before : (n : ℕ) → AgreeBefore tags (start_tag b) n
+  same_before : (n : ℕ) → AgreeBefore tags (start_tag quantum b) n
   same_before zero z slot lt = absurd (omega (arith, lt))
   same_before (suc n) z slot lt = elim (cases_lt z n) [
     | inl earlier ↦ same_before n z slot earlier
@@ -31,7 +32,7 @@ module _ (b : Ledger) (tags : ℕ → ℕ → ℕ) (rules : MeetTagRules b tags)
         rw here (same_tag n slot (same_before n))
   ]
 
-  pub only_tags : (t slot : ℕ) → tags t slot ≡ start_tag b t slot
+  pub only_tags : (t slot : ℕ) → tags t slot ≡ start_tag quantum b t slot
   only_tags t slot = same_tag t slot (same_before t)
 
 module _ (r : Reservation) (asks serves : ℕ → Bool) (claims : ℕ → Claim)

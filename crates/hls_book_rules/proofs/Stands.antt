@@ -2,7 +2,7 @@
 use Rattle.std.proofs.Common.{◌≡◌, ◌≢◌, ℕ, zero, suc, ◌+◌, ◌-◌, ◌/◌, ◌%◌, ◌<◌, ◌≤◌, Bool, true, false, cond}
 use Rattle.std.proofs.Common.{refl, sym, ap, ◌∙◌, arith, inl, inr}
 use Rattle.std.specs.Prelude.{Option, Some, None, min, nat_lt, ◌==◌}
-use Rattle.std.proofs.Math.Nat.{le-div_iff_mul-le}
+use Rattle.std.proofs.Math.Nat.{le-div_iff_mul-le, mod-lt}
 use Rattle.std.proofs.lemmas.Bool.{eq-eqb, eqb-true, eqb-false, ltb-false, cases_eq}
 use Rattle.std.specs.Int.{bit_at}
 use Rattle.hls_chron.specs.declared.plain.Config.TheVariants.{Edf, Sfq}
@@ -11,7 +11,7 @@ use Rattle.hls_chron.specs.Ledger.{Ledger, now_of}
 use Rattle.hls_chron.specs.Seats.{SlotAsks, terms_at, served}
 use Rattle.hls_kinds.specs.declared.tenant.Tenant.{Tenant}
 use Rattle.hls_kinds.specs.declared.tenant.Tenant.TheVariants.{Vacant, Sits, Left}
-use Rattle.hls_kinds.specs.Asks.{slot_asks}
+use Rattle.hls_kinds.specs.Asks.{slot_asks, without_slot}
 use Rattle.hls_kinds.specs.Discipline.{Serves}
 use Rattle.hls_kinds.specs.Made.{IsMade}
 use Rattle.hls_kinds.specs.Reservations.{deadline_at, budget_at, deadline_in, deadline_after, last_replenished}
@@ -19,7 +19,9 @@ use Rattle.hls_kinds.specs.Reservations.{claim_in, claim_at}
 use Rattle.hls_kinds.specs.declared.reservations.Reservation.{Reservation}
 use Rattle.hls_kinds.specs.Room.{weight_in}
 use Rattle.hls_kinds.specs.Stands.{always, to_deadlines, rest_of_budget, same_slot, owned_for, ticks_apart, apart_from}
-use Rattle.hls_kinds.specs.Stands.{to_rivals, tag_of_asking}
+use Rattle.hls_kinds.specs.Stands.{to_rivals, tag_of_asking, turn_end, rest_of_share}
+use Rattle.hls_kinds.specs.Turns.{turn_ticks, turn_goes_on}
+use Rattle.hls_kinds.proofs.ServingLaws.{serves-slot}
 use Rattle.hls_kinds.specs.Tags.{unit_tag, tag_step, start_tag}
 use Rattle.hls_kinds.specs.Tenants.{tenant_at, asking}
 use Rattle.hls_kinds.proofs.TenantLaws.{seated_in, seated-terms}
@@ -131,28 +133,41 @@ asking_by : (asks : Bool) (tag theirs : ℕ) → cond asks (Some tag) None ≡ S
 asking_by true tag theirs is = (refl, cc)
 asking_by false tag theirs is = absurd cc
 
-pub shares_stand : (total most : ℕ) (b : Ledger) (mask slot : ℕ) → IsMade (Sfq total most) b → OnlySeatsAsk b mask
-    → Serves (Sfq total most) b mask slot
-    → 0 < to_rivals (tag_of_asking b mask) slot (start_tag b (now_of b) slot) (tag_step (weight_in (terms_at b slot)))
-    32
-shares_stand total most b mask slot made only serves =
-    let book = shares_made total most b made in
-    let asks : SlotAsks mask slot = eqb-true (bit_at mask slot) 1 serves.chosen in
+pub rivals_stand : (total most quantum : ℕ) (b : Ledger) (mask slot : ℕ) → IsMade (Sfq total most quantum) b
+    → OnlySeatsAsk b mask → Serves (Sfq total most quantum) b mask slot → turn_goes_on quantum b mask ≡ false
+    → 0 < to_rivals (tag_of_asking quantum b mask) slot (start_tag quantum b (now_of b) slot)
+    (tag_step (weight_in (terms_at b slot))) 32
+rivals_stand total most quantum b mask slot made only serves off =
+    let book = shares_made total most quantum b made in
+    let asks : SlotAsks mask slot = serves-slot (Sfq total most quantum) b mask slot serves in
     let seat = weight_of (terms_at b slot) (only slot asks) (book.admission.seats.of_kind slot) in
     let range = book.weights.ranged slot seat.0 seat.1 in
     let weight : weight_in (terms_at b slot) ≡ seat.0 = ap weight_in seat.1 in
     let wide : 0 < tag_step (weight_in (terms_at b slot)) =
     some_step (weight_in (terms_at b slot)) (omega (arith, weight, range)) (omega (arith, weight, range)) in
-    rivals_apart (tag_of_asking b mask) slot (start_tag b (now_of b) slot) (tag_step (weight_in (terms_at b slot))) 32
-    wide (λ other theirs lt before is.
-    (let on = asking_by (slot_asks mask other) (start_tag b (now_of b) other) theirs is in
-    let least = serves.least other lt on.0 in
-    let first = serves.first other lt on.0 in
+    rivals_apart (tag_of_asking quantum b mask) slot (start_tag quantum b (now_of b) slot)
+    (tag_step (weight_in (terms_at b slot))) 32 wide (λ other theirs lt before is.
+    (let on = asking_by (slot_asks mask other) (start_tag quantum b (now_of b) other) theirs is in
+    let least = (serves.passes off).least other lt on.0 in
+    let first = (serves.passes off).first other lt on.0 in
     let tag = on.1 in
-    elim (cases_eq (start_tag b (now_of b) slot) (start_tag b (now_of b) other)) [
+    elim (cases_eq (start_tag quantum b (now_of b) slot) (start_tag quantum b (now_of b) other)) [
       | inl same ↦ let no = first same in absurd (omega (arith, no, before))
       | inr apart ↦ omega (arith, least, apart, tag)
     ]))
+
+-- a turn has not had all of its quantum
+pub shares_stand : (quantum : ℕ) (b : Ledger) (mask : ℕ) (choice : Option ℕ) → 0 < quantum
+    → 0 < rest_of_share quantum b mask choice
+shares_stand quantum b mask None some = omega arith
+shares_stand quantum b mask (Some slot) some =
+    let within = mod-lt (turn_ticks b slot) some in
+    by (without_slot slot mask == 0) (quantum - turn_ticks b slot % quantum) _ (omega (arith, within))
+  where
+    by : (alone : Bool) (left rivals : ℕ) → 0 < left
+        → 0 < cond alone always (min always (turn_end quantum left rivals))
+    by true left rivals more = omega arith
+    by false left rivals more = omega (arith, more)
 
 -- ---- frames
 

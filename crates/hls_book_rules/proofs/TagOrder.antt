@@ -1,7 +1,7 @@
 -- What a tick leaves of the virtual time and of start tags.
-use Rattle.std.proofs.Common.{◌≡◌, ◌≢◌, ℕ, ◌+◌, ◌≤◌, ◌<◌, Some, None, true, refl, ◌∙◌, arith}
+use Rattle.std.proofs.Common.{◌≡◌, ◌≢◌, ℕ, ◌+◌, ◌≤◌, ◌<◌, Some, None, true, refl, ◌∙◌, arith, inl, inr}
 use Rattle.std.specs.Prelude.{Option}
-use Rattle.std.proofs.lemmas.Bool.{eq-eqb, eqb-true}
+use Rattle.std.proofs.lemmas.Bool.{cases_Bool, eq-eqb}
 use Rattle.std.specs.Int.{bit_at}
 use Rattle.hls_chron.specs.declared.book.TickRow.{TickRow}
 use Rattle.hls_chron.specs.declared.plain.Config.TheVariants.{Sfq}
@@ -14,7 +14,9 @@ use Rattle.hls_chron.specs.Seats.{SlotAsks, terms_at}
 use Rattle.hls_kinds.specs.Asks.{slot_asks}
 use Rattle.hls_kinds.specs.Made.{IsMade, IsRow}
 use Rattle.hls_kinds.specs.Tags.{tag_step}
+use Rattle.hls_kinds.specs.Turns.{turn_goes_on}
 use Rattle.hls_kinds.proofs.MadeLaws.{made_row}
+use Rattle.hls_kinds.proofs.ServingLaws.{serves-slot}
 use Rattle.hls_book.proofs.Books.{shares_made}
 use Rattle.hls_book.specs.ShareBook.{KeepsShareBook}
 use Rattle.hls_book_rules.specs.Tags.{time_of, start_of, KeepsTagRules, KeepsTagOrder}
@@ -32,16 +34,16 @@ weight_of (Some terms.Cpu) seat kind = let no = kind terms.Cpu refl in absurd cc
 weight_of (Some terms.Turn) seat kind = let no = kind terms.Turn refl in absurd cc
 weight_of (Some terms.Sole) seat kind = let no = kind terms.Sole refl in absurd cc
 
-module _ (total most : ℕ) (b : Ledger) (row : TickRow) (made : IsMade (Sfq total most) b)
-    (is : IsRow (Sfq total most) b row) where
-  book : KeepsShareBook total most b
-  book = shares_made total most b made
+module _ (total most quantum : ℕ) (b : Ledger) (row : TickRow) (made : IsMade (Sfq total most quantum) b)
+    (is : IsRow (Sfq total most quantum) b row) where
+  book : KeepsShareBook total most quantum b
+  book = shares_made total most quantum b made
 
-  old : KeepsTagRules b
-  old = tag_rules total most b made
+  old : KeepsTagRules quantum b
+  old = tag_rules total most quantum b made
 
-  new : KeepsTagRules (with_row b row)
-  new = tag_rules total most (with_row b row) (made_row (Sfq total most) b row made is)
+  new : KeepsTagRules quantum (with_row b row)
+  new = tag_rules total most quantum (with_row b row) (made_row (Sfq total most quantum) b row made is)
 
   asks : (slot : ℕ) → SlotAsks row.mask slot → slot_asks row.mask slot ≡ true
   asks slot on = eq-eqb (bit_at row.mask slot) 1 on
@@ -52,38 +54,47 @@ module _ (total most : ℕ) (b : Ledger) (row : TickRow) (made : IsMade (Sfq tot
       omega (arith, less, book.range.1.1)
 
   -- the slot that is served has a weight, so that it starts at the virtual time or later
-  served_late : (slot : ℕ) → row.to ≡ Some slot → time_of b ≤ start_of b slot
+  served_late : (slot : ℕ) → row.to ≡ Some slot → time_of quantum b ≤ start_of quantum b slot
   served_late slot to =
-      let on = eqb-true (bit_at row.mask slot) 1 (is.serves slot to).chosen in
+      let on = serves-slot (Sfq total most quantum) b row.mask slot (is.serves slot to) in
       let seat = weight_of (terms_at b slot) (is.seats slot on) (book.admission.seats.of_kind slot) in
       let start = old.starts slot seat.0 seat.1 in
       omega (arith, start)
 
-  time_after : (to : Option ℕ) → row.to ≡ to → time_of b ≤ time_of (with_row b row)
+  time_after : (to : Option ℕ) → row.to ≡ to → time_of quantum b ≤ time_of quantum (with_row b row)
   time_after None to = let same = old.idles row to in omega (arith, same)
-  time_after (Some slot) to =
-      let start = old.serves row slot to in
-      let late = served_late slot to in
-      omega (arith, start, late)
+  time_after (Some slot) to = elim (cases_Bool (turn_goes_on quantum b row.mask)) [
+    | inl on ↦ let same = old.goes_on row on in omega (arith, same)
+    | inr off ↦
+        let start = old.serves row slot to off in
+        let late = served_late slot to in
+        omega (arith, start, late)
+  ]
 
-  -- it starts no later than another that asks
+  -- the slot whose turn begins starts no later than another that asks
   time_before : (to : Option ℕ) → row.to ≡ to → (slot weight : ℕ) → terms_at b slot ≡ Some (terms.Weight weight)
-      → SlotAsks row.mask slot → time_of (with_row b row) ≤ start_of b slot
+      → SlotAsks row.mask slot → time_of quantum (with_row b row) ≤ start_of quantum b slot
   time_before None to slot weight seat on =
       let same = old.idles row to in
       let start = old.starts slot weight seat in
       omega (arith, same, start)
-  time_before (Some first) to slot weight seat on =
-      let start = old.serves row first to in
-      let least = (is.serves first to).least slot (within slot weight seat) (asks slot on) in
-      omega (arith, start, least)
+  time_before (Some first) to slot weight seat asking = elim (cases_Bool (turn_goes_on quantum b row.mask)) [
+    | inl on ↦
+        let same = old.goes_on row on in
+        let start = old.starts slot weight seat in
+        omega (arith, same, start)
+    | inr off ↦
+        let start = old.serves row first to off in
+        let least = ((is.serves first to).passes off).least slot (within slot weight seat) (asks slot asking) in
+        omega (arith, start, least)
+  ]
 
   kept_terms : (slot : ℕ) → terms_at (with_row b row) slot ≡ terms_at b slot
   unfolding terms_at
   kept_terms slot = refl
 
   fixed : (slot weight : ℕ) → terms_at b slot ≡ Some (terms.Weight weight) → SlotAsks row.mask slot
-      → row.to ≢ Some slot → start_of (with_row b row) slot ≡ start_of b slot
+      → row.to ≢ Some slot → start_of quantum (with_row b row) slot ≡ start_of quantum b slot
   fixed slot weight seat on apart =
       let first = old.starts slot weight seat in
       let later = new.starts slot weight (kept_terms slot ∙ seat) in
@@ -93,12 +104,18 @@ module _ (total most : ℕ) (b : Ledger) (row : TickRow) (made : IsMade (Sfq tot
       omega (arith, first, later, finish, low, high)
 
   goes_on : (slot weight : ℕ) → terms_at b slot ≡ Some (terms.Weight weight) → row.to ≡ Some slot
-      → start_of (with_row b row) slot ≡ start_of b slot + tag_step weight
+      → start_of quantum (with_row b row) slot ≡ start_of quantum b slot + tag_step weight
   goes_on slot weight seat to =
       let later = new.starts slot weight (kept_terms slot ∙ seat) in
-      let time = old.serves row slot to in
+      let on = serves-slot (Sfq total most quantum) b row.mask slot (is.serves slot to) in
+      let time = time_before row.to refl slot weight seat on in
       let finish = old.finishes row slot weight to seat in
       omega (arith, later, time, finish)
 
-  pub tag_order : KeepsTagOrder total most b row
-  tag_order = record { grows = time_after row.to refl; fixed = fixed; goes_on = goes_on }
+  pub tag_order : KeepsTagOrder quantum b row
+  tag_order = record {
+    grows = time_after row.to refl;
+    ahead = time_before row.to refl;
+    fixed = fixed;
+    goes_on = goes_on;
+  }

@@ -1,5 +1,5 @@
 -- Tags go by their rules.
-use Rattle.std.proofs.Common.{◌≡◌, ℕ, ◌+◌, Some, true, refl, sym, ap, ◌∙◌}
+use Rattle.std.proofs.Common.{◌≡◌, ℕ, ◌+◌, ◌*◌, Some, true, refl, sym, ap, ◌∙◌}
 use Rattle.std.proofs.lemmas.Bool.{eq-eqb, ne_eqb}
 use Rattle.hls_chron.specs.declared.book.Event.{Event}
 use Rattle.hls_chron.specs.declared.book.Event.TheVariants.{Seat, Leave, Settle}
@@ -19,7 +19,7 @@ use Rattle.hls_book.proofs.Books.{shares_made}
 use Rattle.hls_book.specs.ShareBook.{KeepsShareBook}
 use Rattle.hls_book.proofs.Bounds.{seat-share, present-start}
 use Rattle.hls_book.proofs.Rooms.{tenant-now}
-use Rattle.hls_book.proofs.States.{time-idle, time-served, finish-unserved, finish-served}
+use Rattle.hls_book.proofs.States.{time-idle, time-on, time-begins, finish-unserved, finish-served}
 use Rattle.hls_book.proofs.States.{time-mark, finish-stays, finish-begins}
 use Rattle.hls_book_rules.proofs.Places.{not_its}
 use Rattle.hls_book_rules.specs.Tags.{time_of, start_of, finish_of, KeepsTagRules}
@@ -30,9 +30,9 @@ settled_seat (Sits terms since) weight tick is = let same : terms ≡ Weight wei
 settled_seat Vacant weight tick is = absurd cc
 settled_seat (Left terms since at) weight tick is = absurd cc
 
-module _ (total most : ℕ) (b : Ledger) (made : IsMade (Sfq total most) b) where
-  book : KeepsShareBook total most b
-  book = shares_made total most b made
+module _ (total most quantum : ℕ) (b : Ledger) (made : IsMade (Sfq total most quantum) b) where
+  book : KeepsShareBook total most quantum b
+  book = shares_made total most quantum b made
 
   -- whoever sits after a mark does so in the present tick
   sat : (event : Event) (slot : ℕ) (tenant : Tenant) → tenant_at (with_mark b event) slot ≡ tenant
@@ -42,28 +42,29 @@ module _ (total most : ℕ) (b : Ledger) (made : IsMade (Sfq total most) b) wher
 
   begun : (event : Event) (slot weight : ℕ)
       → tenant_at (with_mark b event) slot ≡ Sits (Weight weight) (now_of b)
-      → finish_of (with_mark b event) slot ≡ time_of b + tag_step weight
+      → finish_of quantum (with_mark b event) slot ≡ time_of quantum b + quantum * tag_step weight
   begun event slot weight is =
       let sits = sat event slot (Sits (Weight weight) (now_of b)) is in
-      finish-begins total most b event book slot (ap (λ (tenant : Tenant). (share_in tenant).since) sits)
-      ∙ ap (λ (tenant : Tenant). time_of b + tag_step (share_in tenant).weight) sits
+      finish-begins total most quantum b event book slot (ap (λ (tenant : Tenant). (share_in tenant).since) sits)
+      ∙ ap (λ (tenant : Tenant). time_of quantum b + quantum * tag_step (share_in tenant).weight) sits
 
   kept : (event : Event) (slot : ℕ) → tenant_at (with_mark b event) slot ≡ tenant_at b slot
-      → finish_of (with_mark b event) slot ≡ finish_of b slot
+      → finish_of quantum (with_mark b event) slot ≡ finish_of quantum b slot
   kept event slot same =
-      finish-stays total most b event book slot
+      finish-stays total most quantum b event book slot
       (ap share_in (sat event slot (tenant_at b slot) same ∙ sym (tenant-now b slot book.admission.dated)))
 
-  pub tag_rules : KeepsTagRules b
+  pub tag_rules : KeepsTagRules quantum b
   tag_rules = record {
-    starts = λ slot weight is. present-start total most b book slot weight is;
-    serves = λ row slot to. time-served total most b row book slot to;
+    starts = λ slot weight is. present-start total most quantum b book slot weight is;
+    serves = λ row slot to off. time-begins total most quantum b row book slot to off;
+    goes_on = λ row on. time-on total most quantum b row book on;
     finishes = λ row slot weight to is.
         let here : is_slot row.to slot ≡ true = ap (λ o. is_slot o slot) to ∙ eq-eqb slot slot refl in
-        finish-served total most b row book slot here
-        ∙ ap (λ n. start_of b slot + tag_step n) (seat-share total most b book slot weight is);
-    waits = λ row slot other. finish-unserved total most b row book slot (not_its row.to slot other);
-    idles = λ row none. time-idle total most b row book none;
+        finish-served total most quantum b row book slot here
+        ∙ ap (λ n. start_of quantum b slot + tag_step n) (seat-share total most quantum b book slot weight is);
+    waits = λ row slot other. finish-unserved total most quantum b row book slot (not_its row.to slot other);
+    idles = λ row none. time-idle total most quantum b row book none;
     begins = λ slot weight.
         begun (Seat slot (Weight weight)) slot weight
         (tenant_at-mark b (Seat slot (Weight weight)) slot ∙ rw (eq-eqb slot slot refl) refl);
@@ -75,5 +76,5 @@ module _ (total most : ℕ) (b : Ledger) (made : IsMade (Sfq total most) b) wher
         kept (Seat other terms) slot (tenant_at-mark b (Seat other terms) slot ∙ rw (ne_eqb other slot apart) refl);
     without = λ slot other apart.
         kept (Leave other) slot (tenant_at-mark b (Leave other) slot ∙ rw (ne_eqb other slot apart) refl);
-    stays = λ event. time-mark total most b event book;
+    stays = λ event. time-mark total most quantum b event book;
   }

@@ -13,7 +13,7 @@ pub record IsNew (b : Ledger) : Type 0 where
 
 -- the virtual time is 0, the first slot is next, with a whole quantum, no place has an owner, and no slot has a budget
 pub record BeginsAnew (b : Ledger) : Type 0 where
-  pub time : time_of b ≡ 0
+  pub time : (quantum : ℕ) → time_of quantum b ≡ 0
   pub turn : (quantum : ℕ) → 0 < quantum → turn_of quantum b ≡ record { slot = 31; had = quantum }
   pub owners : (place : ℕ) → owner_at b place ≡ None
   pub claims : (mask slot : ℕ) → claim_at b mask slot ≡ None

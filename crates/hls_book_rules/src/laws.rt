@@ -1,12 +1,14 @@
 //! What holds of the definitions: each function's contract is a law, and its body does nothing.
 
-ghost use Rattle.std.specs.Prelude.{◌≡◌, ℕ, ◌+◌, Option, Bool, true, ◌<◌, min};
+ghost use Rattle.std.specs.Prelude.{◌≡◌, ℕ, ◌+◌, Option, Bool, true, false, ◌<◌, min};
 ghost use Rattle.hls_chron.specs.Ledger.{Ledger, now_of};
 ghost use Rattle.hls_chron.specs.Seats.{terms_at};
 ghost use Rattle.hls_kinds.specs.Discipline.{Serves};
 ghost use Rattle.hls_kinds.specs.Frames.{owner_at};
 ghost use Rattle.hls_kinds.specs.Room.{weight_in};
-ghost use Rattle.hls_kinds.specs.Stands.{to_deadlines, rest_of_budget, to_rivals, tag_of_asking, owned_for};
+ghost use Rattle.hls_kinds.specs.Stands.{to_deadlines, rest_of_budget, rest_of_share, to_rivals, tag_of_asking};
+ghost use Rattle.hls_kinds.specs.Stands.{owned_for};
+ghost use Rattle.hls_kinds.specs.Turns.{turn_goes_on};
 ghost use Rattle.hls_kinds.specs.Made.{IsMade};
 ghost use Rattle.hls_kinds.specs.Tags.{start_tag, tag_step};
 ghost use Rattle.hls_book_rules.specs.Budgets.{KeepsBudgetRules, KeepsClaimRules, claim_before};
@@ -47,26 +49,28 @@ pub fn claims_meet_their_rules(reservation: Reservation)
 
 /// The virtual time and the tags of fair queueing go from tick to tick, and from seat to seat, by their rules (after
 /// Goyal, Guo and Vin 1996).
-pub fn tags_meet_their_rules(total: u32, most: u32)
-    ensures { (b : Ledger) → IsMade (Config.Sfq total most) b → KeepsTagRules b }
+pub fn tags_meet_their_rules(total: u32, most: u32, quantum: u32)
+    ensures { (b : Ledger) → IsMade (Config.Sfq total most quantum) b → KeepsTagRules quantum b }
 {}
 
 /// The start tags are the only ones that meet their rules in every tick, in whatever way they are computed.
 pub fn start_tags_are_the_only_ones()
-    ensures { (b : Ledger) (tags : ℕ → ℕ → ℕ) → MeetTagRules b tags → (t slot : ℕ) →
-        tags t slot ≡ start_tag b t slot }
+    ensures { (quantum : ℕ) (b : Ledger) (tags : ℕ → ℕ → ℕ) → MeetTagRules quantum b tags → (t slot : ℕ) →
+        tags t slot ≡ start_tag quantum b t slot }
 {}
 
-/// The virtual time never falls. A start tag is fixed when its seat begins to ask: it stays while the seat asks and
-/// waits, and is a step later once it was served.
-pub fn tags_keep_their_order(total: u32, most: u32)
-    ensures { (b : Ledger) → IsMade (Config.Sfq total most) b → KeepsTagOrderInTicks total most b }
+/// The virtual time never falls, and is not past the start tag of a seat that asks. A start tag is fixed when its seat
+/// begins to ask: it stays while the seat asks and waits, and is a step later once it was served.
+pub fn tags_keep_their_order(total: u32, most: u32, quantum: u32)
+    ensures { (b : Ledger) → IsMade (Config.Sfq total most quantum) b → KeepsTagOrderInTicks total most quantum b }
 {}
 
-/// The turns of round robin go from tick to tick, and from seat to seat, by their rules.
+/// The turns of round robin and of fair queueing go from tick to tick, and from seat to seat, by their rules.
 pub fn turns_meet_their_rules(quantum: u32)
     requires { 0 < quantum }
-    ensures { (b : Ledger) → IsMade (Config.Rr quantum) b → KeepsTurnRules quantum b }
+    ensures rounds { (b : Ledger) → IsMade (Config.Rr quantum) b → KeepsTurnRules quantum b }
+    ensures shares { (total most : ℕ) (b : Ledger) → IsMade (Config.Sfq total most quantum) b →
+        KeepsTurnRules quantum b }
 {}
 
 /// The places of a frame come to seats and go by their rules.
@@ -74,14 +78,17 @@ pub fn places_meet_their_rules()
     ensures { (b : Ledger) → KeepsPlaceRules b }
 {}
 
-/// Each scheduler stands for the present tick: deadlines lie ahead, who is served has the least tag, and a place is its
-/// owner's. So `stands_of`, which says one tick at least, says no more than these numbers do.
-pub fn each_stands_for_the_present_tick(total: u32, most: u32)
+/// Each scheduler stands for the present tick: deadlines lie ahead, a turn has some of its quantum left, whose turn
+/// begins has the least tag, and a place is its owner's. So `stands_of`, which says one tick at least, says no more than
+/// these numbers do.
+pub fn each_stands_for_the_present_tick(total: u32, most: u32, quantum: u32)
+    requires { 0 < quantum }
     ensures reservations { (b : Ledger) (mask : ℕ) (choice : Option ℕ) → IsMade Config.Edf b → OnlySeatsAsk b mask →
         0 < min (to_deadlines b mask 32) (rest_of_budget b mask choice) }
-    ensures shares { (b : Ledger) (mask slot : ℕ) → IsMade (Config.Sfq total most) b → OnlySeatsAsk b mask →
-        Serves (Config.Sfq total most) b mask slot →
-        0 < to_rivals (tag_of_asking b mask) slot (start_tag b (now_of b) slot)
+    ensures shares { (b : Ledger) (mask : ℕ) (choice : Option ℕ) → 0 < rest_of_share quantum b mask choice }
+    ensures rivals { (b : Ledger) (mask slot : ℕ) → IsMade (Config.Sfq total most quantum) b → OnlySeatsAsk b mask →
+        Serves (Config.Sfq total most quantum) b mask slot → turn_goes_on quantum b mask ≡ false →
+        0 < to_rivals (tag_of_asking quantum b mask) slot (start_tag quantum b (now_of b) slot)
         (tag_step (weight_in (terms_at b slot))) 32 }
     ensures frames { (b : Ledger) (frame : ℕ) → 0 < owned_for (owner_at b) frame (now_of b) frame }
 {}

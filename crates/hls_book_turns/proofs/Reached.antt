@@ -107,7 +107,7 @@ module _ (quantum : ℕ) (range : IsWithin 1 100 quantum) where
         ];
         free = λ slot more. tenant_at-mark b (Seat n OnTurn) slot
             ∙ rw (ne_eqb n slot (λ same. omega (arith, same, more))) (is.free slot (omega (arith, more)));
-        turn = (turn_rules quantum b some is.made).seated n OnTurn ∙ is.turn;
+        turn = (turn_rules (Rr quantum) quantum b some is.made).seated n OnTurn ∙ is.turn;
       }
 
   all_sit : (n : ℕ) → n ≤ 32 → (b : Ledger) × IsSeated n b
@@ -127,7 +127,8 @@ module _ (quantum : ℕ) (range : IsWithin 1 100 quantum) where
     asks : (slot t : ℕ) → slot < 32 → t < now_of b → asked b slot t ≡ true
     turn_now : turn_of quantum b ≡ turn
 
-  may_serve : (s : ℕ) (turn : Turn) (b : Ledger) → IsOn turn b → TakesTurn quantum b everyone s
+  may_serve : (s : ℕ) (turn : Turn) (b : Ledger) → IsOn turn b
+      → TakesTurn quantum b (turns_after (turn_slot b)) everyone s
       → IsRow (Rr quantum) b (serving s)
   may_serve s turn b is takes = record {
     seats = λ slot asks none. elim (cases_lt slot 32) [
@@ -149,7 +150,8 @@ module _ (quantum : ℕ) (range : IsWithin 1 100 quantum) where
   unfolding asked
   asked_now b s slot lt = rw (row_at-now b (serving s), asks_too slot lt) refl
 
-  one_on : (s : ℕ) (turn next : Turn) (b : Ledger) → IsOn turn b → TakesTurn quantum b everyone s
+  one_on : (s : ℕ) (turn next : Turn) (b : Ledger) → IsOn turn b
+      → TakesTurn quantum b (turns_after (turn_slot b)) everyone s
       → turn_of quantum (with_row b (serving s)) ≡ next → IsOn next (with_row b (serving s))
   one_on s turn next b is takes goes = record {
     made = made_row (Rr quantum) b (serving s) is.made (may_serve s turn b is takes);
@@ -204,21 +206,21 @@ module _ (quantum : ℕ) (range : IsWithin 1 100 quantum) where
     each : (slot : ℕ) → slot < 32 → total b slot ≡ rounds * quantum
 
   takes_on : (s k : ℕ) (b : Ledger) → IsOn (record { slot = s; had = k }) b → s < 32 → k < quantum
-      → TakesTurn quantum b everyone s
+      → TakesTurn quantum b (turns_after (turn_slot b)) everyone s
   takes_on s k b is lt part = record {
     goes_on = λ _. sym (ap (λ (t : Turn). t.slot) is.turn_now);
     passes = λ off. absurd (
-        let on = ((turn_rules quantum b some is.made).goes everyone).1
+        let on = ((turn_rules (Rr quantum) quantum b some is.made).goes everyone).1
         (rw (ap (λ (t : Turn). t.slot) is.turn_now) (asks_too s lt), rw (ap (λ (t : Turn). t.had) is.turn_now) part) in
         let clash : true ≡ false = sym on ∙ off in cc);
   }
 
   takes_next : (c s : ℕ) (b : Ledger) → IsOn (record { slot = c; had = quantum }) b → c < 32 → s < 32
       → turns_after c s ≡ 0 → ((other : ℕ) → other < 32 → turns_after c other ≡ 0 → other ≡ s)
-      → TakesTurn quantum b everyone s
+      → TakesTurn quantum b (turns_after (turn_slot b)) everyone s
   takes_next c s b is lt_c lt first one = record {
     goes_on = λ on. absurd (
-        let going = ((turn_rules quantum b some is.made).goes everyone).0 on in
+        let going = ((turn_rules (Rr quantum) quantum b some is.made).goes everyone).0 on in
         omega (arith, going.1, ap (λ (t : Turn). t.had) is.turn_now));
     passes = λ off.
         rw (ap (λ (t : Turn). t.slot) is.turn_now) (record {
@@ -232,7 +234,7 @@ module _ (quantum : ℕ) (range : IsWithin 1 100 quantum) where
   stage_on : (r s k : ℕ) (b : Ledger) → s < 32 → k < quantum → Stage r s k b
       → Stage r s (suc k) (with_row b (serving s))
   stage_on r s k b lt part is =
-      let rules = turn_rules quantum b some is.on.made in
+      let rules = turn_rules (Rr quantum) quantum b some is.on.made in
       let slot_is : turn_slot b ≡ s = ap (λ (t : Turn). t.slot) is.on.turn_now in
       let had_is : (turn_of quantum b).had ≡ k = ap (λ (t : Turn). t.had) is.on.turn_now in
       let to : Some s ≡ Some (turn_slot b) = ap (λ (n : ℕ). Some n) (sym slot_is) in
@@ -257,7 +259,7 @@ module _ (quantum : ℕ) (range : IsWithin 1 100 quantum) where
   begins_with c s b is lt_c lt first one =
       one_on s (record { slot = c; had = quantum }) (record { slot = s; had = 1 }) b is
       (takes_next c s b is lt_c lt first one)
-      ((turn_rules quantum b some is.made).begins (serving s) s refl (asks_too s lt)
+      ((turn_rules (Rr quantum) quantum b some is.made).begins (serving s) s refl (asks_too s lt)
       (inr (ap (λ (t : Turn). t.had) is.turn_now)))
 
   first_stage : (r : ℕ) (b : Ledger) → Round r b → Stage r 0 1 (with_row b (serving 0))

@@ -41,8 +41,21 @@ pub fn lent(place: &Place, g: &Guarantee) -> Option<Guarantee>
         (Config::Wheel { frame }, Terms::Slots(places), Guarantee::All) => {
             places_lent(places, frame)
         }
-        (Config::Sfq { total, most }, Terms::Weight(weight), Guarantee::Psbe { s, d }) => {
-            share_lent(total, most, weight, &s, &d)
+        (
+            Config::Sfq {
+                total,
+                most,
+                quantum,
+            },
+            Terms::Weight(weight),
+            Guarantee::Psbe { s, d },
+        ) => {
+            let queue = Queue {
+                total,
+                most,
+                quantum,
+            };
+            share_lent(&queue, weight, &s, &d)
         }
         (Config::Rr { quantum }, Terms::Turn, Guarantee::Psbe { s, d }) => {
             Some(turn_lent(quantum, &s, &d))
@@ -66,21 +79,35 @@ fn places_lent(places: u32, frame: u32) -> Option<Guarantee>
     })
 }
 
+/// Fair queueing: weights of this total, of at most so many seats, in turns of a quantum.
+#[derive(Clone, Copy)]
+struct Queue {
+    total: u32,
+    most: u32,
+    quantum: u32,
+}
+
 /// The share of a seat of this weight, where there is weight for it.
-fn share_lent(total: u32, most: u32, weight: u32, s: &Frac, d: &Frac) -> Option<Guarantee>
-    requires config { ConfigInRange (Config.Sfq total most) }
+fn share_lent(queue: &Queue, weight: u32, s: &Frac, d: &Frac) -> Option<Guarantee>
+    requires config { ConfigInRange (Config.Sfq queue.now.total queue.now.most queue.now.quantum) }
     requires terms { TermsInRange (Terms.Weight weight) }
     requires share { IsShare (10 ^ 13) (10 ^ 8) s.now d.now }
-    ensures some { IfSome result (λ h. LendsByTerms (Config.Sfq total most) (Terms.Weight weight)
+    ensures some { IfSome result (λ h.
+        LendsByTerms (Config.Sfq queue.now.total queue.now.most queue.now.quantum) (Terms.Weight weight)
         (Guarantee.Psbe s.now d.now) h) }
-    ensures none { IsNone result → weight ≤ total → ⊥ }
+    ensures none { IsNone result → weight ≤ queue.now.total → ⊥ }
 {
+    let Queue {
+        total,
+        most,
+        quantum,
+    } = *queue;
     if weight > total {
         return None;
     }
     let part = quotient(weight as u128, total as u128);
-    let others = quotient(most as u128 - 1, 1);
-    let rest = quotient((total - weight) as u128, total as u128);
+    let others = quotient(((most - 1) * quantum) as u128, 1);
+    let rest = quotient(((total - weight) * quantum) as u128, total as u128);
     Some(Guarantee::Psbe {
         s: s.mul(&part),
         d: d.add(&others).mul(&part).add(&rest),

@@ -64,7 +64,11 @@ fn fixed_priority_passes_on_what_it_has(rt: HostRuntime) -> Result<(), Fail> {
 fn numbers_the_first_step_that_fails(rt: HostRuntime) -> Result<(), Fail> {
     let alloc = rt.alloc();
     let place = Place {
-        config: Config::Sfq { total: 4, most: 2 },
+        config: Config::Sfq {
+            total: 4,
+            most: 2,
+            quantum: 1,
+        },
         terms: Terms::Weight(3),
     };
     let cases = [
@@ -99,6 +103,32 @@ fn numbers_the_first_step_that_fails(rt: HostRuntime) -> Result<(), Fail> {
     ];
     for (text, told) in cases {
         let verdict = judge(alloc, text, &place, "RESBS 3 10", "PSBE 9/40 83/20")?;
+        assert_eq!(rt; verdict, Some(told), "{text}");
+    }
+    Ok(())
+}
+
+#[test]
+fn counts_a_quantum_of_each_other_seat(rt: HostRuntime) -> Result<(), Fail> {
+    let alloc = rt.alloc();
+    let place = Place {
+        config: Config::Sfq {
+            total: 4,
+            most: 2,
+            quantum: 2,
+        },
+        terms: Terms::Weight(1),
+    };
+    let cases = [
+        ("ALL R8 PSBE 1 0 SFQ PSBE 1/4 2", "PSBE 1/4 2", Verdict::Yes),
+        (
+            "ALL R8 PSBE 1 0 SFQ PSBE 1/4 1",
+            "PSBE 1/4 1",
+            Verdict::No { step: 2 },
+        ),
+    ];
+    for (text, want, told) in cases {
+        let verdict = judge(alloc, text, &place, "ALL", want)?;
         assert_eq!(rt; verdict, Some(told), "{text}");
     }
     Ok(())

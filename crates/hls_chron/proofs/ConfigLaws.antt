@@ -14,7 +14,7 @@ pub one_port : (config : Config) → kind_of config ≢ kinds.Join → 1 ≡ por
 one_port configs.Cpu ne = refl
 one_port configs.Fp ne = refl
 one_port configs.Edf ne = refl
-one_port (configs.Sfq total most) ne = refl
+one_port (configs.Sfq total most quantum) ne = refl
 one_port (configs.Rr quantum) ne = refl
 one_port (configs.Wheel frame) ne = refl
 one_port (configs.Join ports) ne = absurd (ne refl)
@@ -23,7 +23,7 @@ pub few_ports : (config : Config) → ConfigInRange config → port_count config
 few_ports configs.Cpu range = omega arith
 few_ports configs.Fp range = omega arith
 few_ports configs.Edf range = omega arith
-few_ports (configs.Sfq total most) range = omega arith
+few_ports (configs.Sfq total most quantum) range = omega arith
 few_ports (configs.Rr quantum) range = omega arith
 few_ports (configs.Wheel frame) range = omega arith
 few_ports (configs.Join ports) range = range.1
@@ -32,7 +32,7 @@ pub some_port : (config : Config) → ConfigInRange config → 1 ≤ port_count 
 some_port configs.Cpu range = omega arith
 some_port configs.Fp range = omega arith
 some_port configs.Edf range = omega arith
-some_port (configs.Sfq total most) range = omega arith
+some_port (configs.Sfq total most quantum) range = omega arith
 some_port (configs.Rr quantum) range = omega arith
 some_port (configs.Wheel frame) range = omega arith
 some_port (configs.Join ports) range = let two = range.0 in omega (arith, two)
@@ -41,7 +41,7 @@ pub is_port : (config : Config) (port : ℕ) → port < port_count config → Is
 is_port configs.Cpu port lt = omega arith
 is_port configs.Fp port lt = omega arith
 is_port configs.Edf port lt = omega arith
-is_port (configs.Sfq total most) port lt = omega arith
+is_port (configs.Sfq total most quantum) port lt = omega arith
 is_port (configs.Rr quantum) port lt = omega arith
 is_port (configs.Wheel frame) port lt = omega arith
 is_port (configs.Join ports) port lt = lt
@@ -50,7 +50,7 @@ pub port_within : (config : Config) (port : ℕ) → IsPort config port → port
 port_within configs.Cpu port is = omega (arith, is)
 port_within configs.Fp port is = omega (arith, is)
 port_within configs.Edf port is = omega (arith, is)
-port_within (configs.Sfq total most) port is = omega (arith, is)
+port_within (configs.Sfq total most quantum) port is = omega (arith, is)
 port_within (configs.Rr quantum) port is = omega (arith, is)
 port_within (configs.Wheel frame) port is = omega (arith, is)
 port_within (configs.Join ports) port is = is
@@ -70,7 +70,7 @@ pub few_seats : (config : Config) → ConfigInRange config → most_seats config
 few_seats configs.Cpu range = omega arith
 few_seats configs.Fp range = omega arith
 few_seats configs.Edf range = omega arith
-few_seats (configs.Sfq total most) range = let le = range.1.1 in omega (arith, le)
+few_seats (configs.Sfq total most quantum) range = let le = range.1.1 in omega (arith, le)
 few_seats (configs.Rr quantum) range = omega arith
 few_seats (configs.Wheel frame) range = omega arith
 few_seats (configs.Join ports) range = omega arith
@@ -79,7 +79,7 @@ pub one_queue : (config : Config) → fair_queue config ≤ 1
 one_queue configs.Cpu = omega arith
 one_queue configs.Fp = omega arith
 one_queue configs.Edf = omega arith
-one_queue (configs.Sfq total most) = omega arith
+one_queue (configs.Sfq total most quantum) = omega arith
 one_queue (configs.Rr quantum) = omega arith
 one_queue (configs.Wheel frame) = omega arith
 one_queue (configs.Join ports) = omega arith
@@ -91,7 +91,7 @@ module _ (P : Config → Type 0) where
   of_fp p configs.Fp is = p
   of_fp p configs.Cpu is = absurd cc
   of_fp p configs.Edf is = absurd cc
-  of_fp p (configs.Sfq total most) is = absurd cc
+  of_fp p (configs.Sfq total most quantum) is = absurd cc
   of_fp p (configs.Rr quantum) is = absurd cc
   of_fp p (configs.Wheel frame) is = absurd cc
   of_fp p (configs.Join ports) is = absurd cc
@@ -100,14 +100,14 @@ module _ (P : Config → Type 0) where
   of_edf p configs.Edf is = p
   of_edf p configs.Cpu is = absurd cc
   of_edf p configs.Fp is = absurd cc
-  of_edf p (configs.Sfq total most) is = absurd cc
+  of_edf p (configs.Sfq total most quantum) is = absurd cc
   of_edf p (configs.Rr quantum) is = absurd cc
   of_edf p (configs.Wheel frame) is = absurd cc
   of_edf p (configs.Join ports) is = absurd cc
 
-  pub of_sfq : ((total most : ℕ) → P (configs.Sfq total most)) → (config : Config) → kind_of config ≡ kinds.Sfq
+  pub of_sfq : ((total most quantum : ℕ) → P (configs.Sfq total most quantum)) → (config : Config) → kind_of config ≡ kinds.Sfq
       → P config
-  of_sfq p (configs.Sfq total most) is = p total most
+  of_sfq p (configs.Sfq total most quantum) is = p total most quantum
   of_sfq p configs.Cpu is = absurd cc
   of_sfq p configs.Fp is = absurd cc
   of_sfq p configs.Edf is = absurd cc
@@ -120,7 +120,7 @@ module _ (P : Config → Type 0) where
   of_rr p configs.Cpu is = absurd cc
   of_rr p configs.Fp is = absurd cc
   of_rr p configs.Edf is = absurd cc
-  of_rr p (configs.Sfq total most) is = absurd cc
+  of_rr p (configs.Sfq total most quantum) is = absurd cc
   of_rr p (configs.Wheel frame) is = absurd cc
   of_rr p (configs.Join ports) is = absurd cc
 
@@ -130,7 +130,7 @@ module _ (P : Config → Type 0) where
   of_wheel p configs.Cpu is = absurd cc
   of_wheel p configs.Fp is = absurd cc
   of_wheel p configs.Edf is = absurd cc
-  of_wheel p (configs.Sfq total most) is = absurd cc
+  of_wheel p (configs.Sfq total most quantum) is = absurd cc
   of_wheel p (configs.Rr quantum) is = absurd cc
   of_wheel p (configs.Join ports) is = absurd cc
 
@@ -139,7 +139,7 @@ module _ (P : Config → Type 0) where
   of_join p configs.Cpu is = absurd cc
   of_join p configs.Fp is = absurd cc
   of_join p configs.Edf is = absurd cc
-  of_join p (configs.Sfq total most) is = absurd cc
+  of_join p (configs.Sfq total most quantum) is = absurd cc
   of_join p (configs.Rr quantum) is = absurd cc
   of_join p (configs.Wheel frame) is = absurd cc
 
@@ -149,7 +149,7 @@ pub edf_or_not : (config : Config) → (config ≡ configs.Edf) ⊎ (kind_of con
 edf_or_not configs.Edf = inl refl
 edf_or_not configs.Cpu = inr (λ e. cc)
 edf_or_not configs.Fp = inr (λ e. cc)
-edf_or_not (configs.Sfq total most) = inr (λ e. cc)
+edf_or_not (configs.Sfq total most quantum) = inr (λ e. cc)
 edf_or_not (configs.Rr quantum) = inr (λ e. cc)
 edf_or_not (configs.Wheel frame) = inr (λ e. cc)
 edf_or_not (configs.Join ports) = inr (λ e. cc)
@@ -161,7 +161,7 @@ pub no_join_config : (config : Config) → kind_of config ≢ kinds.Join → is_
 no_join_config configs.Cpu ne = refl
 no_join_config configs.Fp ne = refl
 no_join_config configs.Edf ne = refl
-no_join_config (configs.Sfq total most) ne = refl
+no_join_config (configs.Sfq total most quantum) ne = refl
 no_join_config (configs.Rr quantum) ne = refl
 no_join_config (configs.Wheel frame) ne = refl
 no_join_config (configs.Join ports) ne = absurd (ne refl)
@@ -170,7 +170,7 @@ pub kind_of_join : (config : Config) → is_join_config config ≡ true → kind
 kind_of_join configs.Cpu e = absurd (cc)
 kind_of_join configs.Fp e = absurd (cc)
 kind_of_join configs.Edf e = absurd (cc)
-kind_of_join (configs.Sfq total most) e = absurd (cc)
+kind_of_join (configs.Sfq total most quantum) e = absurd (cc)
 kind_of_join (configs.Rr quantum) e = absurd (cc)
 kind_of_join (configs.Wheel frame) e = absurd (cc)
 kind_of_join (configs.Join ports) e = refl

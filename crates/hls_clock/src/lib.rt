@@ -100,6 +100,7 @@ mod tests {
             command: Command::Unload { name },
         };
         let scenario = Scenario {
+            version: 1,
             horizon: 9,
             depth: None,
             items: List::of(vec![in rt.alloc(); first, second, third]?),

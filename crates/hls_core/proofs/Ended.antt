@@ -6,11 +6,13 @@ use Rattle.std.specs.Prelude.{Option, Result, Ok, Err, IfOk, slice_get}
 use Rattle.std.specs.Fn.{Mut}
 use Rattle.hls_guarantee.specs.declared.Guarantee.{Guarantee}
 use Rattle.hls_scenario.specs.declared.scenario.Scenario.{Scenario}
+use Rattle.hls_scenario.specs.Grammar.{IsScenario}
 use Rattle.hls_report_text.specs.declared.report.Answered.{Answered}
 use Rattle.hls_report_text.specs.declared.report.Path.{Path}
 use Rattle.hls_report_text.specs.declared.report.Report.{Report}
 use Rattle.hls_report_text.specs.Content.{Content, content_of}
 use Rattle.hls_report_text.specs.WellFormed.{HasShort}
+use Rattle.hls_report_text.proofs.LineTexts.{horizon_fits}
 use Rattle.hls_sched.specs.Seen.{Seen}
 use Rattle.hls_machine.specs.Hierarchy.{Hierarchy, start}
 use Rattle.hls_machine.specs.Steps.{Step, Elapse, after, state}
@@ -67,6 +69,9 @@ retold c d horizon stretches (step ∷ steps) h [] told = absurd told
 retold c d horizon stretches (step ∷ steps) h (b ∷ left) told =
     (told.0, told.1, retold c d horizon stretches steps (after h step) left told.2)
 
+short : (s : Scenario) → IsScenario s → s.horizon ≤ 1000000
+short s is = horizon_fits s.version s.horizon is.horizon
+
 totals_same : (c : Content) → with_totals (with_totals c) ≡ with_totals c
 unfolding is_ready
 totals_same c = refl
@@ -79,7 +84,7 @@ module _ {V W : Type 0} {P : V → Type 0} {Q : W → Type 0}
       → IsCoreOf seen c s given boxes → c.journal.ticks + most ≤ c.scenario.horizon
       → Stands seen c.tree (MayElapse seen c.tree c.bursts c.stays c.journal most)
   core_may_elapse c s given boxes most is le =
-      let now = state_now (told s.items c.depth c.journal) is.steps start
+      let now = state_now (told s.version s.items c.depth c.journal) is.steps start
       (answered_by s.items c.journal.answers.items) is.run.tells in
       let own = ap (λ (x : Scenario). x.horizon) is.scenario in
       let horizon = is.horizon in
@@ -91,10 +96,10 @@ module _ {V W : Type 0} {P : V → Type 0} {Q : W → Type 0}
         is = record {
           at_state = is.at_state;
           stays = is.stays;
-          standing = run_standing (told s.items c.depth c.journal) is.steps is.run.legal is.run.tells;
+          standing = run_standing (told s.version s.items c.depth c.journal) is.steps is.run.legal is.run.tells;
           noted = is.noted;
           early = omega (arith, now, own, horizon, le);
-          small = let few = is.within.horizon.1 in omega (arith, now, own, le, few);
+          small = let few = short s is.within in omega (arith, now, own, le, few);
         };
       }
 
@@ -109,20 +114,20 @@ module _ {V W : Type 0} {P : V → Type 0} {Q : W → Type 0}
       → IsCoreOf seen c s given boxes → 0 < most → c.journal.ticks + most ≤ c.scenario.horizon → MayTick c.journal
   core_may_tick c s given boxes most is some le =
       let own = ap (λ (x : Scenario). x.horizon) is.scenario in
-      may_tick s c.journal is.kept is.within.horizon.1 (omega (arith, own, le, some))
+      may_tick s c.journal is.kept (short s is.within) (omega (arith, own, le, some))
 
   pub core_small : (c : Core V W P Q X) (s : Scenario) (given : ℕ) (boxes : Boxes) (most n : ℕ)
       → IsCoreOf seen c s given boxes → n ≤ most → c.journal.ticks + most ≤ c.scenario.horizon
       → c.journal.ticks + n < 2 ^ 32
   core_small c s given boxes most n is few le =
       let own = ap (λ (x : Scenario). x.horizon) is.scenario in
-      let within = is.within.horizon.1 in omega (arith, own, le, few, within)
+      let within = short s is.within in omega (arith, own, le, few, within)
 
   pub core_within : (c : Core V W P Q X) (s : Scenario) (given : ℕ) (boxes : Boxes) (most : ℕ)
       → IsCoreOf seen c s given boxes → c.journal.ticks + most ≤ c.scenario.horizon → most ≤ always
   core_within c s given boxes most is le =
       let own = ap (λ (x : Scenario). x.horizon) is.scenario in
-      let within = is.within.horizon.1 in omega (arith, own, le, within)
+      let within = short s is.within in omega (arith, own, le, within)
 
   -- where ticks pass up to the next command at most, as many as nothing changes in, nothing happens in them
   pub core_leap : (c : Core V W P Q X) (s : Scenario) (given : ℕ) (boxes : Boxes) (end most n : ℕ)
@@ -135,7 +140,7 @@ module _ {V W : Type 0} {P : V → Type 0} {Q : W → Type 0}
   core_leap c s given boxes end most n is none le early next few stretches =
       let h : Hierarchy = state start is.steps in
       let now : h.now ≡ c.journal.ticks =
-      state_now (told s.items c.depth c.journal) is.steps start (answered_by s.items c.journal.answers.items)
+      state_now (told s.version s.items c.depth c.journal) is.steps start (answered_by s.items c.journal.answers.items)
       is.run.tells in
       let items = ap (λ (x : Scenario). slice_get x.items c.agenda) is.scenario in
       let stretch = stretches h (core_may_elapse c s given boxes most is (omega (arith, le, early))).is in
@@ -202,7 +207,7 @@ module _ {V W : Type 0} {P : V → Type 0} {Q : W → Type 0}
         noted = is.noted;
         marks = is.marks;
       }) (omega arith) (omega (arith, own, le, few)) e.is.can e.names e.way noted in
-      let ahead = ahead_next s.horizon s.items old.agenda (old.journal.ticks + (n - 1)) is.within.items
+      let ahead = ahead_next s.version s.horizon s.items old.agenda (old.journal.ticks + (n - 1)) is.within.items
       (λ item there. (let clear = none item (ap (λ (x : Scenario). slice_get x.items old.agenda) is.scenario ∙ there) in
       omega (arith, clear, some, few))) in
       record {
@@ -222,7 +227,7 @@ module _ {V W : Type 0} {P : V → Type 0} {Q : W → Type 0}
             ∙ ap (λ xs. Rattle.hls_legal.specs.Kit.boxes_left boxes (answered_by s.items xs.items))
             (sym ran.answers);
         steps = ran.past;
-        run = subst (λ n. IsRun n boxes (told s.items n new.journal) ran.past) (sym depth) ran.run;
+        run = subst (λ n. IsRun n boxes (told s.version s.items n new.journal) ran.past) (sym depth) ran.run;
         at_state = record {
           tree = subst (IsTreeOf seen new.tree) (sym ran.leads) e.is.tree;
           ready = subst (IsReadyOf seen new.tree) (sym ran.leads) e.ready;
@@ -238,22 +243,24 @@ module _ {V W : Type 0} {P : V → Type 0} {Q : W → Type 0}
       }
 
   pub ends_legal : (c : Core V W P Q X) (s : Scenario) (given : ℕ) (boxes : Boxes) (r : Report)
-      → IsReportOf (told c.scenario.items c.depth c.journal) r → c.journal.ticks ≡ c.scenario.horizon
+      → IsReportOf (told c.scenario.version c.scenario.items c.depth c.journal) r
+      → c.journal.ticks ≡ c.scenario.horizon
       → IsCoreOf seen c s given boxes → IsLegalReport s given boxes r
   ends_legal c s given boxes r of ended is =
       let own = ap (λ (x : Scenario). x.horizon) is.scenario in
       let whole : c.journal.ticks ≡ s.horizon = ended ∙ own in
-      let bare = told s.items c.depth c.journal in
+      let bare = told s.version s.items c.depth c.journal in
       let content : content_of r ≡ with_totals bare =
-      of.content ∙ ap (λ (x : Scenario). with_totals (told x.items c.depth c.journal)) is.scenario in
+      of.content ∙ ap (λ (x : Scenario). with_totals (told x.version x.items c.depth c.journal)) is.scenario in
       let all : c.agenda ≡ length s.items =
-      none_left s.horizon s.items c.agenda is.within.items
+      none_left s.version s.horizon s.items c.agenda is.within.items
       (let place = is.place in let few = is.kept.few in omega (arith, place, few))
       (subst (Rattle.hls_core.specs.Cores.AreAhead s.items c.agenda) whole is.ahead) in
       record {
         formed = of.formed;
         legal = subst (Rattle.hls_legal.specs.Legal.IsLegalContent s given boxes) (sym content) (record {
           formed = subst Rattle.hls_report_text.specs.WellFormed.IsContent content of.formed.content;
+          version = refl;
           horizon = whole;
           depth = is.depth;
           commands = all_told s.items c.journal.answers.items (sym is.place ∙ all);
@@ -269,7 +276,8 @@ module _ {V W : Type 0} {P : V → Type 0} {Q : W → Type 0}
       }
 
   pub all_legal : {E : Type 0} (c : Core V W P Q X) (result : Result Report E)
-      → IfOk result (IsReportOf (told c.scenario.items c.depth c.journal)) → c.journal.ticks ≡ c.scenario.horizon
+      → IfOk result (IsReportOf (told c.scenario.version c.scenario.items c.depth c.journal))
+      → c.journal.ticks ≡ c.scenario.horizon
       → IfOk result (λ r. (s : Scenario) (given : ℕ) (boxes : Boxes) → IsCoreOf seen c s given boxes
       → IsLegalReport s given boxes r)
   all_legal c (Ok r) of ended = λ s given boxes is. ends_legal c s given boxes r of ended is
@@ -278,21 +286,21 @@ module _ {V W : Type 0} {P : V → Type 0} {Q : W → Type 0}
   -- the accounts that were carried along are those that come of what is told
   pub core_accounts : (c : Core V W P Q X) (accounts : List Account) (now : ℕ) → Runs seen c → now ≡ c.journal.ticks
       → ((h : Hierarchy) → AreStays c.stays h → h.now ≡ now → accounts ≡ accounts_in h)
-      → accounts ≡ accounts_of (told c.scenario.items c.depth c.journal)
+      → accounts ≡ accounts_of (told c.scenario.version c.scenario.items c.depth c.journal)
   core_accounts c accounts now runs at_now is =
       let x = runs.is in
-      let content = told runs.s.items c.depth c.journal in
+      let content = told runs.s.version runs.s.items c.depth c.journal in
       let ticks = state_now content x.steps start (answered_by runs.s.items c.journal.answers.items) x.run.tells in
       is (state start x.steps) x.stays (ticks ∙ sym at_now)
       ∙ sym (accounts_told content x.steps x.run.legal x.run.tells)
-      ∙ ap (λ (s : Scenario). accounts_of (told s.items c.depth c.journal)) (sym x.scenario)
+      ∙ ap (λ (s : Scenario). accounts_of (told s.version s.items c.depth c.journal)) (sym x.scenario)
 
   pub core_idle : (c : Core V W P Q X) (idle : ℕ) → Runs seen c
       → ((h : Hierarchy) → AreStays c.stays h → idle ≡ idle_in h)
-      → idle ≡ idle_of (told c.scenario.items c.depth c.journal)
+      → idle ≡ idle_of (told c.scenario.version c.scenario.items c.depth c.journal)
   core_idle c idle runs is =
       let x = runs.is in
-      let content = told runs.s.items c.depth c.journal in
+      let content = told runs.s.version runs.s.items c.depth c.journal in
       is (state start x.steps) x.stays
       ∙ sym (idle_told content x.steps x.run.legal x.run.tells)
-      ∙ ap (λ (s : Scenario). idle_of (told s.items c.depth c.journal)) (sym x.scenario)
+      ∙ ap (λ (s : Scenario). idle_of (told s.version s.items c.depth c.journal)) (sym x.scenario)

@@ -43,6 +43,7 @@ use Rattle.hls_core_journal.proofs.Keeps.{kept_note, told_note, noted_grows, may
 use Rattle.hls_core.specs.Bursts.{left_in}
 use Rattle.hls_core.specs.declared.bursts.Bursts.{Bursts}
 use Rattle.hls_manager.specs.Outcomes.{boxes_in, moment}
+use Rattle.hls_manager.proofs.Versions.{of_either}
 use Rattle.hls_core.specs.Marks.{HasMarksFor}
 use Rattle.hls_core.specs.Standing.{IsAt}
 use Rattle.hls_core_stays.specs.Tallies.{AreStays}
@@ -101,7 +102,7 @@ module _ {V W : Type 0} {P : V → Type 0} {Q : W → Type 0}
     marks = next_marks (state start is.steps) (length s.items - c.agenda)
         (let lt = slice_get_within s.items c.agenda due.item due.there in omega (arith, lt)) is.marks;
     stays = is.stays;
-    standing = run_standing (told s.items c.depth c.journal) is.steps is.run.legal is.run.tells;
+    standing = run_standing (told s.version s.items c.depth c.journal) is.steps is.run.legal is.run.tells;
   }
 
   pub core_stands : (c : Core V W P Q X) (s : Scenario) (given : ℕ) (boxes : Boxes) (command : Command)
@@ -143,9 +144,9 @@ module _ {V W : Type 0} {P : V → Type 0} {Q : W → Type 0}
       ap (slice_get s.items) (sym is.place) ∙ due.there in
       let notes : IsNoted item.command answer old.journal new.journal =
       subst (λ c. IsNoted c answer old.journal new.journal) (sym due.is) noted in
-      let grammar = items_command s.horizon 0 s.items old.agenda item is.within.items due.there in
+      let grammar = items_command s.version s.horizon 0 s.items old.agenda item is.within.items due.there in
       let fit = subst (λ c. formed.MayAnswer c answer) (sym due.is) fits in
-      let c = told s.items old.depth old.journal in
+      let c = told s.version s.items old.depth old.journal in
       let a = answered_as item answer in
       let boxed_now = boxes_left boxes (answered_by s.items old.journal.answers.items) in
       let told_is = told_note s old.depth old.journal new.journal item answer is.kept at_place notes in
@@ -185,7 +186,7 @@ module _ {V W : Type 0} {P : V → Type 0} {Q : W → Type 0}
             answer at_place));
         steps = is.steps ++ out.step ∷ [];
         run =
-            subst (λ n. IsRun n boxes (told s.items n new.journal) (is.steps ++ out.step ∷ [])) (sym depth)
+            subst (λ n. IsRun n boxes (told s.version s.items n new.journal) (is.steps ++ out.step ∷ [])) (sym depth)
             (subst (λ (k : Content). IsRun old.depth boxes k (is.steps ++ out.step ∷ [])) (sym told_is) run);
         at_state =
             at_next seen new.tree new.bursts is.steps out.step is.run.legal out.can out.tree
@@ -235,9 +236,10 @@ due_for own s place now ticks command same at e =
     (e ∙ ap (λ (x : Scenario). due_command x.items place now) same ∙ ap (due_command s.items place) at)
 
 pub due_command_is : (s : Scenario) (place now : ℕ) (command : Command) → IsScenario s
-    → IsDue s.items place now command → IsCommand command
+    → IsDue s.items place now command → IsCommand 2 command
 due_command_is s place now command is due =
-    subst IsCommand due.is (items_command s.horizon 0 s.items place due.item is.items due.there).0
+    subst (IsCommand 2) due.is (of_either s.version due.item.command
+    (items_command s.version s.horizon 0 s.items place due.item is.items due.there).0)
 
 pub due_small : (s : Scenario) (place now : ℕ) (command : Command) → IsScenario s
     → IsDue s.items place now command → place < 65536

@@ -36,59 +36,62 @@ is_due items place now command e = by (slice_get items place) refl e
             record { item = item; there = there; tick = eqb-true item.tick now same; is = (let h = sym g in cc) }
         on false other g = absurd (cc)
 
-pub items_command : (horizon last : ℕ) (items : List Item) (at : ℕ) (item : Item) → AreItems horizon last items
-    → slice_get items at ≡ Some item → IsCommand item.command × (last ≤ item.tick) × (item.tick < horizon)
-items_command horizon last [] at item are e = absurd (cc)
-items_command horizon last (one ∷ items) zero item are e =
+pub items_command : (version horizon last : ℕ) (items : List Item) (at : ℕ) (item : Item)
+    → AreItems version horizon last items → slice_get items at ≡ Some item
+    → IsCommand version item.command × (last ≤ item.tick) × (item.tick < horizon)
+items_command version horizon last [] at item are e = absurd (cc)
+items_command version horizon last (one ∷ items) zero item are e =
     let same : one ≡ item = cc in
-    subst (λ (i : Item). IsCommand i.command × (last ≤ i.tick) × (i.tick < horizon)) same (are.0, are.1, are.2)
-items_command horizon last (one ∷ items) (suc at) item are e =
-    let rest = items_command horizon one.tick items at item are.3 e in
+    subst (λ (i : Item). IsCommand version i.command × (last ≤ i.tick) × (i.tick < horizon)) same (are.0, are.1, are.2)
+items_command version horizon last (one ∷ items) (suc at) item are e =
+    let rest = items_command version horizon one.tick items at item are.3 e in
     let first = are.1 in
     let later = rest.1 in (rest.0, omega (arith, first, later), rest.2)
 
-pub items_rise : (horizon last : ℕ) (items : List Item) (at more : ℕ) (one other : Item) → AreItems horizon last items
-    → at ≤ more → slice_get items at ≡ Some one → slice_get items more ≡ Some other → one.tick ≤ other.tick
-items_rise horizon last [] at more one other are le e f = absurd (cc)
-items_rise horizon last (item ∷ items) zero zero one other are le e f =
+pub items_rise : (version horizon last : ℕ) (items : List Item) (at more : ℕ) (one other : Item)
+    → AreItems version horizon last items → at ≤ more → slice_get items at ≡ Some one
+    → slice_get items more ≡ Some other → one.tick ≤ other.tick
+items_rise version horizon last [] at more one other are le e f = absurd (cc)
+items_rise version horizon last (item ∷ items) zero zero one other are le e f =
     let same : one ≡ other = cc in
     let ticks = ap (λ (i : Item). i.tick) same in omega (arith, ticks)
-items_rise horizon last (item ∷ items) zero (suc more) one other are le e f =
+items_rise version horizon last (item ∷ items) zero (suc more) one other are le e f =
     let same : item ≡ one = cc in
     let ticks = ap (λ (i : Item). i.tick) same in
-    let rest = (items_command horizon item.tick items more other are.3 f).1 in omega (arith, ticks, rest)
-items_rise horizon last (item ∷ items) (suc at) zero one other are le e f = absurd (omega (arith, le))
-items_rise horizon last (item ∷ items) (suc at) (suc more) one other are le e f =
-    items_rise horizon item.tick items at more one other are.3 (omega (arith, le)) e f
+    let rest = (items_command version horizon item.tick items more other are.3 f).1 in omega (arith, ticks, rest)
+items_rise version horizon last (item ∷ items) (suc at) zero one other are le e f = absurd (omega (arith, le))
+items_rise version horizon last (item ∷ items) (suc at) (suc more) one other are le e f =
+    items_rise version horizon item.tick items at more one other are.3 (omega (arith, le)) e f
 
 -- the next tick comes once none is due
-pub ahead_next : (horizon : ℕ) (items : List Item) (place now : ℕ) → AreItems horizon 0 items → NoneDue items place now
-    → AreAhead items place (now + 1)
-ahead_next horizon items place now are none at item le e =
+pub ahead_next : (version horizon : ℕ) (items : List Item) (place now : ℕ) → AreItems version horizon 0 items
+    → NoneDue items place now → AreAhead items place (now + 1)
+ahead_next version horizon items place now are none at item le e =
     by (cases_lt place (length items))
   where
     by : (place < length items) ⊎ (length items ≤ place) → now + 1 ≤ item.tick
     by (inl lt) =
         let first = slice_get-get_or items place item lt in
         let later = none _ first in
-        let rise = items_rise horizon 0 items place at _ item are le first e in omega (arith, later, rise)
+        let rise = items_rise version horizon 0 items place at _ item are le first e in omega (arith, later, rise)
     by (inr past) = let lt = slice_get_within items at item e in absurd (omega (arith, past, lt, le))
 
 -- at the horizon none is left
-pub none_left : (horizon : ℕ) (items : List Item) (place : ℕ) → AreItems horizon 0 items → place ≤ length items
-    → AreAhead items place horizon → place ≡ length items
-none_left horizon items place are le ahead = by (cases_lt place (length items))
+pub none_left : (version horizon : ℕ) (items : List Item) (place : ℕ) → AreItems version horizon 0 items
+    → place ≤ length items → AreAhead items place horizon → place ≡ length items
+none_left version horizon items place are le ahead = by (cases_lt place (length items))
   where
     by : (place < length items) ⊎ (length items ≤ place) → place ≡ length items
     by (inl lt) = absurd (first items place are ahead lt)
       where
-        first : (items : List Item) (place : ℕ) → AreItems horizon 0 items → AreAhead items place horizon
+        first : (items : List Item) (place : ℕ) → AreItems version horizon 0 items → AreAhead items place horizon
             → place < length items → ⊥
         first [] place are ahead lt = omega (arith, lt)
         first (item ∷ items) place are ahead lt =
             let there = slice_get-get_or (item ∷ items) place item lt in
             let late = ahead place _ (omega arith) there in
-            let early = (items_command horizon 0 (item ∷ items) place _ are there).2 in omega (arith, late, early)
+            let early = (items_command version horizon 0 (item ∷ items) place _ are there).2 in
+            omega (arith, late, early)
     by (inr past) = omega (arith, le, past)
 
 pub all_told : (items : List Item) (answers : List Answer) → length answers ≡ length items

@@ -74,7 +74,7 @@ module _ {V W : Type 0} {P : V → Type 0} {Q : W → Type 0}
         good = good;
         left = sym (ap (boxes_left (boxes_in c.kit)) answered);
         steps = [];
-        run = run_none c.depth (boxes_in c.kit) (told s.items c.depth c.journal) answered new.ticks;
+        run = run_none c.depth (boxes_in c.kit) (told s.version s.items c.depth c.journal) answered new.ticks;
         at_state = record {
           tree = tree;
           ready = ready;

@@ -65,7 +65,7 @@ module _ (s : Scenario) (depth place : ℕ) (boxes : Boxes) (old : Journal) (h :
     pub names : j.names.keys ≡ old.names.keys
     pub ticks : j.ticks ≡ old.ticks + n
     pub past : List Step
-    pub run : IsRun depth boxes (told s.items depth j) past
+    pub run : IsRun depth boxes (told s.version s.items depth j) past
     pub leads : state start past ≡ later h asking masks path n
     pub noted : AreNoted (later h asking masks path n) j
     pub marks : HasMarksFor (length s.items - place) (later h asking masks path n)
@@ -88,7 +88,8 @@ module _ (s : Scenario) (depth place : ℕ) (boxes : Boxes) (old : Journal) (h :
         ticks = (let one = ticked.ticks in let before = is.ticks in omega (arith, one, before));
         past = is.past ++ step ∷ [];
         run =
-            run_tick depth boxes (told s.items depth j) (told s.items depth new) is.past asking masks path _ is.run
+            run_tick depth boxes (told s.version s.items depth j) (told s.version s.items depth new) is.past asking
+            masks path _ is.run
             (subst (λ g. Can g step) (sym is.leads) can)
             (subst (λ g. Names g path (names_by j.names.keys told_path)) (sym is.leads) named)
             (told_tick s depth j new told_path is.kept here ticked);

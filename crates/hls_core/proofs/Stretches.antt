@@ -51,7 +51,7 @@ ungranted : (config : Config) (b : Ledger) (mask : ℕ) (choice : Option ℕ)
 ungranted Cpu b mask choice = refl
 ungranted Fp b mask choice = refl
 ungranted Edf b mask choice = refl
-ungranted (Sfq total most) b mask choice = refl
+ungranted (Sfq total most quantum) b mask choice = refl
 ungranted (Rr quantum) b mask choice = refl
 ungranted (Wheel frame) b mask choice = refl
 ungranted (Join ports) b mask choice = refl
@@ -63,7 +63,7 @@ unserved Fp b mask = refl
 unserved Edf b mask =
     let within = deadlines_within b mask 32 in
     let least : to_deadlines b mask 32 ≡ min (to_deadlines b mask 32) always = omega (arith, within) in ap (max 1) least
-unserved (Sfq total most) b mask = refl
+unserved (Sfq total most quantum) b mask = refl
 unserved (Rr quantum) b mask = refl
 unserved (Wheel frame) b mask = refl
 unserved (Join ports) b mask = refl

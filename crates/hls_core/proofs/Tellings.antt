@@ -60,7 +60,7 @@ not_none xs rest x one is fewer =
 pub record IsLastOf (s : Scenario) (before : List Answer) (answer : Answer) : Type 0 where
   pub item : Item
   pub there : slice_get s.items (length before) ≡ Some item
-  pub command : IsCommand item.command
+  pub command : IsCommand s.version item.command
   pub fits : MayAnswer item.command answer
 
 pub last_of : (s : Scenario) (j : Journal) (before : List Answer) (answer : Answer) → IsScenario s → IsKept s j
@@ -73,15 +73,15 @@ last_of s j before answer is kept all =
     record {
       item = at.0;
       there = at.1;
-      command = (items_command s.horizon 0 s.items (length before) at.0 is.items at.1).0;
+      command = (items_command s.version s.horizon 0 s.items (length before) at.0 is.items at.1).0;
       fits = (all_front P (zip s.items before) (at.0, answer)
           (subst (All P) (zip_push s.items before at.0 answer at.1)
           (subst (λ (xs : List Answer). All P (zip s.items xs)) all kept.fit))).1;
     }
 
 -- its lines may be written
-pub record MayPut (item : Item) (answer : Answer) : Type 0 where
-  pub command : IsCommand item.command
+pub record MayPut (version : ℕ) (item : Item) (answer : Answer) : Type 0 where
+  pub command : IsCommand version item.command
   pub fits : MayAnswer item.command answer
 
 -- what is read at a place
@@ -94,10 +94,10 @@ item_at items read place item same lt is =
 told_more : (s : Scenario) (depth : ℕ) (before : List Answer) (item : Item) (answer : Answer)
     → slice_get s.items (length before) ≡ Some item
     → told_by s depth (before ++ answer ∷ [])
-    ≡ told_by s depth before ++ ended (answered_lines (answered_as item answer))
+    ≡ told_by s depth before ++ ended (answered_lines s.version (answered_as item answer))
 told_more s depth before item answer there =
-    let head = ended (head_lines s.horizon depth) in
-    let lines : Answered → Text = λ a. ended (answered_lines a) in
+    let head = ended (head_lines s.version s.horizon depth) in
+    let lines : Answered → Text = λ a. ended (answered_lines s.version a) in
     let first = flat_map lines (answered_by s.items before) in
     ap (λ (xs : List Answered). head ++ flat_map lines xs) (answered_push s.items before item answer there)
     ∙ ap (λ (t : Text). head ++ t)
@@ -142,7 +142,7 @@ module _ {V W : Type 0} {P : V → Type 0} {Q : W → Type 0}
       → c.journal.answers.items ≡ j.answers.items ++ answer ∷ []
       → vec_capacity j.answers ≡ vec_capacity c.journal.answers
       → j ≡ record c.journal { answers = j.answers }
-      → text ≡ was ++ ended (answered_lines (answered_as item answer))
+      → text ≡ was ++ ended (answered_lines c.scenario.version (answered_as item answer))
       → TellsLast seen c was (record c { journal = j }) text
   told_last c j was text place item answer at there taken room others put s given boxes u =
       let one = the_one c.journal.answers.items j.answers.items u.answer answer u.last taken in
@@ -154,8 +154,10 @@ module _ {V W : Type 0} {P : V → Type 0} {Q : W → Type 0}
         none = one.none;
         room = (let had = u.room in omega (arith, had, room));
         spelled =
-            put ∙ ap (λ (t : Text). t ++ ended (answered_lines (answered_as item answer))) u.spelled
-            ∙ ap (λ (a : Answer). told_by s c.depth u.before ++ ended (answered_lines (answered_as item a)))
+            put ∙ ap (λ (x : Scenario). was ++ ended (answered_lines x.version (answered_as item answer)))
+            u.is.scenario
+            ∙ ap (λ (t : Text). t ++ ended (answered_lines s.version (answered_as item answer))) u.spelled
+            ∙ ap (λ (a : Answer). told_by s c.depth u.before ++ ended (answered_lines s.version (answered_as item a)))
             one.same
             ∙ sym (told_more s c.depth u.before item u.answer here)
             ∙ ap (told_by s c.depth) (sym u.all);
@@ -263,7 +265,7 @@ module _ {V W : Type 0} {P : V → Type 0} {Q : W → Type 0}
   -- the last command and its answer have lines
   pub may_put : (c : Core V W P Q X) (rest : List Answer) (was : Text) (place : ℕ) (item : Item) (answer : Answer)
       → HasUntold seen c was → place ≡ c.agenda - 1 → slice_get c.scenario.items place ≡ Some item
-      → c.journal.answers.items ≡ rest ++ answer ∷ [] → MayPut item answer
+      → c.journal.answers.items ≡ rest ++ answer ∷ [] → MayPut c.scenario.version item answer
   may_put c rest was place item answer has at there taken =
       let u = has.is in
       let last = last_untold c has.s has.given has.boxes was u in
@@ -272,7 +274,8 @@ module _ {V W : Type 0} {P : V → Type 0} {Q : W → Type 0}
       let both : Some last.item ≡ Some item = sym last.there ∙ here in
       let same : last.item ≡ item = cc in
       record {
-        command = subst (λ (i : Item). IsCommand i.command) same last.command;
+        command = subst (λ (x : Scenario). IsCommand x.version item.command) (sym u.is.scenario)
+            (subst (λ (i : Item). IsCommand has.s.version i.command) same last.command);
         fits = subst (λ (a : Answer). MayAnswer item.command a) (sym one.same)
             (subst (λ (i : Item). MayAnswer i.command u.answer) same last.fits);
       }

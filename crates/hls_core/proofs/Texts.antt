@@ -43,21 +43,22 @@ use Rattle.hls_core.proofs.Ended.{state_now, ends_legal}
 abbrev spelled : Stretch → Text
 spelled s = with_end (stretch_text s)
 
-abbrev lines : Answered → Text
-lines a = ended (answered_lines a)
+abbrev lines : (version : ℕ) → Answered → Text
+lines version a = ended (answered_lines version a)
 
 abbrev account_lines : List Account → Text
 account_lines accounts = flat_map (λ (a : Account). with_end (account_text a)) accounts
 
 -- the text of a content, part by part
 abbrev parts_of : Content → Text
-parts_of c = ((((((ended (head_lines c.horizon c.depth) ++ flat_map lines c.answered) ++ codes "schedule\n")
-    ++ flat_map spelled c.stretches) ++ codes "accounts\n") ++ account_lines c.accounts) ++ ended (end_lines c.idle))
+parts_of c = ((((((ended (head_lines c.version c.horizon c.depth) ++ flat_map (lines c.version) c.answered)
+    ++ codes "schedule\n") ++ flat_map spelled c.stretches) ++ codes "accounts\n") ++ account_lines c.accounts)
+    ++ ended (end_lines c.idle))
 
 parts_told : (r : Report) → parts_of (content_of r) ≡ report_text r
 parts_told r =
-    ap (λ (t : Text). ((((((ended (head_lines r.horizon r.depth) ++ flat_map lines r.answered) ++ codes "schedule\n")
-    ++ t) ++ codes "accounts\n") ++ account_lines r.accounts) ++ ended (end_lines r.idle)))
+    ap (λ (t : Text). ((((((ended (head_lines r.version r.horizon r.depth) ++ flat_map (lines r.version) r.answered)
+    ++ codes "schedule\n") ++ t) ++ codes "accounts\n") ++ account_lines r.accounts) ++ ended (end_lines r.idle)))
     (flat_map-map spelled (stretch_of r.names) r.runs)
     ∙ whole_report r
 
@@ -94,7 +95,7 @@ module _ {V W : Type 0} {P : V → Type 0} {Q : W → Type 0}
   -- what is told in the end
   abbrev bare_of : (c : Core V W P Q X) (s : Scenario) (given : ℕ) (boxes : Boxes) (was : Text)
       → IsToldIn seen c s given boxes was → Content
-  bare_of c s given boxes was t = told s.items c.depth (keeping t.answers c).journal
+  bare_of c s given boxes was t = told s.version s.items c.depth (keeping t.answers c).journal
 
   formed : (c : Core V W P Q X) (s : Scenario) (given : ℕ) (boxes : Boxes) (was : Text)
       (t : IsToldIn seen c s given boxes was) → c.journal.ticks ≡ c.scenario.horizon
@@ -145,11 +146,14 @@ module _ {V W : Type 0} {P : V → Type 0} {Q : W → Type 0}
       four h t.is.stays ∙ sym (idle_told bare t.is.steps t.is.run.legal t.is.run.tells) in
       let accounts = three h t.is.stays (leads_now c s given boxes was t ∙ sym at_now)
       ∙ ap (λ (l : List Account). accounted ++ account_lines l) all in
-      let begun : was ≡ ended (head_lines content.horizon c.depth) ++ flat_map lines content.answered =
-      t.spelled ∙ ap (λ n. ended (head_lines n c.depth) ++ flat_map lines content.answered) (sym horizon) in
+      let begun : was ≡ ended (head_lines s.version content.horizon c.depth)
+      ++ flat_map (lines s.version) content.answered =
+      t.spelled ∙ ap (λ n. ended (head_lines s.version n c.depth) ++ flat_map (lines s.version) content.answered)
+      (sym horizon) in
       let text_is : text ≡ parts_of content =
-      joined was scheduled accounted told_now text (ended (head_lines content.horizon c.depth)
-      ++ flat_map lines content.answered) (flat_map spelled content.stretches) (account_lines content.accounts)
+      joined was scheduled accounted told_now text (ended (head_lines s.version content.horizon c.depth)
+      ++ flat_map (lines s.version) content.answered) (flat_map spelled content.stretches)
+      (account_lines content.accounts)
       (ended (end_lines content.idle)) one two accounts
       (five ∙ ap (λ n. told_now ++ ended (end_lines n)) idle_is) begun in
       record {
@@ -157,7 +161,7 @@ module _ {V W : Type 0} {P : V → Type 0} {Q : W → Type 0}
         legal = ends_legal seen (keeping t.answers c) s given boxes r.0 (record {
           formed = r.1;
           content = r.2
-              ∙ ap (λ (x : Scenario). with_totals (told x.items c.depth j)) (sym t.is.scenario);
+              ∙ ap (λ (x : Scenario). with_totals (told x.version x.items c.depth j)) (sym t.is.scenario);
         }) over t.is;
         spelled = text_is ∙ ap parts_of (sym r.2) ∙ parts_told r.0;
       }
@@ -166,23 +170,24 @@ module _ {V W : Type 0} {P : V → Type 0} {Q : W → Type 0}
 
   pub told_first : (c : Core V W P Q X) (s : Scenario) (given : ℕ) (boxes : Boxes) (empty text : Text)
       → IsCoreOf seen c s given boxes → c.journal.answers.items ≡ [] → empty ≡ []
-      → text ≡ empty ++ ended (head_lines c.scenario.horizon c.depth) → IsToldIn seen c s given boxes text
+      → text ≡ empty ++ ended (head_lines c.scenario.version c.scenario.horizon c.depth)
+      → IsToldIn seen c s given boxes text
   told_first c s given boxes empty text is unanswered none head = record {
     answers = c.journal.answers;
     is = is;
     none = unanswered;
     room = omega arith;
     spelled =
-        head ∙ ap (λ (t : Text). t ++ ended (head_lines c.scenario.horizon c.depth)) none
-        ∙ ap (λ (x : Scenario). ended (head_lines x.horizon c.depth)) is.scenario
-        ∙ sym (append-nil (ended (head_lines s.horizon c.depth)))
-        ∙ ap (λ (xs : List Answered). ended (head_lines s.horizon c.depth) ++ flat_map lines xs)
+        head ∙ ap (λ (t : Text). t ++ ended (head_lines c.scenario.version c.scenario.horizon c.depth)) none
+        ∙ ap (λ (x : Scenario). ended (head_lines x.version x.horizon c.depth)) is.scenario
+        ∙ sym (append-nil (ended (head_lines s.version s.horizon c.depth)))
+        ∙ ap (λ (xs : List Answered). ended (head_lines s.version s.horizon c.depth) ++ flat_map (lines s.version) xs)
         (sym (none_answered s.items) ∙ ap (answered_by s.items) (sym unanswered));
   }
 
   pub may_begin : (c : Core V W P Q X) (s : Scenario) (given : ℕ) (boxes : Boxes) (empty text : Text)
       → IsCoreOf seen c s given boxes → c.journal.answers.items ≡ [] → empty ≡ []
-      → text ≡ empty ++ ended (head_lines c.scenario.horizon c.depth) → MayTell seen c text
+      → text ≡ empty ++ ended (head_lines c.scenario.version c.scenario.horizon c.depth) → MayTell seen c text
   may_begin c s given boxes empty text is unanswered none head = record {
     s = s;
     given = given;

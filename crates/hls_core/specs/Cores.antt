@@ -62,7 +62,7 @@ module _ {V W : Type 0} {P : V → Type 0} {Q : W → Type 0}
     pub good : IsGood (boxed seen) c.kit
     pub left : boxes_in c.kit ≡ boxes_left boxes (answered_by s.items c.journal.answers.items)
     pub steps : List Step
-    pub run : IsRun c.depth boxes (told s.items c.depth c.journal) steps
+    pub run : IsRun c.depth boxes (told s.version s.items c.depth c.journal) steps
     pub at_state : IsAt seen c.tree c.bursts (state start steps)
     pub stays : AreStays c.stays (state start steps)
     pub noted : AreNoted (state start steps) c.journal

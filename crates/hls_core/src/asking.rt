@@ -48,7 +48,7 @@ impl Core {
     pub fn ask(&self, command: &Command) -> Result<Answer, AllocError>
         requires runs { Runs seen self.now }
         requires kind { IsRequest command.now }
-        requires command { IsCommand command.now }
+        requires command { IsCommand 2 command.now }
         ensures is { IfOk result (λ answer. (m : Moment) → IsMomentOf seen self.now m → IsAnswer m command.now answer) }
         ensures formed { IfOk result (λ answer. IsWellFormed command.now answer) }
     {

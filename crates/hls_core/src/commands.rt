@@ -50,7 +50,7 @@ fn wake(
     burst: Option<u32>,
 ) -> Result<Answer, AllocError>
     requires stands { Stands seen tree.old (MayCarry seen tree.old bursts.old stays.old) }
-    requires command { IsCommand (Wake name.now burst) }
+    requires command { IsCommand 2 (Wake name.now burst) }
     ensures carried { IfOk result (λ answer. (m : Moment) (commands : ℕ) → IsAt seen tree.old bursts.old m.hierarchy →
         CarriesOut seen tree.old tree.new bursts.new m commands (Wake name.now burst) answer) }
     ensures stays { IfOk result (λ answer.
@@ -74,7 +74,7 @@ fn wake(
 
 /// Makes a thread not ready. Its stay is carried along.
 fn block(alloc: Global, tree: &mut Tree, bursts: &Bursts, stays: &mut Stays, name: &Name) -> Answer
-    requires command { IsCommand (Block name.now) }
+    requires command { IsCommand 2 (Block name.now) }
     requires stands { Stands seen tree.old (MayCarry seen tree.old bursts.now stays.old) }
     ensures carried { (m : Moment) (commands : ℕ) → IsAt seen tree.old bursts.now m.hierarchy →
         CarriesOut seen tree.old tree.new bursts.now m commands (Block name.now) result }
@@ -103,7 +103,7 @@ fn carry_out(
     command: &Command,
 ) -> Result<Answer, AllocError>
     requires seats { IsOfSeats command.now }
-    requires command { IsCommand command.now }
+    requires command { IsCommand 2 command.now }
     requires depth { depth ≤ 6 }
     requires kit { IsGood (boxed seen) kit.old }
     requires commands { commands ≤ 65536 }
@@ -154,7 +154,7 @@ pub fn carry_along(
     commands: u32,
     command: &Command,
 ) -> Result<Answer, AllocError>
-    requires command { IsCommand command.now }
+    requires command { IsCommand 2 command.now }
     requires depth { depth ≤ 6 }
     requires kit { IsGood (boxed seen) kit.old }
     requires commands { commands ≤ 65536 }

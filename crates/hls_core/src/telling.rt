@@ -26,9 +26,10 @@ fn tell_last(core: &mut Core, text: &mut Vec<u8>) -> Result<(), AllocError>
     ensures ticks { core.new.journal.ticks ≡ core.old.journal.ticks }
 {
     let place = core.agenda.place() as usize - 1;
+    let version = core.scenario.version;
     let item = &core.scenario.items.items()[place];
     match core.journal.take_last() {
-        Some(answer) => put_answered(text, item.tick, &item.command, &answer),
+        Some(answer) => put_answered(text, version, item.tick, &item.command, &answer),
         None => unreachable!(),
     }
 }
@@ -129,7 +130,12 @@ impl Core {
         let mut text = room;
         text.clear();
         let mut core = Core::open(alloc, scenario, depth, kit, rules)?;
-        put_head(&mut text, core.scenario.horizon, core.depth)?;
+        put_head(
+            &mut text,
+            core.scenario.version,
+            core.scenario.horizon,
+            core.depth,
+        )?;
         tell_all(&mut core, &mut text)?;
         tell_rest(core, &mut text)?;
         Ok(text)

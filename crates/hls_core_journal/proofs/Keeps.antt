@@ -82,14 +82,15 @@ named_few (Done seats) None names = omega arith
 named_few (Done seats) (Some name) names = with_name_few names name
 named_few (Refused r) name names = omega arith
 
-command_named : (command : Command) → IsCommand command → (n : Text) → new_name command ≡ Some n → IsName n
-command_named (said.Load name config perches) is n e = let same : name ≡ n = cc in subst IsName same is.0
-command_named (said.Thread name perch) is n e = let same : name ≡ n = cc in subst IsName same is.0
-command_named (said.End name) is n e = absurd (cc)
-command_named (said.Unload name) is n e = absurd (cc)
-command_named (said.Move name perch) is n e = absurd (cc)
-command_named (said.Wake name burst) is n e = absurd (cc)
-command_named (said.Block name) is n e = absurd (cc)
+command_named : (version : ℕ) (command : Command) → IsCommand version command → (n : Text) → new_name command ≡ Some n
+    → IsName n
+command_named version (said.Load name config perches) is n e = let same : name ≡ n = cc in subst IsName same is.0
+command_named version (said.Thread name perch) is n e = let same : name ≡ n = cc in subst IsName same is.0
+command_named version (said.End name) is n e = absurd (cc)
+command_named version (said.Unload name) is n e = absurd (cc)
+command_named version (said.Move name perch) is n e = absurd (cc)
+command_named version (said.Wake name burst) is n e = absurd (cc)
+command_named version (said.Block name) is n e = absurd (cc)
 
 -- ---- paths
 
@@ -139,7 +140,7 @@ noted_grows command answer old new n =
     subst (Grows old.names.keys) (sym n.names) (named_grows answer (new_name command) old.names.keys)
 
 pub kept_note : (s : Scenario) (old new : Journal) (item : Item) (answer : Answer) → IsKept s old
-    → slice_get s.items (length old.answers.items) ≡ Some item → IsCommand item.command
+    → slice_get s.items (length old.answers.items) ≡ Some item → IsCommand s.version item.command
     → MayAnswer item.command answer → IsNoted item.command answer old new → IsKept s new
 kept_note s old new item answer kept there is fits n =
     let g = noted_grows item.command answer old new n in
@@ -161,7 +162,8 @@ kept_note s old new item answer kept there is fits n =
           kept.fit fits));
       named =
           subst (All IsName) (sym n.names)
-          (named_named answer (new_name item.command) old.names.keys kept.named (command_named item.command is));
+          (named_named answer (new_name item.command) old.names.keys kept.named
+          (command_named s.version item.command is));
       fewer = let fewer = kept.fewer in omega (arith, few, keys, count, fewer);
       cover =
           subst (λ t. Cover 0 None (stretches_of new) t) (sym n.ticks)
@@ -183,8 +185,9 @@ kept_note s old new item answer kept there is fits n =
       runs_room = subst (λ rs. s.horizon ≤ rs.capacity) (sym n.runs) kept.runs_room;
     }
 
-abbrev content : (depth ticks : ℕ) → List Answered → List Stretch → Content
-content depth ticks answered stretches = record {
+abbrev content : (version depth ticks : ℕ) → List Answered → List Stretch → Content
+content version depth ticks answered stretches = record {
+  version = version;
   horizon = ticks;
   depth = depth;
   answered = answered;
@@ -202,14 +205,14 @@ answered_push items answers item answer there =
 
 pub told_note : (s : Scenario) (depth : ℕ) (old new : Journal) (item : Item) (answer : Answer) → IsKept s old
     → slice_get s.items (length old.answers.items) ≡ Some item → IsNoted item.command answer old new
-    → told s.items depth new ≡ with_answer (told s.items depth old) (answered_as item answer)
+    → told s.version s.items depth new ≡ with_answer (told s.version s.items depth old) (answered_as item answer)
 told_note s depth old new item answer kept there n =
     let g = noted_grows item.command answer old new n in
-    ap (λ t. content depth t (answered_by s.items new.answers.items) (stretches_of new)) n.ticks
-    ∙ ap (λ (xs : List Answer). content depth old.ticks (answered_by s.items xs) (stretches_of new)) n.answers
-    ∙ ap (λ (all : List Answered). content depth old.ticks all (stretches_of new))
+    ap (λ t. content s.version depth t (answered_by s.items new.answers.items) (stretches_of new)) n.ticks
+    ∙ ap (λ (xs : List Answer). content s.version depth old.ticks (answered_by s.items xs) (stretches_of new)) n.answers
+    ∙ ap (λ (all : List Answered). content s.version depth old.ticks all (stretches_of new))
     (answered_push s.items old.answers.items item answer there)
-    ∙ ap (content depth old.ticks (answered_by s.items old.answers.items ++ answered_as item answer ∷ []))
+    ∙ ap (content s.version depth old.ticks (answered_by s.items old.answers.items ++ answered_as item answer ∷ []))
     (stretches_noted old new g n.runs kept.ways)
 
 -- ---- a tick
@@ -286,7 +289,7 @@ one_more s old new path kept way same (inr b) =
 
 pub told_tick : (s : Scenario) (depth : ℕ) (old new : Journal) (path : Option Path) → IsKept s old
     → IsWayOrIdle old path → IsTicked path old new
-    → IsTickMore (told s.items depth old) (told s.items depth new) (names_by old.names.keys path)
+    → IsTickMore (told s.version s.items depth old) (told s.version s.items depth new) (names_by old.names.keys path)
 told_tick s depth old new path kept way t =
     let more = one_more s old new path kept way t.names t.runs in
     record {
@@ -369,7 +372,7 @@ may_note s j item kept there = record {
       let room = kept.names_room in omega (arith, rest, room));
 }
 
-pub may_tick : (s : Scenario) (j : Journal) → IsKept s j → s.horizon ≤ 100000 → j.ticks < s.horizon → MayTick j
+pub may_tick : (s : Scenario) (j : Journal) → IsKept s j → s.horizon ≤ 1000000 → j.ticks < s.horizon → MayTick j
 may_tick s j kept few lt = record {
   short =
       All-weaker (λ (run : Run). IsWayOrIdle j run.path) (λ (run : Run). HasShort run.path)

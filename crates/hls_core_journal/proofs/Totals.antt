@@ -15,7 +15,7 @@ use Rattle.hls_legal.specs.Stays.{stays}
 use Rattle.hls_legal.specs.Accounts.{end_of, account_of, accounts_of}
 use Rattle.hls_legal.proofs.GoodStays.{IsGoodStay, stays_good, end_within}
 
-account_formed : (c : Content) (stay : Stay) → c.horizon ≤ 100000 → IsGoodStay c.horizon stay
+account_formed : (c : Content) (stay : Stay) → c.horizon ≤ 1000000 → IsGoodStay c.horizon stay
     → nat_lt stay.since (end_of c stay) ≡ true → IsAccount c.horizon (account_of c stay)
 account_formed c stay few good starts =
     let lt : stay.since < end_of c stay = ltb-true stay.since (end_of c stay) starts in
@@ -34,12 +34,12 @@ account_formed c stay few good starts =
     fits test lt le =
         let most = count-le test stay.since (end_of c stay - stay.since) in omega (arith, most, few, lt, le)
 
-pub accounts_formed : (c : Content) → c.horizon ≤ 100000 → AreAnswered c.horizon 0 c.answered
+pub accounts_formed : (c : Content) → c.horizon ≤ 1000000 → AreAnswered c.version c.horizon 0 c.answered
     → AllByRecursion (IsAccount c.horizon) (accounts_of c)
 accounts_formed c few are =
     let starts = λ (s : Stay). nat_lt s.since (end_of c s) in
     let all : All (IsGoodStay c.horizon) (stays c.answered) =
-    stays_good c.horizon c.answered are in
+    stays_good c.version c.horizon c.answered are in
     let good = All-filter starts (IsGoodStay c.horizon) (stays c.answered) all in
     let begun = filter_passes starts (stays c.answered) in
     recursion_from_All (IsAccount c.horizon) (accounts_of c)

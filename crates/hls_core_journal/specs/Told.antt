@@ -22,8 +22,9 @@ abbrev pub stretches_of : Journal → List Stretch
 stretches_of j = map (stretch_of j.names.keys) j.runs.items
 
 -- without accounts and idle ticks
-abbrev pub told : List Item → (depth : ℕ) → Journal → Content
-told items depth j = record {
+abbrev pub told : (version : ℕ) → List Item → (depth : ℕ) → Journal → Content
+told version items depth j = record {
+  version = version;
   horizon = j.ticks;
   depth = depth;
   answered = answered_by items j.answers.items;
@@ -37,9 +38,9 @@ abbrev pub with_totals : Content → Content
 with_totals c = record c { accounts = accounts_of c; idle = idle_of c }
 
 -- the report tells this with these accounts and idle ticks
-pub record IsTotalled (items : List Item) (depth : ℕ) (j : Journal) (accounts : List Account) (idle : ℕ) (r : Report)
-    : Type 0 where
-  pub content : content_of r ≡ record (told items depth j) { accounts = accounts; idle = idle }
+pub record IsTotalled (version : ℕ) (items : List Item) (depth : ℕ) (j : Journal) (accounts : List Account) (idle : ℕ)
+    (r : Report) : Type 0 where
+  pub content : content_of r ≡ record (told version items depth j) { accounts = accounts; idle = idle }
   pub runs : r.runs ≡ j.runs.items
 
 -- the report has a text, and tells this with what comes of it

@@ -31,7 +31,7 @@ fn totalled(
     idle: u32,
 ) -> Result<Report, AllocError>
     requires { journal.ticks ≡ scenario.horizon }
-    ensures { IfOk result (IsTotalled scenario.items depth journal accounts.items idle) }
+    ensures { IfOk result (IsTotalled scenario.version scenario.items depth journal accounts.items idle) }
 {
     let Journal {
         ticks: _,
@@ -44,6 +44,7 @@ fn totalled(
     let names = names_of(alloc, &names)?;
     let runs = runs.to_vec(alloc)?;
     Ok(Report {
+        version: scenario.version,
         horizon: scenario.horizon,
         depth,
         answered: List::of(answered),
@@ -72,9 +73,9 @@ impl Journal {
         requires kept { IsKept scenario self }
         requires depth { depth ≤ 6 }
         requires whole { self.ticks ≡ scenario.horizon }
-        requires accounts { accounts.items ≡ accounts_of (told scenario.items depth self) }
-        requires idle { idle ≡ idle_of (told scenario.items depth self) }
-        ensures { IfOk result (IsReportOf (told scenario.items depth self)) }
+        requires accounts { accounts.items ≡ accounts_of (told scenario.version scenario.items depth self) }
+        requires idle { idle ≡ idle_of (told scenario.version scenario.items depth self) }
+        ensures { IfOk result (IsReportOf (told scenario.version scenario.items depth self)) }
     {
         totalled(alloc, self, scenario, depth, accounts, idle)
     }

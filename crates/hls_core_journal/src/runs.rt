@@ -27,7 +27,7 @@ struct Row {
     way: u32,
 }
 
-// There may be a hundred thousand of each.
+// There may be a million of each.
 const _: () = prove!(size_of::<Row>() == 12);
 
 const _: () = prove!(size_of::<Option<Path>>() == 22);

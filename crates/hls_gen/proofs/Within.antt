@@ -1,6 +1,6 @@
 -- What is generated is within the grammar.
 use Rattle.std.proofs.Common.{◌≡◌, ℕ, zero, suc, ◌+◌, ◌*◌, ◌%◌, ◌==◌, ◌<◌, ◌≤◌, refl, arith}
-use Rattle.std.proofs.Common.{List, [], ◌∷◌, ◌++◌, length}
+use Rattle.std.proofs.Common.{List, [], ◌∷◌, ◌++◌, length, lit≤}
 use Rattle.std.proofs.Common.{Bool, true, false, if◌then◌else◌, Some, subst, codes, slice_index_or, sym, ◌/◌}
 use Rattle.std.proofs.Math.Nat.{mod-lt}
 use Rattle.hls_text.specs.Lines.{Text}
@@ -29,9 +29,9 @@ abbrev last_tick : (last : ℕ) → List Item → ℕ
 last_tick last [] = last
 last_tick last (item ∷ items) = last_tick item.tick items
 
-items_snoc : (horizon last : ℕ) (items : List Item) (item : Item) → AreItems horizon last items
-    → IsCommand item.command → last_tick last items ≤ item.tick → item.tick < horizon
-    → AreItems horizon last (items ++ item ∷ [])
+items_snoc : (horizon last : ℕ) (items : List Item) (item : Item) → AreItems 1 horizon last items
+    → IsCommand 1 item.command → last_tick last items ≤ item.tick → item.tick < horizon
+    → AreItems 1 horizon last (items ++ item ∷ [])
 items_snoc horizon last [] item are is from below = (is, from, below, tt)
 items_snoc horizon last (first ∷ items) item are is from below =
     (are.0, are.1, are.2, items_snoc horizon first.tick items item are.3 is from below)
@@ -46,11 +46,11 @@ length_snoc (first ∷ items) item = (let more = length_snoc items item in cc)
 
 -- so many items at most, of ticks up to this one
 pub record Is (tick count : ℕ) (made : Made) : Type 0 where
-  pub items : AreItems 20000 0 made.items
+  pub items : AreItems 1 20000 0 made.items
   pub late : last_tick 0 made.items ≤ tick
   pub few : length made.items ≤ count
 
-put : (before tick count state : ℕ) (command : Command) (made : Made) → IsCommand command → before ≤ tick
+put : (before tick count state : ℕ) (command : Command) (made : Made) → IsCommand 1 command → before ≤ tick
     → tick < 20000 → Is before count made → Is tick (suc count) (with_command tick command state made)
 put before tick count state command made is from below has =
     let item : Item = record { tick = tick; command = command } in
@@ -69,7 +69,8 @@ put before tick count state command made is from below has =
 below_one : (state bound : ℕ) → 0 < bound → drawn state bound < bound
 below_one state bound some = mod-lt (state / 65536) some
 
-is_reserved : (name : Text) (x y : ℕ) → IsName name → 1 ≤ x → x ≤ 5 → 40 ≤ y → y ≤ 99 → IsCommand (reserved name x y)
+is_reserved : (name : Text) (x y : ℕ) → IsName name → 1 ≤ x → x ≤ 5 → 40 ≤ y → y ≤ 99
+    → IsCommand 1 (reserved name x y)
 is_reserved name x y is low high from to = (
   is,
   record {
@@ -78,7 +79,8 @@ is_reserved name x y is low high from to = (
   },
 )
 
-is_weighted : (name : Text) (weight : ℕ) → IsName name → 1 ≤ weight → weight ≤ 3 → IsCommand (weighted name weight)
+is_weighted : (name : Text) (weight : ℕ) → IsName name → 1 ≤ weight → weight ≤ 3
+    → IsCommand 1 (weighted name weight)
 is_weighted name weight is low high = (is, record { spot = (refl, (low, omega (arith, high))); want = tt })
 
 abbrev AreNames : List Text → Type 0
@@ -100,7 +102,7 @@ name_at number =
 
 module _ (tick count : ℕ) (made : Made) (before : ℕ) (from : before ≤ tick) (below : tick < 20000)
     (has : Is before count made) where
-  pub plain : (command : Command) → IsCommand command → Is tick (suc count) (with_plain tick command made)
+  pub plain : (command : Command) → IsCommand 1 command → Is tick (suc count) (with_plain tick command made)
   plain command is = put before tick count made.state command made is from below has
 
   pub reserve : (name : Text) → IsName name → Is tick (suc count) (with_reserved tick name made)
@@ -145,8 +147,8 @@ module _ (count : ℕ) (made : Made) (has : Is 0 count made) where
 
 -- ---- the opening
 
-is_load : (name : Text) → IsName name → (config : Config) (perch : Perch) → IsLoad config (perch ∷ [])
-    → IsCommand (load name config perch)
+is_load : (name : Text) → IsName name → (config : Config) (perch : Perch) → IsLoad 1 config (perch ∷ [])
+    → IsCommand 1 (load name config perch)
 is_load name is config perch load = (is, load)
 
 schedulers : (made : Made) → Is 0 0 made → Is 0 4 (with_schedulers made)
@@ -154,18 +156,18 @@ unfolding with_schedulers
 schedulers made has =
     let first = plain 0 0 made 0 (omega arith) (omega arith) has
     (load (codes "root") configs.Fp (record { spot = Cpu; want = All }))
-    (refl, (tt, record { spot = tt; want = tt })) in
+    (refl, ((tt, tt), record { spot = tt; want = tt })) in
     let second = plain 0 1 _ 0 (omega arith) (omega arith) first
     (load (codes "e") configs.Edf (under (codes "root") (terms.Prio 0) All))
-    (refl, (tt, record { spot = (refl, omega arith); want = tt })) in
+    (refl, ((tt, tt), record { spot = (refl, omega arith); want = tt })) in
     let third = plain 0 2 _ 0 (omega arith) (omega arith) second
     (load (codes "r") (configs.Rr 5) (under (codes "root") (terms.Prio 1) Null))
-    (refl, ((omega arith, omega arith), record { spot = (refl, omega arith); want = tt })) in
+    (refl, (((omega arith, omega arith), tt), record { spot = (refl, omega arith); want = tt })) in
     plain 0 3 _ 0 (omega arith) (omega arith) third
-    (load (codes "s") (configs.Sfq 10 5) (under (codes "e") (terms.Res true 30 100) three_tenths)) (
+    (load (codes "s") (configs.Sfq 10 5 1) (under (codes "e") (terms.Res true 30 100) three_tenths)) (
       refl,
       (
-        ((omega arith, omega arith), (omega arith, omega arith)),
+        (((omega arith, omega arith), (omega arith, omega arith), (omega arith, omega arith)), λ one. refl),
         record { spot = (refl, (omega arith, omega arith, omega arith)); want = narrow_share },
       ),
     )
@@ -249,4 +251,10 @@ unfolding generated
 generated_within number =
     let all = rounds 1999 (opening number) (omega arith) (opened number) in
     let few = all.few in
-    record { horizon = (omega arith, omega arith); depth = omega arith; few = omega (arith, few); items = all.items }
+    record {
+      version = (omega arith, omega arith);
+      horizon = (omega arith, lit≤ tt);
+      depth = omega arith;
+      few = omega (arith, few);
+      items = all.items;
+    }

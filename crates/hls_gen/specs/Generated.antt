@@ -108,7 +108,7 @@ with_round tick made = with_wake tick (if tick % 2000 == 0 then with_exchange ti
 
 unfoldable pub with_schedulers : Made → Made
 with_schedulers made =
-    with_plain 0 (load (codes "s") (configs.Sfq 10 5) (under (codes "e") (terms.Res true 30 100) three_tenths))
+    with_plain 0 (load (codes "s") (configs.Sfq 10 5 1) (under (codes "e") (terms.Res true 30 100) three_tenths))
     (with_plain 0 (load (codes "r") (configs.Rr 5) (under (codes "root") (terms.Prio 1) Null))
     (with_plain 0 (load (codes "e") configs.Edf (under (codes "root") (terms.Prio 0) All))
     (with_plain 0 (load (codes "root") configs.Fp (record { spot = Cpu; want = All })) made)))
@@ -137,6 +137,7 @@ after_rounds (suc rounds) made = with_round (10 * suc rounds) (after_rounds roun
 
 unfoldable pub generated : (number : ℕ) → Scenario
 generated number = record {
+  version = 1;
   horizon = 20000;
   depth = Some 3;
   items = (after_rounds 1999 (opening number)).items;

@@ -48,6 +48,7 @@ fn make(alloc: Global, number: u32) -> Result<Scenario, AllocError>
     making.put_turns()?;
     making.put_rounds()?;
     Ok(Scenario {
+        version: 1,
         horizon: HORIZON,
         depth: Some(3),
         items: List::of(making.items),
@@ -86,7 +87,11 @@ impl Making {
             y: 100,
         };
         let share = under(e, reserved, three_tenths());
-        let queue = Config::Sfq { total: 10, most: 5 };
+        let queue = Config::Sfq {
+            total: 10,
+            most: 5,
+            quantum: 1,
+        };
         self.put_load(alloc, root, Config::Fp, at_processor)?;
         self.put_load(alloc, e, Config::Edf, first)?;
         self.put_load(alloc, named(b"r"), Config::Rr { quantum: 5 }, second)?;

@@ -65,20 +65,20 @@ unscaled en ed dn dd weight total others rest pos error =
     omega (arith, error) in
     eq_of_mul-eq-mul_right total pos left right same
 
--- the numbers of a seat as fractions: its part of the total, the other seats, the wait for them at first,
+-- the numbers of a seat as fractions: its part of the total, a quantum of each other seat, the wait for them at first,
 -- that wait at its pace, and the part of the rest
-pub record AreFractions (total most weight : ℕ) (d part others waiting slowed rest : Frac) : Type 0 where
+pub record AreFractions (total most quantum weight : ℕ) (d part others waiting slowed rest : Frac) : Type 0 where
   pub part_is : IsQuotient part weight total
-  pub others_are : IsQuotient others (most - 1) 1
+  pub others_are : IsQuotient others ((most - 1) * quantum) 1
   pub waiting_is : IsSum waiting d others
   pub slowed_is : IsProduct slowed waiting part
-  pub rest_is : IsQuotient rest (total - weight) total
+  pub rest_is : IsQuotient rest ((total - weight) * quantum) total
 
-slowed-quotient : (total most weight : ℕ) (d part others waiting slowed rest : Frac) →
-    AreFractions total most weight d part others waiting slowed rest →
-    IsQuotient slowed ((d.num * 1 + (most - 1) * d.den) * weight) (d.den * 1 * total)
-slowed-quotient total most weight d part others waiting slowed rest a =
-    let wait = sum-quotient waiting d others d.num d.den (most - 1) 1 refl a.others_are a.waiting_is in
+slowed-quotient : (total most quantum weight : ℕ) (d part others waiting slowed rest : Frac) →
+    AreFractions total most quantum weight d part others waiting slowed rest →
+    IsQuotient slowed ((d.num * 1 + (most - 1) * quantum * d.den) * weight) (d.den * 1 * total)
+slowed-quotient total most quantum weight d part others waiting slowed rest a =
+    let wait = sum-quotient waiting d others d.num d.den ((most - 1) * quantum) 1 refl a.others_are a.waiting_is in
     product-quotient slowed waiting part _ _ weight total wait a.part_is a.slowed_is
 
 all_positive : (d : Frac) (total : ℕ) → 1 ≤ total → 1 ≤ d.den * 1 * total * total
@@ -86,42 +86,43 @@ all_positive d total some =
     let den = d.positive in
     mul-pos (mul-pos (let one : 1 ≤ d.den * 1 = omega arith in one) some) some
 
-pub share-fractions : (total most weight : ℕ) (s d part others waiting slowed rest rate error : Frac) →
-    1 ≤ weight → AreFractions total most weight d part others waiting slowed rest →
-    IsFairShare total most weight s d rate error → IsProduct rate s part × IsSum error slowed rest
-share-fractions total most weight s d part others waiting slowed rest rate error some a share =
+pub share-fractions : (total most quantum weight : ℕ) (s d part others waiting slowed rest rate error : Frac) →
+    1 ≤ weight → AreFractions total most quantum weight d part others waiting slowed rest →
+    IsFairShare total most quantum weight s d rate error → IsProduct rate s part × IsSum error slowed rest
+share-fractions total most quantum weight s d part others waiting slowed rest rate error some a share =
     let seats = share.seats in
     let weights = share.weights in
     let pos : 1 ≤ total = omega arith in
     let o : share.others ≡ most - 1 = omega arith in
     let r : share.rest ≡ total - weight = omega arith in
-    let first : IsQuotient error ((d.num + (most - 1) * d.den) * weight + share.rest * d.den)
+    let first : IsQuotient error ((d.num + (most - 1) * quantum * d.den) * weight + share.rest * quantum * d.den)
     (d.den * total) =
-    subst (λ n. IsQuotient error ((d.num + n * d.den) * weight + share.rest * d.den) (d.den * total))
-    o share.error in
-    let second : IsQuotient error ((d.num + (most - 1) * d.den) * weight + (total - weight) * d.den)
-    (d.den * total) =
-    subst (λ n. IsQuotient error ((d.num + (most - 1) * d.den) * weight + n * d.den) (d.den * total))
-    r first in
-    let whole = scaled error.num error.den d.num d.den weight total (most - 1) (total - weight) second in
-    let slow = slowed-quotient total most weight d part others waiting slowed rest a in (
+    subst (λ n. IsQuotient error ((d.num + n * quantum * d.den) * weight + share.rest * quantum * d.den)
+    (d.den * total)) o share.error in
+    let second : IsQuotient error ((d.num + (most - 1) * quantum * d.den) * weight
+    + (total - weight) * quantum * d.den) (d.den * total) =
+    subst (λ n. IsQuotient error ((d.num + (most - 1) * quantum * d.den) * weight + n * quantum * d.den)
+    (d.den * total)) r first in
+    let whole = scaled error.num error.den d.num d.den weight total ((most - 1) * quantum) ((total - weight) * quantum)
+    second in
+    let slow = slowed-quotient total most quantum weight d part others waiting slowed rest a in (
       quotient-product rate s part s.num s.den weight total (mul-pos s.positive pos) refl a.part_is
           share.rate,
       quotient-sum error slowed rest _ _ _ _ (all_positive d total pos) slow a.rest_is whole,
     )
 
-pub fractions-share : (total most weight : ℕ) (s d part others waiting slowed rest rate error : Frac) →
+pub fractions-share : (total most quantum weight : ℕ) (s d part others waiting slowed rest rate error : Frac) →
     1 ≤ most → 1 ≤ weight → weight ≤ total →
-    AreFractions total most weight d part others waiting slowed rest →
-    IsProduct rate s part × IsSum error slowed rest → IsFairShare total most weight s d rate error
-fractions-share total most weight s d part others waiting slowed rest rate error some light fits a both =
-    let slow = slowed-quotient total most weight d part others waiting slowed rest a in
+    AreFractions total most quantum weight d part others waiting slowed rest →
+    IsProduct rate s part × IsSum error slowed rest → IsFairShare total most quantum weight s d rate error
+fractions-share total most quantum weight s d part others waiting slowed rest rate error some light fits a both =
+    let slow = slowed-quotient total most quantum weight d part others waiting slowed rest a in
     let whole = sum-quotient error slowed rest _ _ _ _ slow a.rest_is both.1 in record {
       others = most - 1;
       rest = total - weight;
       seats = omega arith;
       weights = omega arith;
       rate = product-quotient rate s part s.num s.den weight total refl a.part_is both.0;
-      error = unscaled error.num error.den d.num d.den weight total (most - 1) (total - weight)
-          (omega arith) whole;
+      error = unscaled error.num error.den d.num d.den weight total ((most - 1) * quantum)
+          ((total - weight) * quantum) (omega arith) whole;
     }

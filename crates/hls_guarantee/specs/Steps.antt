@@ -12,16 +12,17 @@ use Rattle.hls_guarantee.specs.Satisfaction.{IsSoft}
 use Rattle.hls_guarantee.specs.Limits.{IsValid}
 use Rattle.hls_chron.specs.Kinds.{IsPort}
 
--- the share s' with the error d' that a seat has of s with d, beside at most `others` seats of at most `rest`
-pub record IsFairShare (total most weight : ℕ) (s d s' d' : Frac) : Type 0 where
+-- the share s' with the error d' that a seat has of s with d, beside at most `others` seats of at most `rest`, in turns
+-- of a quantum
+pub record IsFairShare (total most quantum weight : ℕ) (s d s' d' : Frac) : Type 0 where
   pub others : ℕ
   pub rest : ℕ
   pub seats : others + 1 ≡ most
   pub weights : weight + rest ≡ total
   -- s * weight / total
   pub rate : IsQuotient s' (s.num * weight) (s.den * total)
-  -- ((d + others) * weight + rest) / total
-  pub error : IsQuotient d' ((d.num + others * d.den) * weight + rest * d.den) (d.den * total)
+  -- ((d + others * quantum) * weight + rest * quantum) / total
+  pub error : IsQuotient d' ((d.num + others * quantum * d.den) * weight + rest * quantum * d.den) (d.den * total)
 
 -- the share s' with the error d' that a seat has of s with d, beside 31 seats that have a quantum each in turn
 pub record IsTurnShare (quantum : ℕ) (s d s' d' : Frac) : Type 0 where
@@ -42,8 +43,8 @@ LendsByTerms configs.Edf (terms.Res hard x y) All h = h ≡ Resb hard x y
 LendsByTerms (configs.Wheel frame) (terms.Slots places) All h =
     (places ≤ frame) × (h ≡ Resc true places frame)
 -- a weight is a part of a share
-LendsByTerms (configs.Sfq total most) (terms.Weight weight) (Psbe s d) (Psbe s' d') =
-    IsFairShare total most weight s d s' d'
+LendsByTerms (configs.Sfq total most quantum) (terms.Weight weight) (Psbe s d) (Psbe s' d') =
+    IsFairShare total most quantum weight s d s' d'
 -- a seat in a round is one of 32 at most
 LendsByTerms (configs.Rr quantum) terms.Turn (Psbe s d) (Psbe s' d') = IsTurnShare quantum s d s' d'
 -- other ports may add to what one port gives

@@ -1,6 +1,6 @@
 //! What holds of the steps at schedulers: each function's contract is a law, and its body does nothing.
 
-ghost use Rattle.std.specs.Prelude.{◌≡◌, ◌≢◌, ℕ, ◌-◌, ◌≤◌, ◌↔◌};
+ghost use Rattle.std.specs.Prelude.{◌≡◌, ◌≢◌, ℕ, ◌*◌, ◌-◌, ◌≤◌, ◌↔◌};
 ghost use Rattle.hls_frac.specs.Frac.{IsQuotient, IsSum, IsProduct};
 ghost use Rattle.hls_chron.specs.Kinds.{kind_of, terms_kind};
 ghost use Rattle.hls_chron.specs.Ranges.{ConfigInRange};
@@ -55,6 +55,7 @@ pub fn terms_lend_one_guarantee(
 pub fn fair_shares_are_lesser(
     total: u32,
     most: u32,
+    quantum: u32,
     weight: u32,
     s: Frac,
     d: Frac,
@@ -62,7 +63,7 @@ pub fn fair_shares_are_lesser(
     error: Frac,
 )
     requires weight { 1 ≤ weight }
-    requires share { IsFairShare total most weight s d rate error }
+    requires share { IsFairShare total most quantum weight s d rate error }
     ensures { Leads RuleName.R1 (Guarantee.Psbe s d) (Guarantee.Psbe rate error) }
 {}
 
@@ -73,16 +74,17 @@ pub fn shares_of_turns_are_lesser(quantum: u32, s: Frac, d: Frac, rate: Frac, er
 {}
 
 /// A seat that is alone, with the whole weight, has the whole share.
-pub fn sole_weight_has_the_share(total: u32, s: Frac, d: Frac)
+pub fn sole_weight_has_the_share(total: u32, quantum: u32, s: Frac, d: Frac)
     requires { 1 ≤ total }
-    ensures { IsFairShare total 1 total s d s d }
+    ensures { IsFairShare total 1 quantum total s d s d }
 {}
 
 /// The rate is `s * part`, and the error `(d + others) * part + rest`, where `part` is `weight / total`,
-/// `others` is `most - 1`, and `rest` is `(total - weight) / total`.
+/// `others` is `(most - 1) * quantum`, and `rest` is `(total - weight) * quantum / total`.
 pub fn fair_shares_are_sums_of_products(
     total: u32,
     most: u32,
+    quantum: u32,
     weight: u32,
     s: Frac,
     d: Frac,
@@ -98,10 +100,10 @@ pub fn fair_shares_are_sums_of_products(
     requires weight { 1 ≤ weight }
     requires total { weight ≤ total }
     requires part { IsQuotient part weight total }
-    requires others { IsQuotient others (most - 1) 1 }
+    requires others { IsQuotient others ((most - 1) * quantum) 1 }
     requires waiting { IsSum waiting d others }
     requires slowed { IsProduct slowed waiting part }
-    requires rest { IsQuotient rest (total - weight) total }
-    ensures { IsFairShare total most weight s d rate error ↔
+    requires rest { IsQuotient rest ((total - weight) * quantum) total }
+    ensures { IsFairShare total most quantum weight s d rate error ↔
         (IsProduct rate s part × IsSum error slowed rest) }
 {}

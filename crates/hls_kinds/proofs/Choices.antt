@@ -150,9 +150,9 @@ any_may_go b mask any =
     ] refl either
 
 -- turns
-turn_some : (quantum : ℕ) (b : Ledger) (mask : ℕ) → HasFirst 32 (slot_asks mask) (turns_after (turn_slot b))
-    → (slot : ℕ) × TakesTurn quantum b mask slot
-turn_some quantum b mask f = elim (cases_Bool (turn_goes_on quantum b mask)) [
+turn_some : (quantum : ℕ) (b : Ledger) (key : ℕ → ℕ) (mask : ℕ) → HasFirst 32 (slot_asks mask) key
+    → (slot : ℕ) × TakesTurn quantum b key mask slot
+turn_some quantum b key mask f = elim (cases_Bool (turn_goes_on quantum b mask)) [
   | inl on ↦ (turn_slot b, record { goes_on = λ e. refl; passes = λ off. absurd (cc) })
   | inr off ↦ (f.slot, record { goes_on = λ on. absurd (cc); passes = λ e. f.first })
 ]
@@ -171,11 +171,12 @@ serves_some Fp b mask range seats only on =
     (any_asks Fp b mask range seats only on))
 serves_some Edf b mask range seats only on = let f =
     first_some 32 (may_go b mask) (deadline_at b mask) (any_may_go b mask on) in (f.slot, f.first)
-serves_some (Sfq total most) b mask range seats only on = let f =
-    first_some 32 (slot_asks mask) (start_tag b (now_of b))
-    (any_asks (Sfq total most) b mask range seats only on) in (f.slot, f.first)
+serves_some (Sfq total most quantum) b mask range seats only on =
+    turn_some quantum b (start_tag quantum b (now_of b)) mask
+    (first_some 32 (slot_asks mask) (start_tag quantum b (now_of b))
+    (any_asks (Sfq total most quantum) b mask range seats only on))
 serves_some (Rr quantum) b mask range seats only on =
-    turn_some quantum b mask
+    turn_some quantum b (turns_after (turn_slot b)) mask
     (first_some 32 (slot_asks mask) (turns_after (turn_slot b))
     (any_asks (Rr quantum) b mask range seats only on))
 serves_some (Wheel frame) b mask range seats only on = owner_some (owner_now frame b) mask on
@@ -208,9 +209,9 @@ least_one b mask slot other (Some m) (Some n) seats f g e h =
     let same : m ≡ n = omega (arith, x, y) in
     seats.apart slot other n (e ∙ ap (λ k. Some k) same) h
 
-turn_one : (quantum : ℕ) (b : Ledger) (mask slot other : ℕ) → TakesTurn quantum b mask slot
-    → TakesTurn quantum b mask other → slot ≡ other
-turn_one quantum b mask slot other f g = elim (cases_Bool (turn_goes_on quantum b mask)) [
+turn_one : (quantum : ℕ) (b : Ledger) (key : ℕ → ℕ) (mask slot other : ℕ) → TakesTurn quantum b key mask slot
+    → TakesTurn quantum b key mask other → slot ≡ other
+turn_one quantum b key mask slot other f g = elim (cases_Bool (turn_goes_on quantum b mask)) [
   | inl on ↦ f.goes_on on ∙ sym (g.goes_on on)
   | inr off ↦ first_one 32 _ _ slot other (f.passes off) (g.passes off)
 ]
@@ -221,7 +222,7 @@ serves_one Cpu b mask slot other seats f g = absurd f
 serves_one Fp b mask slot other seats f g =
     least_one b mask slot other (priority_at b slot) (priority_at b other) seats f g refl refl
 serves_one Edf b mask slot other seats f g = first_one 32 _ _ slot other f g
-serves_one (Sfq total most) b mask slot other seats f g = first_one 32 _ _ slot other f g
-serves_one (Rr quantum) b mask slot other seats f g = turn_one quantum b mask slot other f g
+serves_one (Sfq total most quantum) b mask slot other seats f g = turn_one quantum b _ mask slot other f g
+serves_one (Rr quantum) b mask slot other seats f g = turn_one quantum b _ mask slot other f g
 serves_one (Wheel frame) b mask slot other seats f g = let same = sym f.owns ∙ g.owns in cc
 serves_one (Join ports) b mask slot other seats f g = f.sole ∙ sym g.sole

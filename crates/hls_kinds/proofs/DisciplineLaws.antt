@@ -56,7 +56,7 @@ throughout-mark b event slot weight i n lt a = record {
 
 shares-mark : (config : Config) (b : Ledger) (event : Event)
     → KeepsShares config b → KeepsShares config (with_mark b event)
-shares-mark (configs.Sfq total most) b event kept = λ i n slot other weight rival lt asks others.
+shares-mark (configs.Sfq total most quantum) b event kept = λ i n slot other weight rival lt asks others.
     let one = count-agree (served (with_mark b event) slot) (served b slot) i (n + 1)
     (λ t _ _. served-mark b event slot t) in
     let two = count-agree (served (with_mark b event) other) (served b other) i (n + 1)
@@ -79,7 +79,7 @@ asked-unwritten b slot t unwritten is =
     cc
 
 shares-unwritten : (config : Config) (b : Ledger) → b.rows ≡ [] → KeepsShares config b
-shares-unwritten (configs.Sfq total most) b unwritten = λ i n slot other weight rival lt asks others.
+shares-unwritten (configs.Sfq total most quantum) b unwritten = λ i n slot other weight rival lt asks others.
     absurd (asked-unwritten b slot i unwritten (asks.asks i (omega arith) (omega arith)))
 shares-unwritten configs.Cpu b unwritten = tt
 shares-unwritten configs.Fp b unwritten = tt

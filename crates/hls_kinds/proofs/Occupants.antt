@@ -21,7 +21,7 @@ pub occupant_plain : (config : Config) (b : Ledger) (slot : ℕ) → kind_of con
 occupant_plain Edf b slot unheld = absurd (unheld refl)
 occupant_plain Cpu b slot unheld = refl
 occupant_plain Fp b slot unheld = refl
-occupant_plain (Sfq total most) b slot unheld = refl
+occupant_plain (Sfq total most quantum) b slot unheld = refl
 occupant_plain (Rr quantum) b slot unheld = refl
 occupant_plain (Wheel frame) b slot unheld = refl
 occupant_plain (Join ports) b slot unheld = refl

@@ -12,7 +12,7 @@ pub ranges_prop : (config : Config) → IsProp (ConfigInRange config)
 ranges_prop Cpu = hlevel props
 ranges_prop Fp = hlevel props
 ranges_prop Edf = hlevel props
-ranges_prop (Sfq total most) = hlevel props
+ranges_prop (Sfq total most quantum) = hlevel props
 ranges_prop (Rr quantum) = hlevel props
 ranges_prop (Wheel frame) = hlevel props
 ranges_prop (Join ports) = hlevel props
@@ -21,7 +21,7 @@ pub serves_prop : (config : Config) (b : Ledger) (mask slot : ℕ) → IsProp (S
 serves_prop Cpu b mask slot = hlevel props
 serves_prop Fp b mask slot = hlevel props
 serves_prop Edf b mask slot = hlevel props
-serves_prop (Sfq total most) b mask slot = hlevel props
+serves_prop (Sfq total most quantum) b mask slot = hlevel props
 serves_prop (Rr quantum) b mask slot = hlevel props
 serves_prop (Wheel frame) b mask slot = hlevel props
 serves_prop (Join ports) b mask slot = hlevel props
@@ -30,7 +30,7 @@ pub shares_prop : (config : Config) (b : Ledger) → IsProp (KeepsShares config 
 shares_prop Cpu b = hlevel props
 shares_prop Fp b = hlevel props
 shares_prop Edf b = hlevel props
-shares_prop (Sfq total most) b = hlevel props
+shares_prop (Sfq total most quantum) b = hlevel props
 shares_prop (Rr quantum) b = hlevel props
 shares_prop (Wheel frame) b = hlevel props
 shares_prop (Join ports) b = hlevel props

@@ -8,12 +8,12 @@ use Rattle.hls_chron.specs.declared.plain.Config.TheVariants.{Cpu, Fp, Edf, Sfq,
 use Rattle.hls_chron.specs.Ledger.{Ledger, now_of, with_row, row_at, before, IsDated}
 use Rattle.hls_chron.specs.Seats.{terms_at, asked, served}
 use Rattle.hls_chron.proofs.BookLaws.{before-now}
-use Rattle.hls_kinds.specs.Slots.{IsFirst}
 use Rattle.hls_kinds.specs.Tenants.{tenant_at, settled_at, left_at}
 use Rattle.hls_kinds.specs.Reservations.{claim_at}
 use Rattle.hls_kinds.specs.Tags.{start_by, start_tags, start_tag}
 use Rattle.hls_kinds.specs.Frames.{owner_at}
-use Rattle.hls_kinds.specs.Asks.{asks, slot_asks}
+use Rattle.hls_kinds.specs.Turns.{turn_slot, turns_after}
+use Rattle.hls_kinds.specs.Asks.{asks}
 use Rattle.hls_kinds.specs.Discipline.{HasLeastPriority, TakesTurn, Serves}
 
 -- the book with no room for more
@@ -25,28 +25,32 @@ unfolding asked served row_at claim_at tenant_at owner_at
 asks-room Cpu b mask = refl
 asks-room Fp b mask = refl
 asks-room Edf b mask = refl
-asks-room (Sfq total most) b mask = refl
+asks-room (Sfq total most quantum) b mask = refl
 asks-room (Rr quantum) b mask = refl
 asks-room (Wheel frame) b mask = refl
 asks-room (Join ports) b mask = refl
 
-tags-room : (b : Ledger) (n : ℕ) → start_tags (roomless b) n ≡ start_tags b n
-unfolding start_tags asked served row_at tenant_at before
-tags-room b zero = refl
-tags-room b (suc n) = λ i t slot. start_by b (tags-room b n i) t slot
+tags-room : (quantum : ℕ) (b : Ledger) (n : ℕ) → start_tags quantum (roomless b) n ≡ start_tags quantum b n
+unfolding start_tags asked served row_at tenant_at before settled_at left_at
+tags-room quantum b zero = refl
+tags-room quantum b (suc n) = λ i t slot. start_by quantum b (tags-room quantum b n i) t slot
 
-tag-room : (b : Ledger) (t : ℕ) → start_tag (roomless b) t ≡ start_tag b t
-tag-room b t = λ i slot. tags-room b (t + 1) i t slot
+pub tag-room : (quantum : ℕ) (b : Ledger) (t : ℕ) → start_tag quantum (roomless b) t ≡ start_tag quantum b t
+tag-room quantum b t = λ i slot. tags-room quantum b (t + 1) i t slot
 
 least-room : (b : Ledger) (mask slot : ℕ) → HasLeastPriority b mask slot
     → HasLeastPriority (roomless b) mask slot
 unfolding terms_at
 least-room b mask slot least = record { asks = least.asks; seated = least.seated; least = least.least }
 
-turn-room : (quantum : ℕ) (b : Ledger) (mask slot : ℕ) → TakesTurn quantum b mask slot
-    → TakesTurn quantum (roomless b) mask slot
+turn-room : (quantum : ℕ) (b : Ledger) (key : ℕ → ℕ) (mask slot : ℕ) → TakesTurn quantum b key mask slot
+    → TakesTurn quantum (roomless b) key mask slot
 unfolding asked served row_at settled_at left_at
-turn-room quantum b mask slot turn = record { goes_on = turn.goes_on; passes = turn.passes }
+turn-room quantum b key mask slot turn = record { goes_on = turn.goes_on; passes = turn.passes }
+
+pub slot-room : (b : Ledger) → turn_slot (roomless b) ≡ turn_slot b
+unfolding row_at settled_at
+slot-room b = refl
 
 pub serves-room : (config : Config) (b : Ledger) (mask slot : ℕ) → Serves config b mask slot
     → Serves config (roomless b) mask slot
@@ -54,9 +58,12 @@ unfolding asked served row_at claim_at tenant_at owner_at
 serves-room Cpu b mask slot serves = serves
 serves-room Fp b mask slot serves = least-room b mask slot serves
 serves-room Edf b mask slot serves = serves
-serves-room (Sfq total most) b mask slot serves =
-    subst (λ (key : ℕ → ℕ). IsFirst 32 (slot_asks mask) key slot) (sym (tag-room b (now_of b))) serves
-serves-room (Rr quantum) b mask slot serves = turn-room quantum b mask slot serves
+serves-room (Sfq total most quantum) b mask slot serves =
+    turn-room quantum b (start_tag quantum (roomless b) (now_of b)) mask slot
+    (subst (λ (key : ℕ → ℕ). TakesTurn quantum b key mask slot) (sym (tag-room quantum b (now_of b))) serves)
+serves-room (Rr quantum) b mask slot serves =
+    turn-room quantum b (turns_after (turn_slot (roomless b))) mask slot
+    (subst (λ (n : ℕ). TakesTurn quantum b (turns_after n) mask slot) (sym (slot-room b)) serves)
 serves-room (Wheel frame) b mask slot serves = serves
 serves-room (Join ports) b mask slot serves = serves
 

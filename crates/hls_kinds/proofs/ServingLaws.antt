@@ -41,9 +41,9 @@ and_left : (a b : Bool) → (a && b) ≡ true → a ≡ true
 and_left true b e = refl
 and_left false b e = e
 
-turn_asks : (quantum : ℕ) (b : Ledger) (mask slot : ℕ) → TakesTurn quantum b mask slot
+turn_asks : (quantum : ℕ) (b : Ledger) (key : ℕ → ℕ) (mask slot : ℕ) → TakesTurn quantum b key mask slot
     → some_slot_asks mask ≡ true
-turn_asks quantum b mask slot turn = elim (cases_Bool (turn_goes_on quantum b mask)) [
+turn_asks quantum b key mask slot turn = elim (cases_Bool (turn_goes_on quantum b mask)) [
   | inl on ↦ some_tested mask (turn_slot b) (and_left (slot_asks mask (turn_slot b)) _ on)
   | inr off ↦ some_tested mask slot (turn.passes off).chosen
 ]
@@ -55,8 +55,8 @@ serves-asks Fp b mask slot serves = some_asks mask slot serves.asks
 serves-asks Edf b mask slot serves =
     any_below-at (λ slot. asks_in_budget b mask slot || asks_softly b mask slot) 32 slot serves.within
     (may_ask b mask slot serves.chosen)
-serves-asks (Sfq total most) b mask slot serves = some_tested mask slot serves.chosen
-serves-asks (Rr quantum) b mask slot serves = turn_asks quantum b mask slot serves
+serves-asks (Sfq total most quantum) b mask slot serves = turn_asks quantum b _ mask slot serves
+serves-asks (Rr quantum) b mask slot serves = turn_asks quantum b _ mask slot serves
 serves-asks (Wheel frame) b mask slot serves = rw serves.owns (eq-eqb _ 1 serves.asks)
 serves-asks (Join ports) b mask slot serves = some_asks mask slot serves.asks
 
@@ -68,8 +68,9 @@ may_go_asks b mask slot go =
       | false ↦ λ e. and_left (slot_asks mask slot) _ e
     ] go
 
-turn_asks_slot : (quantum : ℕ) (b : Ledger) (mask slot : ℕ) → TakesTurn quantum b mask slot → SlotAsks mask slot
-turn_asks_slot quantum b mask slot turn = elim (cases_Bool (turn_goes_on quantum b mask)) [
+turn_asks_slot : (quantum : ℕ) (b : Ledger) (key : ℕ → ℕ) (mask slot : ℕ) → TakesTurn quantum b key mask slot
+    → SlotAsks mask slot
+turn_asks_slot quantum b key mask slot turn = elim (cases_Bool (turn_goes_on quantum b mask)) [
   | inl on ↦ let at : SlotAsks mask (turn_slot b) = eqb-true _ 1 (and_left (slot_asks mask (turn_slot b)) _ on) in
       let P : ℕ → Type 0 = λ n. SlotAsks mask n in subst P (sym (turn.goes_on on)) at
   | inr off ↦ eqb-true _ 1 (turn.passes off).chosen
@@ -80,7 +81,7 @@ pub serves-slot : (config : Config) (b : Ledger) (mask slot : ℕ) → Serves co
 serves-slot Cpu b mask slot serves = absurd serves
 serves-slot Fp b mask slot serves = serves.asks
 serves-slot Edf b mask slot serves = eqb-true _ 1 (may_go_asks b mask slot serves.chosen)
-serves-slot (Sfq total most) b mask slot serves = eqb-true _ 1 serves.chosen
-serves-slot (Rr quantum) b mask slot serves = turn_asks_slot quantum b mask slot serves
+serves-slot (Sfq total most quantum) b mask slot serves = turn_asks_slot quantum b _ mask slot serves
+serves-slot (Rr quantum) b mask slot serves = turn_asks_slot quantum b _ mask slot serves
 serves-slot (Wheel frame) b mask slot serves = serves.asks
 serves-slot (Join ports) b mask slot serves = serves.asks

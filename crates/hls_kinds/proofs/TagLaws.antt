@@ -1,7 +1,7 @@
 -- Rounds of start tags: one more, and enough of them.
 use Rattle.std.proofs.Common.{◌≡◌, ℕ, zero, suc, ◌+◌, ◌-◌, ◌*◌, ◌<◌, ◌≤◌, max, refl, ap, ◌∙◌, add-one, arith}
 use Rattle.std.proofs.Common.{List, [], ◌∷◌, fold, filter, Bool, true, false}
-use Rattle.std.specs.Prelude.{Option, Some, None, is_some, not, nat_le, if◌then◌else◌, ◌==◌}
+use Rattle.std.specs.Prelude.{Option, Some, None, not, nat_le, if◌then◌else◌, ◌==◌}
 use Rattle.std.proofs.lemmas.Bool.{leb-true}
 use Rattle.hls_chron.specs.declared.book.Mark.{Mark}
 use Rattle.hls_chron.specs.declared.book.Event.{Event}
@@ -16,27 +16,27 @@ use Rattle.hls_chron.specs.Seats.{asked, served}
 use Rattle.hls_chron.specs.Ticks.{count}
 use Rattle.hls_kinds.specs.Ticks.{last_of}
 use Rattle.hls_kinds.specs.Tenants.{after_leaving, after_settling, tenant_after, tenant_at, tenant_then}
-use Rattle.hls_kinds.specs.Tags.{tag_step, share_in, slot_or, tag_served, time_by, finish_after, finish_by}
+use Rattle.hls_kinds.specs.Tags.{begins_turn, tag_step, share_in, slot_or, tag_served, time_by, finish_after, finish_by}
 use Rattle.hls_kinds.specs.Tags.{asking_since, start_of, start_by, start_tags, start_tag}
 use Rattle.hls_kinds.proofs.TickLaws.{after_last-le}
 
-pub start_tags-zero : (b : Ledger) (t slot : ℕ) → start_tags b 0 t slot ≡ 0
+pub start_tags-zero : (quantum : ℕ) (b : Ledger) (t slot : ℕ) → start_tags quantum b 0 t slot ≡ 0
 unfolding start_tags
-start_tags-zero b t slot = refl
+start_tags-zero quantum b t slot = refl
 
-pub start_tags-more : (b : Ledger) (m n t slot : ℕ) → m ≡ n + 1
-    → start_tags b m t slot ≡ start_by b (start_tags b n) t slot
+pub start_tags-more : (quantum : ℕ) (b : Ledger) (m n t slot : ℕ) → m ≡ n + 1
+    → start_tags quantum b m t slot ≡ start_by quantum b (start_tags quantum b n) t slot
 unfolding start_tags
-start_tags-more b m n t slot more = rw (more, add-one n) refl
+start_tags-more quantum b m n t slot more = rw (more, add-one n) refl
 
 -- a start tag from what it is made of
-pub start_of-parts : (b : Ledger) (start : ℕ → ℕ → ℕ) (share : Share)
+pub start_of-parts : (quantum : ℕ) (b : Ledger) (start : ℕ → ℕ → ℕ) (share : Share)
     (t slot r time finish greatest had step more : ℕ)
-    → r ≡ asking_since b share.since slot t → time ≡ time_by b start r
-    → finish ≡ finish_by b start share slot r
+    → r ≡ asking_since b share.since slot t → time ≡ time_by quantum b start r
+    → finish ≡ finish_by quantum b start share slot r
     → greatest ≡ max time finish → had ≡ count (served b slot) r (t - r) → step ≡ tag_step share.weight
-    → more ≡ had * step → greatest + more ≡ start_of b start share t slot
-start_of-parts b start share t slot r time finish greatest had step more is_r is_time is_finish is_greatest is_had
+    → more ≡ had * step → greatest + more ≡ start_of quantum b start share t slot
+start_of-parts quantum b start share t slot r time finish greatest had step more is_r is_time is_finish is_greatest is_had
     is_step is_more = rw (is_greatest, is_more, is_time, is_finish, is_had, is_step, is_r) refl
 
 -- two ways to give start tags agree before tick t
@@ -64,36 +64,36 @@ served-agree : (b : Ledger) (f g : ℕ → ℕ → ℕ) (t : ℕ) (last : Option
 served-agree b f g t None agree before = refl
 served-agree b f g t (Some z) agree before = agree z (slot_or (row_at b z).to) (before z refl)
 
-pub time-agree : (b : Ledger) (f g : ℕ → ℕ → ℕ) (t : ℕ) → AgreeBefore f g t → time_by b f t ≡ time_by b g t
-time-agree b f g t agree =
-    let test : ℕ → Bool = λ z. is_some (row_at b z).to in
+pub time-agree : (quantum : ℕ) (b : Ledger) (f g : ℕ → ℕ → ℕ) (t : ℕ) → AgreeBefore f g t → time_by quantum b f t ≡ time_by quantum b g t
+time-agree quantum b f g t agree =
+    let test : ℕ → Bool = begins_turn quantum b in
     served-agree b f g t (last_of test b.start (t - b.start)) agree (last-before test b.start t)
 
 earlier : (f g : ℕ → ℕ → ℕ) (r t : ℕ) → r ≤ t → AgreeBefore f g t → AgreeBefore f g r
 earlier f g r t le agree = λ z slot lt. agree z slot (omega (arith, le, lt))
 
-finish-by-agree : (b : Ledger) (f g : ℕ → ℕ → ℕ) (share : Share) (slot t : ℕ) (last : Option ℕ)
+finish-by-agree : (quantum : ℕ) (b : Ledger) (f g : ℕ → ℕ → ℕ) (share : Share) (slot t : ℕ) (last : Option ℕ)
     → share.since ≤ t → AgreeBefore f g t → ((z : ℕ) → last ≡ Some z → z < t)
-    → finish_after b f share slot last ≡ finish_after b g share slot last
-finish-by-agree b f g share slot t None since agree before =
-    ap (λ v. v + tag_step share.weight) (time-agree b f g share.since (earlier f g share.since t since agree))
-finish-by-agree b f g share slot t (Some z) since agree before =
+    → finish_after quantum b f share slot last ≡ finish_after quantum b g share slot last
+finish-by-agree quantum b f g share slot t None since agree before =
+    ap (λ v. v + quantum * tag_step share.weight) (time-agree quantum b f g share.since (earlier f g share.since t since agree))
+finish-by-agree quantum b f g share slot t (Some z) since agree before =
     ap (λ v. v + tag_step share.weight) (agree z slot (before z refl))
 
-pub finish-agree : (b : Ledger) (f g : ℕ → ℕ → ℕ) (share : Share) (slot t r : ℕ) → share.since ≤ t → r ≤ t
-    → AgreeBefore f g t → finish_by b f share slot r ≡ finish_by b g share slot r
-finish-agree b f g share slot t r since le agree =
-    finish-by-agree b f g share slot t (last_of (served b slot) share.since (r - share.since)) since agree
+pub finish-agree : (quantum : ℕ) (b : Ledger) (f g : ℕ → ℕ → ℕ) (share : Share) (slot t r : ℕ) → share.since ≤ t → r ≤ t
+    → AgreeBefore f g t → finish_by quantum b f share slot r ≡ finish_by quantum b g share slot r
+finish-agree quantum b f g share slot t r since le agree =
+    finish-by-agree quantum b f g share slot t (last_of (served b slot) share.since (r - share.since)) since agree
     (λ z is. let lt = last-before (served b slot) share.since r z is in omega (arith, lt, le))
 
-pub start_of-agree : (b : Ledger) (f g : ℕ → ℕ → ℕ) (share : Share) (t slot : ℕ) → share.since ≤ t
-    → AgreeBefore f g t → start_of b f share t slot ≡ start_of b g share t slot
-start_of-agree b f g share t slot since agree =
+pub start_of-agree : (quantum : ℕ) (b : Ledger) (f g : ℕ → ℕ → ℕ) (share : Share) (t slot : ℕ) → share.since ≤ t
+    → AgreeBefore f g t → start_of quantum b f share t slot ≡ start_of quantum b g share t slot
+start_of-agree quantum b f g share t slot since agree =
     let test : ℕ → Bool = λ z. not (asked b slot z) in
     let le : asking_since b share.since slot t ≤ t
     = omega (arith, since, after_last-le test share.since (t - share.since)) in
     let r = asking_since b share.since slot t in
-    rw (time-agree b f g r (earlier f g r t le agree), finish-agree b f g share slot t r since le agree) refl
+    rw (time-agree quantum b f g r (earlier f g r t le agree), finish-agree quantum b f g share slot t r since le agree) refl
 
 -- a seat that sits in tick t was seated or settled by then
 abbrev SinceBy : (t : ℕ) → Tenant → Type 0
@@ -161,22 +161,22 @@ unfolding tenant_at before
 since-then b slot t = share_since t _ (fold_since slot t b.marks Vacant tt)
 
 -- more rounds change no tag of a tick that had enough of them
-pub start_tags-enough : (b : Ledger) (n m t slot : ℕ) → t < n → t < m
-    → start_tags b n t slot ≡ start_tags b m t slot
+pub start_tags-enough : (quantum : ℕ) (b : Ledger) (n m t slot : ℕ) → t < n → t < m
+    → start_tags quantum b n t slot ≡ start_tags quantum b m t slot
 unfolding start_tags
-start_tags-enough b zero m t slot lt_n lt_m = absurd (omega (arith, lt_n))
-start_tags-enough b (suc n) zero t slot lt_n lt_m = absurd (omega (arith, lt_m))
-start_tags-enough b (suc n) (suc m) t slot lt_n lt_m =
-    start_of-agree b (start_tags b n) (start_tags b m) (share_in (tenant_then b slot t)) t slot
+start_tags-enough quantum b zero m t slot lt_n lt_m = absurd (omega (arith, lt_n))
+start_tags-enough quantum b (suc n) zero t slot lt_n lt_m = absurd (omega (arith, lt_m))
+start_tags-enough quantum b (suc n) (suc m) t slot lt_n lt_m =
+    start_of-agree quantum b (start_tags quantum b n) (start_tags quantum b m) (share_in (tenant_then b slot t)) t slot
     (since-then b slot t)
-    (λ z k lt. start_tags-enough b n m z k (omega (arith, lt, lt_n)) (omega (arith, lt, lt_m)))
+    (λ z k lt. start_tags-enough quantum b n m z k (omega (arith, lt, lt_n)) (omega (arith, lt, lt_m)))
 
 -- the start tags are those of the rules, by themselves
-pub start_tag-is : (b : Ledger) (t slot : ℕ) → start_tag b t slot ≡ start_by b (start_tag b) t slot
-start_tag-is b t slot =
-    start_tags-more b (t + 1) t t slot refl
-    ∙ start_of-agree b (start_tags b t) (start_tag b) (share_in (tenant_then b slot t)) t slot
+pub start_tag-is : (quantum : ℕ) (b : Ledger) (t slot : ℕ) → start_tag quantum b t slot ≡ start_by quantum b (start_tag quantum b) t slot
+start_tag-is quantum b t slot =
+    start_tags-more quantum b (t + 1) t t slot refl
+    ∙ start_of-agree quantum b (start_tags quantum b t) (start_tag quantum b) (share_in (tenant_then b slot t)) t slot
     (since-then b slot t)
-    (λ z k lt. start_tags-enough b t (z + 1) z k lt (omega arith))
+    (λ z k lt. start_tags-enough quantum b t (z + 1) z k lt (omega arith))
 
 pub ruleset tag_rounds = (start_tags-zero, start_tags-more)

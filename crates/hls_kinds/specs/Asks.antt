@@ -38,7 +38,7 @@ owner_asks mask (Some slot) = slot_asks mask slot
 abbrev pub asks : Config → Ledger → ℕ → Bool
 asks Fp b mask = some_slot_asks mask
 asks Edf b mask = any_below (λ slot. asks_in_budget b mask slot || asks_softly b mask slot) 32
-asks (Sfq total most) b mask = some_slot_asks mask
+asks (Sfq total most quantum) b mask = some_slot_asks mask
 asks (Rr quantum) b mask = some_slot_asks mask
 asks (Wheel frame) b mask = owner_asks mask (owner_now frame b)
 asks (Join ports) b mask = some_slot_asks mask

@@ -24,11 +24,10 @@ abbrev pub may_go : Ledger → (mask slot : ℕ) → Bool
 may_go b mask slot =
     if any_below (asks_in_budget b mask) 32 then asks_in_budget b mask slot else asks_softly b mask slot
 
--- the slot of the turn where it goes on, else the first asking slot after it
-pub record TakesTurn (quantum : ℕ) (b : Ledger) (mask slot : ℕ) : Type 0 where
+-- the slot of the turn where it goes on, else the first asking slot by this key
+pub record TakesTurn (quantum : ℕ) (b : Ledger) (key : ℕ → ℕ) (mask slot : ℕ) : Type 0 where
   pub goes_on : turn_goes_on quantum b mask ≡ true → slot ≡ turn_slot b
-  pub passes : turn_goes_on quantum b mask ≡ false → IsFirst 32 (slot_asks mask) (turns_after
-      (turn_slot b)) slot
+  pub passes : turn_goes_on quantum b mask ≡ false → IsFirst 32 (slot_asks mask) key slot
 
 pub record IsOwner (owner : Option ℕ) (mask slot : ℕ) : Type 0 where
   pub owns : owner ≡ Some slot
@@ -42,8 +41,8 @@ pub record IsSole (mask slot : ℕ) : Type 0 where
 abbrev pub Serves : Config → Ledger → ℕ → ℕ → Type 0
 Serves Fp b mask slot = HasLeastPriority b mask slot
 Serves Edf b mask slot = IsFirst 32 (may_go b mask) (deadline_at b mask) slot
-Serves (Sfq total most) b mask slot = IsFirst 32 (slot_asks mask) (start_tag b (now_of b)) slot
-Serves (Rr quantum) b mask slot = TakesTurn quantum b mask slot
+Serves (Sfq total most quantum) b mask slot = TakesTurn quantum b (start_tag quantum b (now_of b)) mask slot
+Serves (Rr quantum) b mask slot = TakesTurn quantum b (turns_after (turn_slot b)) mask slot
 Serves (Wheel frame) b mask slot = IsOwner (owner_now frame b) mask slot
 Serves (Join ports) b mask slot = IsSole mask slot
 Serves Cpu b mask slot = ⊥

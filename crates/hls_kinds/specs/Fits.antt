@@ -11,7 +11,7 @@ use Rattle.hls_kinds.specs.Room.{LacksRoom}
 
 -- more of the frame or of the total is asked than there is
 abbrev pub Exceeds : Config → Terms → Type 0
-Exceeds (configs.Sfq total most) (Weight weight) = total < weight
+Exceeds (configs.Sfq total most quantum) (Weight weight) = total < weight
 Exceeds (configs.Wheel frame) (Slots places) = frame < places
 Exceeds _ _ = ⊥
 

@@ -46,20 +46,20 @@ weight_in _ = 0
 -- The other kinds have no room to use up.
 abbrev pub room_used : Config → Ledger → ℕ
 room_used configs.Edf b = sum_below (λ slot. parts_in (occupant_at configs.Edf b slot)) 32
-room_used (configs.Sfq total most) b = sum_below (λ slot. weight_in (terms_at b slot)) 32
+room_used (configs.Sfq total most quantum) b = sum_below (λ slot. weight_in (terms_at b slot)) 32
 room_used (configs.Wheel frame) b = owned_places frame b
 room_used _ b = 0
 
 -- the room that there is, and what a seat on some terms asks of it
 abbrev pub room_total : Config → ℕ
 room_total configs.Edf = all_parts
-room_total (configs.Sfq total most) = total
+room_total (configs.Sfq total most quantum) = total
 room_total (configs.Wheel frame) = frame
 room_total _ = 0
 
 abbrev pub room_asked : Config → Terms → ℕ
 room_asked configs.Edf (terms.Res hard x y) = parts x y
-room_asked (configs.Sfq total most) (terms.Weight weight) = weight
+room_asked (configs.Sfq total most quantum) (terms.Weight weight) = weight
 room_asked (configs.Wheel frame) (terms.Slots places) = places
 room_asked _ _ = 0
 

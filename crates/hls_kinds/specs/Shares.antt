@@ -18,13 +18,14 @@ pub record AsksThroughout (b : Ledger) (slot weight i n : ℕ) : Type 0 where
   pub asks : (t : ℕ) → i ≤ t → t ≤ i + n → asked b slot t ≡ true
 
 -- In the ticks from i to i + n, what two seats got, each divided by its weight, differs by at most the sum of
--- the inverses of the weights.
-abbrev pub KeepsSharesByWeight : Ledger → Type 0
-KeepsSharesByWeight b =
+-- what a quantum is at the one weight and at the other.
+abbrev pub KeepsSharesByWeight : (quantum : ℕ) → Ledger → Type 0
+KeepsSharesByWeight quantum b =
     (i n slot other weight rival : ℕ) → i + n < now_of b
     → AsksThroughout b slot weight i n → AsksThroughout b other rival i n
-    → count (served b slot) i (n + 1) * rival ≤ count (served b other) i (n + 1) * weight + (weight + rival)
+    → count (served b slot) i (n + 1) * rival
+    ≤ count (served b other) i (n + 1) * weight + quantum * (weight + rival)
 
 abbrev pub KeepsShares : Config → Ledger → Type 0
-KeepsShares (Sfq total most) b = KeepsSharesByWeight b
+KeepsShares (Sfq total most quantum) b = KeepsSharesByWeight quantum b
 KeepsShares _ b = Unit {0}

@@ -1,5 +1,5 @@
 -- For how many ticks a scheduler asks as it does and serves whom it serves, where nothing but ticks comes.
-use Rattle.std.specs.Prelude.{ℕ, zero, suc, ◌+◌, ◌-◌, ◌/◌, ◌%◌, Bool, true, false, Option, Some, None}
+use Rattle.std.specs.Prelude.{ℕ, zero, suc, ◌+◌, ◌*◌, ◌-◌, ◌/◌, ◌%◌, Bool, true, false, Option, Some, None}
 use Rattle.std.specs.Prelude.{if◌then◌else◌, min, max, nat_lt, ◌==◌}
 use Rattle.hls_chron.specs.declared.plain.Config.{Config}
 use Rattle.hls_chron.specs.declared.plain.Config.TheVariants.{Cpu, Fp, Edf, Sfq, Rr, Wheel, Join}
@@ -66,14 +66,20 @@ to_rivals tags slot mine step zero = always
 to_rivals tags slot mine step (suc n) =
     min (to_rivals tags slot mine step n) (apart_from slot mine step n (tags n))
 
-abbrev pub tag_of_asking : Ledger → (mask slot : ℕ) → Option ℕ
-tag_of_asking b mask slot = if slot_asks mask slot then Some (start_tag b (now_of b) slot) else None
+abbrev pub tag_of_asking : (quantum : ℕ) → Ledger → (mask slot : ℕ) → Option ℕ
+tag_of_asking quantum b mask slot = if slot_asks mask slot then Some (start_tag quantum b (now_of b) slot) else None
 
-abbrev pub rest_of_share : Ledger → (mask : ℕ) → Option ℕ → ℕ
-rest_of_share b mask None = always
-rest_of_share b mask (Some slot) =
-    max 1 (to_rivals (tag_of_asking b mask) slot (start_tag b (now_of b) slot) (tag_step (weight_in (terms_at b slot)))
-    32)
+-- the first end of a turn at or after so many ticks, where this one lasts so much longer
+abbrev pub turn_end : (quantum left ticks : ℕ) → ℕ
+turn_end quantum left ticks = left + (ticks - left + (quantum - 1)) / quantum * quantum
+
+abbrev pub rest_of_share : (quantum : ℕ) → Ledger → (mask : ℕ) → Option ℕ → ℕ
+rest_of_share quantum b mask None = always
+rest_of_share quantum b mask (Some slot) =
+    if without_slot slot mask == 0 then always else
+    min always (turn_end quantum (quantum - turn_ticks b slot % quantum)
+    (to_rivals (tag_of_asking quantum b mask) slot (start_tag quantum b (now_of b) slot)
+    (tag_step (weight_in (terms_at b slot))) 32))
 
 abbrev pub stands_of : Config → Ledger → (mask : ℕ) → (granted : Bool) → (choice : Option ℕ) → ℕ
 stands_of Fp b mask granted choice = always
@@ -82,6 +88,7 @@ stands_of (Rr quantum) b mask granted choice =
     if granted then rest_of_turn quantum b mask choice else always
 stands_of Edf b mask granted choice =
     max 1 (if granted then min (to_deadlines b mask 32) (rest_of_budget b mask choice) else to_deadlines b mask 32)
-stands_of (Sfq total most) b mask granted choice = if granted then rest_of_share b mask choice else always
+stands_of (Sfq total most quantum) b mask granted choice =
+    if granted then rest_of_share quantum b mask choice else always
 stands_of (Wheel frame) b mask granted choice = max 1 (owned_for (owner_at b) frame (now_of b) frame)
 stands_of Cpu b mask granted choice = always

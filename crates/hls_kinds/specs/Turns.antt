@@ -1,4 +1,4 @@
--- The turns of round robin, recomputed from the book.
+-- The turns of round robin and of fair queueing, recomputed from the book.
 use Rattle.std.specs.Prelude.{ℕ, ◌+◌, ◌-◌, ◌%◌, Bool, not, ◌&&◌, ◌||◌, ◌==◌, Option, Some, None}
 use Rattle.std.specs.Prelude.{is_some}
 use Rattle.std.specs.Int.{bit_at}

@@ -29,8 +29,8 @@ use Rattle.hls_lang.proofs.ConfigLaws.{IsPlain, config_front, config_next, last_
 use Rattle.hls_lang.proofs.PortLaws.{ports_front, ports_next}
 
 -- a command that is all of the tokens
-abbrev pub Whole : List Text → Command → Type 0
-Whole ts command = IsCommand command × Front (command_forms command) ts []
+abbrev pub Whole : (version : ℕ) → List Text → Command → Type 0
+Whole version ts command = IsCommand version command × Front (command_forms version command) ts []
 
 token_is : (ts : List Text) (w : Text × List Text) → token_at ts ≡ Ok w → ts ≡ w.0 ∷ w.1
 token_is [] w e = absurd cc
@@ -38,28 +38,30 @@ token_is (t ∷ ts) w e = carried (λ (q : Text × List Text). t ∷ ts ≡ q.0 
 
 -- ---- loads
 
-plain_load : (config : Config) (perch : Perch) → IsPlain config → IsPerch perch → IsLoad config (perch ∷ [])
-plain_load configs.Cpu perch plain is = absurd plain
-plain_load (configs.Join ports) perch plain is = absurd plain
-plain_load configs.Fp perch plain is = (plain, is)
-plain_load configs.Edf perch plain is = (plain, is)
-plain_load (configs.Sfq total most) perch plain is = (plain, is)
-plain_load (configs.Rr quantum) perch plain is = (plain, is)
-plain_load (configs.Wheel frame) perch plain is = (plain, is)
+plain_load : (version : ℕ) (config : Config) (perch : Perch) → IsPlain version config → IsPerch perch
+    → IsLoad version config (perch ∷ [])
+plain_load version configs.Cpu perch plain is = absurd plain
+plain_load version (configs.Join ports) perch plain is = absurd plain
+plain_load version configs.Fp perch plain is = (plain, is)
+plain_load version configs.Edf perch plain is = (plain, is)
+plain_load version (configs.Sfq total most quantum) perch plain is = (plain, is)
+plain_load version (configs.Rr quantum) perch plain is = (plain, is)
+plain_load version (configs.Wheel frame) perch plain is = (plain, is)
 
 -- what stands after the name of a load
-abbrev load_tail : Config → List Perch → List Form
-load_tail config perches = config_forms config ++ the (codes "on") ∷ perches_forms perches
+abbrev load_tail : (version : ℕ) → Config → List Perch → List Form
+load_tail version config perches = config_forms version config ++ the (codes "on") ∷ perches_forms perches
 
-abbrev LoadFront : Text → List Text → Command → Type 0
-LoadFront name ts command = (config : Config) × (perches : List Perch) × (command ≡ Load name config perches)
-    × IsLoad config perches × Front (load_tail config perches) ts []
+abbrev LoadFront : (version : ℕ) → Text → List Text → Command → Type 0
+LoadFront version name ts command =
+    (config : Config) × (perches : List Perch) × (command ≡ Load name config perches) × IsLoad version config perches
+    × Front (load_tail version config perches) ts []
 
-join_front : (name t : Text) (ts : List Text) (command : Command) → t ≡ codes "join"
+join_front : (version : ℕ) (name t : Text) (ts : List Text) (command : Command) → t ≡ codes "join"
     → join_at name ts ≡ Ok command
-    → LoadFront name (t ∷ ts) command
+    → LoadFront version name (t ∷ ts) command
 unfolding join_at
-join_front name t ts command is e =
+join_front version name t ts command is e =
     let a = bind_ok (word_at (codes "on") ts) (λ r. ports_at r >>= λ ports. Ok
     (Load name (configs.Join (length ports)) ports)) command e in
     let b = bind_ok (ports_at a.0) (λ ports. Ok (Load name (configs.Join (length ports)) ports)) command
@@ -73,11 +75,12 @@ join_front name t ts command is e =
       (is, front_join (the (codes "on") ∷ []) (perches_forms b.0) ts a.0 [] on p.2),
     )
 
-one_front : (name : Text) (config : Config) (ts mid : List Text) (command : Command) → IsPlain config
-    → Front (config_forms config) ts mid → one_perch_at name config mid ≡ Ok command
-    → LoadFront name ts command
+one_front : (version : ℕ) (name : Text) (config : Config) (ts mid : List Text) (command : Command)
+    → IsPlain version config
+    → Front (config_forms version config) ts mid → one_perch_at name config mid ≡ Ok command
+    → LoadFront version name ts command
 unfolding one_perch_at
-one_front name config ts mid command plain front e =
+one_front version name config ts mid command plain front e =
     let a = bind_ok (word_at (codes "on") mid) (λ r. last_perch_at r >>= λ p. Ok
     (Load name config (p ∷ []))) command e in
     let b = bind_ok (last_perch_at a.0) (λ p. Ok (Load name config (p ∷ []))) command a.2 in
@@ -88,52 +91,55 @@ one_front name config ts mid command plain front e =
       config,
       b.0 ∷ [],
       sym (ok_is (Load name config (b.0 ∷ [])) command b.2),
-      plain_load config b.0 plain p.0,
-      front_join (config_forms config) (the (codes "on") ∷ perches_forms (b.0 ∷ [])) ts mid [] front
+      plain_load version config b.0 plain p.0,
+      front_join (config_forms version config) (the (codes "on") ∷ perches_forms (b.0 ∷ [])) ts mid [] front
           (front_join (the (codes "on") ∷ []) (perches_forms (b.0 ∷ [])) mid a.0 [] on perches),
     )
 
-load_by_front : (name t : Text) (ts : List Text) (command : Command) → load_by name t ts ≡ Ok command
-    → LoadFront name (t ∷ ts) command
+load_by_front : (version : ℕ) (name t : Text) (ts : List Text) (command : Command)
+    → load_by version name t ts ≡ Ok command
+    → LoadFront version name (t ∷ ts) command
 unfolding load_by
-load_by_front name t ts command e = elim (choice (bytes_eq t (codes "join")) _ _ command e) [
-  | inl h ↦ join_front name t ts command (same_bytes t (codes "join") h.0) h.1
+load_by_front version name t ts command e = elim (choice (bytes_eq t (codes "join")) _ _ command e) [
+  | inl h ↦ join_front version name t ts command (same_bytes t (codes "join") h.0) h.1
   | inr e ↦
-      let a = bind_ok (config_by t ts) (λ c. one_perch_at name c.0 c.1) command e in
-      let h = config_front t ts a.0 a.1 in
-      one_front name a.0.0 (t ∷ ts) a.0.1 command h.0 h.1 a.2
+      let a = bind_ok (config_by version t ts) (λ c. one_perch_at name c.0 c.1) command e in
+      let h = config_front version t ts a.0 a.1 in
+      one_front version name a.0.0 (t ∷ ts) a.0.1 command h.0 h.1 a.2
 ]
 
-load_whole : (l name : Text) (ts mid behind : List Text) (t : Text) (command : Command) (config : Config)
-    (perches : List Perch) → l ≡ codes "load" → IsName name → Front (the name ∷ []) ts mid → mid ≡ t ∷ behind
-    → command ≡ Load name config perches → IsLoad config perches
-    → Front (load_tail config perches) (t ∷ behind) []
-    → Whole (l ∷ ts) command
-load_whole l name ts mid behind t command config perches is named front cut made load tail =
-    let whole : Front (load_tail config perches) mid [] =
-    subst (λ (x : List Text). Front (load_tail config perches) x []) (sym cut) tail in
-    subst (Whole (l ∷ ts)) (sym made)
-    ((named, load), (is, front_join (the name ∷ []) (load_tail config perches) ts mid [] front whole))
+load_whole : (version : ℕ) (l name : Text) (ts mid behind : List Text) (t : Text) (command : Command)
+    (config : Config) (perches : List Perch) → l ≡ codes "load" → IsName name → Front (the name ∷ []) ts mid
+    → mid ≡ t ∷ behind
+    → command ≡ Load name config perches → IsLoad version config perches
+    → Front (load_tail version config perches) (t ∷ behind) []
+    → Whole version (l ∷ ts) command
+load_whole version l name ts mid behind t command config perches is named front cut made load tail =
+    let whole : Front (load_tail version config perches) mid [] =
+    subst (λ (x : List Text). Front (load_tail version config perches) x []) (sym cut) tail in
+    subst (Whole version (l ∷ ts)) (sym made)
+    ((named, load), (is, front_join (the name ∷ []) (load_tail version config perches) ts mid [] front whole))
 
-load_front : (l : Text) (ts : List Text) (command : Command) → l ≡ codes "load" → load_at ts ≡ Ok command
-    → Whole (l ∷ ts) command
+load_front : (version : ℕ) (l : Text) (ts : List Text) (command : Command) → l ≡ codes "load"
+    → load_at version ts ≡ Ok command
+    → Whole version (l ∷ ts) command
 unfolding load_at
-load_front l ts command is e =
-    let a = bind_ok (name_at ts) (λ n. token_at n.1 >>= λ w. load_by n.0 w.0 w.1) command e in
-    let b = bind_ok (token_at a.0.1) (λ w. load_by a.0.0 w.0 w.1) command a.2 in
+load_front version l ts command is e =
+    let a = bind_ok (name_at ts) (λ n. token_at n.1 >>= λ w. load_by version n.0 w.0 w.1) command e in
+    let b = bind_ok (token_at a.0.1) (λ w. load_by version a.0.0 w.0 w.1) command a.2 in
     let name = name_front ts a.0 a.1 in
-    let load = load_by_front a.0.0 b.0.0 b.0.1 command b.2 in
-    load_whole l a.0.0 ts a.0.1 b.0.1 b.0.0 command load.0 load.1 is name.0 name.1
+    let load = load_by_front version a.0.0 b.0.0 b.0.1 command b.2 in
+    load_whole version l a.0.0 ts a.0.1 b.0.1 b.0.0 command load.0 load.1 is name.0 name.1
     (token_is a.0.1 b.0 b.1) load.2
     load.3 load.4
 
 -- ---- the other commands
 
-thread_front : (l : Text) (ts : List Text) (command : Command) → l ≡ codes "thread"
+thread_front : (version : ℕ) (l : Text) (ts : List Text) (command : Command) → l ≡ codes "thread"
     → thread_at ts ≡ Ok command
-    → Whole (l ∷ ts) command
+    → Whole version (l ∷ ts) command
 unfolding thread_at
-thread_front l ts command is e =
+thread_front version l ts command is e =
     let a = bind_ok (name_at ts) (λ n. word_at (codes "on") n.1 >>= λ r. last_perch_at r >>= λ p. Ok
     (Thread n.0 p)) command e in
     let b = bind_ok (word_at (codes "on") a.0.1) (λ r. last_perch_at r >>= λ p. Ok (Thread a.0.0 p))
@@ -141,7 +147,7 @@ thread_front l ts command is e =
     let d = bind_ok (last_perch_at b.0) (λ p. Ok (Thread a.0.0 p)) command b.2 in
     let name = name_front ts a.0 a.1 in
     let p = last_perch_front b.0 d.0 d.1 in
-    carried (Whole (l ∷ ts)) (Thread a.0.0 d.0) command d.2 (
+    carried (Whole version (l ∷ ts)) (Thread a.0.0 d.0) command d.2 (
       (name.0, p.0),
       (
         is,
@@ -151,10 +157,11 @@ thread_front l ts command is e =
       ),
     )
 
-move_front : (l : Text) (ts : List Text) (command : Command) → l ≡ codes "move" → move_at ts ≡ Ok command
-    → Whole (l ∷ ts) command
+move_front : (version : ℕ) (l : Text) (ts : List Text) (command : Command) → l ≡ codes "move"
+    → move_at ts ≡ Ok command
+    → Whole version (l ∷ ts) command
 unfolding move_at
-move_front l ts command is e =
+move_front version l ts command is e =
     let a = bind_ok (name_at ts) (λ n. word_at (codes "to") n.1 >>= λ r. last_perch_at r >>= λ p. Ok
     (Move n.0 p)) command e in
     let b = bind_ok (word_at (codes "to") a.0.1) (λ r. last_perch_at r >>= λ p. Ok (Move a.0.0 p))
@@ -162,7 +169,7 @@ move_front l ts command is e =
     let d = bind_ok (last_perch_at b.0) (λ p. Ok (Move a.0.0 p)) command b.2 in
     let name = name_front ts a.0 a.1 in
     let p = last_perch_front b.0 d.0 d.1 in
-    carried (Whole (l ∷ ts)) (Move a.0.0 d.0) command d.2 (
+    carried (Whole version (l ∷ ts)) (Move a.0.0 d.0) command d.2 (
       (name.0, p.0),
       (
         is,
@@ -185,14 +192,14 @@ last_name_front ts name e =
     (h.0, subst (λ (r : List Text). Front (the a.0.0 ∷ []) ts r) (none_left a.0.1 b.0 b.1) h.1)
 
 -- a command of a name alone
-named_front : (make : Text → Command) (word l : Text) (ts : List Text) (command : Command)
-    → ((name : Text) → IsName name → IsCommand (make name))
-    → ((name : Text) → command_forms (make name) ≡ the word ∷ the name ∷ [])
-    → l ≡ word → (last_name_at ts >>= λ n. Ok (make n)) ≡ Ok command → Whole (l ∷ ts) command
-named_front make word l ts command within forms is e =
+named_front : (version : ℕ) (make : Text → Command) (word l : Text) (ts : List Text) (command : Command)
+    → ((name : Text) → IsName name → IsCommand version (make name))
+    → ((name : Text) → command_forms version (make name) ≡ the word ∷ the name ∷ [])
+    → l ≡ word → (last_name_at ts >>= λ n. Ok (make n)) ≡ Ok command → Whole version (l ∷ ts) command
+named_front version make word l ts command within forms is e =
     let a = bind_ok (last_name_at ts) (λ n. Ok (make n)) command e in
     let h = last_name_front ts a.0 a.1 in
-    carried (Whole (l ∷ ts)) (make a.0) command a.2
+    carried (Whole version (l ∷ ts)) (make a.0) command a.2
     (within a.0 h.0, subst (λ fs. Front fs (l ∷ ts) []) (sym (forms a.0)) (is, h.1))
 
 abbrev BurstFront : List Text → Option ℕ → Type 0
@@ -214,38 +221,40 @@ burst_front (t ∷ ts) burst e =
           (word_is (codes "for") (t ∷ ts) a.0 a.1) ends,
     )
 
-wake_front : (l : Text) (ts : List Text) (command : Command) → l ≡ codes "wake" → wake_at ts ≡ Ok command
-    → Whole (l ∷ ts) command
+wake_front : (version : ℕ) (l : Text) (ts : List Text) (command : Command) → l ≡ codes "wake"
+    → wake_at ts ≡ Ok command
+    → Whole version (l ∷ ts) command
 unfolding wake_at
-wake_front l ts command is e =
+wake_front version l ts command is e =
     let a = bind_ok (name_at ts) (λ n. burst_at n.1 >>= λ b. Ok (Wake n.0 b)) command e in
     let b = bind_ok (burst_at a.0.1) (λ b. Ok (Wake a.0.0 b)) command a.2 in
     let name = name_front ts a.0 a.1 in
     let h = burst_front a.0.1 b.0 b.1 in
-    carried (Whole (l ∷ ts)) (Wake a.0.0 b.0) command b.2 (
+    carried (Whole version (l ∷ ts)) (Wake a.0.0 b.0) command b.2 (
       (name.0, h.0),
       (is, front_join (the a.0.0 ∷ []) (burst_forms b.0) ts a.0.1 [] name.1 h.1),
     )
 
-command_by_front : (l : Text) (ts : List Text) (command : Command) → command_by l ts ≡ Ok command
-    → Whole (l ∷ ts) command
+command_by_front : (version : ℕ) (l : Text) (ts : List Text) (command : Command)
+    → command_by version l ts ≡ Ok command
+    → Whole version (l ∷ ts) command
 unfolding command_by
-command_by_front l ts command e = elim (choice (bytes_eq l (codes "load")) _ _ command e) [
-  | inl h ↦ load_front l ts command (same_bytes l (codes "load") h.0) h.1
+command_by_front version l ts command e = elim (choice (bytes_eq l (codes "load")) _ _ command e) [
+  | inl h ↦ load_front version l ts command (same_bytes l (codes "load") h.0) h.1
   | inr e ↦ elim (choice (bytes_eq l (codes "thread")) _ _ command e) [
-    | inl h ↦ thread_front l ts command (same_bytes l (codes "thread") h.0) h.1
+    | inl h ↦ thread_front version l ts command (same_bytes l (codes "thread") h.0) h.1
     | inr e ↦ elim (choice (bytes_eq l (codes "end")) _ _ command e) [
-      | inl h ↦ named_front (λ n. End n) (codes "end") l ts command (λ n is. is) (λ n. refl)
+      | inl h ↦ named_front version (λ n. End n) (codes "end") l ts command (λ n is. is) (λ n. refl)
           (same_bytes l _ h.0) h.1
       | inr e ↦ elim (choice (bytes_eq l (codes "unload")) _ _ command e) [
-        | inl h ↦ named_front (λ n. Unload n) (codes "unload") l ts command (λ n is. is) (λ n. refl)
+        | inl h ↦ named_front version (λ n. Unload n) (codes "unload") l ts command (λ n is. is) (λ n. refl)
             (same_bytes l _ h.0) h.1
         | inr e ↦ elim (choice (bytes_eq l (codes "move")) _ _ command e) [
-          | inl h ↦ move_front l ts command (same_bytes l (codes "move") h.0) h.1
+          | inl h ↦ move_front version l ts command (same_bytes l (codes "move") h.0) h.1
           | inr e ↦ elim (choice (bytes_eq l (codes "wake")) _ _ command e) [
-            | inl h ↦ wake_front l ts command (same_bytes l (codes "wake") h.0) h.1
+            | inl h ↦ wake_front version l ts command (same_bytes l (codes "wake") h.0) h.1
             | inr e ↦ elim (choice (bytes_eq l (codes "block")) _ _ command e) [
-              | inl h ↦ named_front (λ n. Block n) (codes "block") l ts command (λ n is. is) (λ n. refl)
+              | inl h ↦ named_front version (λ n. Block n) (codes "block") l ts command (λ n is. is) (λ n. refl)
                   (same_bytes l _ h.0) h.1
               | inr e ↦ absurd cc
             ]
@@ -256,21 +265,23 @@ command_by_front l ts command e = elim (choice (bytes_eq l (codes "load")) _ _ c
   ]
 ]
 
-command_front : (ts : List Text) (command : Command) → command_at ts ≡ Ok command → Whole ts command
+command_front : (version : ℕ) (ts : List Text) (command : Command) → command_at version ts ≡ Ok command
+    → Whole version ts command
 unfolding command_at
-command_front [] command e = absurd cc
-command_front (l ∷ ts) command e = command_by_front l ts command e
+command_front version [] command e = absurd cc
+command_front version (l ∷ ts) command e = command_by_front version l ts command e
 
 -- ---- a command of a line is read
 
-join_next : (name : Text) (ports : ℕ) (perches : List Perch) (t : Text) (ts : List Text)
-    → IsLoad (configs.Join ports) perches → Front (load_tail (configs.Join ports) perches) (t ∷ ts) []
-    → load_by name t ts ≡ Ok (Load name (configs.Join ports) perches)
+join_next : (version : ℕ) (name : Text) (ports : ℕ) (perches : List Perch) (t : Text) (ts : List Text)
+    → IsLoad version (configs.Join ports) perches
+    → Front (load_tail version (configs.Join ports) perches) (t ∷ ts) []
+    → load_by version name t ts ≡ Ok (Load name (configs.Join ports) perches)
 unfolding load_by join_at
-join_next name ports perches t ts is a =
+join_next version name ports perches t ts is a =
     let on = front_split (the (codes "on") ∷ []) (perches_forms perches) ts [] a.1 in
     let within : IsWithin 2 4 (length perches) = subst (IsWithin 2 4) is.0 is.1 in
-    ap (λ b. cond b (join_at name ts) (config_by t ts >>= λ c. one_perch_at name c.0 c.1))
+    ap (λ b. cond b (join_at name ts) (config_by version t ts >>= λ c. one_perch_at name c.0 c.1))
     (bytes_same t (codes "join") a.0)
     ∙ bind_again (word_at (codes "on") ts) (λ r. ports_at r >>= λ qs. Ok
     (Load name (configs.Join (length qs)) qs)) on.0
@@ -291,72 +302,77 @@ one_next name config perch ts is a =
     (Load name config (perch ∷ [])) (word_next (codes "on") ts on.0 on.1)
     (ap (λ r. r >>= λ p. Ok (Load name config (p ∷ []))) (last_perch_next perch on.0 is front))
 
-plain_next : (name : Text) (config : Config) (perch : Perch) (ts : List Text) (t : Text) → IsPlain config
+plain_next : (version : ℕ) (name : Text) (config : Config) (perch : Perch) (ts : List Text) (t : Text)
+    → IsPlain version config
     → IsPerch perch
-    → Front (load_tail config (perch ∷ [])) (t ∷ ts) []
-    → load_by name t ts ≡ Ok (Load name config (perch ∷ []))
+    → Front (load_tail version config (perch ∷ [])) (t ∷ ts) []
+    → load_by version name t ts ≡ Ok (Load name config (perch ∷ []))
 unfolding load_by
-plain_next name config perch ts t plain is a =
-    let s = front_split (config_forms config) (the (codes "on") ∷ perches_forms (perch ∷ [])) (t ∷ ts) [] a in
-    let c = config_next config t ts s.0 plain s.1 in
-    ap (λ b. cond b (join_at name ts) (config_by t ts >>= λ c. one_perch_at name c.0 c.1)) c.1
-    ∙ bind_again (config_by t ts) (λ c. one_perch_at name c.0 c.1) (config, s.0)
+plain_next version name config perch ts t plain is a =
+    let s = front_split (config_forms version config) (the (codes "on") ∷ perches_forms (perch ∷ [])) (t ∷ ts)
+    [] a in
+    let c = config_next version config t ts s.0 plain s.1 in
+    ap (λ b. cond b (join_at name ts) (config_by version t ts >>= λ c. one_perch_at name c.0 c.1)) c.1
+    ∙ bind_again (config_by version t ts) (λ c. one_perch_at name c.0 c.1) (config, s.0)
     (Load name config (perch ∷ [])) c.0
     (one_next name config perch s.0 is s.2)
 
-load_by_next : (name : Text) (config : Config) (perches : List Perch) (t : Text) (ts : List Text)
-    → IsLoad config perches → Front (load_tail config perches) (t ∷ ts) []
-    → load_by name t ts ≡ Ok (Load name config perches)
-load_by_next name configs.Cpu perches t ts is a = absurd is
-load_by_next name (configs.Join ports) perches t ts is a = join_next name ports perches t ts is a
-load_by_next name configs.Fp [] t ts is a = absurd is
-load_by_next name configs.Fp (p ∷ []) t ts is a = plain_next name configs.Fp p ts t is.0 is.1 a
-load_by_next name configs.Fp (p ∷ q ∷ ps) t ts is a = absurd is
-load_by_next name configs.Edf [] t ts is a = absurd is
-load_by_next name configs.Edf (p ∷ []) t ts is a = plain_next name configs.Edf p ts t is.0 is.1 a
-load_by_next name configs.Edf (p ∷ q ∷ ps) t ts is a = absurd is
-load_by_next name (configs.Sfq total most) [] t ts is a = absurd is
-load_by_next name (configs.Sfq total most) (p ∷ []) t ts is a = plain_next name (configs.Sfq total most)
-    p ts t is.0 is.1 a
-load_by_next name (configs.Sfq total most) (p ∷ q ∷ ps) t ts is a = absurd is
-load_by_next name (configs.Rr quantum) [] t ts is a = absurd is
-load_by_next name (configs.Rr quantum) (p ∷ []) t ts is a = plain_next name (configs.Rr quantum) p ts t
-    is.0 is.1 a
-load_by_next name (configs.Rr quantum) (p ∷ q ∷ ps) t ts is a = absurd is
-load_by_next name (configs.Wheel frame) [] t ts is a = absurd is
-load_by_next name (configs.Wheel frame) (p ∷ []) t ts is a = plain_next name (configs.Wheel frame) p ts t
-    is.0 is.1 a
-load_by_next name (configs.Wheel frame) (p ∷ q ∷ ps) t ts is a = absurd is
+load_by_next : (version : ℕ) (name : Text) (config : Config) (perches : List Perch) (t : Text) (ts : List Text)
+    → IsLoad version config perches → Front (load_tail version config perches) (t ∷ ts) []
+    → load_by version name t ts ≡ Ok (Load name config perches)
+load_by_next version name configs.Cpu perches t ts is a = absurd is
+load_by_next version name (configs.Join ports) perches t ts is a =
+    join_next version name ports perches t ts is a
+load_by_next version name configs.Fp [] t ts is a = absurd is
+load_by_next version name configs.Fp (p ∷ []) t ts is a =
+    plain_next version name configs.Fp p ts t is.0 is.1 a
+load_by_next version name configs.Fp (p ∷ q ∷ ps) t ts is a = absurd is
+load_by_next version name configs.Edf [] t ts is a = absurd is
+load_by_next version name configs.Edf (p ∷ []) t ts is a =
+    plain_next version name configs.Edf p ts t is.0 is.1 a
+load_by_next version name configs.Edf (p ∷ q ∷ ps) t ts is a = absurd is
+load_by_next version name (configs.Sfq total most quantum) [] t ts is a = absurd is
+load_by_next version name (configs.Sfq total most quantum) (p ∷ []) t ts is a =
+    plain_next version name (configs.Sfq total most quantum) p ts t is.0 is.1 a
+load_by_next version name (configs.Sfq total most quantum) (p ∷ q ∷ ps) t ts is a = absurd is
+load_by_next version name (configs.Rr quantum) [] t ts is a = absurd is
+load_by_next version name (configs.Rr quantum) (p ∷ []) t ts is a =
+    plain_next version name (configs.Rr quantum) p ts t is.0 is.1 a
+load_by_next version name (configs.Rr quantum) (p ∷ q ∷ ps) t ts is a = absurd is
+load_by_next version name (configs.Wheel frame) [] t ts is a = absurd is
+load_by_next version name (configs.Wheel frame) (p ∷ []) t ts is a =
+    plain_next version name (configs.Wheel frame) p ts t is.0 is.1 a
+load_by_next version name (configs.Wheel frame) (p ∷ q ∷ ps) t ts is a = absurd is
 
 -- the tail of a load is not empty
-tail_some : (name : Text) (config : Config) (perches : List Perch) (ts : List Text)
-    → IsLoad config perches → Front (load_tail config perches) ts []
-    → (token_at ts >>= λ w. load_by name w.0 w.1) ≡ Ok (Load name config perches)
-tail_some name config perches [] is a =
-    let s = front_split (config_forms config) (the (codes "on") ∷ perches_forms perches) [] [] a in
+tail_some : (version : ℕ) (name : Text) (config : Config) (perches : List Perch) (ts : List Text)
+    → IsLoad version config perches → Front (load_tail version config perches) ts []
+    → (token_at ts >>= λ w. load_by version name w.0 w.1) ≡ Ok (Load name config perches)
+tail_some version name config perches [] is a =
+    let s = front_split (config_forms version config) (the (codes "on") ∷ perches_forms perches) [] [] a in
     absurd (no_on config (perches_forms perches) s.0 s.1 s.2)
   where
-    no_on : (config : Config) (fs : List Form) (mid : List Text) → Front (config_forms config) [] mid
+    no_on : (config : Config) (fs : List Form) (mid : List Text) → Front (config_forms version config) [] mid
         → Front (the (codes "on") ∷ fs) mid [] → ⊥
     no_on configs.Cpu fs mid a b = let c : Front (the (codes "on") ∷ fs) [] [] = subst
         (λ (x : List Text). Front (the (codes "on") ∷ fs) x []) (sym a) b in c
     no_on configs.Fp fs mid a b = a
     no_on configs.Edf fs mid a b = a
-    no_on (configs.Sfq total most) fs mid a b = a
+    no_on (configs.Sfq total most quantum) fs mid a b = a
     no_on (configs.Rr quantum) fs mid a b = a
     no_on (configs.Wheel frame) fs mid a b = a
     no_on (configs.Join ports) fs mid a b = a
-tail_some name config perches (t ∷ ts) is a = load_by_next name config perches t ts is a
+tail_some version name config perches (t ∷ ts) is a = load_by_next version name config perches t ts is a
 
-load_next : (name : Text) (config : Config) (perches : List Perch) (ts : List Text) → IsName name
-    → IsLoad config perches → Front (the name ∷ load_tail config perches) ts []
-    → load_at ts ≡ Ok (Load name config perches)
+load_next : (version : ℕ) (name : Text) (config : Config) (perches : List Perch) (ts : List Text) → IsName name
+    → IsLoad version config perches → Front (the name ∷ load_tail version config perches) ts []
+    → load_at version ts ≡ Ok (Load name config perches)
 unfolding load_at
-load_next name config perches ts named is a =
-    let n = front_split (the name ∷ []) (load_tail config perches) ts [] a in
-    bind_again (name_at ts) (λ m. token_at m.1 >>= λ w. load_by m.0 w.0 w.1) (name, n.0)
+load_next version name config perches ts named is a =
+    let n = front_split (the name ∷ []) (load_tail version config perches) ts [] a in
+    bind_again (name_at ts) (λ m. token_at m.1 >>= λ w. load_by version m.0 w.0 w.1) (name, n.0)
     (Load name config perches)
-    (name_next ts name n.0 named n.1) (tail_some name config perches n.0 is n.2)
+    (name_next ts name n.0 named n.1) (tail_some version name config perches n.0 is n.2)
 
 thread_next : (name : Text) (perch : Perch) (ts : List Text) → IsName name → IsPerch perch
     → Front (the name ∷ the (codes "on") ∷ perch_forms perch) ts [] → thread_at ts ≡ Ok (Thread name perch)
@@ -415,74 +431,77 @@ wake_next name burst ts named is a =
     (name_next ts name n.0 named n.1)
     (ap (λ r. r >>= λ b. Ok (Wake name b)) (burst_next burst n.0 is n.2))
 
-command_next : (command : Command) (ts : List Text) → IsCommand command → Front (command_forms command) ts []
-    → command_at ts ≡ Ok command
+command_next : (version : ℕ) (command : Command) (ts : List Text) → IsCommand version command
+    → Front (command_forms version command) ts []
+    → command_at version ts ≡ Ok command
 unfolding command_at command_by
-command_next (Load name config perches) [] is a = absurd a
-command_next (Load name config perches) (l ∷ ts) is a =
-    ap (λ w. command_by w ts) a.0 ∙ load_next name config perches ts is.0 is.1 a.1
-command_next (Thread name perch) [] is a = absurd a
-command_next (Thread name perch) (l ∷ ts) is a =
-    ap (λ w. command_by w ts) a.0 ∙ thread_next name perch ts is.0 is.1 a.1
-command_next (Move name perch) [] is a = absurd a
-command_next (Move name perch) (l ∷ ts) is a =
-    ap (λ w. command_by w ts) a.0 ∙ move_next name perch ts is.0 is.1 a.1
-command_next (End name) [] is a = absurd a
-command_next (End name) (l ∷ ts) is a =
-    ap (λ w. command_by w ts) a.0 ∙ ap (λ r. r >>= λ n. Ok (End n)) (last_name_next name ts is a.1)
-command_next (Unload name) [] is a = absurd a
-command_next (Unload name) (l ∷ ts) is a =
-    ap (λ w. command_by w ts) a.0 ∙ ap (λ r. r >>= λ n. Ok (Unload n)) (last_name_next name ts is a.1)
-command_next (Block name) [] is a = absurd a
-command_next (Block name) (l ∷ ts) is a =
-    ap (λ w. command_by w ts) a.0 ∙ ap (λ r. r >>= λ n. Ok (Block n)) (last_name_next name ts is a.1)
-command_next (Wake name burst) [] is a = absurd a
-command_next (Wake name burst) (l ∷ ts) is a =
-    ap (λ w. command_by w ts) a.0 ∙ wake_next name burst ts is.0 is.1 a.1
+command_next version (Load name config perches) [] is a = absurd a
+command_next version (Load name config perches) (l ∷ ts) is a =
+    ap (λ w. command_by version w ts) a.0 ∙ load_next version name config perches ts is.0 is.1 a.1
+command_next version (Thread name perch) [] is a = absurd a
+command_next version (Thread name perch) (l ∷ ts) is a =
+    ap (λ w. command_by version w ts) a.0 ∙ thread_next name perch ts is.0 is.1 a.1
+command_next version (Move name perch) [] is a = absurd a
+command_next version (Move name perch) (l ∷ ts) is a =
+    ap (λ w. command_by version w ts) a.0 ∙ move_next name perch ts is.0 is.1 a.1
+command_next version (End name) [] is a = absurd a
+command_next version (End name) (l ∷ ts) is a =
+    ap (λ w. command_by version w ts) a.0 ∙ ap (λ r. r >>= λ n. Ok (End n)) (last_name_next name ts is a.1)
+command_next version (Unload name) [] is a = absurd a
+command_next version (Unload name) (l ∷ ts) is a =
+    ap (λ w. command_by version w ts) a.0 ∙ ap (λ r. r >>= λ n. Ok (Unload n)) (last_name_next name ts is a.1)
+command_next version (Block name) [] is a = absurd a
+command_next version (Block name) (l ∷ ts) is a =
+    ap (λ w. command_by version w ts) a.0 ∙ ap (λ r. r >>= λ n. Ok (Block n)) (last_name_next name ts is a.1)
+command_next version (Wake name burst) [] is a = absurd a
+command_next version (Wake name burst) (l ∷ ts) is a =
+    ap (λ w. command_by version w ts) a.0 ∙ wake_next name burst ts is.0 is.1 a.1
 
 -- ---- items
 
-abbrev pub ItemLine : (horizon last : ℕ) → List Text → Item → Type 0
-ItemLine horizon last ts item =
-    IsCommand item.command × (last ≤ item.tick) × (item.tick < horizon) × IsLine (item_forms item) ts
+abbrev pub ItemLine : (version horizon last : ℕ) → List Text → Item → Type 0
+ItemLine version horizon last ts item =
+    IsCommand version item.command × (last ≤ item.tick) × (item.tick < horizon)
+    × IsLine (item_forms version item) ts
 
 i2 : ℕ → Command → Result Item Cause
 i2 tick command = Ok (record { tick = tick; command = command })
 
-i1 : ℕ × List Text → Result Item Cause
-i1 t = command_at t.1 >>= i2 t.0
+i1 : (version : ℕ) → ℕ × List Text → Result Item Cause
+i1 version t = command_at version t.1 >>= i2 t.0
 
-i0 : (horizon last : ℕ) → List Text → Result Item Cause
-i0 horizon last r = tick_at horizon last r >>= i1
+i0 : (version horizon last : ℕ) → List Text → Result Item Cause
+i0 version horizon last r = tick_at horizon last r >>= i1 version
 
 -- what is read of a line is an item
-pub item_is : (horizon last : ℕ) (ts : List Text) (item : Item) → horizon < 2 ^ 64
-    → item_at horizon last ts ≡ Ok item → ItemLine horizon last ts item
+pub item_is : (version horizon last : ℕ) (ts : List Text) (item : Item) → horizon < 2 ^ 64
+    → item_at version horizon last ts ≡ Ok item → ItemLine version horizon last ts item
 unfolding item_at i0 i1 i2
-item_is horizon last ts item fits e =
-    let a = bind_ok (word_at (codes "at") ts) (i0 horizon last) item e in
-    let b = bind_ok (tick_at horizon last a.0) i1 item a.2 in
-    let d = bind_ok (command_at b.0.1) (i2 b.0.0) item b.2 in
+item_is version horizon last ts item fits e =
+    let a = bind_ok (word_at (codes "at") ts) (i0 version horizon last) item e in
+    let b = bind_ok (tick_at horizon last a.0) (i1 version) item a.2 in
+    let d = bind_ok (command_at version b.0.1) (i2 b.0.0) item b.2 in
     let at = word_is (codes "at") ts a.0 a.1 in
     let tick = tick_front horizon last a.0 b.0 fits b.1 in
-    let command = command_front b.0.1 d.0 d.1 in
+    let command = command_front version b.0.1 d.0 d.1 in
     let made : Item = record { tick = b.0.0; command = d.0 } in
-    let front = front_join (the (codes "at") ∷ []) (number b.0.0 ∷ command_forms d.0) ts a.0 [] at
-    (front_join (number b.0.0 ∷ []) (command_forms d.0) a.0 b.0.1 [] tick.2 command.1) in
-    carried (ItemLine horizon last ts) made item d.2
-    (command.0, tick.0, tick.1, line_of_front (item_forms made) ts front)
+    let front = front_join (the (codes "at") ∷ []) (number b.0.0 ∷ command_forms version d.0) ts a.0 [] at
+    (front_join (number b.0.0 ∷ []) (command_forms version d.0) a.0 b.0.1 [] tick.2 command.1) in
+    carried (ItemLine version horizon last ts) made item d.2
+    (command.0, tick.0, tick.1, line_of_front (item_forms version made) ts front)
 
 -- an item is read
-pub item_next : (horizon last : ℕ) (ts : List Text) (item : Item) → horizon < 2 ^ 64
-    → ItemLine horizon last ts item → item_at horizon last ts ≡ Ok item
+pub item_next : (version horizon last : ℕ) (ts : List Text) (item : Item) → horizon < 2 ^ 64
+    → ItemLine version horizon last ts item → item_at version horizon last ts ≡ Ok item
 unfolding item_at i0 i1 i2
-item_next horizon last ts item fits is =
-    let front = front_of_line (item_forms item) ts is.3 in
-    let at = front_split (the (codes "at") ∷ []) (number item.tick ∷ command_forms item.command) ts []
+item_next version horizon last ts item fits is =
+    let front = front_of_line (item_forms version item) ts is.3 in
+    let at = front_split (the (codes "at") ∷ []) (number item.tick ∷ command_forms version item.command) ts []
     front in
-    let tick = front_split (number item.tick ∷ []) (command_forms item.command) at.0 [] at.2 in
-    bind_again (word_at (codes "at") ts) (i0 horizon last) at.0 item (word_next (codes "at") ts at.0 at.1)
-    (bind_again (tick_at horizon last at.0) i1 (item.tick, tick.0) item
+    let tick = front_split (number item.tick ∷ []) (command_forms version item.command) at.0 [] at.2 in
+    bind_again (word_at (codes "at") ts) (i0 version horizon last) at.0 item
+    (word_next (codes "at") ts at.0 at.1)
+    (bind_again (tick_at horizon last at.0) (i1 version) (item.tick, tick.0) item
     (tick_next horizon last at.0 item.tick tick.0 fits is.1 is.2 tick.1)
-    (bind_again (command_at tick.0) (i2 item.tick) item.command item
-    (command_next item.command tick.0 is.0 tick.2) refl))
+    (bind_again (command_at version tick.0) (i2 item.tick) item.command item
+    (command_next version item.command tick.0 is.0 tick.2) refl))

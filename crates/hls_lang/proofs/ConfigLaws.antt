@@ -1,14 +1,15 @@
 -- Configurations, places and seats that are read stand at the front, and those that stand there are read.
 use Rattle.std.proofs.Common.{◌≡◌, ℕ, ◌^◌, ◌<◌, ◌≤◌, Bool, true, false, cond, List, [], ◌∷◌, inl, inr}
-use Rattle.std.proofs.Common.{refl, sym, ap, ◌∙◌, subst, lit<}
+use Rattle.std.proofs.Common.{refl, sym, ap, ◌∙◌, subst, lit<, lit≤}
 use Rattle.std.specs.Prelude.{codes, Result, Ok, Err}
+use Rattle.std.proofs.lemmas.Bool.Decides.{eqb_tells}
 use Rattle.std.specs.Str.{bytes_eq}
 use Rattle.hls_text.specs.Lines.{Text}
 use Rattle.hls_chron.specs.Name.{is_name, IsName}
 use Rattle.hls_chron.specs.declared.plain.Config.{Config}
 use Rattle.hls_chron.specs.declared.plain.Config.TheVariants as configs
 use Rattle.hls_chron.specs.declared.plain.Terms.{Terms}
-use Rattle.hls_chron.specs.Ranges.{IsWithin, ConfigInRange}
+use Rattle.hls_chron.specs.Ranges.{IsWithin}
 use Rattle.hls_guarantee.specs.declared.Guarantee.{Guarantee}
 use Rattle.hls_lang.specs.declared.fault.Cause.{Cause}
 use Rattle.hls_lang.specs.declared.fault.Cause.TheVariants as causes
@@ -16,66 +17,108 @@ use Rattle.hls_scenario.specs.declared.scenario.Spot.{Spot}
 use Rattle.hls_scenario.specs.declared.scenario.Spot.TheVariants as spots
 use Rattle.hls_scenario.specs.declared.scenario.Perch.{Perch}
 use Rattle.hls_lang.specs.Words.{◌>>=◌, no_more, word_at, number_at}
-use Rattle.hls_lang.specs.Reading.{terms_at, guarantee_at, shares_at, numbered_config_at, config_by}
+use Rattle.hls_lang.specs.Reading.{terms_at, guarantee_at, quantum_at, shares_at, numbered_config_at, config_by}
 use Rattle.hls_lang.specs.Reading.{under_at, spot_by, spot_at, wanted_at, perch_at, last_perch_at}
 use Rattle.hls_scenario.specs.Forms.{the, number, terms_forms, config_forms, spot_forms, perch_forms}
-use Rattle.hls_scenario.specs.Forms.{guarantee_forms}
-use Rattle.hls_scenario.specs.Grammar.{IsTerms, IsSpot, IsPerch}
+use Rattle.hls_scenario.specs.Forms.{quantum_forms, guarantee_forms}
+use Rattle.hls_scenario.specs.Grammar.{IsConfig, IsTerms, IsSpot, IsPerch}
 use Rattle.hls_lang.proofs.Binds.{bind_ok, bind_again, carried, choice, same_bytes}
 use Rattle.hls_lang.proofs.Fronts.{Front, front_join, front_split}
 use Rattle.hls_lang.proofs.WordLaws.{none_left, word_is, word_next, number_front, number_next}
 use Rattle.hls_lang.proofs.SeatLaws.{guarantee_front, guarantee_next, terms_front, terms_next}
 
 -- a configuration but a join's
-abbrev pub IsPlain : Config → Type 0
-IsPlain configs.Cpu = ⊥
-IsPlain (configs.Join ports) = ⊥
-IsPlain config = ConfigInRange config
+abbrev pub IsPlain : (version : ℕ) → Config → Type 0
+IsPlain version configs.Cpu = ⊥
+IsPlain version (configs.Join ports) = ⊥
+IsPlain version config = IsConfig version config
 
-abbrev pub ConfigFront : List Text → Config × List Text → Type 0
-ConfigFront ts p = IsPlain p.0 × Front (config_forms p.0) ts p.1
+abbrev pub ConfigFront : (version : ℕ) → List Text → Config × List Text → Type 0
+ConfigFront version ts p = IsPlain version p.0 × Front (config_forms version p.0) ts p.1
 
-shares_front : (t : Text) (ts : List Text) (p : Config × List Text) → t ≡ codes "sfq" → shares_at ts ≡ Ok p
-    → ConfigFront (t ∷ ts) p
-unfolding shares_at
-shares_front t ts p is e =
-    let a = bind_ok (number_at 1 100 ts) (λ n. number_at 1 20 n.1 >>= λ m. Ok (configs.Sfq n.0 m.0, m.1))
-    p e in
-    let b = bind_ok (number_at 1 20 a.0.1) (λ m. Ok (configs.Sfq a.0.0 m.0, m.1)) p a.2 in
+record QuantumFront (version : ℕ) (ts : List Text) (p : ℕ × List Text) : Type 0 where
+  range : IsWithin 1 100 p.0
+  one : (version ≡ 1) → p.0 ≡ 1
+  front : Front (quantum_forms version p.0) ts p.1
+
+quantum_front : (version : ℕ) (ts : List Text) (p : ℕ × List Text) → quantum_at version ts ≡ Ok p
+    → QuantumFront version ts p
+unfolding quantum_at
+quantum_front version ts p e = elim (eqb_tells version 1) [
+  | inl same ↦
+      let read = subst (λ b. cond b (Ok (1, ts)) (number_at 1 100 ts) ≡ Ok p) same.0 e in
+      carried (QuantumFront version ts) (1, ts) p read (record {
+        range = (lit≤ tt, lit≤ tt);
+        one = λ v. refl;
+        front = subst (λ b. Front (cond b [] (number 1 ∷ [])) ts ts) (sym same.0) refl;
+      })
+  | inr other ↦
+      let read = subst (λ b. cond b (Ok (1, ts)) (number_at 1 100 ts) ≡ Ok p) other.0 e in
+      let h = number_front 1 100 ts p (lit< tt) read in
+      record {
+        range = (h.0, h.1);
+        one = λ v. absurd (other.1 v);
+        front = subst (λ b. Front (cond b [] (number p.0 ∷ [])) ts p.1) (sym other.0) h.2;
+      }
+]
+
+-- the three numbers, from the last one on
+s2 : (total most : ℕ) → ℕ × List Text → Result (Config × List Text) Cause
+s2 total most q = Ok (configs.Sfq total most q.0, q.1)
+
+s1 : (version total : ℕ) → ℕ × List Text → Result (Config × List Text) Cause
+s1 version total m = quantum_at version m.1 >>= s2 total m.0
+
+s0 : (version : ℕ) → ℕ × List Text → Result (Config × List Text) Cause
+s0 version t = number_at 1 20 t.1 >>= s1 version t.0
+
+shares_front : (version : ℕ) (t : Text) (ts : List Text) (p : Config × List Text) → t ≡ codes "sfq"
+    → shares_at version ts ≡ Ok p → ConfigFront version (t ∷ ts) p
+unfolding shares_at s0 s1 s2
+shares_front version t ts p is e =
+    let a = bind_ok (number_at 1 100 ts) (s0 version) p e in
+    let b = bind_ok (number_at 1 20 a.0.1) (s1 version a.0.0) p a.2 in
+    let d = bind_ok (quantum_at version b.0.1) (s2 a.0.0 b.0.0) p b.2 in
     let h = number_front 1 100 ts a.0 (lit< tt) a.1 in
     let k = number_front 1 20 a.0.1 b.0 (lit< tt) b.1 in
-    carried (ConfigFront (t ∷ ts)) (configs.Sfq a.0.0 b.0.0, b.0.1) p b.2 (
-      ((h.0, h.1), (k.0, k.1)),
-      (is, front_join (number a.0.0 ∷ []) (number b.0.0 ∷ []) ts a.0.1 b.0.1 h.2 k.2),
+    let q = quantum_front version b.0.1 d.0 d.1 in
+    let last = front_join (number b.0.0 ∷ []) (quantum_forms version d.0.0) a.0.1 b.0.1 d.0.1 k.2 q.front in
+    carried (ConfigFront version (t ∷ ts)) (configs.Sfq a.0.0 b.0.0 d.0.0, d.0.1) p d.2 (
+      (((h.0, h.1), (k.0, k.1), q.range), q.one),
+      (
+        is,
+        front_join (number a.0.0 ∷ []) (number b.0.0 ∷ quantum_forms version d.0.0) ts a.0.1 d.0.1 h.2 last,
+      ),
     )
 
-numbered_front : (high : ℕ) (make : ℕ → Config) (word t : Text) (ts : List Text) (p : Config × List Text)
-    → high < 2 ^ 64 → ((n : ℕ) → 1 ≤ n → n ≤ high → IsPlain (make n))
-    → ((n : ℕ) → config_forms (make n) ≡ the word ∷ number n ∷ [])
-    → t ≡ word → numbered_config_at 1 high make ts ≡ Ok p → ConfigFront (t ∷ ts) p
+numbered_front : (version high : ℕ) (make : ℕ → Config) (word t : Text) (ts : List Text)
+    (p : Config × List Text) → high < 2 ^ 64 → ((n : ℕ) → 1 ≤ n → n ≤ high → IsPlain version (make n))
+    → ((n : ℕ) → config_forms version (make n) ≡ the word ∷ number n ∷ [])
+    → t ≡ word → numbered_config_at 1 high make ts ≡ Ok p → ConfigFront version (t ∷ ts) p
 unfolding numbered_config_at
-numbered_front high make word t ts p fits within forms is e =
+numbered_front version high make word t ts p fits within forms is e =
     let a = bind_ok (number_at 1 high ts) (λ n. Ok (make n.0, n.1)) p e in
     let h = number_front 1 high ts a.0 fits a.1 in
-    carried (ConfigFront (t ∷ ts)) (make a.0.0, a.0.1) p a.2
+    carried (ConfigFront version (t ∷ ts)) (make a.0.0, a.0.1) p a.2
     (within a.0.0 h.0 h.1, subst (λ fs. Front fs (t ∷ ts) a.0.1) (sym (forms a.0.0)) (is, h.2))
 
-pub config_front : (t : Text) (ts : List Text) (p : Config × List Text) → config_by t ts ≡ Ok p
-    → ConfigFront (t ∷ ts) p
+pub config_front : (version : ℕ) (t : Text) (ts : List Text) (p : Config × List Text)
+    → config_by version t ts ≡ Ok p → ConfigFront version (t ∷ ts) p
 unfolding config_by
-config_front t ts p e = elim (choice (bytes_eq t (codes "fp")) _ _ p e) [
-  | inl h ↦ carried (ConfigFront (t ∷ ts)) (configs.Fp, ts) p h.1 (tt, (same_bytes t (codes "fp") h.0, refl))
+config_front version t ts p e = elim (choice (bytes_eq t (codes "fp")) _ _ p e) [
+  | inl h ↦ carried (ConfigFront version (t ∷ ts)) (configs.Fp, ts) p h.1
+      ((tt, tt), (same_bytes t (codes "fp") h.0, refl))
   | inr e ↦ elim (choice (bytes_eq t (codes "edf")) _ _ p e) [
-    | inl h ↦ carried (ConfigFront (t ∷ ts)) (configs.Edf, ts) p h.1
-        (tt, (same_bytes t (codes "edf") h.0, refl))
+    | inl h ↦ carried (ConfigFront version (t ∷ ts)) (configs.Edf, ts) p h.1
+        ((tt, tt), (same_bytes t (codes "edf") h.0, refl))
     | inr e ↦ elim (choice (bytes_eq t (codes "sfq")) _ _ p e) [
-      | inl h ↦ shares_front t ts p (same_bytes t (codes "sfq") h.0) h.1
+      | inl h ↦ shares_front version t ts p (same_bytes t (codes "sfq") h.0) h.1
       | inr e ↦ elim (choice (bytes_eq t (codes "rr")) _ _ p e) [
-        | inl h ↦ numbered_front 100 (λ n. configs.Rr n) (codes "rr") t ts p (lit< tt)
-            (λ n le ge. (le, ge)) (λ n. refl) (same_bytes t _ h.0) h.1
+        | inl h ↦ numbered_front version 100 (λ n. configs.Rr n) (codes "rr") t ts p (lit< tt)
+            (λ n le ge. ((le, ge), tt)) (λ n. refl) (same_bytes t _ h.0) h.1
         | inr e ↦ elim (choice (bytes_eq t (codes "wheel")) _ _ p e) [
-          | inl h ↦ numbered_front 1000 (λ n. configs.Wheel n) (codes "wheel") t ts p (lit< tt)
-              (λ n le ge. (le, ge)) (λ n. refl) (same_bytes t _ h.0) h.1
+          | inl h ↦ numbered_front version 1000 (λ n. configs.Wheel n) (codes "wheel") t ts p (lit< tt)
+              (λ n le ge. ((le, ge), tt)) (λ n. refl) (same_bytes t _ h.0) h.1
           | inr e ↦ absurd cc
         ]
       ]
@@ -91,48 +134,69 @@ numbered_next high make n ts rest fits le ge a =
     bind_again (number_at 1 high ts) (λ m. Ok (make m.0, m.1)) (n, rest) (make n, rest)
     (number_next 1 high ts n rest fits le ge a) refl
 
-shares_next : (total most : ℕ) (ts rest : List Text) → IsWithin 1 100 total → IsWithin 1 20 most
-    → Front (number total ∷ number most ∷ []) ts rest → shares_at ts ≡ Ok (configs.Sfq total most, rest)
-unfolding shares_at
-shares_next total most [] rest ok okm a = absurd a
-shares_next total most (t ∷ ts) rest ok okm a =
-    bind_again (number_at 1 100 (t ∷ ts)) (λ n. number_at 1 20 n.1 >>= λ m. Ok
-    (configs.Sfq n.0 m.0, m.1)) (total, ts)
-    (configs.Sfq total most, rest) (number_next 1 100 (t ∷ ts) total ts (lit< tt) ok.0 ok.1 (a.0, refl))
-    (bind_again (number_at 1 20 ts) (λ m. Ok (configs.Sfq total m.0, m.1)) (most, rest)
-    (configs.Sfq total most, rest)
-    (number_next 1 20 ts most rest (lit< tt) okm.0 okm.1 a.1) refl)
+quantum_next : (version quantum : ℕ) (ts rest : List Text) → IsWithin 1 100 quantum
+    → ((version ≡ 1) → quantum ≡ 1) → Front (quantum_forms version quantum) ts rest
+    → quantum_at version ts ≡ Ok (quantum, rest)
+unfolding quantum_at
+quantum_next version quantum ts rest within one a = elim (eqb_tells version 1) [
+  | inl same ↦
+      let front : ts ≡ rest = subst (λ b. Front (cond b [] (number quantum ∷ [])) ts rest) same.0 a in
+      ap (λ b. cond b (Ok (1, ts)) (number_at 1 100 ts)) same.0
+      ∙ ap (λ (x : List Text). Ok (1, x)) front ∙ ap (λ n. Ok (n, rest)) (sym (one same.1))
+  | inr other ↦
+      let front : Front (number quantum ∷ []) ts rest =
+      subst (λ b. Front (cond b [] (number quantum ∷ [])) ts rest) other.0 a in
+      ap (λ b. cond b (Ok (1, ts)) (number_at 1 100 ts)) other.0
+      ∙ number_next 1 100 ts quantum rest (lit< tt) within.0 within.1 front
+]
+
+shares_next : (version total most quantum : ℕ) (ts rest : List Text)
+    → IsPlain version (configs.Sfq total most quantum)
+    → Front (number total ∷ number most ∷ quantum_forms version quantum) ts rest
+    → shares_at version ts ≡ Ok (configs.Sfq total most quantum, rest)
+unfolding shares_at s0 s1 s2
+shares_next version total most quantum [] rest ok a = absurd a
+shares_next version total most quantum (t ∷ ts) rest ok a =
+    let more = front_split (number most ∷ []) (quantum_forms version quantum) ts rest a.1 in
+    let ranges = ok.0 in
+    bind_again (number_at 1 100 (t ∷ ts)) (s0 version) (total, ts) (configs.Sfq total most quantum, rest)
+    (number_next 1 100 (t ∷ ts) total ts (lit< tt) ranges.0.0 ranges.0.1 (a.0, refl))
+    (bind_again (number_at 1 20 ts) (s1 version total) (most, more.0) (configs.Sfq total most quantum, rest)
+    (number_next 1 20 ts most more.0 (lit< tt) ranges.1.0 ranges.1.1 more.1)
+    (bind_again (quantum_at version more.0) (s2 total most) (quantum, rest)
+    (configs.Sfq total most quantum, rest)
+    (quantum_next version quantum more.0 rest ranges.2 ok.1 more.2) refl))
 
 -- the word of a plain configuration is not join
-pub config_next : (config : Config) (t : Text) (ts rest : List Text) → IsPlain config
-    → Front (config_forms config) (t ∷ ts) rest
-    → (config_by t ts ≡ Ok (config, rest)) × (bytes_eq t (codes "join") ≡ false)
+pub config_next : (version : ℕ) (config : Config) (t : Text) (ts rest : List Text) → IsPlain version config
+    → Front (config_forms version config) (t ∷ ts) rest
+    → (config_by version t ts ≡ Ok (config, rest)) × (bytes_eq t (codes "join") ≡ false)
 unfolding config_by
-config_next configs.Cpu t ts rest ok a = absurd ok
-config_next (configs.Join ports) t ts rest ok a = absurd ok
-config_next configs.Fp t ts rest ok a = (
-  ap (λ w. config_by w ts) a.0 ∙ ap (λ (x : List Text). Ok (configs.Fp, x)) a.1,
+config_next version configs.Cpu t ts rest ok a = absurd ok
+config_next version (configs.Join ports) t ts rest ok a = absurd ok
+config_next version configs.Fp t ts rest ok a = (
+  ap (λ w. config_by version w ts) a.0 ∙ ap (λ (x : List Text). Ok (configs.Fp, x)) a.1,
   ap
       (λ w. bytes_eq w (codes "join")) a.0,
 )
-config_next configs.Edf t ts rest ok a = (
-  ap (λ w. config_by w ts) a.0 ∙ ap (λ (x : List Text). Ok (configs.Edf, x)) a.1,
+config_next version configs.Edf t ts rest ok a = (
+  ap (λ w. config_by version w ts) a.0 ∙ ap (λ (x : List Text). Ok (configs.Edf, x)) a.1,
   ap
       (λ w. bytes_eq w (codes "join")) a.0,
 )
-config_next (configs.Sfq total most) t ts rest ok a = (
-  ap (λ w. config_by w ts) a.0 ∙ shares_next total most ts rest ok.0 ok.1 a.1,
+config_next version (configs.Sfq total most quantum) t ts rest ok a = (
+  ap (λ w. config_by version w ts) a.0 ∙ shares_next version total most quantum ts rest ok a.1,
   ap
       (λ w. bytes_eq w (codes "join")) a.0,
 )
-config_next (configs.Rr n) t ts rest ok a = (
-  ap (λ w. config_by w ts) a.0 ∙ numbered_next 100 (λ m. configs.Rr m) n ts rest (lit< tt) ok.0 ok.1
+config_next version (configs.Rr n) t ts rest ok a = (
+  ap (λ w. config_by version w ts) a.0 ∙ numbered_next 100 (λ m. configs.Rr m) n ts rest (lit< tt) ok.0.0 ok.0.1
       a.1,
   ap (λ w. bytes_eq w (codes "join")) a.0,
 )
-config_next (configs.Wheel n) t ts rest ok a = (
-  ap (λ w. config_by w ts) a.0 ∙ numbered_next 1000 (λ m. configs.Wheel m) n ts rest (lit< tt) ok.0
-      ok.1 a.1,
+config_next version (configs.Wheel n) t ts rest ok a = (
+  ap (λ w. config_by version w ts) a.0 ∙ numbered_next 1000 (λ m. configs.Wheel m) n ts rest (lit< tt) ok.0.0
+      ok.0.1 a.1,
   ap (λ w. bytes_eq w (codes "join")) a.0,
 )
 

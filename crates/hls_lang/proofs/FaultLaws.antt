@@ -1,11 +1,12 @@
 -- The line of a fault is the first with which no scenario's text begins.
 use Rattle.std.proofs.Common.{◌≡◌, ℕ, zero, suc, ◌+◌, ◌≤◌, List, [], ◌∷◌}
 use Rattle.std.proofs.Common.{◌++◌, length, take, append-nil}
-use Rattle.std.proofs.Common.{refl, sym, ap, ◌∙◌, subst, arith, ◌⊎◌, inl, inr, lit≤}
-use Rattle.std.specs.Prelude.{codes, decimal, Result, Ok, Err, IfOk, IfErr, Option, Some, None}
+use Rattle.std.proofs.Common.{refl, sym, ap, ◌∙◌, subst, arith, ◌⊎◌, inl, inr, lit≤, cond, true, false}
+use Rattle.std.specs.Prelude.{◌==◌, codes, decimal, Result, Ok, Err, IfOk, IfErr, Option, Some, None}
 use Rattle.std.proofs.lemmas.Fmt.{decimal_digit}
 use Rattle.hls_text.specs.Lines.{Text}
 use Rattle.hls_text.specs.Tokens.{tokens_of}
+use Rattle.hls_chron.specs.Ranges.{IsWithin, most_ticks}
 use Rattle.hls_lang.specs.declared.fault.Cause.{Cause}
 use Rattle.hls_scenario.specs.declared.scenario.Scenario.{Scenario}
 use Rattle.hls_lang.specs.declared.fault.ScenarioFault.{ScenarioFault}
@@ -86,16 +87,22 @@ record Goes (s : State) (ls : List Text) : Type 0 where
   clean : AllClean (ls ++ more)
   ahead : Ahead s.stage s (token_lines (ls ++ more)) scenario
 
-of_one_tick : State → Scenario
-of_one_tick s = record { horizon = 1; depth = None; items = s.items }
+of_one_tick : ℕ → State → Scenario
+of_one_tick version s = record { version = version; horizon = 1; depth = None; items = s.items }
 
-one_ahead : (s : State) → length s.items ≤ 65536 → ItemsAhead s [] (of_one_tick s)
+one_ahead : (version : ℕ) (s : State) → length s.items ≤ 65536 → ItemsAhead s [] (of_one_tick version s)
 unfolding of_one_tick
-one_ahead s few =
+one_ahead version s few =
     record { items = []; whole = sym (append-nil s.items); each = tt; few = few; words = tt }
 
 one_is : codes "1" ≡ decimal 1
 one_is = sym (decimal_digit 1 (omega arith))
+
+one_within : (version : ℕ) → IsWithin 1 (most_ticks version) 1
+one_within version = elim (version == 1) as (λ b. IsWithin 1 (cond b 100000 1000000) 1) [
+  | true ↦ (lit≤ tt, lit≤ tt)
+  | false ↦ (lit≤ tt, lit≤ tt)
+]
 
 -- a whole scenario that goes on after these lines
 record Ends (stage : Stage) (s : State) : Type 0 where
@@ -112,27 +119,31 @@ ends_of : (stage : Stage) (s : State) → Good stage s → Ends stage s
 unfolding tokens_of of_one_tick
 ends_of AtHeader s good = record {
   more = codes "hls 1" ∷ codes "horizon 1" ∷ [];
-  scenario = of_one_tick s;
+  scenario = of_one_tick 1 s;
   clean = (refl, (refl, tt));
-  ahead = ((refl, (refl, tt)), ((lit≤ tt, lit≤ tt), (refl, (one_is, tt)), one_ahead s good.few));
+  ahead = (
+    (lit≤ tt, lit≤ tt),
+    (refl, (one_is, tt)),
+    (one_within 1, (refl, (one_is, tt)), one_ahead 1 s good.few),
+  );
 }
 ends_of AtHorizon s good = record {
   more = codes "horizon 1" ∷ [];
-  scenario = of_one_tick s;
+  scenario = of_one_tick s.version s;
   clean = (refl, tt);
-  ahead = ((lit≤ tt, lit≤ tt), (refl, (one_is, tt)), one_ahead s good.few);
+  ahead = (refl, (one_within s.version, (refl, (one_is, tt)), one_ahead s.version s good.few));
 }
 ends_of AtDepth s good = record {
   more = [];
   scenario = read_of s;
   clean = tt;
-  ahead = (refl, ends_as_read s.depth s good.fresh good.few);
+  ahead = ((refl, refl), ends_as_read s.depth s good.fresh good.few);
 }
 ends_of AtItems s good = record {
   more = [];
   scenario = read_of s;
   clean = tt;
-  ahead = (refl, refl, none_ahead s good.few);
+  ahead = ((refl, refl), refl, none_ahead s good.few);
 }
 
 goes_from : (s : State) → Good s.stage s → Goes s []

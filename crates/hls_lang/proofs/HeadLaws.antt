@@ -1,14 +1,15 @@
 -- The lines before the items.
 use Rattle.std.proofs.Common.{◌≡◌, ℕ, ◌^◌, ◌<◌, ◌≤◌, List, [], ◌∷◌, refl}
-use Rattle.std.proofs.Common.{ap, subst, arith, lit<}
+use Rattle.std.proofs.Common.{subst, arith, lit<}
 use Rattle.std.specs.Prelude.{codes, Result, Ok, Err}
 use Rattle.hls_text.specs.Lines.{Text}
-use Rattle.hls_chron.specs.Ranges.{IsWithin}
+use Rattle.hls_chron.specs.Ranges.{IsWithin, IsVersion, most_ticks}
 use Rattle.hls_lang.specs.declared.fault.Cause.{Cause}
 use Rattle.hls_lang.specs.Words.{◌>>=◌, no_more, word_at, number_at}
 use Rattle.hls_lang.specs.ReadingLines.{header_at, horizon_at, depth_at, caused}
 use Rattle.hls_scenario.specs.Forms.{the, number, header_forms, horizon_forms, depth_forms}
 use Rattle.hls_scenario.specs.Grammar.{IsLine}
+use Rattle.hls_scenario.proofs.CanonicalForms.{most_ticks_fit}
 use Rattle.hls_lang.proofs.Binds.{bind_ok, bind_again, carried}
 use Rattle.hls_lang.proofs.Fronts.{Front, front_join, front_split, line_of_front, front_of_line}
 use Rattle.hls_lang.proofs.WordLaws.{none_left, word_is, word_next, number_front, number_next}
@@ -16,27 +17,6 @@ use Rattle.hls_lang.proofs.WordLaws.{none_left, word_is, word_next, number_front
 pub caused_ok : {A : Type 0} (c : Cause) (r : Result A Cause) (x : A) → caused c r ≡ Ok x → r ≡ Ok x
 caused_ok c (Ok y) x e = e
 caused_ok c (Err d) x e = absurd cc
-
-pub header_is : (ts : List Text) (u : Unit {0}) → header_at ts ≡ Ok u → IsLine header_forms ts
-unfolding header_at
-header_is ts u e =
-    let a = bind_ok (word_at (codes "hls") ts) (λ r. word_at (codes "1") r >>= λ q. no_more q) u e in
-    let b = bind_ok (word_at (codes "1") a.0) (λ q. no_more q) u a.2 in
-    let end : b.0 ≡ [] = none_left b.0 u b.2 in
-    let second : Front (the (codes "1") ∷ []) a.0 [] =
-    subst (λ (r : List Text). Front (the (codes "1") ∷ []) a.0 r) end (word_is (codes "1") a.0 b.0 b.1) in
-    line_of_front header_forms ts
-    (front_join (the (codes "hls") ∷ []) (the (codes "1") ∷ []) ts a.0 []
-    (word_is (codes "hls") ts a.0 a.1) second)
-
-pub header_next : (ts : List Text) → IsLine header_forms ts → header_at ts ≡ Ok tt
-unfolding header_at
-header_next ts is =
-    let s = front_split (the (codes "hls") ∷ []) (the (codes "1") ∷ []) ts []
-    (front_of_line header_forms ts is) in
-    bind_again (word_at (codes "hls") ts) (λ r. word_at (codes "1") r >>= λ q. no_more q) s.0 tt
-    (word_next (codes "hls") ts s.0 s.1)
-    (ap (λ r. r >>= λ q. no_more q) (word_next (codes "1") s.0 [] s.2))
 
 n2 : ℕ × List Text → Result ℕ Cause
 n2 n = no_more n.1 >>= λ u. Ok n.0
@@ -71,15 +51,27 @@ count_next word low high ts n fits within is =
     (bind_again (number_at low high s.0) n2 (n, []) n
     (number_next low high s.0 n [] fits within.0 within.1 s.2) refl)
 
-pub horizon_is : (ts : List Text) (n : ℕ) → horizon_at ts ≡ Ok n
-    → IsWithin 1 100000 n × IsLine (horizon_forms n) ts
-unfolding horizon_at n1 n2
-horizon_is ts n e = count_is (codes "horizon") 1 100000 ts n (lit< tt) e
+pub header_is : (ts : List Text) (n : ℕ) → header_at ts ≡ Ok n → IsVersion n × IsLine (header_forms n) ts
+unfolding header_at n1 n2
+header_is ts n e = count_is (codes "hls") 1 2 ts n (lit< tt) e
 
-pub horizon_next : (ts : List Text) (n : ℕ) → IsWithin 1 100000 n → IsLine (horizon_forms n) ts
-    → horizon_at ts ≡ Ok n
+pub header_next : (ts : List Text) (n : ℕ) → IsVersion n → IsLine (header_forms n) ts → header_at ts ≡ Ok n
+unfolding header_at n1 n2
+header_next ts n is line = count_next (codes "hls") 1 2 ts n (lit< tt) is line
+
+horizon_fits : (version : ℕ) → most_ticks version < 2 ^ 64
+horizon_fits version = let fits = most_ticks_fit version in omega arith
+
+pub horizon_is : (version : ℕ) (ts : List Text) (n : ℕ) → horizon_at version ts ≡ Ok n
+    → IsWithin 1 (most_ticks version) n × IsLine (horizon_forms n) ts
 unfolding horizon_at n1 n2
-horizon_next ts n within is = count_next (codes "horizon") 1 100000 ts n (lit< tt) within is
+horizon_is version ts n e = count_is (codes "horizon") 1 (most_ticks version) ts n (horizon_fits version) e
+
+pub horizon_next : (version : ℕ) (ts : List Text) (n : ℕ) → IsWithin 1 (most_ticks version) n
+    → IsLine (horizon_forms n) ts → horizon_at version ts ≡ Ok n
+unfolding horizon_at n1 n2
+horizon_next version ts n within is =
+    count_next (codes "horizon") 1 (most_ticks version) ts n (horizon_fits version) within is
 
 pub depth_is : (ts : List Text) (n : ℕ) → depth_at ts ≡ Ok n → (n ≤ 6) × IsLine (depth_forms n) ts
 unfolding depth_at n1 n2

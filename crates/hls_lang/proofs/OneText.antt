@@ -1,6 +1,6 @@
 -- A text is of one scenario, and a canonical text of one command.
-use Rattle.std.proofs.Common.{◌≡◌, List, [], ◌∷◌}
-use Rattle.std.proofs.Common.{refl, sym, ap, ◌∙◌, subst, arith}
+use Rattle.std.proofs.Common.{◌≡◌, ℕ, List, ◌∷◌}
+use Rattle.std.proofs.Common.{refl, sym, ap, subst, arith}
 use Rattle.std.specs.Prelude.{codes, decimal, Result, Ok}
 use Rattle.hls_text.specs.Lines.{Text, lines_of}
 use Rattle.hls_text.specs.Tokens.{tokens_of}
@@ -38,22 +38,24 @@ at_once : Command → Item
 at_once command = record { tick = 0; command = command }
 
 -- what is read of a command's tokens after a tick
-tokens_read : (command : Command) (ts : List Text) → IsCommand command → IsLine (command_forms command) ts
-    → item_at 1 0 (codes "at" ∷ decimal 0 ∷ ts) ≡ Ok (at_once command)
+tokens_read : (version : ℕ) (command : Command) (ts : List Text) → IsCommand version command
+    → IsLine (command_forms version command) ts
+    → item_at version 1 0 (codes "at" ∷ decimal 0 ∷ ts) ≡ Ok (at_once command)
 unfolding at_once
-tokens_read command ts is line =
-    item_next 1 0 (codes "at" ∷ decimal 0 ∷ ts) (at_once command) (omega arith)
+tokens_read version command ts is line =
+    item_next version 1 0 (codes "at" ∷ decimal 0 ∷ ts) (at_once command) (omega arith)
     (is, omega arith, omega arith, (refl, (refl, line)))
 
 one_command : (r : Result Item Cause) (c d : Command) → r ≡ Ok (at_once c) → r ≡ Ok (at_once d) → c ≡ d
 unfolding at_once
 one_command r c d a b = let e : at_once c ≡ at_once d = cc in ap (λ (item : Item). item.command) e
 
--- no two commands have one canonical text
-pub command_of_one : (c d : Command) → IsCommand c → IsCommand d → command_text c ≡ command_text d → c ≡ d
-command_of_one c d a b e =
-    let other = subst (λ (text : Text). IsLine (command_forms d) (tokens_of text)) (sym e)
-    (command_stands d b) in
-    let ts : List Text = tokens_of (command_text c) in
-    one_command (item_at 1 0 (codes "at" ∷ decimal 0 ∷ ts)) c d (tokens_read c ts a (command_stands c a))
-    (tokens_read d ts b other)
+-- no two commands of a version have one canonical text
+pub command_of_one : (version : ℕ) (c d : Command) → IsCommand version c → IsCommand version d
+    → command_text version c ≡ command_text version d → c ≡ d
+command_of_one version c d a b e =
+    let other = subst (λ (text : Text). IsLine (command_forms version d) (tokens_of text)) (sym e)
+    (command_stands version d b) in
+    let ts : List Text = tokens_of (command_text version c) in
+    one_command (item_at version 1 0 (codes "at" ∷ decimal 0 ∷ ts)) c d
+    (tokens_read version c ts a (command_stands version c a)) (tokens_read version d ts b other)

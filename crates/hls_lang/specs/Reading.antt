@@ -1,6 +1,6 @@
 -- Reading an item from the left.
 use Rattle.std.specs.Prelude.{ℕ, Bool, true, false, List, [], ◌∷◌, ◌++◌, length, codes, Option, Some}
-use Rattle.std.specs.Prelude.{None, Result, Ok, Err, if◌then◌else◌}
+use Rattle.std.specs.Prelude.{None, Result, Ok, Err, ◌==◌, if◌then◌else◌}
 use Rattle.std.specs.List.{list_any}
 use Rattle.std.specs.Str.{bytes_eq}
 use Rattle.hls_text.specs.Lines.{Text}
@@ -71,18 +71,23 @@ terms_by word ts =
 unfoldable pub terms_at : List Text → Found Terms
 terms_at ts = token_at ts >>= λ w. terms_by w.0 w.1
 
-unfoldable pub shares_at : List Text → Found Config
-shares_at ts = number_at 1 100 ts >>= λ t. number_at 1 20 t.1 >>= λ m. Ok (configs.Sfq t.0 m.0, m.1)
+-- fair queueing's quantum, which version 1 has no word for
+unfoldable pub quantum_at : (version : ℕ) → List Text → Found ℕ
+quantum_at version ts = if version == 1 then Ok (1, ts) else number_at 1 100 ts
+
+unfoldable pub shares_at : (version : ℕ) → List Text → Found Config
+shares_at version ts = number_at 1 100 ts >>= λ t. number_at 1 20 t.1 >>= λ m. quantum_at version m.1 >>= λ q.
+    Ok (configs.Sfq t.0 m.0 q.0, q.1)
 
 unfoldable pub numbered_config_at : (low high : ℕ) → (ℕ → Config) → List Text → Found Config
 numbered_config_at low high make ts = number_at low high ts >>= λ n. Ok (make n.0, n.1)
 
 -- a configuration but a join's
-unfoldable pub config_by : Text → List Text → Found Config
-config_by word ts =
+unfoldable pub config_by : (version : ℕ) → Text → List Text → Found Config
+config_by version word ts =
     if bytes_eq word (codes "fp") then Ok (configs.Fp, ts)
     else (if bytes_eq word (codes "edf") then Ok (configs.Edf, ts)
-    else (if bytes_eq word (codes "sfq") then shares_at ts
+    else (if bytes_eq word (codes "sfq") then shares_at version ts
     else (if bytes_eq word (codes "rr") then numbered_config_at 1 100 (λ q. configs.Rr q) ts
     else (if bytes_eq word (codes "wheel") then numbered_config_at 1 1000 (λ f. configs.Wheel f) ts
     else Err causes.Word))))
@@ -162,12 +167,12 @@ unfoldable pub one_perch_at : Text → Config → List Text → Result Command C
 one_perch_at name config ts = word_at (codes "on") ts >>= λ r. last_perch_at r >>= λ p.
     Ok (Load name config (p ∷ []))
 
-unfoldable pub load_by : Text → Text → List Text → Result Command Cause
-load_by name word ts = if bytes_eq word (codes "join") then join_at name ts
-    else (config_by word ts >>= λ c. one_perch_at name c.0 c.1)
+unfoldable pub load_by : (version : ℕ) → Text → Text → List Text → Result Command Cause
+load_by version name word ts = if bytes_eq word (codes "join") then join_at name ts
+    else (config_by version word ts >>= λ c. one_perch_at name c.0 c.1)
 
-unfoldable pub load_at : List Text → Result Command Cause
-load_at ts = name_at ts >>= λ n. token_at n.1 >>= λ w. load_by n.0 w.0 w.1
+unfoldable pub load_at : (version : ℕ) → List Text → Result Command Cause
+load_at version ts = name_at ts >>= λ n. token_at n.1 >>= λ w. load_by version n.0 w.0 w.1
 
 unfoldable pub thread_at : List Text → Result Command Cause
 thread_at ts = name_at ts >>= λ n. word_at (codes "on") n.1 >>= λ r. last_perch_at r >>= λ p. Ok
@@ -188,9 +193,9 @@ burst_at (t ∷ ts) = word_at (codes "for") (t ∷ ts) >>= λ r. number_at 1 100
 unfoldable pub wake_at : List Text → Result Command Cause
 wake_at ts = name_at ts >>= λ n. burst_at n.1 >>= λ b. Ok (Wake n.0 b)
 
-unfoldable pub command_by : Text → List Text → Result Command Cause
-command_by word ts =
-    if bytes_eq word (codes "load") then load_at ts
+unfoldable pub command_by : (version : ℕ) → Text → List Text → Result Command Cause
+command_by version word ts =
+    if bytes_eq word (codes "load") then load_at version ts
     else (if bytes_eq word (codes "thread") then thread_at ts
     else (if bytes_eq word (codes "end") then (last_name_at ts >>= λ n. Ok (End n))
     else (if bytes_eq word (codes "unload") then (last_name_at ts >>= λ n. Ok (Unload n))
@@ -199,10 +204,10 @@ command_by word ts =
     else (if bytes_eq word (codes "block") then (last_name_at ts >>= λ n. Ok (Block n))
     else Err causes.Word))))))
 
-unfoldable pub command_at : List Text → Result Command Cause
-command_at ts = token_at ts >>= λ w. command_by w.0 w.1
+unfoldable pub command_at : (version : ℕ) → List Text → Result Command Cause
+command_at version ts = token_at ts >>= λ w. command_by version w.0 w.1
 
 -- an item, all of a line
-unfoldable pub item_at : (horizon last : ℕ) → List Text → Result Item Cause
-item_at horizon last ts = word_at (codes "at") ts >>= λ r. tick_at horizon last r >>= λ t.
-    command_at t.1 >>= λ command. Ok (record { tick = t.0; command = command })
+unfoldable pub item_at : (version horizon last : ℕ) → List Text → Result Item Cause
+item_at version horizon last ts = word_at (codes "at") ts >>= λ r. tick_at horizon last r >>= λ t.
+    command_at version t.1 >>= λ command. Ok (record { tick = t.0; command = command })

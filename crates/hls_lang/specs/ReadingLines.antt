@@ -4,6 +4,7 @@ use Rattle.std.specs.Prelude.{Option, Some, None, Result, Ok, Err, if◌then◌e
 use Rattle.std.specs.Str.{bytes_eq}
 use Rattle.hls_text.specs.Lines.{Text, lines_of, shown_of, is_clean_line}
 use Rattle.hls_text.specs.Tokens.{tokens_of}
+use Rattle.hls_chron.specs.Ranges.{most_ticks}
 use Rattle.hls_lang.specs.declared.fault.Cause.{Cause}
 use Rattle.hls_lang.specs.declared.fault.Cause.TheVariants.{Byte, Header, Horizon, Many}
 use Rattle.hls_lang.specs.declared.fault.ScenarioFault.{ScenarioFault}
@@ -21,20 +22,22 @@ use Rattle.hls_lang.specs.Reading.{item_at}
 -- what was read before a line
 pub record State : Type 0 where
   pub stage : Stage
+  pub version : ℕ
   pub horizon : ℕ
   pub depth : Option ℕ
   pub last : ℕ
   pub items : List Item
 
 abbrev pub start : State
-start = record { stage = AtHeader; horizon = 0; depth = None; last = 0; items = [] }
+start = record { stage = AtHeader; version = 1; horizon = 0; depth = None; last = 0; items = [] }
 
-unfoldable pub header_at : List Text → Result (Unit {0}) Cause
-header_at ts = word_at (codes "hls") ts >>= λ r. word_at (codes "1") r >>= λ r. no_more r
+-- the version
+unfoldable pub header_at : List Text → Result ℕ Cause
+header_at ts = word_at (codes "hls") ts >>= λ r. number_at 1 2 r >>= λ n. no_more n.1 >>= λ u. Ok n.0
 
-unfoldable pub horizon_at : List Text → Result ℕ Cause
-horizon_at ts = word_at (codes "horizon") ts >>= λ r. number_at 1 100000 r >>= λ n. no_more n.1 >>= λ u.
-    Ok n.0
+unfoldable pub horizon_at : (version : ℕ) → List Text → Result ℕ Cause
+horizon_at version ts = word_at (codes "horizon") ts >>= λ r. number_at 1 (most_ticks version) r >>= λ n.
+    no_more n.1 >>= λ u. Ok n.0
 
 unfoldable pub depth_at : List Text → Result ℕ Cause
 depth_at ts = word_at (codes "depth") ts >>= λ r. number_at 0 6 r >>= λ n. no_more n.1 >>= λ u. Ok n.0
@@ -57,7 +60,7 @@ with_item s item = record s { stage = AtItems; last = item.tick; items = s.items
 
 unfoldable pub item_step : State → List Text → Result State Cause
 item_step s ts = if is_full s.items && begins_with (codes "at") ts then Err Many
-    else (item_at s.horizon s.last ts >>= λ item. Ok (with_item s item))
+    else (item_at s.version s.horizon s.last ts >>= λ item. Ok (with_item s item))
 
 abbrev pub with_depth : State → ℕ → State
 with_depth s depth = record s { stage = AtItems; depth = Some depth }
@@ -68,8 +71,9 @@ depth_step s ts = if begins_with (codes "depth") ts then (depth_at ts >>= λ d. 
 
 -- a line that is not blank
 unfoldable pub stage_step : Stage → State → List Text → Result State Cause
-stage_step AtHeader s ts = caused Header (header_at ts) >>= λ u. Ok (record s { stage = AtHorizon })
-stage_step AtHorizon s ts = caused Horizon (horizon_at ts) >>= λ n. Ok
+stage_step AtHeader s ts = caused Header (header_at ts) >>= λ v. Ok
+    (record s { stage = AtHorizon; version = v })
+stage_step AtHorizon s ts = caused Horizon (horizon_at s.version ts) >>= λ n. Ok
     (record s { stage = AtDepth; horizon = n })
 stage_step AtDepth s ts = depth_step s ts
 stage_step AtItems s ts = item_step s ts
@@ -87,7 +91,7 @@ pub record Fault : Type 0 where
   pub cause : Cause
 
 abbrev pub read_of : State → Scenario
-read_of s = record { horizon = s.horizon; depth = s.depth; items = s.items }
+read_of s = record { version = s.version; horizon = s.horizon; depth = s.depth; items = s.items }
 
 -- after the last line
 abbrev pub finish_at : Stage → ℕ → State → Result Scenario Fault
@@ -114,6 +118,7 @@ scenario_of text = lines_from 1 start (lines_of text)
 abbrev pub state_of : Reader → State
 state_of r = record {
   stage = r.stage;
+  version = r.version;
   horizon = r.horizon;
   depth = r.depth;
   last = r.last;

@@ -59,24 +59,30 @@ fn one_perch(alloc: Global, name: Name, config: Config, line: &[u8]) -> Result<C
 }
 
 #[tactic(auto, unfolding(crate::specs::Reading::load_by))]
-fn load_after(alloc: Global, name: Name, word: &[u8], line: &[u8]) -> Result<Command, LineError>
-    ensures { Keeps (λ command. command) result (load_by name word.now (tokens_of line.now)) }
+fn load_after(
+    alloc: Global,
+    version: u8,
+    name: Name,
+    word: &[u8],
+    line: &[u8],
+) -> Result<Command, LineError>
+    ensures { Keeps (λ command. command) result (load_by version name word.now (tokens_of line.now)) }
 {
     if word == b"join".as_slice() {
         return join(alloc, name, line);
     }
-    let (config, rest) = config_after(word, line)?;
+    let (config, rest) = config_after(version, word, line)?;
     one_perch(alloc, name, config, rest)
 }
 
 #[tactic(auto, unfolding(crate::specs::Reading::load_at))]
-fn load(alloc: Global, line: &[u8]) -> Result<Command, LineError>
-    ensures { Keeps (λ command. command) result (load_at (tokens_of line.now)) }
+fn load(alloc: Global, version: u8, line: &[u8]) -> Result<Command, LineError>
+    ensures { Keeps (λ command. command) result (load_at version (tokens_of line.now)) }
 {
     match name(line) {
         Ok((name, rest)) => {
             let (found, rest) = token(rest)?;
-            load_after(alloc, name, found, rest)
+            load_after(alloc, version, name, found, rest)
         }
         Err(cause) => Err(LineError::Fault(cause)),
     }
@@ -151,11 +157,11 @@ fn wake(line: &[u8]) -> Result<(Name, Option<u32>), Cause>
 }
 
 #[tactic(auto, unfolding(crate::specs::Reading::command_by))]
-fn command_after(alloc: Global, word: &[u8], line: &[u8]) -> Result<Command, LineError>
-    ensures { Keeps (λ command. command) result (command_by word.now (tokens_of line.now)) }
+fn command_after(alloc: Global, version: u8, word: &[u8], line: &[u8]) -> Result<Command, LineError>
+    ensures { Keeps (λ command. command) result (command_by version word.now (tokens_of line.now)) }
 {
     if word == b"load".as_slice() {
-        load(alloc, line)
+        load(alloc, version, line)
     } else if word == b"thread".as_slice() {
         Ok(thread(line)?)
     } else if word == b"end".as_slice() {
@@ -181,11 +187,11 @@ fn command_after(alloc: Global, word: &[u8], line: &[u8]) -> Result<Command, Lin
 }
 
 #[tactic(auto, unfolding(crate::specs::Reading::command_at))]
-fn command(alloc: Global, line: &[u8]) -> Result<Command, LineError>
-    ensures { Keeps (λ command. command) result (command_at (tokens_of line.now)) }
+fn command(alloc: Global, version: u8, line: &[u8]) -> Result<Command, LineError>
+    ensures { Keeps (λ command. command) result (command_at version (tokens_of line.now)) }
 {
     let (found, rest) = token(line)?;
-    command_after(alloc, found, rest)
+    command_after(alloc, version, found, rest)
 }
 
 fn keep_item(items: &mut Vec<Item>, item: Item) -> Result<(), LineError>
@@ -202,11 +208,12 @@ fn keep_item(items: &mut Vec<Item>, item: Item) -> Result<(), LineError>
 #[tactic(auto, unfolding(crate::specs::Reading::command_at, crate::specs::Reading::command_by))]
 pub fn keep_command(
     alloc: Global,
+    version: u8,
     items: &mut Vec<Item>,
     tick: u32,
     line: &[u8],
 ) -> Result<(), LineError>
-    ensures { Keeps (λ u. items.new.items) result (kept_at items.old.items tick (tokens_of line.now)) }
+    ensures { Keeps (λ u. items.new.items) result (kept_at version items.old.items tick (tokens_of line.now)) }
 {
     let (found, rest) = token(line)?;
     if found == b"wake".as_slice() {
@@ -219,7 +226,7 @@ pub fn keep_command(
         };
         keep_item(items, Item { tick, command })
     } else {
-        let command = command_after(alloc, found, rest)?;
+        let command = command_after(alloc, version, found, rest)?;
         keep_item(items, Item { tick, command })
     }
 }
@@ -234,31 +241,38 @@ pub fn stamp(line: &[u8], horizon: u32, last: u32) -> Result<(u32, &[u8]), Cause
 
 /// An item, all of a line.
 #[tactic(auto, unfolding(crate::specs::Reading::item_at))]
-pub fn item(alloc: Global, line: &[u8], horizon: u32, last: u32) -> Result<Item, LineError>
-    ensures { Keeps (λ item. item) result (item_at horizon last (tokens_of line.now)) }
+pub fn item(
+    alloc: Global,
+    version: u8,
+    line: &[u8],
+    horizon: u32,
+    last: u32,
+) -> Result<Item, LineError>
+    ensures { Keeps (λ item. item) result (item_at version horizon last (tokens_of line.now)) }
 {
     let (tick, rest) = stamp(line, horizon, last)?;
-    let command = command(alloc, rest)?;
+    let command = command(alloc, version, rest)?;
     Ok(Item { tick, command })
 }
 
-/// The item that is all of a line, of a tick from `last` on and below the horizon. `None` for every other
-/// line.
+/// The item that is all of a line, in this version of the language, of a tick from `last` on and below the
+/// horizon. `None` for every other line.
 ///
 /// # Errors
 /// Returns `AllocError` for want of memory.
 pub fn read_item(
     alloc: Global,
+    version: u8,
     line: &[u8],
     horizon: u32,
     last: u32,
 ) -> Result<Option<Item>, AllocError>
     ensures found { IfOk result (λ found.
-        IfSome found (λ item. IsItemLine horizon last (tokens_of line.now) item)) }
+        IfSome found (λ item. IsItemLine version horizon last (tokens_of line.now) item)) }
     ensures exact { IfOk result (λ found.
-        (item : Item) → IsItemLine horizon last (tokens_of line.now) item → found ≡ Some item) }
+        (item : Item) → IsItemLine version horizon last (tokens_of line.now) item → found ≡ Some item) }
 {
-    match item(alloc, line, horizon, last) {
+    match item(alloc, version, line, horizon, last) {
         Ok(item) => Ok(Some(item)),
         Err(LineError::Fault(_)) => Ok(None),
         Err(LineError::Memory(wanting)) => Err(wanting),

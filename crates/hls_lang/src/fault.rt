@@ -8,7 +8,7 @@ pub enum Cause {
     /// A byte is neither a tab nor one of 32 to 126, and stands in no comment.
     #[error("Byte")]
     Byte,
-    /// The first line that is not blank is not the header.
+    /// The first line that is not blank is not a header.
     #[error("Header")]
     Header,
     /// The second line that is not blank is not the horizon.

@@ -1,6 +1,6 @@
 //! What holds of texts and scenarios: each function's contract is a law, and its body does nothing.
 
-ghost use Rattle.std.specs.Prelude.{◌≡◌, Ok};
+ghost use Rattle.std.specs.Prelude.{◌≡◌, ℕ, Ok};
 ghost use Rattle.hls_text.specs.Lines.{Text};
 ghost use Rattle.hls_scenario.specs.Forms.{command_text, scenario_text};
 ghost use Rattle.hls_scenario.specs.Grammar.{IsCommand, IsScenario, IsScenarioText};
@@ -23,7 +23,8 @@ pub fn canonical_text_is_injective()
     ensures { (s t : Scenario) → IsScenario s → IsScenario t → scenario_text s ≡ scenario_text t → s ≡ t }
 {}
 
-/// No two commands within the grammar have one canonical text.
+/// No two commands within the grammar of one version have one canonical text.
 pub fn command_text_is_injective()
-    ensures { (c d : Command) → IsCommand c → IsCommand d → command_text c ≡ command_text d → c ≡ d }
+    ensures { (version : ℕ) (c d : Command) → IsCommand version c → IsCommand version d →
+        command_text version c ≡ command_text version d → c ≡ d }
 {}

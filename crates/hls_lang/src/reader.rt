@@ -2,6 +2,7 @@
 ghost use Rattle.std.specs.Prelude.{◌≡◌, ◌<◌, ◌≤◌, ◌^◌, ◌-◌, ◌∷◌, ◌++◌, [], length, Ok, Err, OnOk, IsErr};
 ghost use Rattle.std.specs.Prelude.{true};
 ghost use Rattle.hls_text.specs.Tokens.{tokens_of};
+ghost use Rattle.hls_chron.specs.Ranges.{most_ticks};
 ghost use Rattle.hls_lang.specs.Words.{Gives, Keeps};
 ghost use Rattle.hls_lang.specs.ReadingLines.{header_at, horizon_at, depth_at, begins_with, is_full};
 ghost use Rattle.hls_lang.specs.ReadingLines.{item_step};
@@ -22,10 +23,11 @@ use std::alloc::Global;
 /// How many items a scenario has at most.
 const MOST_ITEMS: usize = 65_536;
 
-/// How many ticks a scenario has at most, and how many conversions a derivation.
-const MOST_TICKS: u32 = 100_000;
-
+/// How many conversions a derivation has at most.
 const MOST_DEPTH: u32 = 6;
+
+/// The latest version of the language.
+const LAST_VERSION: u32 = 2;
 
 /// Which line may come next.
 #[derive(Clone, Copy, Debug, PartialEq, Eq)]
@@ -41,6 +43,7 @@ pub enum Stage {
 #[derive(Debug, Drop)]
 pub struct Reader {
     pub stage: Stage,
+    pub version: u8,
     pub horizon: u32,
     pub depth: Option<u8>,
     /// The tick of the last item, or 0.
@@ -49,20 +52,28 @@ pub struct Reader {
 }
 
 #[tactic(auto, unfolding(crate::specs::ReadingLines::header_at))]
-fn header(line: &[u8]) -> Result<(), Cause>
-    ensures { Gives (λ u. u) result (header_at (tokens_of line.now)) }
+fn header(line: &[u8]) -> Result<u8, Cause>
+    ensures { Gives (λ n. n) result (header_at (tokens_of line.now)) }
 {
     let rest = word(line, b"hls")?;
-    let rest = word(rest, b"1")?;
-    end(rest)
+    let (version, rest) = number(rest, 1, LAST_VERSION)?;
+    end(rest)?;
+    Ok(version as u8)
+}
+
+/// How many ticks a scenario of this version has at most.
+fn most_ticks(version: u8) -> u32
+    ensures { result ≡ most_ticks version }
+{
+    if version == 1 { 100_000 } else { 1_000_000 }
 }
 
 #[tactic(auto, unfolding(crate::specs::ReadingLines::horizon_at))]
-fn horizon(line: &[u8]) -> Result<u32, Cause>
-    ensures { Gives (λ n. n) result (horizon_at (tokens_of line.now)) }
+fn horizon(version: u8, line: &[u8]) -> Result<u32, Cause>
+    ensures { Gives (λ n. n) result (horizon_at version (tokens_of line.now)) }
 {
     let rest = word(line, b"horizon")?;
-    let (ticks, rest) = number(rest, 1, MOST_TICKS)?;
+    let (ticks, rest) = number(rest, 1, most_ticks(version))?;
     end(rest)?;
     Ok(ticks)
 }
@@ -95,7 +106,7 @@ impl Reader {
             return Err(LineError::Fault(Cause::Many));
         }
         let (tick, rest) = stamp(line, self.horizon, self.last)?;
-        keep_command(alloc, &mut self.items, tick, rest)?;
+        keep_command(alloc, self.version, &mut self.items, tick, rest)?;
         self.last = tick;
         self.stage = Stage::AtItems;
         Ok(())
@@ -121,13 +132,14 @@ impl Reader {
     {
         match self.stage {
             Stage::AtHeader => match header(line) {
-                Ok(()) => {
+                Ok(version) => {
+                    self.version = version;
                     self.stage = Stage::AtHorizon;
                     Ok(())
                 }
                 Err(_) => Err(LineError::Fault(Cause::Header)),
             },
-            Stage::AtHorizon => match horizon(line) {
+            Stage::AtHorizon => match horizon(self.version, line) {
                 Ok(ticks) => {
                     self.horizon = ticks;
                     self.stage = Stage::AtDepth;
@@ -178,6 +190,7 @@ fn finish(reader: Reader, line: u32) -> Result<Scenario, ScenarioFault>
 {
     let Reader {
         stage,
+        version,
         horizon,
         depth,
         last: _,
@@ -187,6 +200,7 @@ fn finish(reader: Reader, line: u32) -> Result<Scenario, ScenarioFault>
         Stage::AtHeader => Err(fault_at(line, LineError::Fault(Cause::Header))),
         Stage::AtHorizon => Err(fault_at(line, LineError::Fault(Cause::Horizon))),
         Stage::AtDepth | Stage::AtItems => Ok(Scenario {
+            version,
             horizon,
             depth,
             items: List::of(items),
@@ -201,6 +215,7 @@ pub fn read_lines(alloc: Global, text: &[u8]) -> Result<Scenario, ScenarioFault>
 {
     let mut reader = Reader {
         stage: Stage::AtHeader,
+        version: 1,
         horizon: 0,
         depth: None,
         last: 0,

@@ -5,7 +5,7 @@ ghost use Rattle.hls_lang.specs.Words.{Gives, word_at, number_at, pair_at};
 ghost use Rattle.hls_lang.specs.Reading.{share_at, reservation_at, guarantee_by, guarantee_at};
 ghost use Rattle.hls_lang.specs.Reading.{hardness_at, budget_at};
 ghost use Rattle.hls_lang.specs.Reading.{numbered_terms_at, terms_by, terms_at, shares_at};
-ghost use Rattle.hls_lang.specs.Reading.{numbered_config_at, config_by};
+ghost use Rattle.hls_lang.specs.Reading.{quantum_at, numbered_config_at, config_by};
 ghost use Rattle.hls_lang.specs.Reading.{under_at, spot_by, spot_at, wanted_at, perch_at, last_perch_at};
 
 use crate::fractions::{fraction, rate};
@@ -133,26 +133,48 @@ fn terms(line: &[u8]) -> Result<(Terms, &[u8]), Cause>
     terms_after(found, rest)
 }
 
+/// The quantum of fair queueing, which version 1 has no word for.
+#[tactic(auto, unfolding(crate::specs::Reading::quantum_at))]
+fn quantum(version: u8, line: &[u8]) -> Result<(u32, &[u8]), Cause>
+    ensures { Gives (λ p. (p.0, tokens_of p.1.now)) result (quantum_at version (tokens_of line.now)) }
+{
+    if version == 1 {
+        return Ok((1, line));
+    }
+    number(line, 1, 100)
+}
+
 #[tactic(auto, unfolding(crate::specs::Reading::shares_at))]
-fn shares(line: &[u8]) -> Result<(Config, &[u8]), Cause>
-    ensures { Gives (λ p. (p.0, tokens_of p.1.now)) result (shares_at (tokens_of line.now)) }
+fn shares(version: u8, line: &[u8]) -> Result<(Config, &[u8]), Cause>
+    ensures { Gives (λ p. (p.0, tokens_of p.1.now)) result (shares_at version (tokens_of line.now)) }
 {
     let (total, rest) = number(line, 1, 100)?;
     let (most, rest) = number(rest, 1, 20)?;
-    Ok((Config::Sfq { total, most }, rest))
+    let (quantum, rest) = quantum(version, rest)?;
+    let config = Config::Sfq {
+        total,
+        most,
+        quantum,
+    };
+    Ok((config, rest))
 }
 
 /// The configuration, but a join's, that begins with this word.
 #[tactic(auto, unfolding(crate::specs::Reading::config_by, crate::specs::Reading::numbered_config_at))]
-pub fn config_after<'a>(word: &[u8], line: &'a [u8]) -> Result<(Config, &'a [u8]), Cause>
-    ensures { Gives (λ p. (p.0, tokens_of p.1.now)) result (config_by word.now (tokens_of line.entry.now)) }
+pub fn config_after<'a>(
+    version: u8,
+    word: &[u8],
+    line: &'a [u8],
+) -> Result<(Config, &'a [u8]), Cause>
+    ensures { Gives (λ p. (p.0, tokens_of p.1.now)) result
+        (config_by version word.now (tokens_of line.entry.now)) }
 {
     if word == b"fp".as_slice() {
         Ok((Config::Fp, line))
     } else if word == b"edf".as_slice() {
         Ok((Config::Edf, line))
     } else if word == b"sfq".as_slice() {
-        shares(line)
+        shares(version, line)
     } else if word == b"rr".as_slice() {
         let (quantum, rest) = number(line, 1, 100)?;
         Ok((Config::Rr { quantum }, rest))

@@ -1,44 +1,35 @@
 -- What is said of a book does not go by the room that it has for more.
-use Rattle.std.proofs.Common.{◌≡◌, ℕ, zero, suc, ◌+◌, inl, inr, refl, sym, ap, ◌∙◌, subst, arith}
+use Rattle.std.proofs.Common.{◌≡◌, ℕ, inl, inr, refl, sym, ap, ◌∙◌, subst, arith}
 use Rattle.std.proofs.lemmas.Bool.{cases_lt}
 use Rattle.hls_chron.specs.declared.plain.Config.{Config}
 use Rattle.hls_chron.specs.declared.plain.Config.TheVariants.{Cpu, Fp, Edf, Sfq, Rr, Wheel, Join}
 use Rattle.hls_chron.specs.declared.plain.Terms.{Terms}
-use Rattle.hls_chron.specs.Ledger.{Ledger, now_of, row_at, before}
+use Rattle.hls_chron.specs.Ledger.{Ledger, now_of, row_at}
 use Rattle.hls_chron.specs.Seats.{terms_at, asked, served}
 use Rattle.hls_kinds.specs.declared.fault.SeatFault.{SeatFault}
 use Rattle.hls_kinds.specs.declared.fault.SeatFault.TheVariants as faults
 use Rattle.hls_kinds.specs.Faults as seats
-use Rattle.hls_kinds.specs.Slots.{IsFirst}
 use Rattle.hls_kinds.specs.Tenants.{tenant_at, settled_at, left_at}
 use Rattle.hls_kinds.specs.Reservations.{claim_at, is_held}
-use Rattle.hls_kinds.specs.Tags.{start_by, start_tags, start_tag}
+use Rattle.hls_kinds.specs.Turns.{turn_slot, turns_after}
+use Rattle.hls_kinds.specs.Tags.{start_tag}
 use Rattle.hls_kinds.specs.Frames.{owner_at}
 use Rattle.hls_kinds.specs.Room.{occupant_at, room_used, IsFree}
-use Rattle.hls_kinds.specs.Asks.{slot_asks}
 use Rattle.hls_kinds.specs.Discipline.{HasLeastPriority, TakesTurn, Serves}
-use Rattle.hls_kinds.proofs.Rooms.{roomless, serves-room}
+use Rattle.hls_kinds.proofs.Rooms.{roomless, tag-room, slot-room, serves-room}
 
 pub terms-bare : (b : Ledger) (slot : ℕ) → terms_at (roomless b) slot ≡ terms_at b slot
 unfolding terms_at
 terms-bare b slot = refl
 
-tags-bare : (b : Ledger) (n : ℕ) → start_tags (roomless b) n ≡ start_tags b n
-unfolding start_tags asked served row_at tenant_at before
-tags-bare b zero = refl
-tags-bare b (suc n) = λ i t slot. start_by b (tags-bare b n i) t slot
-
-tag-bare : (b : Ledger) (t : ℕ) → start_tag (roomless b) t ≡ start_tag b t
-tag-bare b t = λ i slot. tags-bare b (t + 1) i t slot
-
 least-bare : (b : Ledger) (mask slot : ℕ) → HasLeastPriority (roomless b) mask slot → HasLeastPriority b mask slot
 unfolding terms_at
 least-bare b mask slot least = record { asks = least.asks; seated = least.seated; least = least.least }
 
-turn-bare : (quantum : ℕ) (b : Ledger) (mask slot : ℕ) → TakesTurn quantum (roomless b) mask slot
-    → TakesTurn quantum b mask slot
+turn-bare : (quantum : ℕ) (b : Ledger) (key : ℕ → ℕ) (mask slot : ℕ) → TakesTurn quantum (roomless b) key mask slot
+    → TakesTurn quantum b key mask slot
 unfolding asked served row_at settled_at left_at
-turn-bare quantum b mask slot turn = record { goes_on = turn.goes_on; passes = turn.passes }
+turn-bare quantum b key mask slot turn = record { goes_on = turn.goes_on; passes = turn.passes }
 
 serves-bare : (config : Config) (b : Ledger) (mask slot : ℕ) → Serves config (roomless b) mask slot
     → Serves config b mask slot
@@ -46,9 +37,12 @@ unfolding asked served row_at claim_at tenant_at owner_at
 serves-bare Cpu b mask slot serves = serves
 serves-bare Fp b mask slot serves = least-bare b mask slot serves
 serves-bare Edf b mask slot serves = serves
-serves-bare (Sfq total most) b mask slot serves =
-    subst (λ (key : ℕ → ℕ). IsFirst 32 (slot_asks mask) key slot) (tag-bare b (now_of b)) serves
-serves-bare (Rr quantum) b mask slot serves = turn-bare quantum b mask slot serves
+serves-bare (Sfq total most quantum) b mask slot serves =
+    subst (λ (key : ℕ → ℕ). TakesTurn quantum b key mask slot) (tag-room quantum b (now_of b))
+    (turn-bare quantum b (start_tag quantum (roomless b) (now_of b)) mask slot serves)
+serves-bare (Rr quantum) b mask slot serves =
+    subst (λ (n : ℕ). TakesTurn quantum b (turns_after n) mask slot) (slot-room b)
+    (turn-bare quantum b (turns_after (turn_slot (roomless b))) mask slot serves)
 serves-bare (Wheel frame) b mask slot serves = record { owns = serves.owns; asks = serves.asks }
 serves-bare (Join ports) b mask slot serves = serves
 
@@ -64,7 +58,7 @@ unfolding terms_at tenant_at is_held asked served row_at
 occupant-bare Edf b slot = refl
 occupant-bare Cpu b slot = refl
 occupant-bare Fp b slot = refl
-occupant-bare (Sfq total most) b slot = refl
+occupant-bare (Sfq total most quantum) b slot = refl
 occupant-bare (Rr quantum) b slot = refl
 occupant-bare (Wheel frame) b slot = refl
 occupant-bare (Join ports) b slot = refl
@@ -78,7 +72,7 @@ occupant_like config b c slot same =
 used-bare : (config : Config) (b : Ledger) → room_used config (roomless b) ≡ room_used config b
 unfolding terms_at tenant_at is_held asked served row_at owner_at
 used-bare Edf b = refl
-used-bare (Sfq total most) b = refl
+used-bare (Sfq total most quantum) b = refl
 used-bare (Wheel frame) b = refl
 used-bare Cpu b = refl
 used-bare Fp b = refl

@@ -1,4 +1,5 @@
 -- What no refusal applies to, and what has derivations, can be done.
+use Rattle.std.proofs.Common.{ℕ}
 use Rattle.hls_scenario.specs.declared.scenario.Command.{Command}
 use Rattle.hls_scenario.specs.declared.scenario.Command.TheVariants.{Load, Thread, End, Unload, Move, Wake, Block}
 use Rattle.hls_scenario.specs.Grammar.{IsCommand}
@@ -9,12 +10,13 @@ use Rattle.hls_legal.specs.Doable.{MayDo, AreDerivable}
 use Rattle.hls_legal.proofs.Done.{IsReached, ends, blocks, wakes, unloads, admits, loads}
 use Rattle.hls_legal.proofs.MovesDone.{moves}
 
-pub may_do : (m : Moment) → IsReached m.hierarchy → (c : Command) → IsCommand c → ((r : Refusal) → ¬ Applies m c r)
-    → AreDerivable m c → MayDo m.hierarchy c
-may_do m is_reached (Load name config perches) is none are = loads m is_reached name config perches is none are
-may_do m is_reached (Thread name perch) is none are = admits m is_reached name perch is none are
-may_do m is_reached (End name) is none are = ends m is_reached name none
-may_do m is_reached (Unload name) is none are = unloads m is_reached name none
-may_do m is_reached (Move name perch) is none are = moves m is_reached name perch is none are
-may_do m is_reached (Wake name burst) is none are = wakes m is_reached name burst none
-may_do m is_reached (Block name) is none are = blocks m is_reached name none
+pub may_do : (m : Moment) → IsReached m.hierarchy → (version : ℕ) (c : Command) → IsCommand version c
+    → ((r : Refusal) → ¬ Applies m c r) → AreDerivable m c → MayDo m.hierarchy c
+may_do m is_reached version (Load name config perches) is none are =
+    loads m is_reached version name config perches is none are
+may_do m is_reached version (Thread name perch) is none are = admits m is_reached version name perch is none are
+may_do m is_reached version (End name) is none are = ends m is_reached name none
+may_do m is_reached version (Unload name) is none are = unloads m is_reached name none
+may_do m is_reached version (Move name perch) is none are = moves m is_reached version name perch is none are
+may_do m is_reached version (Wake name burst) is none are = wakes m is_reached name burst none
+may_do m is_reached version (Block name) is none are = blocks m is_reached name none

@@ -5,11 +5,9 @@ use Rattle.std.specs.Prelude.{is_some}
 use Rattle.std.proofs.lemmas.Bool.{cases_eq, cases_lt}
 use Rattle.hls_text.specs.Lines.{Text}
 use Rattle.hls_chron.specs.declared.plain.Config.{Config}
-use Rattle.hls_chron.specs.declared.plain.Config.TheVariants as configs
 use Rattle.hls_chron.specs.declared.plain.Terms.{Terms}
 use Rattle.hls_chron.specs.Ledger.{Ledger}
-use Rattle.hls_chron.specs.Ranges.{ConfigInRange}
-use Rattle.hls_chron.specs.Seats.{terms_at, most_seats}
+use Rattle.hls_chron.specs.Seats.{terms_at}
 use Rattle.hls_chron.specs.Ticks.{count, one_if}
 use Rattle.hls_chron.specs.Name.{IsName}
 use Rattle.hls_scenario.specs.declared.scenario.Spot.{Spot}
@@ -24,7 +22,6 @@ use Rattle.hls_machine.specs.Hierarchy.{Hierarchy, Node, Loaded, Admitted, Sched
 use Rattle.hls_machine.specs.Hierarchy.{start, config_of, name_of}
 use Rattle.hls_machine.specs.Steps.{Step, Load, Admit, End, Unload, Rouse, Block, state, loaded, effect, nobody}
 use Rattle.hls_machine.specs.Legal.{IsChain, IsShallow, MayTake, IsNew, CanLoad, IsLegal, fair_queues}
-use Rattle.hls_chron.specs.Kinds.{fair_queue}
 use Rattle.hls_machine.specs.Lists.{IsListed}
 use Rattle.hls_machine.proofs.Kept.{IsSound}
 use Rattle.hls_machine.proofs.Lists.{run_listed}
@@ -195,10 +192,10 @@ module _ (m : Moment) (is_reached : IsReached m.hierarchy) where
 
   -- ---- a thread
 
-  pub admits : (name : Text) (perch : Perch) → grammar.IsCommand (said.Thread name perch)
+  pub admits : (version : ℕ) (name : Text) (perch : Perch) → grammar.IsCommand version (said.Thread name perch)
       → ((r : Refusal) → ¬ Applies m (said.Thread name perch) r) → AreDerivable m (said.Thread name perch)
       → MayDo h (said.Thread name perch)
-  admits name perch is none are =
+  admits version name perch is none are =
       let c = said.Thread name perch in
       let seat = seat_for m c none [] nothing_left 0 perch refl is.1
       (due_follows m c are 0 (due_at h name 0 perch) refl) in
@@ -238,15 +235,15 @@ module _ (m : Moment) (is_reached : IsReached m.hierarchy) where
 
   -- ---- a load
 
-  module _ (name : Text) (config : Config) (perches : List Perch)
-      (is : grammar.IsCommand (said.Load name config perches))
+  module _ (version : ℕ) (name : Text) (config : Config) (perches : List Perch)
+      (is : grammar.IsCommand version (said.Load name config perches))
       (none : (r : Refusal) → ¬ Applies m (said.Load name config perches) r)
       (are : AreDerivable m (said.Load name config perches)) where
     abbrev load : Command
     load = said.Load name config perches
 
     shape : IsLoadShape config perches
-    shape = load_shape config perches is.1
+    shape = load_shape version config perches is.1
 
     load_seats : AreSeatsFor h perches
     load_seats = seats_for h perches (λ port perch e.

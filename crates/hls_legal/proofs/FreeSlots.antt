@@ -4,7 +4,6 @@ use Rattle.std.proofs.Common.{refl, sym, ap, ◌∙◌, subst, arith, cond}
 use Rattle.std.proofs.lemmas.Bool.{cases_eq, eq-eqb, ne_eqb}
 use Rattle.std.proofs.lemmas.List.{append-nil}
 use Rattle.hls_chron.specs.declared.plain.Config.{Config}
-use Rattle.hls_chron.specs.declared.plain.Config.TheVariants as configs
 use Rattle.hls_chron.specs.declared.plain.Terms.{Terms}
 use Rattle.hls_chron.specs.declared.plain.Terms.TheVariants as terms
 use Rattle.hls_chron.specs.declared.book.Event.{Event}
@@ -17,7 +16,7 @@ use Rattle.hls_kinds.specs.declared.tenant.Tenant.TheVariants as tenants
 use Rattle.hls_kinds.specs.Tenants.{tenant_at}
 use Rattle.hls_kinds.specs.Reservations.{is_held, is_held_in}
 use Rattle.hls_kinds.specs.Room.{occupant_at, terms_left, IsFree, IsFull}
-use Rattle.hls_kinds.proofs.MarkLaws.{tenant_at-mark, sits_on}
+use Rattle.hls_kinds.proofs.MarkLaws.{tenant_at-mark}
 use Rattle.hls_machine.specs.Ledgers.{with_marks}
 use Rattle.hls_machine.specs.Hierarchy.{Place, Processor, At, Seat}
 use Rattle.hls_machine.specs.Steps.{leaving_at, leavings}

@@ -74,24 +74,26 @@ ports_apart (p ∷ perches) are (suc port) zero one two lt e f = absurd (omega (
 ports_apart (p ∷ perches) are (suc port) (suc other) one two lt e f =
     ports_apart perches are.2 port other one two (omega (arith, lt)) e f
 
-pub load_shape : (config : Config) (perches : List Perch) → grammar.IsLoad config perches
+pub load_shape : (version : ℕ) (config : Config) (perches : List Perch) → grammar.IsLoad version config perches
     → IsLoadShape config perches
-load_shape configs.Cpu perches is = absurd is
-load_shape (configs.Join ports) perches is = record {
+load_shape version configs.Cpu perches is = absurd is
+load_shape version (configs.Join ports) perches is = record {
   kind = λ e. cc;
   in_range = is.1;
   ports = sym is.0;
   each = ports_each perches is.2;
   apart = ports_apart perches is.2;
 }
-load_shape configs.Fp (perch ∷ []) is = lone_shape configs.Fp perch (λ e. cc) refl is.0 is.1
-load_shape configs.Edf (perch ∷ []) is = lone_shape configs.Edf perch (λ e. cc) refl is.0 is.1
-load_shape (configs.Sfq total most) (perch ∷ []) is =
-    lone_shape (configs.Sfq total most) perch (λ e. cc) refl is.0 is.1
-load_shape (configs.Rr quantum) (perch ∷ []) is = lone_shape (configs.Rr quantum) perch (λ e. cc) refl is.0 is.1
-load_shape (configs.Wheel frame) (perch ∷ []) is = lone_shape (configs.Wheel frame) perch (λ e. cc) refl is.0 is.1
-load_shape _ [] is = absurd is
-load_shape _ (perch ∷ other ∷ perches) is = absurd is
+load_shape version configs.Fp (perch ∷ []) is = lone_shape configs.Fp perch (λ e. cc) refl is.0.0 is.1
+load_shape version configs.Edf (perch ∷ []) is = lone_shape configs.Edf perch (λ e. cc) refl is.0.0 is.1
+load_shape version (configs.Sfq total most quantum) (perch ∷ []) is =
+    lone_shape (configs.Sfq total most quantum) perch (λ e. cc) refl is.0.0 is.1
+load_shape version (configs.Rr quantum) (perch ∷ []) is =
+    lone_shape (configs.Rr quantum) perch (λ e. cc) refl is.0.0 is.1
+load_shape version (configs.Wheel frame) (perch ∷ []) is =
+    lone_shape (configs.Wheel frame) perch (λ e. cc) refl is.0.0 is.1
+load_shape version _ [] is = absurd is
+load_shape version _ (perch ∷ other ∷ perches) is = absurd is
 
 -- ---- the seats of a load
 

@@ -5,10 +5,8 @@ use Rattle.std.specs.Prelude.{flat_map, Contains}
 use Rattle.std.proofs.lemmas.Bool.{cases_Bool, eq-eqb}
 use Rattle.std.proofs.lemmas.Option.{slice_get_within}
 use Rattle.hls_text.specs.Lines.{Text}
-use Rattle.hls_chron.specs.declared.plain.Config.{Config}
-use Rattle.hls_chron.specs.declared.plain.Config.TheVariants as configs
 use Rattle.hls_chron.specs.declared.plain.Kind.TheVariants as kinds
-use Rattle.hls_chron.specs.Kinds.{kind_of, port_count}
+use Rattle.hls_chron.specs.Kinds.{kind_of}
 use Rattle.hls_guarantee.specs.declared.Guarantee.{Guarantee}
 use Rattle.hls_kinds.specs.declared.tenant.Tenant.TheVariants.{Sits}
 use Rattle.hls_kinds.specs.Room.{IsFull, occupant_at}
@@ -92,8 +90,9 @@ one_seat now place (Some (Loaded s)) current may =
     record { seat = one.0; is = one.1 }
 one_seat now place (Some (Admitted t)) current may = record { seat = t.seat; is = refl }
 
-module _ (m : Moment) (is_reached : IsReached m.hierarchy) (name : Text) (perch : Perch)
-    (is : grammar.IsCommand (said.Move name perch)) (none : (r : Refusal) → ¬ Applies m (said.Move name perch) r)
+module _ (m : Moment) (is_reached : IsReached m.hierarchy) (version : ℕ) (name : Text) (perch : Perch)
+    (is : grammar.IsCommand version (said.Move name perch))
+    (none : (r : Refusal) → ¬ Applies m (said.Move name perch) r)
     (are : AreDerivable m (said.Move name perch)) (node : Node) (found : IsFound m.hierarchy name node) where
   abbrev h : Hierarchy
   h = m.hierarchy
@@ -324,9 +323,9 @@ module _ (m : Moment) (is_reached : IsReached m.hierarchy) (name : Text) (perch 
     can = (can_move, shallow);
   }
 
-pub moves : (m : Moment) (is_reached : IsReached m.hierarchy) (name : Text) (perch : Perch)
-    → grammar.IsCommand (said.Move name perch) → ((r : Refusal) → ¬ Applies m (said.Move name perch) r)
+pub moves : (m : Moment) (is_reached : IsReached m.hierarchy) (version : ℕ) (name : Text) (perch : Perch)
+    → grammar.IsCommand version (said.Move name perch) → ((r : Refusal) → ¬ Applies m (said.Move name perch) r)
     → AreDerivable m (said.Move name perch) → MayDo m.hierarchy (said.Move name perch)
-moves m is_reached name perch is none are =
+moves m is_reached version name perch is none are =
     let w = whom m is_reached (said.Move name perch) none name refl in
-    moves_by m is_reached name perch is none are w.0 w.1
+    moves_by m is_reached version name perch is none are w.0 w.1

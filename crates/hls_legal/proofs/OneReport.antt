@@ -327,6 +327,7 @@ tells_record = Rattle.hls_legal.proofs.Removal.tells_like
 
 abbrev plain : ℕ → List Answered → List Stretch → Content
 plain horizon answered stretches = record {
+  version = 1;
   horizon = horizon;
   depth = 0;
   answered = answered;
@@ -380,6 +381,7 @@ one_report s given boxes c d f t =
     (subst (λ n. Rattle.hls_report_text.specs.WellFormed.Cover 0 None d.stretches n) (sym ends) t.formed.cover)
     (λ t from lt. alike.paths t from lt) in
     record {
+      version = f.version ∙ sym t.version;
       horizon = ends;
       depth = depths;
       answered = alike.answered;

@@ -122,25 +122,26 @@ short_without at [] = omega arith
 short_without zero (x ∷ xs) = omega arith
 short_without (suc at) (x ∷ xs) = let rest = short_without at xs in omega (arith, rest)
 
-earlier : (horizon last first : ℕ) (xs : List Answered) → first ≤ last → AreAnswered horizon last xs
-    → AreAnswered horizon first xs
-earlier horizon last first [] le are = tt
-earlier horizon last first (x ∷ xs) le are =
+earlier : (version horizon last first : ℕ) (xs : List Answered) → first ≤ last
+    → AreAnswered version horizon last xs → AreAnswered version horizon first xs
+earlier version horizon last first [] le are = tt
+earlier version horizon last first (x ∷ xs) le are =
     (are.0, are.1, (let late = are.2 in omega (arith, le, late)), are.3, are.4)
 
-answered_without : (horizon last at : ℕ) (xs : List Answered) → AreAnswered horizon last xs
-    → AreAnswered horizon last (without at xs)
-answered_without horizon last at [] are = tt
-answered_without horizon last zero (x ∷ xs) are = earlier horizon x.tick last xs are.2 are.4
-answered_without horizon last (suc at) (x ∷ xs) are =
-    (are.0, are.1, are.2, are.3, answered_without horizon x.tick at xs are.4)
+answered_without : (version horizon last at : ℕ) (xs : List Answered) → AreAnswered version horizon last xs
+    → AreAnswered version horizon last (without at xs)
+answered_without version horizon last at [] are = tt
+answered_without version horizon last zero (x ∷ xs) are = earlier version horizon x.tick last xs are.2 are.4
+answered_without version horizon last (suc at) (x ∷ xs) are =
+    (are.0, are.1, are.2, are.3, answered_without version horizon x.tick at xs are.4)
 
 formed_without : (at : ℕ) (c : Content) → IsContent c → IsContent (content_without at c)
 formed_without at c is = record {
+  version = is.version;
   horizon = is.horizon;
   depth = is.depth;
   few = (let short = short_without at c.answered in let few = is.few in omega (arith, short, few));
-  answered = answered_without c.horizon 0 at c.answered is.answered;
+  answered = answered_without c.version c.horizon 0 at c.answered is.answered;
   cover = is.cover;
   names = is.names;
   accounts = is.accounts;
@@ -158,6 +159,7 @@ removed s given boxes c at a r legal is refused =
     tells_like c d refl refl run.shorter start (without at c.answered) run.tells in
     record {
       formed = formed_without at c legal.formed;
+      version = legal.version;
       horizon = legal.horizon;
       depth = legal.depth;
       commands = map_without item_of at c.answered ∙ ap (without at) legal.commands;

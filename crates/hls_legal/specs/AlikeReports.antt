@@ -15,6 +15,7 @@ AreAlikeAnswered (a ∷ answered) (b ∷ others) = IsAlikeAnswered a b × AreAli
 AreAlikeAnswered _ _ = ⊥
 
 pub record IsAlikeContent (c d : Content) : Type 0 where
+  pub version : c.version ≡ d.version
   pub horizon : c.horizon ≡ d.horizon
   pub depth : c.depth ≡ d.depth
   pub answered : AreAlikeAnswered c.answered d.answered

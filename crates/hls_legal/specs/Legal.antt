@@ -27,6 +27,7 @@ pub record IsRun (depth : ℕ) (boxes : Boxes) (c : Content) (steps : List Step)
 -- The report is of the scenario and tells such a run, with the accounts and the idle ticks that come of it.
 pub record IsLegalContent (s : Scenario) (given : ℕ) (boxes : Boxes) (c : Content) : Type 0 where
   pub formed : IsContent c
+  pub version : c.version ≡ s.version
   pub horizon : c.horizon ≡ s.horizon
   pub depth : c.depth ≡ depth_in_force given s.depth
   pub commands : map item_of c.answered ≡ s.items

@@ -22,29 +22,32 @@ use Rattle.hls_longer_texts.proofs.Lines.{lines_behind, tokens_behind, lines_joi
 
 -- ---- the scenario
 
-items_more : (horizon last : ℕ) (items : List Item) (item : Item) → AreItems horizon last items → last ≤ item.tick
-    → AllByRecursion (λ (other : Item). other.tick ≤ item.tick) items → AreItems horizon item.tick (item ∷ [])
-    → AreItems horizon last (items ++ item ∷ [])
-items_more horizon last [] item are low late is = (is.0, low, is.2, tt)
-items_more horizon last (one ∷ items) item are low late is =
-    (are.0, are.1, are.2, items_more horizon one.tick items item are.3 late.0 late.1 is)
+items_more : (version horizon last : ℕ) (items : List Item) (item : Item) → AreItems version horizon last items
+    → last ≤ item.tick → AllByRecursion (λ (other : Item). other.tick ≤ item.tick) items
+    → AreItems version horizon item.tick (item ∷ []) → AreItems version horizon last (items ++ item ∷ [])
+items_more version horizon last [] item are low late is = (is.0, low, is.2, tt)
+items_more version horizon last (one ∷ items) item are low late is =
+    (are.0, are.1, are.2, items_more version horizon one.tick items item are.3 late.0 late.1 is)
 
 scenario_more : (s : Scenario) (item : Item) → IsScenario s → MayFollow s item → IsScenario (with_item s item)
 scenario_more s item is may = record {
+  version = is.version;
   horizon = is.horizon;
   depth = is.depth;
   few = let count = length-append s.items (item ∷ []) in let few = may.few in omega (arith, count, few);
-  items = items_more s.horizon 0 s.items item is.items (omega arith) may.last
+  items = items_more s.version s.horizon 0 s.items item is.items (omega arith) may.last
       (may.command, omega arith, may.early, tt);
 }
 
 -- ---- its lines
 
-lines_more : (s : Scenario) (item : Item) → scenario_lines (with_item s item) ≡ scenario_lines s ++ item_forms item ∷ []
+lines_more : (s : Scenario) (item : Item)
+    → scenario_lines (with_item s item) ≡ scenario_lines s ++ item_forms s.version item ∷ []
 lines_more s item =
-    ap (λ (ls : List (List Form)). header_forms ∷ horizon_forms s.horizon ∷ ls)
-    (ap (λ (ls : List (List Form)). depth_lines s.depth ++ ls) (map-append item_forms s.items (item ∷ []))
-    ∙ sym (append_assoc (depth_lines s.depth) (map item_forms s.items) (item_forms item ∷ [])))
+    let forms : Item → List Form = item_forms s.version in
+    ap (λ (ls : List (List Form)). header_forms s.version ∷ horizon_forms s.horizon ∷ ls)
+    (ap (λ (ls : List (List Form)). depth_lines s.depth ++ ls) (map-append forms s.items (item ∷ []))
+    ∙ sym (append_assoc (depth_lines s.depth) (map forms s.items) (forms item ∷ [])))
 
 last_printable : (depth : Option ℕ) (forms : List Form) → ArePrintableLines (depth_lines depth ++ forms ∷ [])
     → IsPrintableLine forms
@@ -52,16 +55,17 @@ last_printable None forms all = all.0
 last_printable (Some depth) forms all = all.1.0
 
 item_printable : (s : Scenario) (item : Item) → IsScenario s → MayFollow s item
-    → ArePrintableLines (item_forms item ∷ [])
+    → ArePrintableLines (item_forms s.version item ∷ [])
 item_printable s item is may =
     let alone : Scenario = record s { items = item ∷ [] } in
     let all = scenario_printable alone (record {
+      version = is.version;
       horizon = is.horizon;
       depth = is.depth;
       few = omega arith;
       items = (may.command, omega arith, may.early, tt);
     }) in
-    (last_printable s.depth (item_forms item) all.1.1, tt)
+    (last_printable s.depth (item_forms s.version item) all.1.1, tt)
 
 line_tokens : (forms : List Form) → IsPrintableLine forms → ArePrintableLines (forms ∷ [])
     → token_lines (joined forms ∷ []) ≡ map canonical forms ∷ []
@@ -77,9 +81,9 @@ line_is forms all =
     ap lines_of (sym (append-nil (line_text forms))) ∙ text_lines (forms ∷ []) (lines_words (forms ∷ []) all)
 
 pub goes_on : (text : Text) (s : Scenario) (item : Item) → IsScenarioText text s → ends_line text ≡ true
-    → MayFollow s item → IsScenarioText (text ++ line_text (item_forms item)) (with_item s item)
+    → MayFollow s item → IsScenarioText (text ++ line_text (item_forms s.version item)) (with_item s item)
 goes_on text s item is ends may =
-    let forms = item_forms item in
+    let forms : List Form = item_forms s.version item in
     let all = item_printable s item is.within may in
     let lines = lines_behind text (line_text forms) ends
     ∙ ap (λ (ls : List Text). lines_of text ++ ls) (line_is forms all)

@@ -18,6 +18,6 @@ with_item s item = record s { items = s.items ++ item ∷ [] }
 -- there is room for one more, it is within the grammar, its tick is below the horizon, and no tick is later
 pub record MayFollow (s : Scenario) (item : Item) : Type 0 where
   pub few : length s.items < 65536
-  pub command : IsCommand item.command
+  pub command : IsCommand s.version item.command
   pub early : item.tick < s.horizon
   pub last : AllByRecursion (λ (other : Item). other.tick ≤ item.tick) s.items

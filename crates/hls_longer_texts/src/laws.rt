@@ -12,5 +12,5 @@ ghost use Rattle.hls_longer_texts.specs.Longer.{ends_line, with_item, MayFollow}
 /// command has a later tick: it is a text of the scenario with that command.
 pub fn texts_go_on_by_a_line()
     ensures { (text : Text) (s : Scenario) (item : Item) → IsScenarioText text s → ends_line text ≡ true →
-        MayFollow s item → IsScenarioText (text ++ line_text (item_forms item)) (with_item s item) }
+        MayFollow s item → IsScenarioText (text ++ line_text (item_forms s.version item)) (with_item s item) }
 {}

@@ -87,7 +87,7 @@ module _ (h : Hierarchy) (listed : IsListed h) (left : List Seat) (perch : Perch
 -- ---- a thread
 
 module _ (m : Moment) (past : List Step) (legal : IsLegal start past) (leads : m.hierarchy ≡ state start past)
-    (name : Text) (perch : Perch) (within : IsCommand (said.Thread name perch))
+    (name : Text) (perch : Perch) (within : IsCommand 2 (said.Thread name perch))
     (none : (r : Refusal) → ¬ Applies m (said.Thread name perch) r) (d : Derivation)
     (derives : Derives m.depth (due_at m.hierarchy name 0 perch) d) where
   abbrev h : Hierarchy
@@ -103,7 +103,7 @@ module _ (m : Moment) (past : List Step) (legal : IsLegal start past) (leads : m
   derivable (suc at) due e = absurd (cc)
 
   may : MayDo h (said.Thread name perch)
-  may = may_do m is_reached (said.Thread name perch) within none derivable
+  may = may_do m is_reached 2 (said.Thread name perch) within none derivable
 
   record IsAdmitted : Type 0 where
     pub k : ℕ

@@ -31,7 +31,7 @@ answered_by (Ok answer) told Q is q = subst Q (sym is) q
 answered_by (Err error) told Q is q = tt
 
 module _ (m : Moment) (reached : IsReached m.hierarchy) (name : Text) (perch : Perch)
-    (within : IsCommand (said.Move name perch)) (id : ℕ) (seat : Seat)
+    (within : IsCommand 2 (said.Move name perch)) (id : ℕ) (seat : Seat)
     (movable : IsMovable m.hierarchy name perch id seat) (depth : ℕ) (deep : m.depth ≡ depth) where
   -- a move is answered by what is found for its seats
   pub move_answered : (told : Rederived) (answer : Answer)

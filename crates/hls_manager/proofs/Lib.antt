@@ -24,6 +24,7 @@ mod Options
 mod Askings
 mod ThreadMoves
 pub mod Rederivals
+pub mod Versions
 mod NamedNodes
 mod ShiftSteps
 mod ShiftDues

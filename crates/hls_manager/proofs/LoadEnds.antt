@@ -51,17 +51,17 @@ use Rattle.hls_chron.proofs.ConfigLaws.{few_ports}
 -- ---- what the grammar says
 
 pub perches_in_range : (name : Text) (config : Config) (perches : List Perch)
-    → IsCommand (said.Load name config perches) → ArePerchesInRange perches
-perches_in_range name config perches within = (load_shape config perches within.1).each
+    → IsCommand 2 (said.Load name config perches) → ArePerchesInRange perches
+perches_in_range name config perches within = (load_shape 2 config perches within.1).each
 
 pub config_boxed : (name : Text) (config : Config) (perches : List Perch)
-    → IsCommand (said.Load name config perches) → kind_of config ≢ kinds.Cpu
-config_boxed name config perches within = (load_shape config perches within.1).kind
+    → IsCommand 2 (said.Load name config perches) → kind_of config ≢ kinds.Cpu
+config_boxed name config perches within = (load_shape 2 config perches within.1).kind
 
 pub few_seats : (h : Hierarchy) (name : Text) (config : Config) (perches : List Perch) (seats : List Seat)
-    → IsCommand (said.Load name config perches) → AreWanted h perches (length perches) seats → length seats ≤ 4
+    → IsCommand 2 (said.Load name config perches) → AreWanted h perches (length perches) seats → length seats ≤ 4
 few_seats h name config perches seats within are =
-    let shape = load_shape config perches within.1 in
+    let shape = load_shape 2 config perches within.1 in
     let few = few_ports config shape.in_range in
     let ports = shape.ports in
     let counted = are.counted in
@@ -70,14 +70,14 @@ few_seats h name config perches seats within are =
 -- ---- what the tree is asked
 
 module _ (m : Moment) (name : Text) (config : Config) (perches : List Perch) (seats : List Seat)
-    (within : IsCommand (said.Load name config perches)) (listed : IsListed m.hierarchy)
+    (within : IsCommand 2 (said.Load name config perches)) (listed : IsListed m.hierarchy)
     (placed : IsPlaced m.hierarchy name perches seats) (open_is : IsOpen m config perches)
     (room : HasMarkRoom m.hierarchy) where
   abbrev h : Hierarchy
   h = m.hierarchy
 
   shape : IsLoadShape config perches
-  shape = load_shape config perches within.1
+  shape = load_shape 2 config perches within.1
 
   -- the perch of a seat
   of_seat : (port : ℕ) (seat : Seat) → slice_get seats port ≡ Some seat
@@ -219,7 +219,7 @@ module _ (h : Hierarchy) where
 module _ {V : Type 0} {P : V → Type 0} (seen : (x : V) × P x → Seen) where
   -- a scheduler was loaded on the seats that were wanted
   pub loads : (old new : Tree V P) (m : Moment) (commands : ℕ) (name : Text) (config : Config) (perches : List Perch)
-      (seats : List Seat) (id : ℕ) (told : List Seated) → IsCommand (said.Load name config perches)
+      (seats : List Seat) (id : ℕ) (told : List Seated) → IsCommand 2 (said.Load name config perches)
       → IsReached m.hierarchy → IsPlaced m.hierarchy name perches seats → IsOpen m config perches
       → AreTold m.hierarchy m.depth name seats (length seats) told
       → Loads seen old new m.hierarchy id name config commands seats

@@ -327,7 +327,8 @@ module _ (m : Moment) (name : Text) (config : Config) (perches : List Perch) whe
 
             pub last_fault : (r : Refusal) → fault ≡ Some r → IsRefused m c r
             last_fault r e =
-                port_refused r (subst (λ (x : Option Refusal). IsLeastRefusal (IsPortRefused h perches) (length perches) x)
+                port_refused r
+                (subst (λ (x : Option Refusal). IsLeastRefusal (IsPortRefused h perches) (length perches) x)
                 e is) (clear (number r))
 
             pub open_load : fault ≡ None → IsOpen m config perches

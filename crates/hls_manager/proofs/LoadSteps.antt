@@ -45,7 +45,7 @@ same_seats h listed (s ∷ seats) [] (perch ∷ perches) a b free may = absurd b
 
 module _ (m : Moment) (past : List Step) (legal : IsLegal start past) (leads : m.hierarchy ≡ state start past)
     (name : Text) (config : Config) (perches : List Perch)
-    (within : IsCommand (said.Load name config perches))
+    (within : IsCommand 2 (said.Load name config perches))
     (none : (r : Refusal) → ¬ Applies m (said.Load name config perches) r)
     (derivable : AreDerivable m (said.Load name config perches)) where
   abbrev h : Hierarchy
@@ -58,7 +58,7 @@ module _ (m : Moment) (past : List Step) (legal : IsLegal start past) (leads : m
   is_reached = subst (λ (g : Hierarchy). IsReached g) (sym leads) (reached past legal)
 
   may : MayDo h c
-  may = may_do m is_reached c within none derivable
+  may = may_do m is_reached 2 c within none derivable
 
   record IsLoaded : Type 0 where
     pub k : ℕ
@@ -112,9 +112,9 @@ module _ (m : Moment) (past : List Step) (legal : IsLegal start past) (leads : m
               let is = old.1 in
               (is_reached.shallow.levels chain old.0, omega (arith, shares, is))
           | inr new ↦ (
-            low_level m c none 9 (new_bounded m is_reached name config perches within none derivable) (length chain)
+            low_level m c none 9 (new_bounded m is_reached 2 name config perches within none derivable) (length chain)
                 (fair_queues made chain) new,
-            few_shares m c none 9 (new_bounded m is_reached name config perches within none derivable)
+            few_shares m c none 9 (new_bounded m is_reached 2 name config perches within none derivable)
                 (length chain) (fair_queues made chain) new,
           )
         ]

@@ -72,12 +72,12 @@ answered_so (Ok answer) told A Q to is has = subst Q (sym is) (to has)
 answered_so (Err error) told A Q to is has = tt
 
 -- the name of the scheduler and the terms of a thread's perch
-pub under_name : (name : Text) (perch : Perch) (sched : Text) (terms : Terms) → IsCommand (said.Thread name perch)
+pub under_name : (name : Text) (perch : Perch) (sched : Text) (terms : Terms) → IsCommand 2 (said.Thread name perch)
     → perch.spot ≡ Under sched terms → IsName sched
 under_name name perch sched terms within at =
     (subst (λ (spot : Spot). grammar.IsSpot spot) at within.1.spot).0
 
-pub under_range : (name : Text) (perch : Perch) (sched : Text) (terms : Terms) → IsCommand (said.Thread name perch)
+pub under_range : (name : Text) (perch : Perch) (sched : Text) (terms : Terms) → IsCommand 2 (said.Thread name perch)
     → perch.spot ≡ Under sched terms → TermsInRange terms
 under_range name perch sched terms within at =
     subst (λ (spot : Spot). TermsInRange (terms_in spot)) at (spot_terms perch.spot within.1.spot)
@@ -171,19 +171,19 @@ module _ (h : Hierarchy) (name : Text) (perch : Perch) (seat : Seat) (o : IsOffe
         want = o.kept i;
       }
 
-  pub terms_range : IsCommand (said.Thread name perch) → TermsInRange seat.terms
+  pub terms_range : IsCommand 2 (said.Thread name perch) → TermsInRange seat.terms
   terms_range within =
       let all = spot_terms perch.spot within.1.spot in
       subst (λ (s : Spot). TermsInRange (terms_in s)) o.place all
 
-  pub kept_narrow : IsCommand (said.Thread name perch) → IsNarrow seat.kept
+  pub kept_narrow : IsCommand 2 (said.Thread name perch) → IsNarrow seat.kept
   kept_narrow within = subst (λ (g : Guarantee). IsNarrow g) (sym o.kept) within.1.want
 
   name_is_free : IsListed h → IsFreeName h name
   name_is_free listed other has = (let free = o.name_free in let is = named_is h listed other name has in
       let lost = sym has ∙ ap name_of (sym is ∙ free) in cc)
 
-  may_take : IsCommand (said.Thread name perch) → HasMarkRoom h → MayTake h seat
+  may_take : IsCommand 2 (said.Thread name perch) → HasMarkRoom h → MayTake h seat
   may_take within room = record {
     fits = subst (λ (p : Option ℕ). offers.TakesAt h p seat.terms) (sym o.parent_is)
         (record {
@@ -196,7 +196,7 @@ module _ (h : Hierarchy) (name : Text) (perch : Perch) (seat : Seat) (o : IsOffe
     kept = kept_narrow within;
   }
 
-  each_one : IsCommand (said.Thread name perch) → HasMarkRoom h → (i : ℕ) (s : Seat)
+  each_one : IsCommand 2 (said.Thread name perch) → HasMarkRoom h → (i : ℕ) (s : Seat)
       → slice_get (seat ∷ []) i ≡ Some s → MayTake h s
   each_one within room zero s e =
       (let same : seat ≡ s = cc in subst (λ (x : Seat). MayTake h x) same (may_take within room))
@@ -208,7 +208,7 @@ module _ (h : Hierarchy) (name : Text) (perch : Perch) (seat : Seat) (o : IsOffe
   lone zero (suc j) one other e f = absurd (cc)
   lone (suc i) j one other e f = absurd (cc)
 
-  pub may_admit : IsCommand (said.Thread name perch) → IsListed h → HasMarkRoom h → MayAdmit h name seat
+  pub may_admit : IsCommand 2 (said.Thread name perch) → IsListed h → HasMarkRoom h → MayAdmit h name seat
   may_admit within listed room = record {
     name_free = name_is_free listed;
     below = λ none. (let some = o.parent_is in cc);
@@ -270,7 +270,7 @@ module _ (m : Moment) (name : Text) (perch : Perch) (seat : Seat) (o : IsOffered
 module _ {V : Type 0} {P : V → Type 0} (seen : (x : V) × P x → Seen) where
   -- a thread was admitted on the seat that was offered
   pub admits : (old new : Tree V P) (m : Moment) (commands : ℕ) (name : Text) (perch : Perch) (seat : Seat) (id : ℕ)
-      (d : Derivation) → IsCommand (said.Thread name perch) → IsReached m.hierarchy
+      (d : Derivation) → IsCommand 2 (said.Thread name perch) → IsReached m.hierarchy
       → IsOffered m.hierarchy name perch seat → Derives m.depth (due_for m.hierarchy name 0 seat) d
       → Admits seen old new m.hierarchy id name seat
       → CarriesOut seen old new m commands (said.Thread name perch)

@@ -50,7 +50,7 @@ spot_by h place None (Under sched terms) e is = absurd is
 spot_by h place (Some p) Cpu e is = absurd is
 
 module _ (m : Moment) (reached : IsReached m.hierarchy) (name : Text) (perch : Perch)
-    (within : IsCommand (said.Move name perch)) (none : (r : Refusal) → ¬ Applies m (said.Move name perch) r)
+    (within : IsCommand 2 (said.Move name perch)) (none : (r : Refusal) → ¬ Applies m (said.Move name perch) r)
     (derivable : AreDerivable m (said.Move name perch)) (id : ℕ) (has : HasName m.hierarchy id name) where
   abbrev h : Hierarchy
   h = m.hierarchy
@@ -62,7 +62,7 @@ module _ (m : Moment) (reached : IsReached m.hierarchy) (name : Text) (perch : P
   is_reached = reached_done h reached
 
   may : MayDo h c
-  may = may_do m is_reached c within none derivable
+  may = may_do m is_reached 2 c within none derivable
 
   record IsMoved : Type 0 where
     pub seat : TakenSeat

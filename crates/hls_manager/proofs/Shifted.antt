@@ -47,17 +47,17 @@ use Rattle.hls_manager.proofs.ShiftDues.{move_tellable, lacks_later, IsTellable}
 
 -- what is wanted has numbers in their ranges
 pub aimed_terms : (h : Hierarchy) (name : Text) (perch : Perch) (id : ℕ) (seat : Seat) → IsAimed h name perch id seat
-    → IsCommand (said.Move name perch) → TermsInRange seat.terms
+    → IsCommand 2 (said.Move name perch) → TermsInRange seat.terms
 aimed_terms h name perch id seat aimed within =
     subst (λ t. TermsInRange t) (sym aimed.terms) (spot_terms perch.spot within.1.spot)
 
 pub aimed_kept : (h : Hierarchy) (name : Text) (perch : Perch) (id : ℕ) (seat : Seat) → IsAimed h name perch id seat
-    → IsCommand (said.Move name perch) → IsNarrow seat.kept
+    → IsCommand 2 (said.Move name perch) → IsNarrow seat.kept
 aimed_kept h name perch id seat aimed within =
     subst (λ (g : Guarantee). IsNarrow g) (sym aimed.kept) within.1.want
 
 module _ (h : Hierarchy) (reached : IsReached h) (name : Text) (perch : Perch)
-    (within : IsCommand (said.Move name perch))
+    (within : IsCommand 2 (said.Move name perch))
     (id : ℕ) (seat : Seat) (movable : IsMovable h name perch id seat) where
   abbrev c : Command
   c = said.Move name perch
@@ -119,7 +119,7 @@ module _ (h : Hierarchy) (reached : IsReached h) (name : Text) (perch : Perch)
 -- ---- the answers
 
 module _ (m : Moment) (reached : IsReached m.hierarchy) (name : Text) (perch : Perch)
-    (within : IsCommand (said.Move name perch)) (id : ℕ) (seat : Seat)
+    (within : IsCommand 2 (said.Move name perch)) (id : ℕ) (seat : Seat)
     (movable : IsMovable m.hierarchy name perch id seat) where
   abbrev g : Hierarchy
   g = m.hierarchy
@@ -179,7 +179,7 @@ rederived_first depth due ds first (Lacks name) is are =
     lacks_later depth due ds first.derivation is.derives name are
 
 module _ (h : Hierarchy) (reached : IsReached h) (name : Text) (perch : Perch)
-    (within : IsCommand (said.Move name perch))
+    (within : IsCommand 2 (said.Move name perch))
     (id : ℕ) (seat : Seat) (movable : IsMovable h name perch id seat) (depth : ℕ) (shallow : depth ≤ 6)
     (unchanged changed : Type 0) where
   -- an answer by what is told is well formed
@@ -197,7 +197,7 @@ module _ {V : Type 0} {P : V → Type 0} (seen : (x : V) × P x → Seen) where
   -- and it is the answer
   pub told_carried : (old new : Tree V P) (m : Moment) (commands : ℕ) (name : Text) (perch : Perch) (id : ℕ)
       (seat : Seat) (depth : ℕ) → m.depth ≡ depth → IsTreeOf seen old m.hierarchy → IsReached m.hierarchy
-      → IsCommand (said.Move name perch) → IsMovable m.hierarchy name perch id seat → (told : Rederived)
+      → IsCommand 2 (said.Move name perch) → IsMovable m.hierarchy name perch id seat → (told : Rederived)
       (answer : Answer)
       → AreRederived depth (due_for m.hierarchy name 0 seat ∷ dues_on m.hierarchy seat.kept (Some id)) told
       → IsTakenBy depth told answer (new ≡ old)

@@ -35,7 +35,7 @@ pub fn admit(
     command: &Command,
 ) -> Result<Answer, AllocError>
     requires kind { IsAdmission command.now }
-    requires command { IsCommand command.now }
+    requires command { IsCommand 2 command.now }
     requires depth { depth ≤ 6 }
     requires kit { IsGood (boxed seen) kit.old }
     requires commands { commands ≤ 65536 }

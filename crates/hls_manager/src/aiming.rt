@@ -28,7 +28,7 @@ pub(crate) fn aim(tree: &Tree, name: &Name, perch: &Perch) -> Result<(NodeId, Se
         IsAimed h name.now perch.now aimed.0 aimed.1) }
     ensures refused { IfErr result (λ refusal. (m : Moment) → IsTreeOf seen tree.now m.hierarchy →
         IsListed m.hierarchy → IsRefused m (Move name.now perch.now) refusal) }
-    ensures formed { IfErr result (λ refusal. IsCommand (Move name.now perch.now) → IsRefusal refusal) }
+    ensures formed { IfErr result (λ refusal. IsCommand 2 (Move name.now perch.now) → IsRefusal refusal) }
 {
     let Some(id) = tree.find(name) else {
         return Err(Refusal::NoSuchName { name: *name });

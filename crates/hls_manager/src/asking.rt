@@ -35,7 +35,7 @@ pub fn ask(
     command: &Command,
 ) -> Result<Answer, AllocError>
     requires kind { IsRequest command.now }
-    requires command { IsCommand command.now }
+    requires command { IsCommand 2 command.now }
     requires depth { depth ≤ 6 }
     requires stands { Stands seen tree.now IsReached }
     ensures is { IfOk result (λ answer. (m : Moment) → m.depth ≡ depth → IsTreeOf seen tree.now m.hierarchy →
@@ -58,7 +58,7 @@ fn ask_thread(
     name: &Name,
     perch: &Perch,
 ) -> Result<Answer, AllocError>
-    requires command { IsCommand (Thread name.now perch.now) }
+    requires command { IsCommand 2 (Thread name.now perch.now) }
     requires depth { depth ≤ 6 }
     requires stands { Stands seen tree.now IsReached }
     ensures is { IfOk result (λ answer. (m : Moment) → m.depth ≡ depth → IsTreeOf seen tree.now m.hierarchy →
@@ -84,7 +84,7 @@ fn ask_move(
     name: &Name,
     perch: &Perch,
 ) -> Result<Answer, AllocError>
-    requires command { IsCommand (Move name.now perch.now) }
+    requires command { IsCommand 2 (Move name.now perch.now) }
     requires depth { depth ≤ 6 }
     requires stands { Stands seen tree.now IsReached }
     ensures is { IfOk result (λ answer. (m : Moment) → m.depth ≡ depth → IsTreeOf seen tree.now m.hierarchy →

@@ -45,7 +45,7 @@ pub(crate) fn load(
     config: &Config,
     perches: &[Perch],
 ) -> Result<Answer, AllocError>
-    requires command { IsCommand (Load name.now config.now perches.now) }
+    requires command { IsCommand 2 (Load name.now config.now perches.now) }
     requires depth { depth ≤ 6 }
     requires kit { IsGood (boxed seen) kit.old }
     requires commands { commands ≤ 65536 }

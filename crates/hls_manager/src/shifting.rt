@@ -38,7 +38,7 @@ pub fn shift(
     command: &Command,
 ) -> Result<Answer, AllocError>
     requires kind { IsMove command.now }
-    requires command { IsCommand command.now }
+    requires command { IsCommand 2 command.now }
     requires depth { depth ≤ 6 }
     requires stands { Stands seen tree.old (λ h. IsReached h × HasMarkRoom h) }
     ensures carried { IfOk result (λ answer. (m : Moment) (commands : ℕ) → m.depth ≡ depth →
@@ -63,7 +63,7 @@ fn shift_to(
     name: &Name,
     perch: &Perch,
 ) -> Result<Answer, AllocError>
-    requires command { IsCommand (Move name.now perch.now) }
+    requires command { IsCommand 2 (Move name.now perch.now) }
     requires depth { depth ≤ 6 }
     requires stands { Stands seen tree.old (λ h. IsReached h × HasMarkRoom h) }
     ensures carried { IfOk result (λ answer. (m : Moment) (commands : ℕ) → m.depth ≡ depth →
@@ -100,7 +100,7 @@ fn take(tree: &mut Tree, depth: u8, id: NodeId, seat: Seat, told: Rederived) -> 
 
 /// What is to be moved, and the seat that is wanted for it, which only the want of a derivation can still refuse.
 pub(crate) fn place(tree: &Tree, name: &Name, perch: &Perch) -> Result<(NodeId, Seat), Refusal>
-    requires command { IsCommand (Move name.now perch.now) }
+    requires command { IsCommand 2 (Move name.now perch.now) }
     requires stands { Stands seen tree.now IsReached }
     ensures placed { IfOk result (λ placed. (h : Hierarchy) → IsTreeOf seen tree.now h → IsReached h →
         IsMovable h name.now perch.now placed.0 placed.1) }

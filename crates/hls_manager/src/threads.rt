@@ -41,7 +41,7 @@ pub(crate) fn admit_thread(
     name: &Name,
     perch: &Perch,
 ) -> Result<Answer, AllocError>
-    requires command { IsCommand (Thread name.now perch.now) }
+    requires command { IsCommand 2 (Thread name.now perch.now) }
     requires depth { depth ≤ 6 }
     requires stands { Stands seen tree.old (λ h. IsReached h × HasMarkRoom h) }
     ensures carried { IfOk result (λ answer. (m : Moment) (commands : ℕ) → m.depth ≡ depth →
@@ -63,7 +63,7 @@ pub(crate) fn admit_thread(
 
 /// The seat that a thread is offered, of which a derivation is still to be looked for, or why there is none.
 pub(crate) fn offer(tree: &Tree, name: &Name, perch: &Perch) -> Result<Seat, Refusal>
-    requires command { IsCommand (Thread name.now perch.now) }
+    requires command { IsCommand 2 (Thread name.now perch.now) }
     requires stands { Stands seen tree.now Any }
     ensures offered { IfOk result (λ seat. (h : Hierarchy) → IsTreeOf seen tree.now h → IsListed h →
         IsOffered h name.now perch.now seat) }
@@ -88,7 +88,7 @@ fn offer_under(
     sched: &Name,
     terms: &Terms,
 ) -> Result<Seat, Refusal>
-    requires command { IsCommand (Thread name.now perch.now) }
+    requires command { IsCommand 2 (Thread name.now perch.now) }
     requires stands { Stands seen tree.now Any }
     requires free { (h : Hierarchy) → IsTreeOf seen tree.now h → node_of h name.now ≡ None }
     requires place { perch.now.spot ≡ Under sched.now terms.now }

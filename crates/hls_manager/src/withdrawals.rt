@@ -23,7 +23,7 @@ use std::alloc::Global;
 /// Ends a thread or unloads a scheduler, and answers. What it was made of is dropped. It takes no memory.
 pub fn withdraw(alloc: Global, tree: &mut Tree, command: &Command) -> Answer
     requires kind { IsWithdrawal command.now }
-    requires command { IsCommand command.now }
+    requires command { IsCommand 2 command.now }
     requires stands { Stands seen tree.old (λ h. IsReached h × HasMarkRoom h) }
     ensures carried { (m : Moment) (commands : ℕ) → IsTreeOf seen tree.old m.hierarchy →
         IsReached m.hierarchy → CarriesOut seen tree.old tree.new m commands command.now result }
@@ -39,7 +39,7 @@ pub fn withdraw(alloc: Global, tree: &mut Tree, command: &Command) -> Answer
 /// Takes away what a command names, or tells why not.
 fn take_away(tree: &mut Tree, command: &Command) -> Result<(), Refusal>
     requires kind { IsWithdrawal command.now }
-    requires command { IsCommand command.now }
+    requires command { IsCommand 2 command.now }
     requires stands { Stands seen tree.old (λ h. IsReached h × HasMarkRoom h) }
     ensures done { OnOk result ((m : Moment) (commands : ℕ) → IsTreeOf seen tree.old m.hierarchy →
         IsReached m.hierarchy → CarriesOut seen tree.old tree.new m commands command.now (Done [])) }

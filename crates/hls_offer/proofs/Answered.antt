@@ -41,21 +41,21 @@ use Rattle.std.proofs.lemmas.List.Elements.{All-contains_itself, All-from_recurs
 one_line : (line : Text) → with_end line ≡ ended (line ∷ [])
 one_line line = sym (append-nil (with_end line))
 
-pub told_open : (m : Moment) (tick : ℕ) (wish : Wish) (periods : Option (List ℕ)) (lines : List Guarantee)
+pub told_open : (version : ℕ) (m : Moment) (tick : ℕ) (wish : Wish) (periods : Option (List ℕ)) (lines : List Guarantee)
     (old new : Text) → AreLinesFor m wish periods lines
     → new ≡ old ++ ended (open_told m.hierarchy tick wish lines).lines
-    → AddsTold (IsTold (questions.Offer wish.name wish.on wish.terms) m tick periods) true old new
-told_open m tick wish periods lines old new are text = record {
+    → AddsTold (IsTold version (questions.Offer wish.name wish.on wish.terms) m tick periods) true old new
+told_open version m tick wish periods lines old new are text = record {
   told = open_told m.hierarchy tick wish lines;
   is = inl (record { offered = lines; are = are; told_is = refl });
   offers_is = refl;
   text = text;
 }
 
-pub told_shut : (m : Moment) (tick : ℕ) (wish : Wish) (periods : Option (List ℕ)) (refusal : Refusal)
+pub told_shut : (version : ℕ) (m : Moment) (tick : ℕ) (wish : Wish) (periods : Option (List ℕ)) (refusal : Refusal)
     (old new : Text) → IsShutBy m wish refusal → new ≡ old ++ with_end (refused_text wish.on (Some wish.terms) refusal)
-    → AddsTold (IsTold (questions.Offer wish.name wish.on wish.terms) m tick periods) false old new
-told_shut m tick wish periods refusal old new shut text = record {
+    → AddsTold (IsTold version (questions.Offer wish.name wish.on wish.terms) m tick periods) false old new
+told_shut version m tick wish periods refusal old new shut text = record {
   told = shut_told wish refusal;
   is = inr (record { refusal = refusal; shut = shut; told_is = refl });
   offers_is = refl;
@@ -86,10 +86,10 @@ place_refused m tick need periods on its refusal had old new e is nowhere text =
 }
 
 -- the one scheduler that is asked
-pub told_one : (m : Moment) (tick : ℕ) (need : Need) (periods : Option (List ℕ)) (on : Text) (offers : Bool)
-    (old new : Text) → AddsPlace m tick need on periods offers old new
-    → AddsTold (IsTold (questions.Need need.name need.wanted (Some on)) m tick periods) offers old new
-told_one m tick need periods on offers old new adds = record {
+pub told_one : (version : ℕ) (m : Moment) (tick : ℕ) (need : Need) (periods : Option (List ℕ)) (on : Text)
+    (offers : Bool) (old new : Text) → AddsPlace m tick need on periods offers old new
+    → AddsTold (IsTold version (questions.Need need.name need.wanted (Some on)) m tick periods) offers old new
+told_one version m tick need periods on offers old new adds = record {
   told = places_told m.hierarchy tick need (record { on = on; had = adds.had } ∷ []);
   is = record {
     places = record { on = on; had = adds.had } ∷ [];
@@ -106,11 +106,11 @@ told_one m tick need periods on offers old new adds = record {
     or_false false = refl
 
 -- each loaded scheduler
-pub told_each : (m : Moment) (tick : ℕ) (need : Need) (periods : Option (List ℕ)) (count : ℕ) (offers : Bool)
-    (old new : Text) → take count m.hierarchy.schedulers ≡ m.hierarchy.schedulers
+pub told_each : (version : ℕ) (m : Moment) (tick : ℕ) (need : Need) (periods : Option (List ℕ)) (count : ℕ)
+    (offers : Bool) (old new : Text) → take count m.hierarchy.schedulers ≡ m.hierarchy.schedulers
     → AddsPlaces m tick need periods count offers old new
-    → AddsTold (IsTold (questions.Need need.name need.wanted None) m tick periods) offers old new
-told_each m tick need periods count offers old new all adds = record {
+    → AddsTold (IsTold version (questions.Need need.name need.wanted None) m tick periods) offers old new
+told_each version m tick need periods count offers old new all adds = record {
   told = places_told m.hierarchy tick need adds.places;
   is = record {
     places = adds.places;
@@ -122,12 +122,12 @@ told_each m tick need periods count offers old new all adds = record {
   text = adds.text;
 }
 
-pub told_spare : (m : Moment) (tick : ℕ) (periods : Option (List ℕ)) (frees : List Free) (old new : Text)
+pub told_spare : (version : ℕ) (m : Moment) (tick : ℕ) (periods : Option (List ℕ)) (frees : List Free) (old new : Text)
     → AreFree (told_periods periods) m.hierarchy m.hierarchy.schedulers frees
-    → new ≡ old ++ ended (map free_text frees)
-    → AddsTold (IsTold questions.Spare m tick periods) false old new
-told_spare m tick periods frees old new are text = record {
-  told = record { lines = map free_text frees; offers = false };
+    → new ≡ old ++ ended (map (free_text version) frees)
+    → AddsTold (IsTold version questions.Spare m tick periods) false old new
+told_spare version m tick periods frees old new are text = record {
+  told = record { lines = map (free_text version) frees; offers = false };
   is = record { frees = frees; are = are; told_is = refl };
   offers_is = refl;
   text = text;

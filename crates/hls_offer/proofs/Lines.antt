@@ -36,12 +36,13 @@ free_more periods h (one ∷ ks) (two ∷ frees) k free are is = (are.0, free_mo
 free_more periods h [] (two ∷ frees) k free are is = absurd are
 free_more periods h (one ∷ ks) [] k free are is = absurd are
 
-lines_more : (frees : List Free) (free : Free)
-    → ended (map free_text (frees ++ free ∷ [])) ≡ ended (map free_text frees) ++ with_end (free_text free)
-lines_more [] free = append-nil (with_end (free_text free))
-lines_more (one ∷ frees) free =
-    ap (λ (t : Text). with_end (free_text one) ++ t) (lines_more frees free)
-    ∙ sym (append_assoc (with_end (free_text one)) (ended (map free_text frees)) (with_end (free_text free)))
+lines_more : (version : ℕ) (frees : List Free) (free : Free) → ended (map (free_text version) (frees ++ free ∷ []))
+    ≡ ended (map (free_text version) frees) ++ with_end (free_text version free)
+lines_more version [] free = append-nil (with_end (free_text version free))
+lines_more version (one ∷ frees) free =
+    let line : Free → Text = λ f. with_end (free_text version f) in
+    ap (λ (t : Text). line one ++ t) (lines_more version frees free)
+    ∙ sym (append_assoc (line one) (ended (map (free_text version) frees)) (line free))
 
 first_more : (ks : List ℕ) (at k : ℕ) → slice_get ks at ≡ Some k → take (at + 1) ks ≡ take at ks ++ k ∷ []
 first_more ks at k e =
@@ -70,26 +71,27 @@ pub valid_haves : (h : Hierarchy) → IsReached h → (k : ℕ) → IsLoaded (h.
     → AllByRecursion (λ g. IsValid g) (haves_of (h.nodes k))
 valid_haves h reached k is = narrow_valid (haves_of (h.nodes k)) (fit_at h reached (Some k) is).narrow
 
-module _ {V : Type 0} {P : V → Type 0} (seen : (x : V) × P x → Seen) (t : Tree V P) (periods : List ℕ) where
-  pub none_yet : (old : Text) → AddsSome seen t periods 0 old old
+module _ {V : Type 0} {P : V → Type 0} (seen : (x : V) × P x → Seen) (version : ℕ) (t : Tree V P)
+    (periods : List ℕ) where
+  pub none_yet : (old : Text) → AddsSome seen version t periods 0 old old
   none_yet old = record { frees = []; text = sym (append-nil old); are = λ h tree. tt }
 
   pub one_more : (at k : ℕ) (old mid new : Text) → ((h : Hierarchy) → IsTreeOf seen t h
       → slice_get h.schedulers at ≡ Some k)
-      → AddsSome seen t periods at old mid → AddsFree seen t periods k mid new
-      → AddsSome seen t periods (at + 1) old new
+      → AddsSome seen version t periods at old mid → AddsFree seen version t periods k mid new
+      → AddsSome seen version t periods (at + 1) old new
   one_more at k old mid new there some one = record {
     frees = some.frees ++ one.free ∷ [];
-    text = one.text ∙ ap (λ (x : Text). x ++ with_end (free_text one.free)) some.text
-        ∙ append_assoc old (ended (map free_text some.frees)) (with_end (free_text one.free))
-        ∙ ap (λ (x : Text). old ++ x) (sym (lines_more some.frees one.free));
+    text = one.text ∙ ap (λ (x : Text). x ++ with_end (free_text version one.free)) some.text
+        ∙ append_assoc old (ended (map (free_text version) some.frees)) (with_end (free_text version one.free))
+        ∙ ap (λ (x : Text). old ++ x) (sym (lines_more version some.frees one.free));
     are = λ h tree. subst (λ (ks : List ℕ). AreFree periods h ks (some.frees ++ one.free ∷ []))
         (sym (first_more h.schedulers at k (there h tree)))
         (free_more periods h (take at h.schedulers) some.frees k one.free (some.are h tree) (one.is h tree));
   }
 
   pub all_told : (at : ℕ) (old new : Text) → ((h : Hierarchy) → IsTreeOf seen t h → length h.schedulers ≤ at)
-      → AddsSome seen t periods at old new → AddsAll seen t periods old new
+      → AddsSome seen version t periods at old new → AddsAll seen version t periods old new
   all_told at old new past some = record {
     frees = some.frees;
     text = some.text;
@@ -98,8 +100,8 @@ module _ {V : Type 0} {P : V → Type 0} (seen : (x : V) × P x → Seen) (t : T
   }
 
   pub free_line : {E : Type 0} (k : ℕ) (old new : Text) (result : Result (Unit {0}) E) (free : Free)
-      → OnOk result (new ≡ old ++ with_end (free_text free))
+      → OnOk result (new ≡ old ++ with_end (free_text version free))
       → ((h : Hierarchy) → IsTreeOf seen t h → IsFree periods (h.nodes k) free)
-      → OnOk result (AddsFree seen t periods k old new)
+      → OnOk result (AddsFree seen version t periods k old new)
   free_line k old new (Ok done) free text is = record { free = free; text = text; is = is }
   free_line k old new (Err error) free text is = tt

@@ -58,28 +58,39 @@ module _ (a : Asked) (name : Text) (wanted : Guarantee) (on : Option Text) (e : 
 
 -- ---- what is told
 
-module _ (m : Moment) (tick : ℕ) (need : NeedSeen) (on : Option Text) (periods : Option (List ℕ)) (offers : Bool)
-    (old new : Text) where
+-- a question that is known, with the periods that are stated
+pub told_as : (version : ℕ) (a : Asked) (q : Question) (m : Moment) (tick : ℕ) (periods : Option (List ℕ))
+    (offers : Bool) (old new : Text) → a.question ≡ q → periods ≡ a.periods
+    → AddsTold (IsTold version q m tick periods) offers old new
+    → AddsTold (IsTold version a.question m tick a.periods) offers old new
+told_as version a q m tick periods offers old new e same adds =
+    subst (λ (r : Question). AddsTold (IsTold version r m tick a.periods) offers old new) (sym e)
+    (subst (λ (ps : Option (List ℕ)). AddsTold (IsTold version q m tick ps) offers old new) same adds)
+
+module _ (version : ℕ) (m : Moment) (tick : ℕ) (need : NeedSeen) (on : Option Text) (periods : Option (List ℕ))
+    (offers : Bool) (old new : Text) where
   pub told_place : (scheduler : Text) → on ≡ Some scheduler → AddsPlace m tick need scheduler periods offers old new
-      → AddsTold (IsTold (Need need.name need.wanted on) m tick periods) offers old new
+      → AddsTold (IsTold version (Need need.name need.wanted on) m tick periods) offers old new
   told_place scheduler e adds =
-      subst (λ (o : Option Text). AddsTold (IsTold (Need need.name need.wanted o) m tick periods) offers old new)
-      (sym e) (told_one m tick need periods scheduler offers old new adds)
+      subst (λ (o : Option Text).
+      AddsTold (IsTold version (Need need.name need.wanted o) m tick periods) offers old new) (sym e)
+      (told_one version m tick need periods scheduler offers old new adds)
 
   pub told_places : on ≡ None → AddsPlaces m tick need periods (length m.hierarchy.schedulers) offers old new
-      → AddsTold (IsTold (Need need.name need.wanted on) m tick periods) offers old new
+      → AddsTold (IsTold version (Need need.name need.wanted on) m tick periods) offers old new
   told_places e adds =
-      subst (λ (o : Option Text). AddsTold (IsTold (Need need.name need.wanted o) m tick periods) offers old new)
-      (sym e) (told_each m tick need periods (length m.hierarchy.schedulers) offers old new
+      subst (λ (o : Option Text).
+      AddsTold (IsTold version (Need need.name need.wanted o) m tick periods) offers old new) (sym e)
+      (told_each version m tick need periods (length m.hierarchy.schedulers) offers old new
       (take_all (length m.hierarchy.schedulers) m.hierarchy.schedulers (omega arith)) adds)
 
 -- V and P are what the checker knows a box by
-pub told_left : {V : Type 0} {P : V → Type 0} (seen : (x : V) × P x → Seen) (t : Tree V P) (a : Asked) (m : Moment)
-    (tick : ℕ) (periods : List ℕ) (old new : Text) → a.question ≡ Spare → periods ≡ told_periods a.periods
-    → IsTreeOf seen t m.hierarchy → AddsAll seen t periods old new
-    → AddsTold (IsTold a.question m tick a.periods) false old new
-told_left seen t a m tick periods old new e same tree adds =
-    subst (λ (r : Question). AddsTold (IsTold r m tick a.periods) false old new) (sym e)
-    (told_spare m tick a.periods adds.frees old new
+pub told_left : {V : Type 0} {P : V → Type 0} (seen : (x : V) × P x → Seen) (version : ℕ) (t : Tree V P) (a : Asked)
+    (m : Moment) (tick : ℕ) (periods : List ℕ) (old new : Text) → a.question ≡ Spare → periods ≡ told_periods a.periods
+    → IsTreeOf seen t m.hierarchy → AddsAll seen version t periods old new
+    → AddsTold (IsTold version a.question m tick a.periods) false old new
+told_left seen version t a m tick periods old new e same tree adds =
+    subst (λ (r : Question). AddsTold (IsTold version r m tick a.periods) false old new) (sym e)
+    (told_spare version m tick a.periods adds.frees old new
     (subst (λ (ps : List ℕ). AreFree ps m.hierarchy m.hierarchy.schedulers adds.frees) same
     (adds.are m.hierarchy tree)) adds.text)

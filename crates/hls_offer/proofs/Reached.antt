@@ -59,12 +59,12 @@ module _ {V W : Type 0} {P : V → Type 0} {Q : W → Type 0}
       let due : NoneDue s.items c.agenda tick =
       subst (λ (x : Scenario). NoneDue x.items c.agenda tick) is.scenario none in
       let place = is.place in
-      let ahead = ahead_next s.horizon s.items c.agenda tick is.within.items due in
+      let ahead = ahead_next s.version s.horizon s.items c.agenda tick is.within.items due in
       record {
-        told = told s.items c.depth c.journal;
+        told = told s.version s.items c.depth c.journal;
         ticks = now;
         commands = items_told tick s.items c.journal.answers.items is.kept.few
-            (λ k a e. (let le = (told_ticks (told s.items c.depth c.journal) is.steps start
+            (λ k a e. (let le = (told_ticks (told s.version s.items c.depth c.journal) is.steps start
             (answered_by s.items c.journal.answers.items) is.run.tells).ticks k a e in omega (arith, le, now)))
             (λ k item le e. (let later = ahead k item (omega (arith, le, place)) e in omega (arith, later)));
         steps = is.steps;
@@ -96,7 +96,7 @@ module _ {V W : Type 0} {P : V → Type 0} {Q : W → Type 0}
       → NoneDue c.scenario.items c.agenda tick → (offers : Bool) (status : Status) (none head lines whole : Text)
       → none ≡ [] → head ≡ none ++ ended (head_lines tick c.depth)
       → ((m : Moment) → IsMomentOf seen c m
-      → AddsTold (IsTold a.question m c.journal.ticks a.periods) offers head lines)
+      → AddsTold (IsTold s.version a.question m c.journal.ticks a.periods) offers head lines)
       → whole ≡ lines ++ with_end (codes "end") → status ≡ status_of a.question offers
       → Tells a s boxes tick status whole
   told_all a tick depth now due offers status none head lines whole empty first all last status_is =
@@ -105,7 +105,7 @@ module _ {V W : Type 0} {P : V → Type 0} {Q : W → Type 0}
         m = moment_of;
         moment = subst (λ (n : ℕ). IsMoment s n boxes tick moment_of) depth (at_tick tick now due);
         told = adds.told;
-        is = subst (λ (n : ℕ). IsTold a.question moment_of n a.periods adds.told) now adds.is;
+        is = subst (λ (n : ℕ). IsTold s.version a.question moment_of n a.periods adds.told) now adds.is;
         status_is = status_is ∙ ap (λ (o : Bool). status_of a.question o) adds.offers_is;
         spelled = last ∙ ap (λ (t : Text). t ++ with_end (codes "end"))
             (adds.text ∙ ap (λ (t : Text). t ++ ended adds.told.lines)

@@ -25,7 +25,7 @@ module _ {V W : Type 0} {P : V → Type 0} {Q : W → Type 0}
   pub wish_line : {E : Type 0} (result : Result (Unit {0}) E) (old new : Text) (tick now : ℕ) (command : Command)
       (wish : Wish) (g : Guarantee) → tick ≡ now
       → ((m : Moment) → IsMomentOf seen c m → command ≡ request_of m.hierarchy wish g)
-      → OnOk result (new ≡ old ++ with_end (item_text (record { tick = tick; command = command })))
+      → OnOk result (new ≡ old ++ with_end (item_text 1 (record { tick = tick; command = command })))
       → OnOk result ((m : Moment) → IsMomentOf seen c m
       → new ≡ old ++ with_end (at_text now (request_of m.hierarchy wish g)))
   wish_line (Ok done) old new tick now command wish g same is text = λ m at.

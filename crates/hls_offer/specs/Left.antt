@@ -51,7 +51,8 @@ abbrev pub IsRoom : Config → Ledger → (periods : List ℕ) → Left → Type
 IsRoom configs.Fp b periods (Priorities spans) = AreFreeSpans b 0 32 spans
 IsRoom configs.Edf b periods (Parts free fits) =
     (free ≡ room_left configs.Edf b) × (fits ≡ filter_map (fit_in free) periods)
-IsRoom (configs.Sfq total most) b periods (Weight weight) = weight ≡ room_left (configs.Sfq total most) b
+IsRoom (configs.Sfq total most quantum) b periods (Weight weight) =
+    weight ≡ room_left (configs.Sfq total most quantum) b
 IsRoom (configs.Wheel frame) b periods (Slots places) = places ≡ room_left (configs.Wheel frame) b
 IsRoom (configs.Rr quantum) b periods Turn = Unit {0}
 IsRoom (configs.Join ports) b periods Sole = Unit {0}

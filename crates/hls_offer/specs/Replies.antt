@@ -34,7 +34,7 @@ pub record Tells (a : Asked) (s : Scenario) (boxes : Boxes) (tick : ℕ) (status
     pub m : Moment
     pub moment : IsMoment s (given_depth a.depth) boxes tick m
     pub told : Told
-    pub is : IsTold a.question m tick a.periods told
+    pub is : IsTold s.version a.question m tick a.periods told
     pub status_is : status ≡ status_of a.question told.offers
     pub spelled : output ≡ answer_text tick m.depth told.lines
 

@@ -25,9 +25,9 @@ pub record Told : Type 0 where
   pub lines : List Text
   pub offers : Bool
 
--- the line of a request at a tick, as a scenario has it
+-- the line of a request at a tick, as a scenario has it; each version spells requests alike
 abbrev pub at_text : (tick : ℕ) → Command → Text
-at_text tick command = item_text (record { tick = tick; command = command })
+at_text tick command = item_text 1 (record { tick = tick; command = command })
 
 -- ---- what can be promised
 
@@ -95,17 +95,18 @@ pub record TellsPlaces (m : Moment) (tick : ℕ) (need : Need) (on : Option Text
 -- ---- what is left
 
 -- a line for each loaded scheduler, in the order of their loads; none offers a seat
-pub record TellsLeft (m : Moment) (periods : Option (List ℕ)) (told : Told) : Type 0 where
+pub record TellsLeft (version : ℕ) (m : Moment) (periods : Option (List ℕ)) (told : Told) : Type 0 where
   pub frees : List Free
   pub are : AreFree (told_periods periods) m.hierarchy m.hierarchy.schedulers frees
-  pub told_is : told ≡ record { lines = map free_text frees; offers = false }
+  pub told_is : told ≡ record { lines = map (free_text version) frees; offers = false }
 
 -- ---- each question
 
-abbrev pub IsTold : Question → Moment → (tick : ℕ) → (periods : Option (List ℕ)) → Told → Type 0
-IsTold (questions.Offer name on its) m tick periods told =
+-- in this version of the language
+abbrev pub IsTold : (version : ℕ) → Question → Moment → (tick : ℕ) → (periods : Option (List ℕ)) → Told → Type 0
+IsTold version (questions.Offer name on its) m tick periods told =
     TellsOpen m tick (record { name = name; on = on; terms = its }) periods told
     ⊎ TellsShut m (record { name = name; on = on; terms = its }) told
-IsTold (questions.Need name wanted on) m tick periods told =
+IsTold version (questions.Need name wanted on) m tick periods told =
     TellsPlaces m tick (record { name = name; wanted = wanted }) on periods told
-IsTold questions.Spare m tick periods told = TellsLeft m periods told
+IsTold version questions.Spare m tick periods told = TellsLeft version m periods told

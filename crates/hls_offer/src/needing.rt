@@ -102,8 +102,8 @@ pub fn put_need(
     requires need { IsNeed sought.now.need }
     requires on { IsPlace on }
     requires periods { ArePeriods (option_copied sought.now.periods) }
-    ensures { IfOk result (λ offers. (m : Moment) → IsMomentOf seen core.now m → AddsTold
-        (IsTold (AsksNeed sought.now.need.name sought.now.need.wanted on) m (now_of core.now)
+    ensures { IfOk result (λ offers. (version : ℕ) (m : Moment) → IsMomentOf seen core.now m → AddsTold
+        (IsTold version (AsksNeed sought.now.need.name sought.now.need.wanted on) m (now_of core.now)
         (option_copied sought.now.periods)) offers out.old.items out.new.items) }
 {
     match on {

@@ -72,8 +72,8 @@ pub fn put_offer(
     requires runs { Runs seen core.now }
     requires wish { IsWish wish.now }
     requires periods { ArePeriodsAsked (option_copied periods) }
-    ensures { IfOk result (λ offers. (m : Moment) → IsMomentOf seen core.now m → AddsTold
-        (IsTold (AsksOffer wish.now.name wish.now.on wish.now.terms) m (now_of core.now)
+    ensures { IfOk result (λ offers. (version : ℕ) (m : Moment) → IsMomentOf seen core.now m → AddsTold
+        (IsTold version (AsksOffer wish.now.name wish.now.on wish.now.terms) m (now_of core.now)
         (option_copied periods.entry)) offers out.old.items out.new.items) }
 {
     match offer_at(alloc, core, wish, periods)? {

@@ -100,11 +100,12 @@ fn tell(
         reply.bytes.items) }
 {
     let Point { scenario, tick } = point;
+    let version = scenario.version;
     let mut core = Core::open(alloc, scenario, given_depth(asked), kit, rules)?;
     carry_to(&mut core, tick)?;
     let mut bytes = Vec::new(alloc);
     put_head(&mut bytes, tick, core.depth())?;
-    let offers = put_told(alloc, &core, asked, &mut bytes)?;
+    let offers = put_told(alloc, version, &core, asked, &mut bytes)?;
     put_end(&mut bytes)?;
     let status = status_of(&asked.question, offers);
     Ok(Reply { status, bytes })

@@ -16,38 +16,40 @@ use std::alloc::{AllocError, Global};
 /// Appends the line that tells what is left on a scheduler, with reservations in these periods.
 fn put_one(
     alloc: Global,
+    version: u8,
     tree: &Tree,
     id: NodeId,
     periods: &[u32],
     out: &mut Vec<u8>,
 ) -> Result<(), AllocError>
     requires stands { Stands seen tree.now (λ h. IsReached h × IsLoaded (h.nodes id)) }
-    ensures { OnOk result (AddsFree seen tree.now periods.now id out.old.items out.new.items) }
+    ensures { OnOk result (AddsFree seen version tree.now periods.now id out.old.items out.new.items) }
 {
     let name = tree.name(id);
     let config = tree.config(id);
     let haves = haves_of(alloc, tree, id)?;
     let left = left_on(alloc, tree, id, periods)?;
-    put_free(out, &name, &config, &haves, &left)
+    put_free(out, version, &name, &config, &haves, &left)
 }
 
 /// Appends a line for each loaded scheduler, in the order of their loads, that tells what is left on it, with
-/// reservations in these periods.
+/// reservations in these periods. Configurations are spelled as loads of this version spell them.
 ///
 /// # Errors
 /// Returns `AllocError` for want of memory.
 pub fn put_spare(
     alloc: Global,
+    version: u8,
     tree: &Tree,
     periods: &[u32],
     out: &mut Vec<u8>,
 ) -> Result<(), AllocError>
     requires stands { Stands seen tree.now IsReached }
-    ensures { OnOk result (AddsAll seen tree.now periods.now out.old.items out.new.items) }
+    ensures { OnOk result (AddsAll seen version tree.now periods.now out.old.items out.new.items) }
 {
     for at in 0..tree.scheds() {
         let id = tree.sched(at);
-        put_one(alloc, tree, id, periods, out)?;
+        put_one(alloc, version, tree, id, periods, out)?;
     }
     Ok(())
 }

@@ -44,12 +44,14 @@ fn told_periods(asked: &Asked) -> &[u32]
     }
 }
 
-/// Appends the lines that answer a question where the core stands. Tells whether one of them offers a seat.
+/// Appends the lines that answer a question where the core stands, in this version of the language. Tells whether one
+/// of them offers a seat.
 ///
 /// # Errors
 /// Returns `AllocError` for want of memory.
 pub fn put_told(
     alloc: Global,
+    version: u8,
     core: &Core,
     asked: &Asked,
     out: &mut Vec<u8>,
@@ -57,7 +59,8 @@ pub fn put_told(
     requires runs { Runs seen core.now }
     requires asked { IsAskable asked.now }
     ensures { IfOk result (λ offers. (m : Moment) → IsMomentOf seen core.now m → AddsTold
-        (IsTold asked.now.question m (now_of core.now) asked.now.periods) offers out.old.items out.new.items) }
+        (IsTold version asked.now.question m (now_of core.now) asked.now.periods) offers out.old.items
+        out.new.items) }
 {
     let periods = stated_periods(asked);
     match asked.question {
@@ -69,7 +72,7 @@ pub fn put_told(
             put_need(alloc, core, &Sought { need, periods }, on, out)
         }
         Question::Spare => {
-            put_spare(alloc, core.tree(), told_periods(asked), out)?;
+            put_spare(alloc, version, core.tree(), told_periods(asked), out)?;
             Ok(false)
         }
     }

@@ -42,9 +42,9 @@ pub room_rises : (config : Config) (its other : Terms) → terms_kind its ≡ ki
 room_rises configs.Edf (terms.Res hard x y) (terms.Res rigid u v) is also late =
     elim (cases_lt (parts u v) (parts x y)) [ inl less ↦ absurd (late (inl less)) | inr le ↦ le ]
 room_rises configs.Edf (terms.Res hard x y) other is also late = absurd (cc)
-room_rises (configs.Sfq total most) (terms.Weight w) (terms.Weight v) is also late =
+room_rises (configs.Sfq total most quantum) (terms.Weight w) (terms.Weight v) is also late =
     elim (cases_lt v w) [ inl less ↦ absurd (late less) | inr le ↦ le ]
-room_rises (configs.Sfq total most) (terms.Weight w) other is also late = absurd (cc)
+room_rises (configs.Sfq total most quantum) (terms.Weight w) other is also late = absurd (cc)
 room_rises (configs.Wheel frame) (terms.Slots k) (terms.Slots j) is also late =
     elim (cases_lt j k) [ inl less ↦ absurd (late less) | inr le ↦ le ]
 room_rises (configs.Wheel frame) (terms.Slots k) other is also late = absurd (cc)

@@ -1,5 +1,5 @@
 -- The moment at which a core stands, and what is asked of it.
-use Rattle.std.proofs.Common.{◌≡◌, Option, Bool, true, false, refl, sym, subst}
+use Rattle.std.proofs.Common.{◌≡◌, ℕ, Option, Bool, true, false, refl, sym, subst}
 use Rattle.std.specs.Fn.{Mut}
 use Rattle.std.specs.Prelude.{IfOk}
 use Rattle.std.specs.declared.result.Result.{Result}
@@ -36,10 +36,10 @@ is_request : (known : Bool) (wish : Wish) (g : Guarantee) → IsRequest (request
 is_request true wish g = tt
 is_request false wish g = tt
 
-is_command : (known : Bool) (wish : Wish) (g : Guarantee) → IsWish wish → IsNarrow g
-    → IsCommand (request_for known wish g)
-is_command true wish g is narrow = (is.name, record { spot = (is.on, is.terms); want = narrow })
-is_command false wish g is narrow = (is.name, record { spot = (is.on, is.terms); want = narrow })
+is_command : (version : ℕ) (known : Bool) (wish : Wish) (g : Guarantee) → IsWish wish → IsNarrow g
+    → IsCommand version (request_for known wish g)
+is_command version true wish g is narrow = (is.name, record { spot = (is.on, is.terms); want = narrow })
+is_command version false wish g is narrow = (is.name, record { spot = (is.on, is.terms); want = narrow })
 
 -- V and P are what the checker knows a box by, and W, Q and X a rule
 module _ {V W : Type 0} {P : V → Type 0} {Q : W → Type 0}
@@ -87,8 +87,8 @@ module _ {V W : Type 0} {P : V → Type 0} {Q : W → Type 0}
         subst (λ (x : Command). IsRequest x) (sym (asked_for m (is_moment runs)))
         (is_request (is_thread (node_of m.hierarchy wish.name)) wish g)
 
-    pub request_within : IsWish wish → IsNarrow g → IsCommand command
-    request_within good narrow =
+    pub request_within : (version : ℕ) → IsWish wish → IsNarrow g → IsCommand version command
+    request_within version good narrow =
         let m = moment_of runs in
-        subst (λ (x : Command). IsCommand x) (sym (asked_for m (is_moment runs)))
-        (is_command (is_thread (node_of m.hierarchy wish.name)) wish g good narrow)
+        subst (λ (x : Command). IsCommand version x) (sym (asked_for m (is_moment runs)))
+        (is_command version (is_thread (node_of m.hierarchy wish.name)) wish g good narrow)

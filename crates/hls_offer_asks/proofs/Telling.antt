@@ -78,7 +78,7 @@ cpu_alone : (config : Config) → kinds.Cpu ≡ kind_of config → config ≡ co
 cpu_alone configs.Cpu e = refl
 cpu_alone configs.Fp e = cc
 cpu_alone configs.Edf e = cc
-cpu_alone (configs.Sfq total most) e = cc
+cpu_alone (configs.Sfq total most quantum) e = cc
 cpu_alone (configs.Rr quantum) e = cc
 cpu_alone (configs.Wheel frame) e = cc
 cpu_alone (configs.Join ports) e = cc

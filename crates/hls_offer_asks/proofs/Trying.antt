@@ -30,7 +30,7 @@ no_excess : (config : Config) (p : ℕ) → ¬ Exceeds config (terms.Prio p)
 no_excess configs.Cpu p more = more
 no_excess configs.Fp p more = more
 no_excess configs.Edf p more = more
-no_excess (configs.Sfq total most) p more = more
+no_excess (configs.Sfq total most quantum) p more = more
 no_excess (configs.Rr quantum) p more = more
 no_excess (configs.Wheel frame) p more = more
 no_excess (configs.Join ports) p more = more

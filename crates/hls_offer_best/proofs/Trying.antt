@@ -41,8 +41,9 @@ lent-of-valid (configs.Rr quantum) its have lent rc rt narrow lends =
     lent-valid (configs.Rr quantum) its lends.0 lent rc rt (narrow-share have lends.0 narrow lends.1) lends.2
 lent-of-valid (configs.Wheel frame) its have lent rc rt narrow lends =
     lent-valid (configs.Wheel frame) its have lent rc rt narrow lends
-lent-of-valid (configs.Sfq total most) its have lent rc rt narrow lends =
-    lent-valid (configs.Sfq total most) its lends.0 lent rc rt (narrow-share have lends.0 narrow lends.1) lends.2
+lent-of-valid (configs.Sfq total most quantum) its have lent rc rt narrow lends =
+    lent-valid (configs.Sfq total most quantum) its lends.0 lent rc rt (narrow-share have lends.0 narrow lends.1)
+    lends.2
 lent-of-valid (configs.Join ports) terms.Sole have lent rc rt narrow lends =
     subst IsValid (sym lends) (narrow-valid have narrow)
 lent-of-valid (configs.Join ports) _ have lent rc rt narrow lends = absurd lends

@@ -53,7 +53,7 @@ nothing-null : (config : Config) (wanted : Guarantee) → LendsNothing config wa
 nothing-null configs.Cpu wanted nothing = absurd nothing
 nothing-null configs.Fp wanted nothing = nothing
 nothing-null configs.Edf wanted nothing = nothing
-nothing-null (configs.Sfq total most) wanted nothing = nothing
+nothing-null (configs.Sfq total most quantum) wanted nothing = nothing
 nothing-null (configs.Rr quantum) wanted nothing = nothing
 nothing-null (configs.Wheel frame) wanted nothing = nothing
 nothing-null (configs.Join ports) wanted nothing = nothing
@@ -294,7 +294,7 @@ module _ (haves : List Guarantee) (wanted : Guarantee) (d : Derivation) (n : ℕ
       inl (join-comes haves wanted n d.sched.port d.from is.starts p.narrow some ports (p.i + p.j)
       is.sched.through.port_of p.fits
       (p.through (subst (λ v. Closed p.i d.from v) (sym p.lends.1) p.before)))
-  come (configs.Sfq total most) its can is p = by-share (configs.Sfq total most) its can is tt
+  come (configs.Sfq total most quantum) its can is p = by-share (configs.Sfq total most quantum) its can is tt
   come (configs.Rr quantum) its can is p = by-share (configs.Rr quantum) its can is tt
   come configs.Cpu its can is p =
       inl (by-all (record { config = configs.Cpu; terms = its }) can is tt (λ lent lends. lends))

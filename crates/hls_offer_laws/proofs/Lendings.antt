@@ -116,8 +116,8 @@ module _ (haves : List Guarantee) (n port : ℕ) (two : 2 ≤ n) (have : Guarant
   lend (configs.Join ports) terms.Sole lent can port_of lends =
       let place : Place = record { config = configs.Join ports; terms = terms.Sole } in
       subst (Lending place haves n) (sym lends) (passed place port_of (λ other soft. (soft, refl)))
-  lend (configs.Sfq total most) its lent can port_of lends =
-      of-share (configs.Sfq total most) its lends.0 lent can port_of tt lends.1 lends.2
+  lend (configs.Sfq total most quantum) its lent can port_of lends =
+      of-share (configs.Sfq total most quantum) its lends.0 lent can port_of tt lends.1 lends.2
   lend (configs.Rr quantum) its lent can port_of lends =
       of-share (configs.Rr quantum) its lends.0 lent can port_of tt lends.1 lends.2
   lend configs.Cpu its lent can port_of lends =

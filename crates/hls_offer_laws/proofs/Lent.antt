@@ -17,7 +17,7 @@ use Rattle.hls_offer_laws.proofs.Shares.{share-one}
 -- a place that lends neither what its ports have nor parts of shares
 abbrev pub IsPlain : Config → Type 0
 IsPlain (configs.Join ports) = ⊥
-IsPlain (configs.Sfq total most) = ⊥
+IsPlain (configs.Sfq total most quantum) = ⊥
 IsPlain (configs.Rr quantum) = ⊥
 IsPlain _ = Unit {0}
 
@@ -33,7 +33,7 @@ pub of-plain : (config : Config) (its : Terms) (have lent : Guarantee) → IsPla
 of-plain configs.Cpu its have lent is lends = lends
 of-plain configs.Fp its have lent is lends = lends
 of-plain configs.Edf its have lent is lends = lends
-of-plain (configs.Sfq total most) its have lent is lends = absurd is
+of-plain (configs.Sfq total most quantum) its have lent is lends = absurd is
 of-plain (configs.Rr quantum) its have lent is lends = absurd is
 of-plain (configs.Wheel frame) its have lent is lends = lends
 of-plain (configs.Join ports) its have lent is lends = absurd is
@@ -43,26 +43,26 @@ pub plain-of : (config : Config) (its : Terms) (have lent : Guarantee) → IsPla
 plain-of configs.Cpu its have lent is lends = lends
 plain-of configs.Fp its have lent is lends = lends
 plain-of configs.Edf its have lent is lends = lends
-plain-of (configs.Sfq total most) its have lent is lends = absurd is
+plain-of (configs.Sfq total most quantum) its have lent is lends = absurd is
 plain-of (configs.Rr quantum) its have lent is lends = absurd is
 plain-of (configs.Wheel frame) its have lent is lends = lends
 plain-of (configs.Join ports) its have lent is lends = absurd is
 
 -- a place that lends parts of shares
-pub shares : {config : Config} → ((total most : ℕ) × config ≡ configs.Sfq total most)
+pub shares : {config : Config} → ((total most quantum : ℕ) × config ≡ configs.Sfq total most quantum)
     ⊎ ((quantum : ℕ) × config ≡ configs.Rr quantum) → LendsShares config
-shares (inl is) = subst LendsShares (sym is.2) tt
+shares (inl is) = subst LendsShares (sym is.3) tt
 shares (inr is) = subst LendsShares (sym is.1) tt
 
 pub of-share : (config : Config) (its : Terms) (have lent : Guarantee) → LendsShares config
     → IsLentOf config its have lent → LendsOfShare config its have lent
-of-share (configs.Sfq total most) its have lent of lends = lends
+of-share (configs.Sfq total most quantum) its have lent of lends = lends
 of-share (configs.Rr quantum) its have lent of lends = lends
 of-share _ its have lent of lends = absurd of
 
 pub share-by : (config : Config) (its : Terms) (have lent : Guarantee) → LendsShares config
     → LendsOfShare config its have lent → IsLentOf config its have lent
-share-by (configs.Sfq total most) its have lent of lends = lends
+share-by (configs.Sfq total most quantum) its have lent of lends = lends
 share-by (configs.Rr quantum) its have lent of lends = lends
 share-by _ its have lent of lends = absurd of
 
@@ -111,9 +111,9 @@ lent-one (configs.Wheel frame) its have lent other range a b =
 lent-one (configs.Join ports) its have lent other range a b =
     (by-join (configs.Join ports) ports its have lent refl a).1
     ∙ sym (by-join (configs.Join ports) ports its have other refl b).1
-lent-one (configs.Sfq total most) its have lent other range a b =
-    lends-one (configs.Sfq total most) its a.0 lent other range a.2
-    (subst (λ v. LendsByTerms (configs.Sfq total most) its v other) (share-one have b.0 a.0 b.1 a.1) b.2)
+lent-one (configs.Sfq total most quantum) its have lent other range a b =
+    lends-one (configs.Sfq total most quantum) its a.0 lent other range a.2
+    (subst (λ v. LendsByTerms (configs.Sfq total most quantum) its v other) (share-one have b.0 a.0 b.1 a.1) b.2)
 lent-one (configs.Rr quantum) its have lent other range a b =
     lends-one (configs.Rr quantum) its a.0 lent other range a.2
     (subst (λ v. LendsByTerms (configs.Rr quantum) its v other) (share-one have b.0 a.0 b.1 a.1) b.2)

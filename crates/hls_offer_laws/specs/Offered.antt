@@ -47,7 +47,7 @@ LendsOfShare config its have lent =
 -- conversions may make it soft; at fair queueing and in a round a part of its share
 abbrev pub IsLentOf : Config → Terms → (have lent : Guarantee) → Type 0
 IsLentOf (configs.Join ports) terms.Sole have lent = lent ≡ have
-IsLentOf (configs.Sfq total most) its have lent = LendsOfShare (configs.Sfq total most) its have lent
+IsLentOf (configs.Sfq total most quantum) its have lent = LendsOfShare (configs.Sfq total most quantum) its have lent
 IsLentOf (configs.Rr quantum) its have lent = LendsOfShare (configs.Rr quantum) its have lent
 IsLentOf config its have lent = LendsByTerms config its have lent
 

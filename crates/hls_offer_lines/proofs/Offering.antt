@@ -33,7 +33,7 @@ some-port : (config : Config) → ConfigInRange config → 1 ≤ port_count conf
 some-port configs.Cpu range = omega arith
 some-port configs.Fp range = omega arith
 some-port configs.Edf range = omega arith
-some-port (configs.Sfq total most) range = omega arith
+some-port (configs.Sfq total most quantum) range = omega arith
 some-port (configs.Rr quantum) range = omega arith
 some-port (configs.Wheel frame) range = omega arith
 some-port (configs.Join ports) range = (let low = range.0 in omega arith)
@@ -42,7 +42,7 @@ first-port : (config : Config) → ConfigInRange config → IsPort config 0
 first-port configs.Cpu range = refl
 first-port configs.Fp range = refl
 first-port configs.Edf range = refl
-first-port (configs.Sfq total most) range = refl
+first-port (configs.Sfq total most quantum) range = refl
 first-port (configs.Rr quantum) range = refl
 first-port (configs.Wheel frame) range = refl
 first-port (configs.Join ports) range = (let low = range.0 in omega arith)
@@ -51,7 +51,7 @@ lends-nothing : (config : Config) → (config ≡ configs.Cpu → ⊥) → Lends
 lends-nothing configs.Cpu loaded = absurd (loaded refl)
 lends-nothing configs.Fp loaded = refl
 lends-nothing configs.Edf loaded = refl
-lends-nothing (configs.Sfq total most) loaded = refl
+lends-nothing (configs.Sfq total most quantum) loaded = refl
 lends-nothing (configs.Rr quantum) loaded = refl
 lends-nothing (configs.Wheel frame) loaded = refl
 lends-nothing (configs.Join ports) loaded = refl

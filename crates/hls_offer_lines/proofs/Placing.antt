@@ -16,7 +16,7 @@ pub edf-alone : (config : Config) → kinds.Edf ≡ kind_of config → config �
 edf-alone configs.Edf e = refl
 edf-alone configs.Cpu e = cc
 edf-alone configs.Fp e = cc
-edf-alone (configs.Sfq total most) e = cc
+edf-alone (configs.Sfq total most quantum) e = cc
 edf-alone (configs.Rr quantum) e = cc
 edf-alone (configs.Wheel frame) e = cc
 edf-alone (configs.Join ports) e = cc
@@ -50,7 +50,7 @@ pub fit-below : (config : Config) (its : Terms) → (config ≡ configs.Edf → 
     → place_of its < place_count config
 fit-below configs.Edf its apart fit = absurd (apart refl)
 fit-below configs.Fp (terms.Prio priority) apart fit = omega arith
-fit-below (configs.Sfq total most) (terms.Weight weight) apart fit =
+fit-below (configs.Sfq total most quantum) (terms.Weight weight) apart fit =
     below-weights total weight fit.range.0 fit.range.1 fit.within
 fit-below (configs.Wheel frame) (terms.Slots places) apart fit =
     below-slots frame places fit.range.0 fit.within

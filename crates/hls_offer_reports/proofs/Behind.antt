@@ -15,7 +15,6 @@ use Rattle.hls_legal.specs.Legal.{IsLegalContent}
 use Rattle.hls_longer_texts.specs.Longer.{with_item, MayFollow}
 use Rattle.hls_longer_texts.proofs.Scenarios.{goes_on}
 use Rattle.hls_offer.specs.Moments.{items_to, IsGoodTick}
-use Rattle.hls_offer.specs.Told.{at_text}
 use Rattle.hls_offer_reports.specs.Reports.{item_at, scenario_to, IsDoneAt}
 use Rattle.hls_offer_reports.specs.Lines.{IsDoneLine, IsLastDone, IsDoneBehind, MayStandBehind}
 
@@ -50,12 +49,14 @@ module _ (s : Scenario) (given : ℕ) (boxes : Boxes) (tick : ℕ) (bytes : Text
       (subst (λ (l : Text). IsScenarioText (bytes ++ with_end l) (with_item s (item_at tick done.command)))
       (sym done.spelled) (goes_on bytes s (item_at tick done.command) read may.ended (follows line done)))
 
-  last_done : (line : Text) (c : Content) (command : Command) → line ≡ at_text tick command
+  last_done : (line : Text) (c : Content) (command : Command) → c.version ≡ s.version
+      → line ≡ item_text s.version (item_at tick command)
       → IsDoneAt c (length c.answered - 1) (item_at tick command) → IsLastDone c line
-  last_done line c command spelled done = record {
+  last_done line c command version spelled done = record {
     answered = done.answered;
     there = done.there;
-    line_is = ap item_text done.item_is ∙ sym spelled;
+    line_is = ap (item_text c.version) done.item_is ∙ ap (λ (v : ℕ). item_text v (item_at tick command)) version
+        ∙ sym spelled;
     seats = done.seats;
     done = done.done;
   }
@@ -68,7 +69,7 @@ module _ (s : Scenario) (given : ℕ) (boxes : Boxes) (tick : ℕ) (bytes : Text
         let same = text_of_one (bytes ++ with_end line) told.scenario (scenario_to s tick done.command) told.read
         (longer line done) in
         let c = content_of told.report in
-        last_done line c done.command done.spelled
-        (done.done.last c
-        (subst (λ (t : Scenario). IsLegalContent t given boxes c) same told.legal.legal));
+        let legal : IsLegalContent (scenario_to s tick done.command) given boxes c =
+        subst (λ (t : Scenario). IsLegalContent t given boxes c) same told.legal.legal in
+        last_done line c done.command legal.version done.spelled (done.done.last c legal);
   }

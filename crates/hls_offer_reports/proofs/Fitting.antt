@@ -84,19 +84,20 @@ edf_fits b periods (Parts some fits) its free room =
     (λ none. absurd (unfit configs.Edf b its (λ e. absurd (let no : ⊥ = cc in no)) none), λ has. absurd has)
 edf_fits b periods _ its free room = absurd room
 
-sfq_fits : (total most : ℕ) (b : Ledger) (periods : List ℕ) (left : Left) (its : Terms)
-    → ¬ IsFull (configs.Sfq total most) b → IsRoom (configs.Sfq total most) b periods left
-    → Fitting (configs.Sfq total most) b its ↔ HasTerms left its
-sfq_fits total most b periods (Weight some) (terms.Weight asked) free room = (
-  λ none. subst (λ (n : ℕ). asked ≤ n) (sym room) (room_of (configs.Sfq total most) b (terms.Weight asked) none),
-  λ has. no_fault (configs.Sfq total most) b (terms.Weight asked) refl (λ over. omega (arith, over, has, room))
+sfq_fits : (total most quantum : ℕ) (b : Ledger) (periods : List ℕ) (left : Left) (its : Terms)
+    → ¬ IsFull (configs.Sfq total most quantum) b → IsRoom (configs.Sfq total most quantum) b periods left
+    → Fitting (configs.Sfq total most quantum) b its ↔ HasTerms left its
+sfq_fits total most quantum b periods (Weight some) (terms.Weight asked) free room = (
+  λ none. subst (λ (n : ℕ). asked ≤ n) (sym room)
+      (room_of (configs.Sfq total most quantum) b (terms.Weight asked) none),
+  λ has. no_fault (configs.Sfq total most quantum) b (terms.Weight asked) refl (λ over. omega (arith, over, has, room))
       (λ p same. absurd (let no : ⊥ = cc in no)) free (subst (λ (n : ℕ). asked ≤ n) room has),
 )
-sfq_fits total most b periods (Weight some) its free room = (
-  λ none. absurd (unfit (configs.Sfq total most) b its (λ e. absurd (let no : ⊥ = cc in no)) none),
+sfq_fits total most quantum b periods (Weight some) its free room = (
+  λ none. absurd (unfit (configs.Sfq total most quantum) b its (λ e. absurd (let no : ⊥ = cc in no)) none),
   λ has. absurd has,
 )
-sfq_fits total most b periods _ its free room = absurd room
+sfq_fits total most quantum b periods _ its free room = absurd room
 
 wheel_fits : (frame : ℕ) (b : Ledger) (periods : List ℕ) (left : Left) (its : Terms)
     → ¬ IsFull (configs.Wheel frame) b → IsRoom (configs.Wheel frame) b periods left
@@ -139,8 +140,8 @@ room_fits : (config : Config) (b : Ledger) (periods : List ℕ) (left : Left) (i
 room_fits configs.Cpu b periods left its some small free room = absurd (some refl)
 room_fits configs.Fp b periods left its some small free room = fp_fits b periods left its small free room
 room_fits configs.Edf b periods left its some small free room = edf_fits b periods left its free room
-room_fits (configs.Sfq total most) b periods left its some small free room =
-    sfq_fits total most b periods left its free room
+room_fits (configs.Sfq total most quantum) b periods left its some small free room =
+    sfq_fits total most quantum b periods left its free room
 room_fits (configs.Wheel frame) b periods left its some small free room = wheel_fits frame b periods left its free room
 room_fits (configs.Rr quantum) b periods left its some small free room = rr_fits quantum b periods left its free room
 room_fits (configs.Join ports) b periods left its some small free room = join_fits ports b periods left its free room

@@ -104,8 +104,8 @@ module _ (s : Scenario) (given : ℕ) (boxes : Boxes) (tick : ℕ) (m : Moment) 
             (subst (λ (y : Scheduler). Applies y.config y.book faulty.terms fault) same faulty.applies)),
       )
 
-  pub told_fits : (periods : Option (List ℕ)) (told : Told) (tells : TellsLeft m periods told) (f : Free) (its : Terms)
-      → Contains tells.frees f → TermsInRange its
+  pub told_fits : (periods : Option (List ℕ)) (told : Told) (tells : TellsLeft s.version m periods told) (f : Free)
+      (its : Terms) → Contains tells.frees f → TermsInRange its
       → ((fault : SeatFault) → ¬ HasFault m.hierarchy (Under f.name its) f.name fault) ↔ HasTerms f.left its
   told_fits periods told tells f its has small =
       let line = free_of m.hierarchy (told_periods periods) m.hierarchy.schedulers tells.frees f tells.are has in

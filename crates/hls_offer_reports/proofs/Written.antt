@@ -32,6 +32,8 @@ use Rattle.hls_offer.specs.Told.{AreAsked, IsTold, at_text, had_text}
 use Rattle.hls_offer.proofs.Formed.{had_formed}
 use Rattle.hls_offer.specs.Replies.{given_depth, Tells}
 use Rattle.hls_offer.specs.Ends.{Ends}
+use Rattle.hls_report_text.specs.ReportText.{item_text}
+use Rattle.hls_offer_reports.specs.Reports.{item_at}
 use Rattle.hls_offer_reports.specs.Lines.{IsAtLine, IsDoneLine, AtLinesAreDone, AllAreDone}
 use Rattle.hls_offer_reports.proofs.Found.{first_or, in_map, map_has, none_in, one_in}
 use Rattle.hls_offer_reports.proofs.Names.{AreNames, legal_names}
@@ -53,14 +55,23 @@ free_line line more e at =
 
 -- ---- requests
 
-formed_for : (known : Bool) (wish : Wish) (g : Guarantee) → IsWish wish → IsNarrow g
-    → IsCommand (request_for known wish g)
-formed_for true wish g within narrow = (within.name, record { spot = (within.on, within.terms); want = narrow })
-formed_for false wish g within narrow = (within.name, record { spot = (within.on, within.terms); want = narrow })
+formed_for : (version : ℕ) (known : Bool) (wish : Wish) (g : Guarantee) → IsWish wish → IsNarrow g
+    → IsCommand version (request_for known wish g)
+formed_for version true wish g within narrow =
+    (within.name, record { spot = (within.on, within.terms); want = narrow })
+formed_for version false wish g within narrow =
+    (within.name, record { spot = (within.on, within.terms); want = narrow })
 
-request_formed : (h : Hierarchy) (wish : Wish) (g : Guarantee) → IsWish wish → IsNarrow g
-    → IsCommand (request_of h wish g)
-request_formed h wish g within narrow = formed_for (is_thread (node_of h wish.name)) wish g within narrow
+request_formed : (version : ℕ) (h : Hierarchy) (wish : Wish) (g : Guarantee) → IsWish wish → IsNarrow g
+    → IsCommand version (request_of h wish g)
+request_formed version h wish g within narrow =
+    formed_for version (is_thread (node_of h wish.name)) wish g within narrow
+
+-- each version spells it alike
+spelled_for : (version tick : ℕ) (known : Bool) (wish : Wish) (g : Guarantee)
+    → at_text tick (request_for known wish g) ≡ item_text version (item_at tick (request_for known wish g))
+spelled_for version tick true wish g = refl
+spelled_for version tick false wish g = refl
 
 module _ (s : Scenario) (given : ℕ) (boxes : Boxes) (tick : ℕ) (m : Moment) (is : IsMoment s given boxes tick m) where
   reached : IsReached m.hierarchy
@@ -73,8 +84,8 @@ module _ (s : Scenario) (given : ℕ) (boxes : Boxes) (tick : ℕ) (m : Moment) 
       → at_text tick (request_of m.hierarchy wish g) ≡ line → IsDoneLine s given boxes tick line
   request_done wish g line within narrow done spelled = record {
     command = request_of m.hierarchy wish g;
-    within = request_formed m.hierarchy wish g within narrow;
-    spelled = sym spelled;
+    within = request_formed s.version m.hierarchy wish g within narrow;
+    spelled = sym spelled ∙ spelled_for s.version tick (is_thread (node_of m.hierarchy wish.name)) wish g;
     done = done_in_reports s given boxes tick m (request_of m.hierarchy wish g) done.0 is done.1;
   }
 
@@ -142,14 +153,15 @@ module _ (s : Scenario) (given : ℕ) (boxes : Boxes) (tick : ℕ) (m : Moment) 
 
   -- ---- what is left
 
-  left_done : (periods : Option (List ℕ)) (told : Told) → TellsLeft m periods told
+  left_done : (periods : Option (List ℕ)) (told : Told) → TellsLeft s.version m periods told
       → AtLinesAreDone s given boxes tick told.lines
   left_done periods told tells line has at =
-      let one = in_map free_text tells.frees line (subst (λ (t : Told). Contains t.lines line) tells.told_is has) in
+      let one = in_map (free_text s.version) tells.frees line
+      (subst (λ (t : Told). Contains t.lines line) tells.told_is has) in
       absurd (free_line line _ one.is at)
 
-  told_done : (q : Question) (periods : Option (List ℕ)) (told : Told) → IsQuestion q → IsTold q m tick periods told
-      → AtLinesAreDone s given boxes tick told.lines
+  told_done : (q : Question) (periods : Option (List ℕ)) (told : Told) → IsQuestion q
+      → IsTold s.version q m tick periods told → AtLinesAreDone s given boxes tick told.lines
   told_done (questions.Offer name on its) periods told within (inl tells) =
       open_done (record { name = name; on = on; terms = its }) periods told
       (record { name = within.0; on = within.1; terms = within.2 }) tells

@@ -21,20 +21,19 @@ use Rattle.hls_top.specs.Exchange.{Exchange}
 use Rattle.hls_offer_words.specs.Table.{IsAsked}
 use Rattle.hls_offer_words.specs.declared.asked.Asked.{Asked}
 use Rattle.hls_offer.specs.Moments.{asked_tick}
-use Rattle.hls_offer.specs.Told.{at_text}
 use Rattle.hls_offer.specs.Replies.{given_depth, Replies}
-use Rattle.hls_offer_reports.specs.Reports.{IsDoneInReports}
+use Rattle.hls_offer_reports.specs.Reports.{item_at, IsDoneInReports}
 
 -- the first word of the line is `at`
 pub record IsAtLine (line : Text) : Type 0 where
   pub rest : Text
   pub is : line ≡ codes "at " ++ rest
 
--- the line is that of a command within the grammar, which is done in reports
+-- the line is that of a command within the grammar of the scenario's version, which is done in reports
 pub record IsDoneLine (s : Scenario) (given : ℕ) (boxes : Boxes) (tick : ℕ) (line : Text) : Type 0 where
   pub command : Command
-  pub within : IsCommand command
-  pub spelled : line ≡ at_text tick command
+  pub within : IsCommand s.version command
+  pub spelled : line ≡ item_text s.version (item_at tick command)
   pub done : IsDoneInReports s given boxes tick command
 
 abbrev pub AtLinesAreDone : Scenario → (given : ℕ) → Boxes → (tick : ℕ) → List Text → Type 0
@@ -52,7 +51,7 @@ pub record MayStandBehind (bytes : Text) (s : Scenario) (tick : ℕ) : Type 0 wh
 pub record IsLastDone (c : Content) (line : Text) : Type 0 where
   pub answered : Answered
   pub there : slice_get c.answered (length c.answered - 1) ≡ Some answered
-  pub line_is : item_text (item_of answered) ≡ line
+  pub line_is : item_text c.version (item_of answered) ≡ line
   pub seats : List Seated
   pub done : answered.answer ≡ answers.Done seats
 

@@ -67,7 +67,7 @@ pub fn what_is_left_fits()
 /// among those that the line of its scheduler tells.
 pub fn what_is_told_to_be_left_fits()
     ensures { (s : Scenario) (given : ℕ) (boxes : Boxes) (tick : ℕ) (m : Moment) (periods : Option (List ℕ))
-        (told : Told) (f : Free) (its : Terms) → IsMoment s given boxes tick m → (tells : TellsLeft m periods told) →
-        Contains tells.frees f → TermsInRange its →
+        (told : Told) (f : Free) (its : Terms) → IsMoment s given boxes tick m →
+        (tells : TellsLeft s.version m periods told) → Contains tells.frees f → TermsInRange its →
         ((fault : SeatFault) → ¬ HasFault m.hierarchy (Under f.name its) f.name fault) ↔ HasTerms f.left its }
 {}

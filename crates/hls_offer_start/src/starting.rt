@@ -82,10 +82,10 @@ fn run_with_boxes<S: Source, K: Sink>(
         used: [0; 6],
     };
     for _made in 0..BOXES {
-        kit.put(Kind::Fp, Box::new(alloc, Fp::blank(alloc))?)?;
-        kit.put(Kind::Edf, Box::new(alloc, Edf::blank(alloc))?)?;
         kit.put(Kind::Sfq, Box::new(alloc, Sfq::blank(alloc))?)?;
         kit.put(Kind::Rr, Box::new(alloc, Rr::blank(alloc))?)?;
+        kit.put(Kind::Fp, Box::new(alloc, Fp::blank(alloc))?)?;
+        kit.put(Kind::Edf, Box::new(alloc, Edf::blank(alloc))?)?;
         kit.put(Kind::Wheel, Box::new(alloc, Wheel::blank(alloc))?)?;
         kit.put(Kind::Join, Box::new(alloc, Join::blank(alloc))?)?;
     }

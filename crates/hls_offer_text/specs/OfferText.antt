@@ -45,8 +45,9 @@ pub record Free : Type 0 where
   pub haves : List Guarantee
   pub left : Left
 
-abbrev pub free_text : Free → Text
-free_text f = codes "free " ++ (f.name ++ (spaced (config_forms f.config)
+-- the configuration is spelled as a load of this version spells it
+abbrev pub free_text : (version : ℕ) → Free → Text
+free_text version f = codes "free " ++ (f.name ++ (spaced (config_forms version f.config)
     ++ (codes " has " ++ (guarantees_text f.haves ++ (codes " : " ++ left_text f.left)))))
 
 -- ---- what cannot be had

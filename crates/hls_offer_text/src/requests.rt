@@ -1,4 +1,5 @@
-// The lines that tell whether a request would be done.
+// The lines that tell whether a request would be done. A request has no configuration, and so each version spells it
+// alike.
 ghost use Rattle.std.specs.Prelude.{◌≡◌, ◌++◌, OnOk};
 ghost use Rattle.hls_scenario.specs.Forms.{spaced, terms_forms};
 ghost use Rattle.hls_scenario.specs.Grammar.{IsCommand};
@@ -17,11 +18,11 @@ use std::alloc::AllocError;
 /// # Errors
 /// Returns `AllocError` for want of memory.
 pub fn put_request(out: &mut Vec<u8>, tick: u32, request: &Command) -> Result<(), AllocError>
-    requires { IsCommand request.now }
+    requires { IsCommand 1 request.now }
     ensures { OnOk result (out.new.items
-        ≡ out.old.items ++ with_end (item_text (record { tick = tick; command = request.now }))) }
+        ≡ out.old.items ++ with_end (item_text 1 (record { tick = tick; command = request.now }))) }
 {
-    put_command(out, tick, request)?;
+    put_command(out, 1, tick, request)?;
     put(out, b"\n")
 }
 

@@ -2,7 +2,7 @@
 ghost use Rattle.std.specs.Prelude.{◌≡◌, ◌++◌, ◌∷◌, [], OnOk, codes, decimal, flat_map};
 ghost use Rattle.std.specs.List.{AllByRecursion};
 ghost use Rattle.hls_guarantee.specs.Limits.{IsValid};
-ghost use Rattle.hls_scenario.specs.Forms.{spaced, config_forms};
+ghost use Rattle.hls_scenario.specs.Forms.{spaced, config_forms, quantum_forms};
 ghost use Rattle.hls_report_text.specs.ReportText.{with_end, ended, span_text};
 ghost use Rattle.hls_offer_text.specs.OfferText.{one_span_text, fit_text, left_text, more_text, guarantees_text};
 ghost use Rattle.hls_offer_text.specs.OfferText.{free_text, head_lines};
@@ -43,25 +43,26 @@ pub fn put_end(out: &mut Vec<u8>) -> Result<(), AllocError>
     put(out, b"end\n")
 }
 
-/// Appends the line of a loaded scheduler: its name, its configuration, what its ports are guaranteed, and what is
-/// left on it.
+/// Appends the line of a loaded scheduler: its name, its configuration as a load of this version spells it, what its
+/// ports are guaranteed, and what is left on it.
 ///
 /// # Errors
 /// Returns `AllocError` for want of memory.
 pub fn put_free(
     out: &mut Vec<u8>,
+    version: u8,
     name: &Name,
     config: &Config,
     haves: &[Guarantee],
     left: &Left,
 ) -> Result<(), AllocError>
     requires { AllByRecursion (λ g. IsValid g) haves.now }
-    ensures { OnOk result (out.new.items ≡ out.old.items ++ with_end (free_text
+    ensures { OnOk result (out.new.items ≡ out.old.items ++ with_end (free_text version
         (record { name = name.now; config = config.now; haves = haves.now; left = left.now }))) }
 {
     put(out, b"free ")?;
     put(out, name.bytes())?;
-    put_config(out, config)?;
+    put_config(out, version, config)?;
     put(out, b" has ")?;
     put_guarantees(out, haves)?;
     put(out, b" : ")?;
@@ -69,21 +70,35 @@ pub fn put_free(
     put(out, b"\n")
 }
 
-fn put_config(out: &mut Vec<u8>, config: &Config) -> Result<(), AllocError>
-    ensures { OnOk result (out.new.items ≡ out.old.items ++ spaced (config_forms config.now)) }
+fn put_config(out: &mut Vec<u8>, version: u8, config: &Config) -> Result<(), AllocError>
+    ensures { OnOk result (out.new.items ≡ out.old.items ++ spaced (config_forms version config.now)) }
 {
     match config {
         Config::Cpu => Ok(()),
         Config::Fp => put(out, b" fp"),
         Config::Edf => put(out, b" edf"),
-        Config::Sfq { total, most } => {
+        Config::Sfq {
+            total,
+            most,
+            quantum,
+        } => {
             put_counted(out, b" sfq ", u128::from(*total))?;
-            put_counted(out, b" ", u128::from(*most))
+            put_counted(out, b" ", u128::from(*most))?;
+            put_quantum(out, version, *quantum)
         }
         Config::Rr { quantum } => put_counted(out, b" rr ", u128::from(*quantum)),
         Config::Wheel { frame } => put_counted(out, b" wheel ", u128::from(*frame)),
         Config::Join { .. } => put(out, b" join"),
     }
+}
+
+fn put_quantum(out: &mut Vec<u8>, version: u8, quantum: u32) -> Result<(), AllocError>
+    ensures { OnOk result (out.new.items ≡ out.old.items ++ spaced (quantum_forms version quantum)) }
+{
+    if version == 1 {
+        return Ok(());
+    }
+    put_counted(out, b" ", u128::from(quantum))
 }
 
 fn put_guarantees(out: &mut Vec<u8>, haves: &[Guarantee]) -> Result<(), AllocError>

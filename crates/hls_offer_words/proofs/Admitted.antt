@@ -36,10 +36,10 @@ use Rattle.hls_offer_words.proofs.Spelled.{terms_tokens, wanted_tokens}
 perch_line : (words : List Text) (perch : Perch) → IsAdmission (admits words) perch
     → IsPerch perch × IsLine (perch_forms perch) (codes "a" ∷ words)
 perch_line words perch is =
-    let command : IsCommand (Thread is.name perch) = subst IsCommand is.admits is.line.0 in
-    let line : IsLine (command_forms (Thread is.name perch))
+    let command : IsCommand 1 (Thread is.name perch) = subst (IsCommand 1) is.admits is.line.0 in
+    let line : IsLine (command_forms 1 (Thread is.name perch))
     (codes "thread" ∷ codes "a" ∷ codes "on" ∷ codes "a" ∷ words) =
-    subst (λ (c : Command). IsLine (command_forms c) (codes "thread" ∷ codes "a" ∷ codes "on" ∷ codes "a" ∷ words))
+    subst (λ (c : Command). IsLine (command_forms 1 c) (codes "thread" ∷ codes "a" ∷ codes "on" ∷ codes "a" ∷ words))
     is.admits is.line.3.1.1 in
     (command.1, line.1.1.1)
 
@@ -110,7 +110,7 @@ line_front (f ∷ forms) (w ∷ words) more line = (line.0, line_front forms wor
 
 admission_line : (t : Terms) (g : Guarantee) (words : List Text) → IsTerms t → IsNarrow g
     → IsLine (terms_forms t ++ the (codes "as") ∷ guarantee_forms g) words
-    → IsItemLine 1 0 (admits words)
+    → IsItemLine 1 1 0 (admits words)
     (record { tick = 0; command = Thread (codes "a") (record { spot = spots.Under (codes "a") t; want = g }) })
 admission_line t g words is narrow line = (
   (refl, record { spot = (refl, is); want = narrow }),
@@ -221,8 +221,8 @@ no_wanted_told f xs tested test bad = λ g is.
 same_command : (other item : Item) → Some item ≡ Some other → item.command ≡ other.command
 same_command other item e = let same : item ≡ other = cc in ap (λ (i : Item). i.command) same
 
-pub terms_item : (tokens : List Text) (item : Item) (result : Option Terms) → IsItemLine 1 0 tokens item
-    → ((other : Item) → IsItemLine 1 0 tokens other → Some item ≡ Some other)
+pub terms_item : (tokens : List Text) (item : Item) (result : Option Terms) → IsItemLine 1 1 0 tokens item
+    → ((other : Item) → IsItemLine 1 1 0 tokens other → Some item ≡ Some other)
     → MatchOption result
     ((name : Text) (perch : Perch) → item.command ≡ Thread name perch → perch.spot ≡ spots.Cpu)
     (λ t. (name : Text) × (perch : Perch) × (sched : Text) × (item.command ≡ Thread name perch) ×
@@ -237,8 +237,8 @@ terms_item tokens item (Some t) line exact is = record {
   spot = is.4;
 }
 
-pub wanted_item : (tokens : List Text) (item : Item) (result : Option Guarantee) → IsItemLine 1 0 tokens item
-    → ((other : Item) → IsItemLine 1 0 tokens other → Some item ≡ Some other)
+pub wanted_item : (tokens : List Text) (item : Item) (result : Option Guarantee) → IsItemLine 1 1 0 tokens item
+    → ((other : Item) → IsItemLine 1 1 0 tokens other → Some item ≡ Some other)
     → MatchOption result ((name : Text) (perch : Perch) → item.command ≡ Thread name perch → ⊥)
     (λ g. (name : Text) × (perch : Perch) × (item.command ≡ Thread name perch) × (perch.want ≡ g))
     → MatchOption result (AdmitsNobody tokens) (AdmitsWith tokens)
@@ -250,10 +250,10 @@ wanted_item tokens item (Some g) line exact is = record {
   want = is.3;
 }
 
-pub no_terms_item : (tokens : List Text) → ((other : Item) → IsItemLine 1 0 tokens other → None ≡ Some other)
+pub no_terms_item : (tokens : List Text) → ((other : Item) → IsItemLine 1 1 0 tokens other → None ≡ Some other)
     → AdmitsNowhere tokens
 no_terms_item tokens exact = λ perch is. absurd (let e = exact is.item is.line in cc)
 
-pub no_wanted_item : (tokens : List Text) → ((other : Item) → IsItemLine 1 0 tokens other → None ≡ Some other)
+pub no_wanted_item : (tokens : List Text) → ((other : Item) → IsItemLine 1 1 0 tokens other → None ≡ Some other)
     → AdmitsNobody tokens
 no_wanted_item tokens exact = λ perch is. absurd (let e = exact is.item is.line in cc)

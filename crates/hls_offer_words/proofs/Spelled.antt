@@ -87,7 +87,7 @@ all_left P (x ∷ xs) ys are = (are.0, all_left P xs ys are.1)
 
 pub terms_words : (t : Terms) (ts : List Text) → IsTerms t → IsLine (terms_forms t) ts → AllByRecursion IsWord ts
 terms_words t ts is line =
-    let all = command_printable
+    let all = command_printable 1
     (Thread (codes "a") (record { spot = spots.Under (codes "a") t; want = Null }))
     (refl, record { spot = (refl, is); want = tt }) in
     line_words (terms_forms t) ts
@@ -96,7 +96,7 @@ terms_words t ts is line =
 pub wanted_words : (g : Guarantee) (ts : List Text) → IsNarrow g → IsLine (guarantee_forms g) ts
     → AllByRecursion IsWord ts
 wanted_words g ts is line =
-    let all = command_printable
+    let all = command_printable 1
     (Thread (codes "a") (record { spot = spots.Under (codes "a") terms.Turn; want = g }))
     (refl, record { spot = (refl, tt); want = is }) in
     line_words (guarantee_forms g) ts all.1.1.1.1.1.1 line

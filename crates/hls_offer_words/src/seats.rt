@@ -1,4 +1,5 @@
-// Terms and guarantees, which are read as those of a thread that is admitted.
+// Terms and guarantees, which are read as those of a thread that is admitted. Each version spells them alike: they are
+// read by the first.
 ghost use Rattle.std.specs.Prelude.{◌≡◌, List, map, string_bytes, IfOk, MatchOption};
 ghost use Rattle.hls_text.specs.Lines.{Text};
 ghost use Rattle.hls_text.specs.Tokens.{tokens_of};
@@ -58,7 +59,7 @@ fn terms_on(alloc: Global, line: &[u8]) -> Result<Option<Terms>, AllocError>
     ensures { IfOk result (λ found. MatchOption found (AdmitsNowhere (tokens_of line.now))
         (AdmitsOn (tokens_of line.now))) }
 {
-    match read_item(alloc, line, 1, 0)? {
+    match read_item(alloc, 1, line, 1, 0)? {
         Some(item) => Ok(terms_by(&item.command)),
         None => Ok(None),
     }
@@ -69,7 +70,7 @@ fn wanted_on(alloc: Global, line: &[u8]) -> Result<Option<Guarantee>, AllocError
     ensures { IfOk result (λ found. MatchOption found (AdmitsNobody (tokens_of line.now))
         (AdmitsWith (tokens_of line.now))) }
 {
-    match read_item(alloc, line, 1, 0)? {
+    match read_item(alloc, 1, line, 1, 0)? {
         Some(item) => Ok(wanted_by(&item.command)),
         None => Ok(None),
     }

@@ -17,10 +17,17 @@ const COMMANDS: u32 = 65_536;
 /// How many joins there are, each on the two before it.
 const JOINS: u32 = 58;
 
-/// How a scenario begins that goes on for as many ticks as there may be.
+/// How a scenario of version 1 begins that goes on for as many ticks as there may be.
 const LONGEST: &str = "hls 1\nhorizon 100000\n\
     at 0 load root fp on cpu as ALL\n\
     at 0 thread a on root prio 0 as ALL\n";
+
+/// A thread, alone on fair queueing, for as many ticks as there may be in version 2. With turns of a quantum it may be
+/// behind by as much.
+const LONGEST_IN_TWO: &str = "hls 2\nhorizon 1000000\n\
+    at 0 load root sfq 10 2 100 on cpu as ALL\n\
+    at 0 thread a on root weight 10 as PSBE 1 100\n\
+    at 0 wake a\n";
 
 /// How the report with joins begins, with the first two of them.
 const FIRST_JOINS: &str = "hls-report 1\nhorizon 9\ndepth 3\n\
@@ -136,6 +143,42 @@ fn checks_a_thread_for_as_many_ticks_as_there_may_be(rt: HostRuntime) -> Result<
             "a 0..99999 ALL ready 100000 served 100000",
             "a 0..99999 ALL ready 100000 served 99999",
             "broken A7 100000\n",
+        ),
+    ];
+    for (line, other, word) in cases {
+        let found = word_on(alloc, &report, line, other)?;
+        assert_eq!(rt; found.as_str(), word, "for {line}");
+    }
+    Ok(())
+}
+
+#[test]
+fn answers_for_a_million_ticks_in_version_two(rt: HostRuntime) -> Result<(), Fail> {
+    let alloc = rt.alloc();
+    let (status, report) = answer(alloc, "run", LONGEST_IN_TWO)?;
+    assert_eq!(rt; status, 0);
+    let cases = [
+        ("", "", "kept\n"),
+        ("hls-report 2", "hls-report 1", "refused line 2 Form\n"),
+        (
+            "at 0 load root sfq 10 2 100 on cpu as ALL",
+            "at 0 load root sfq 10 2 on cpu as ALL",
+            "refused line 4 Form\n",
+        ),
+        (
+            "0..999999 cpu/root/a",
+            "0..999898 cpu/root/a\n999899..999999 idle",
+            "broken A4 999999\n",
+        ),
+        (
+            "0..999999 cpu/root/a",
+            "0..999899 cpu/root/a\n999900..999999 idle",
+            "broken A7 1000000\n",
+        ),
+        (
+            "a 0..999999 PSBE 1 100 ready 1000000 served 1000000",
+            "a 0..999999 PSBE 1 100 ready 1000000 served 999999",
+            "broken A7 1000000\n",
         ),
     ];
     for (line, other, word) in cases {

@@ -44,34 +44,32 @@ module _ {V : Type 0} {P : V → Type 0} where
       → length (boxes_of other new) ≡ length (boxes_of other old)
   there {kind} other off p = ap length (p.others other (kind_other other kind off))
 
-  module _ (count : ℕ) {k0 k1 k2 k3 k4 k5 k6 : Kit V P} (is : IsFilled count k0) (fp : IsPut kinds.Fp k0 k1)
-      (edf : IsPut kinds.Edf k1 k2) (sfq : IsPut kinds.Sfq k2 k3) (rr : IsPut kinds.Rr k3 k4)
+  module _ (count : ℕ) {k0 k1 k2 k3 k4 k5 k6 : Kit V P} (is : IsFilled count k0) (sfq : IsPut kinds.Sfq k0 k1)
+      (rr : IsPut kinds.Rr k1 k2) (fp : IsPut kinds.Fp k2 k3) (edf : IsPut kinds.Edf k3 k4)
       (wheel : IsPut kinds.Wheel k4 k5) (join : IsPut kinds.Join k5 k6) where
     one_more : (kind : Kind) → length (boxes_of kind k6) ≡ of_each (count + 1) kind
     one_more kinds.Cpu = refl
-    one_more kinds.Fp = there kinds.Fp refl join ∙ there kinds.Fp refl wheel ∙ there kinds.Fp refl rr
-        ∙ there kinds.Fp refl sfq ∙ there kinds.Fp refl edf ∙ here fp ∙ ap (λ n. n + 1) (is.each kinds.Fp)
-    one_more kinds.Edf = there kinds.Edf refl join ∙ there kinds.Edf refl wheel ∙ there kinds.Edf refl rr
-        ∙ there kinds.Edf refl sfq ∙ here edf
-        ∙ ap (λ n. n + 1) (there kinds.Edf refl fp ∙ is.each kinds.Edf)
-    one_more kinds.Sfq = there kinds.Sfq refl join ∙ there kinds.Sfq refl wheel ∙ there kinds.Sfq refl rr
-        ∙ here sfq
-        ∙ ap (λ n. n + 1) (there kinds.Sfq refl edf ∙ there kinds.Sfq refl fp ∙ is.each kinds.Sfq)
-    one_more kinds.Rr = there kinds.Rr refl join ∙ there kinds.Rr refl wheel ∙ here rr
-        ∙ ap (λ n. n + 1) (there kinds.Rr refl sfq ∙ there kinds.Rr refl edf ∙ there kinds.Rr refl fp
-        ∙ is.each kinds.Rr)
+    one_more kinds.Fp = there kinds.Fp refl join ∙ there kinds.Fp refl wheel ∙ there kinds.Fp refl edf ∙ here fp
+        ∙ ap (λ n. n + 1) (there kinds.Fp refl rr ∙ there kinds.Fp refl sfq ∙ is.each kinds.Fp)
+    one_more kinds.Edf = there kinds.Edf refl join ∙ there kinds.Edf refl wheel ∙ here edf
+        ∙ ap (λ n. n + 1) (there kinds.Edf refl fp ∙ there kinds.Edf refl rr ∙ there kinds.Edf refl sfq
+        ∙ is.each kinds.Edf)
+    one_more kinds.Sfq = there kinds.Sfq refl join ∙ there kinds.Sfq refl wheel ∙ there kinds.Sfq refl edf
+        ∙ there kinds.Sfq refl fp ∙ there kinds.Sfq refl rr ∙ here sfq ∙ ap (λ n. n + 1) (is.each kinds.Sfq)
+    one_more kinds.Rr = there kinds.Rr refl join ∙ there kinds.Rr refl wheel ∙ there kinds.Rr refl edf
+        ∙ there kinds.Rr refl fp ∙ here rr ∙ ap (λ n. n + 1) (there kinds.Rr refl sfq ∙ is.each kinds.Rr)
     one_more kinds.Wheel = there kinds.Wheel refl join ∙ here wheel
-        ∙ ap (λ n. n + 1) (there kinds.Wheel refl rr ∙ there kinds.Wheel refl sfq ∙ there kinds.Wheel refl edf
-        ∙ there kinds.Wheel refl fp ∙ is.each kinds.Wheel)
+        ∙ ap (λ n. n + 1) (there kinds.Wheel refl edf ∙ there kinds.Wheel refl fp ∙ there kinds.Wheel refl rr
+        ∙ there kinds.Wheel refl sfq ∙ is.each kinds.Wheel)
     one_more kinds.Join = here join
-        ∙ ap (λ n. n + 1) (there kinds.Join refl wheel ∙ there kinds.Join refl rr ∙ there kinds.Join refl sfq
-        ∙ there kinds.Join refl edf ∙ there kinds.Join refl fp ∙ is.each kinds.Join)
+        ∙ ap (λ n. n + 1) (there kinds.Join refl wheel ∙ there kinds.Join refl edf ∙ there kinds.Join refl fp
+        ∙ there kinds.Join refl rr ∙ there kinds.Join refl sfq ∙ is.each kinds.Join)
 
     -- a round of boxes, one of each kind
     pub filled_more : IsFilled (count + 1) k6
     filled_more = record {
       each = one_more;
-      unused = join.uncounted ∙ wheel.uncounted ∙ rr.uncounted ∙ sfq.uncounted ∙ edf.uncounted ∙ fp.uncounted
+      unused = join.uncounted ∙ wheel.uncounted ∙ edf.uncounted ∙ fp.uncounted ∙ rr.uncounted ∙ sfq.uncounted
           ∙ is.unused;
     }
 

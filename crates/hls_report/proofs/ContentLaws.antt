@@ -10,7 +10,7 @@ use Rattle.hls_report_text.specs.WellFormed.{IsContent, IsReportText, Begins, Is
 use Rattle.hls_report.specs.Inside.Rests.{HeaderRest, BeginsIn, IsStuck}
 use Rattle.hls_report_text.proofs.Contents.{some_report}
 use Rattle.hls_report.proofs.Sections.{content_one}
-use Rattle.hls_report.proofs.RestLaws.{depth_line, horizon_line}
+use Rattle.hls_report.proofs.RestLaws.{depth_line, horizon_line, header_line}
 use Rattle.hls_report.proofs.Stuck.{front_of}
 use Rattle.hls_report_text.proofs.Writings.{ended-append}
 
@@ -28,6 +28,7 @@ header_content lines r =
     let s = c.more in
     let a = s.more in record {
       content = record {
+        version = r.version;
         horizon = h.horizon;
         depth = d.depth;
         answered = c.answered;
@@ -36,6 +37,7 @@ header_content lines r =
         idle = a.idle;
       };
       is = record {
+        version = r.is;
         horizon = h.is;
         depth = d.is;
         few = c.few;
@@ -45,10 +47,10 @@ header_content lines r =
         accounts = a.are;
         idle = a.small;
       };
-      text = r.text ∙ ap (λ ls. codes "hls-report 1" ∷ ls) (h.text
+      text = r.text ∙ ap (λ ls. header_line r.version ∷ ls) (h.text
           ∙ ap (λ ls. horizon_line h.horizon ∷ ls) (d.text
           ∙ ap (λ ls. depth_line d.depth ∷ ls) (c.text
-          ∙ ap (λ ls. flat_map answered_lines c.answered ++ codes "schedule" ∷ ls) (s.text
+          ∙ ap (λ ls. flat_map (answered_lines r.version) c.answered ++ codes "schedule" ∷ ls) (s.text
           ∙ ap (λ ls. map stretch_text s.stretches ++ codes "accounts" ∷ ls) a.text))));
     }
 
@@ -59,11 +61,13 @@ run_part : Content → List Text
 run_part c = map stretch_text c.stretches ++ codes "accounts" ∷ account_part c
 
 command_part : Content → List Text
-command_part c = flat_map answered_lines c.answered ++ codes "schedule" ∷ run_part c
+command_part c = flat_map (answered_lines c.version) c.answered ++ codes "schedule" ∷ run_part c
 
 pub content_header : (c : Content) → IsContent c → HeaderRest (content_lines c)
 unfolding account_part run_part command_part
 content_header c is = record {
+  version = c.version;
+  is = is.version;
   rest = horizon_line c.horizon ∷ depth_line c.depth ∷ command_part c;
   more = record {
     horizon = c.horizon;

@@ -34,16 +34,16 @@ use Rattle.hls_report_text.proofs.LineTexts.{IsItem, item_stands, span_lacks}
 
 -- ---- items
 
-pub item_is_line : (h last : ℕ) (item : Item) (line : Text) → h ≤ 100000 → IsNext h last item
-    → line ≡ item_text item → IsItemLine h last (tokens_of line) item
-item_is_line h last item line fits n e =
+pub item_is_line : (v h last : ℕ) (item : Item) (line : Text) → h ≤ 1000000 → IsNext v h last item
+    → line ≡ item_text v item → IsItemLine v h last (tokens_of line) item
+item_is_line v h last item line fits n e =
     let lt : item.tick < h = n.2 in
-    let is : IsItem item = (n.0, omega arith) in (
+    let is : IsItem v item = (n.0, omega arith) in (
       n.0,
       n.1,
       n.2,
-      subst (λ (t : Text). IsLine (item_forms item) (tokens_of t)) (sym e)
-          (item_stands item is),
+      subst (λ (t : Text). IsLine (item_forms v item) (tokens_of t)) (sym e)
+          (item_stands v item is),
     )
 
 pub none_some : {A : Type 0} (x : A) → None ≡ Some x → ⊥
@@ -139,7 +139,7 @@ ticks_again ready served a b =
 abbrev pub account_rest : Account → Text
 account_rest a = spelling a.kept ++ ticks_text a.ready a.served
 
-pub account_front_again : (h : ℕ) (a : Account) → h ≤ 100000 → IsAccount h a
+pub account_front_again : (h : ℕ) (a : Account) → h ≤ 1000000 → IsAccount h a
     → account_front_at (account_text a) ≡ Some (a.name, a.from, a.to, account_rest a)
 account_front_again h a fits is =
     let forward = is.forward in
@@ -161,7 +161,7 @@ pub record AccountParts (a : Account) (n : Text) (f t : ℕ) (r : Text) : Type 0
 some_front : (a b : Text × ℕ × ℕ × Text) → Some a ≡ Some b → a ≡ b
 some_front a b e = cc
 
-pub account_parts : (h : ℕ) (a : Account) (line name : Text) (from to : ℕ) (rest : Text) → h ≤ 100000
+pub account_parts : (h : ℕ) (a : Account) (line name : Text) (from to : ℕ) (rest : Text) → h ≤ 1000000
     → IsAccount h a → line ≡ account_text a → account_front_at line ≡ Some (name, from, to, rest)
     → AccountParts a name from to rest
 account_parts h a line name from to rest fits is e read =
@@ -173,7 +173,7 @@ account_parts h a line name from to rest fits is e read =
       rest = sym (ap (λ (p : Text × ℕ × ℕ × Text). p.3) same);
     }
 
-pub no_account_front : (h : ℕ) (a : Account) (line : Text) → h ≤ 100000 → IsAccount h a → line
+pub no_account_front : (h : ℕ) (a : Account) (line : Text) → h ≤ 1000000 → IsAccount h a → line
     ≡ account_text a
     → account_front_at line ≡ None → ⊥
 no_account_front h a line fits is e none =

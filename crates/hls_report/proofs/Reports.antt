@@ -1,5 +1,5 @@
 -- A whole report is read.
-use Rattle.std.proofs.Common.{◌≡◌, List, [], ◌∷◌, ◌++◌, sym, ap, ◌∙◌, subst}
+use Rattle.std.proofs.Common.{◌≡◌, ℕ, List, [], ◌∷◌, ◌++◌, sym, ap, ◌∙◌, subst}
 use Rattle.std.proofs.Common.{append_assoc, arith, flat_map}
 use Rattle.std.specs.Prelude.{codes, map, None, Result, Ok, Err, IfOk, IfErr}
 use Rattle.std.specs.List.{AllByRecursion}
@@ -31,29 +31,29 @@ joined head commands runs tail schedule accounts =
     ∙ ap (λ ls. head ++ ls) (append_assoc commands (schedule ∷ []) ((runs ++ accounts ∷ []) ++ tail)
     ∙ ap (λ ls. commands ++ schedule ∷ ls) (append_assoc runs (accounts ∷ []) tail))
 
-abbrev pub command_lines : List Answered → List Text
-command_lines answered = flat_map answered_lines answered ++ codes "schedule" ∷ []
+abbrev pub command_lines : (version : ℕ) → List Answered → List Text
+command_lines version answered = flat_map (answered_lines version) answered ++ codes "schedule" ∷ []
 
 abbrev pub run_lines : List Stretch → List Text
 run_lines stretches = map stretch_text stretches ++ codes "accounts" ∷ []
 
 -- the lines of a content were read to the end
 pub content_told : (c : Content) (start a b d : Lines)
-    → Passes HeaderRest (CommandRest c.horizon 0 65536) (head_lines c.horizon c.depth) start a
-    → Passes (CommandRest c.horizon 0 65536) (RunRest c.horizon 0 None []) (command_lines c.answered) a b
+    → Passes HeaderRest (CommandRest c.version c.horizon 0 65536) (head_lines c.version c.horizon c.depth) start a
+    → Passes (CommandRest c.version c.horizon 0 65536) (RunRest c.horizon 0 None []) (command_lines c.version c.answered) a b
     → Passes (RunRest c.horizon 0 None []) (AccountRest c.horizon) (run_lines c.stretches) b d
     → d.rest.now ≡ ended (map account_text c.accounts ++ end_lines c.idle)
     → start.rest.now ≡ ended (content_lines c)
 content_told c start a b d p q r e =
-    let front = head_lines c.horizon c.depth ++ command_lines c.answered in
+    let front = head_lines c.version c.horizon c.depth ++ command_lines c.version c.answered in
     let tail = map account_text c.accounts ++ end_lines c.idle in
-    let pq = pass_on HeaderRest (CommandRest c.horizon 0 65536) (RunRest c.horizon 0 None [])
-    (head_lines c.horizon c.depth) (command_lines c.answered) start a b p q in
+    let pq = pass_on HeaderRest (CommandRest c.version c.horizon 0 65536) (RunRest c.horizon 0 None [])
+    (head_lines c.version c.horizon c.depth) (command_lines c.version c.answered) start a b p q in
     let pqr = pass_on HeaderRest (RunRest c.horizon 0 None []) (AccountRest c.horizon) front
     (run_lines c.stretches) start b d pq r in
     pqr.read ∙ ap (λ (t : Text). ended (front ++ run_lines c.stretches) ++ t) e
     ∙ sym (ended-append (front ++ run_lines c.stretches) tail)
-    ∙ ap ended (joined (head_lines c.horizon c.depth) (flat_map answered_lines c.answered)
+    ∙ ap ended (joined (head_lines c.version c.horizon c.depth) (flat_map (answered_lines c.version) c.answered)
     (map stretch_text c.stretches) tail (codes "schedule") (codes "accounts"))
 
 -- what a text is read as
@@ -80,8 +80,8 @@ bad_at start (Err (faults.Memory error)) first bad = tt
 -- the text is that of the report whose parts were read
 pub report_told : (r : Report) (start a b d : Lines)
     → AllByRecursion (λ run. HasShort run.path) r.runs → IsContent (content_of r)
-    → Passes HeaderRest (CommandRest r.horizon 0 65536) (head_lines r.horizon r.depth) start a
-    → Passes (CommandRest r.horizon 0 65536) (RunRest r.horizon 0 None []) (command_lines r.answered) a b
+    → Passes HeaderRest (CommandRest r.version r.horizon 0 65536) (head_lines r.version r.horizon r.depth) start a
+    → Passes (CommandRest r.version r.horizon 0 65536) (RunRest r.horizon 0 None []) (command_lines r.version r.answered) a b
     → Passes (RunRest r.horizon 0 None []) (AccountRest r.horizon)
     (run_lines (map (stretch_of r.names) r.runs)) b d
     → d.rest.now ≡ ended (map account_text r.accounts ++ end_lines r.idle)

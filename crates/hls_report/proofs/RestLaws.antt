@@ -8,7 +8,7 @@ use Rattle.std.specs.Str.{bytes_eq}
 use Rattle.std.proofs.lemmas.Slice.Eq.{bytes_eq-Decides}
 use Rattle.hls_text.specs.Lines.{Text}
 use Rattle.hls_chron.specs.Name.{IsName}
-use Rattle.hls_chron.specs.Ranges.{IsWithin}
+use Rattle.hls_chron.specs.Ranges.{IsWithin, IsVersion, most_ticks}
 use Rattle.hls_scenario.specs.declared.scenario.Command.{Command}
 use Rattle.hls_scenario.specs.declared.scenario.Item.{Item}
 use Rattle.hls_report_text.specs.declared.refusal.Refusal.{Refusal}
@@ -27,7 +27,7 @@ use Rattle.hls_report_text.specs.WellFormed.{Cover, with_name, with_path, FewNam
 use Rattle.hls_report.specs.Inside.Rests.{EndRest, AccountRest, RunRest, CommandRest, SeatRest, AnswerRest}
 use Rattle.hls_report.specs.Inside.Rests.{DepthRest, HorizonRest, HeaderRest, NextStretch, IsNext}
 use Rattle.hls_text.proofs.Marks.{number_same}
-use Rattle.hls_report_text.proofs.LineTexts.{IsItem, IsStretch, stretch_same, apart}
+use Rattle.hls_report_text.proofs.LineTexts.{IsItem, IsStretch, stretch_same, apart, horizon_fits, least_horizon}
 use Rattle.hls_report.proofs.ItemTexts.{item_same}
 use Rattle.hls_report.proofs.Sections.{first_line, later_lines, idle_text, account_not_idle}
 use Rattle.hls_report.proofs.Sections.{stretch_not_accounts, cover_reaches}
@@ -82,7 +82,7 @@ account_onto h a lines is r = record {
   text = ap (λ ls. account_text a ∷ ls) r.text;
 }
 
-pub account_off : (h : ℕ) (a : Account) (lines : List Text) → h ≤ 100000 → IsAccount h a
+pub account_off : (h : ℕ) (a : Account) (lines : List Text) → h ≤ 1000000 → IsAccount h a
     → AccountRest h (account_text a ∷ lines) → AccountRest h lines
 account_off h a lines fits is r = elim (account_next h (account_text a) lines r) [
   | inl n ↦ absurd (account_not_idle h a n.idle fits is n.small n.text)
@@ -99,7 +99,7 @@ idle_onto h idle lines small r = record {
   text = ap (λ ls. idle_text idle ∷ ls) r;
 }
 
-pub idle_off : (h idle : ℕ) (lines : List Text) → h ≤ 100000 → idle < 2 ^ 32
+pub idle_off : (h idle : ℕ) (lines : List Text) → h ≤ 1000000 → idle < 2 ^ 32
     → AccountRest h (idle_text idle ∷ lines) → EndRest lines
 idle_off h idle lines fits small r = elim (account_next h (idle_text idle) lines r) [
   | inl n ↦ n.rest
@@ -163,7 +163,7 @@ run_next h from last known line lines r = by_runs r.stretches r.cover r.few r.te
       };
     })
 
-next_is : (h from : ℕ) (last : Option (Option (List Text))) (known : List Text) (s : Stretch) → h ≤ 100000
+next_is : (h from : ℕ) (last : Option (Option (List Text))) (known : List Text) (s : Stretch) → h ≤ 1000000
     → NextStretch h from last known s → IsStretch s
 next_is h from last known s fits n =
     let at = n.start in
@@ -185,7 +185,7 @@ run_onto h from last known s lines n r = record {
 }
 
 pub run_off : (h from : ℕ) (last : Option (Option (List Text))) (known : List Text) (s : Stretch)
-    (lines : List Text) → h ≤ 100000 → NextStretch h from last known s
+    (lines : List Text) → h ≤ 1000000 → NextStretch h from last known s
     → RunRest h from last known (stretch_text s ∷ lines)
     → RunRest h (s.to + 1) (Some s.path) (with_path known s.path) lines
 run_off h from last known s lines fits n r = elim (run_next h from last known (stretch_text s) lines r) [
@@ -208,7 +208,7 @@ accounts_onto h last known lines r = record {
 }
 
 pub accounts_off : (h : ℕ) (last : Option (Option (List Text))) (known : List Text) (lines : List Text)
-    → h ≤ 100000 → RunRest h h last known (codes "accounts" ∷ lines) → AccountRest h lines
+    → h ≤ 1000000 → RunRest h h last known (codes "accounts" ∷ lines) → AccountRest h lines
 accounts_off h last known lines fits r = elim (run_next h h last known (codes "accounts") lines r) [
   | inl l ↦ l.rest
   | inr m ↦
@@ -290,25 +290,25 @@ some_first_run h = some_run h 0 None [] (omega arith) none_known
 
 -- ---- commands
 
-pub record NextItem (h last left : ℕ) (line : Text) (lines : List Text) : Type 0 where
+pub record NextItem (v h last left : ℕ) (line : Text) (lines : List Text) : Type 0 where
   pub item : Item
-  pub is : IsNext h last item
+  pub is : IsNext v h last item
   pub some : 0 < left
-  pub text : line ≡ item_text item
-  pub rest : AnswerRest item.command h item.tick (left - 1) lines
+  pub text : line ≡ item_text v item
+  pub rest : AnswerRest item.command v h item.tick (left - 1) lines
 
 pub record LastItem (h : ℕ) (line : Text) (lines : List Text) : Type 0 where
   pub text : line ≡ codes "schedule"
   pub rest : RunRest h 0 None [] lines
 
-pub command_next : (h last left : ℕ) (line : Text) (lines : List Text) → CommandRest h last left
+pub command_next : (v h last left : ℕ) (line : Text) (lines : List Text) → CommandRest v h last left
     (line ∷ lines)
-    → LastItem h line lines ⊎ NextItem h last left line lines
-command_next h last left line lines r = by_answered r.answered r.are r.few r.text
+    → LastItem h line lines ⊎ NextItem v h last left line lines
+command_next v h last left line lines r = by_answered r.answered r.are r.few r.text
   where
-    by_answered : (ps : List Answered) → AreAnswered h last ps → length ps ≤ left
-        → line ∷ lines ≡ flat_map answered_lines ps ++ codes "schedule" ∷ r.rest
-        → LastItem h line lines ⊎ NextItem h last left line lines
+    by_answered : (ps : List Answered) → AreAnswered v h last ps → length ps ≤ left
+        → line ∷ lines ≡ flat_map (answered_lines v) ps ++ codes "schedule" ∷ r.rest
+        → LastItem h line lines ⊎ NextItem v h last left line lines
     by_answered [] are few e = inl (record {
       text = ap first_line e;
       rest = subst (RunRest h 0 None []) (sym (ap later_lines e)) r.more;
@@ -320,7 +320,7 @@ command_next h last left line lines r = by_answered r.answered r.are r.few r.tex
       text = ap first_line e;
       rest = record {
         answer = p.answer;
-        rest = flat_map answered_lines ps ++ codes "schedule" ∷ r.rest;
+        rest = flat_map (answered_lines v) ps ++ codes "schedule" ∷ r.rest;
         is = are.1;
         more = record {
           answered = ps;
@@ -331,38 +331,38 @@ command_next h last left line lines r = by_answered r.answered r.are r.few r.tex
           text = refl;
         };
         text = ap later_lines e
-            ∙ append_assoc (answer_lines p.answer) (flat_map answered_lines ps) (codes "schedule" ∷ r.rest);
+            ∙ append_assoc (answer_lines p.answer) (flat_map (answered_lines v) ps) (codes "schedule" ∷ r.rest);
       };
     })
 
-item_within : (h last : ℕ) (item : Item) → h ≤ 100000 → IsNext h last item → IsItem item
-item_within h last item fits n = let lt : item.tick < h = n.2 in (n.0, omega arith)
+item_within : (v h last : ℕ) (item : Item) → h ≤ 1000000 → IsNext v h last item → IsItem v item
+item_within v h last item fits n = let lt : item.tick < h = n.2 in (n.0, omega arith)
 
-pub item_onto : (h last left : ℕ) (item : Item) (lines : List Text) → IsNext h last item → 0 < left
-    → AnswerRest item.command h item.tick (left - 1) lines → CommandRest h last left (item_text item ∷ lines)
-item_onto h last left item lines n some r = record {
+pub item_onto : (v h last left : ℕ) (item : Item) (lines : List Text) → IsNext v h last item → 0 < left
+    → AnswerRest item.command v h item.tick (left - 1) lines → CommandRest v h last left (item_text v item ∷ lines)
+item_onto v h last left item lines n some r = record {
   answered = record { tick = item.tick; command = item.command; answer = r.answer } ∷ r.more.answered;
   rest = r.more.rest;
   are = (n.0, r.is, n.1, n.2, r.more.are);
   few = (let few = r.more.few in omega arith);
   more = r.more.more;
-  text = ap (λ ls. item_text item ∷ ls) (r.text ∙ ap (λ ls. answer_lines r.answer ++ ls) r.more.text
-      ∙ sym (append_assoc (answer_lines r.answer) (flat_map answered_lines r.more.answered) _));
+  text = ap (λ ls. item_text v item ∷ ls) (r.text ∙ ap (λ ls. answer_lines r.answer ++ ls) r.more.text
+      ∙ sym (append_assoc (answer_lines r.answer) (flat_map (answered_lines v) r.more.answered) _));
 }
 
-pub item_off : (h last left : ℕ) (item : Item) (lines : List Text) → h ≤ 100000 → IsNext h last item
-    → CommandRest h last left (item_text item ∷ lines) → AnswerRest item.command h item.tick (left - 1) lines
-item_off h last left item lines fits n r = elim (command_next h last left (item_text item) lines r) [
-  | inl l ↦ absurd (apart (item_text item) (codes "schedule") refl l.text)
+pub item_off : (v h last left : ℕ) (item : Item) (lines : List Text) → h ≤ 1000000 → IsNext v h last item
+    → CommandRest v h last left (item_text v item ∷ lines) → AnswerRest item.command v h item.tick (left - 1) lines
+item_off v h last left item lines fits n r = elim (command_next v h last left (item_text v item) lines r) [
+  | inl l ↦ absurd (apart (item_text v item) (codes "schedule") refl l.text)
   | inr m ↦
-      let same = item_same m.item item (item_within h last m.item fits m.is) (item_within h last item fits n)
-      (sym m.text) in
-      subst (λ (i : Item). AnswerRest i.command h i.tick (left - 1) lines) same m.rest
+      let same = item_same v m.item item (item_within v h last m.item fits m.is)
+      (item_within v h last item fits n) (sym m.text) in
+      subst (λ (i : Item). AnswerRest i.command v h i.tick (left - 1) lines) same m.rest
 ]
 
-pub schedule_onto : (h last left : ℕ) (lines : List Text) → RunRest h 0 None [] lines
-    → CommandRest h last left (codes "schedule" ∷ lines)
-schedule_onto h last left lines r = record {
+pub schedule_onto : (v h last left : ℕ) (lines : List Text) → RunRest h 0 None [] lines
+    → CommandRest v h last left (codes "schedule" ∷ lines)
+schedule_onto v h last left lines r = record {
   answered = [];
   rest = lines;
   are = tt;
@@ -371,39 +371,39 @@ schedule_onto h last left lines r = record {
   text = refl;
 }
 
-pub schedule_off : (h last left : ℕ) (lines : List Text) → CommandRest h last left (codes "schedule" ∷ lines)
+pub schedule_off : (v h last left : ℕ) (lines : List Text) → CommandRest v h last left (codes "schedule" ∷ lines)
     → RunRest h 0 None [] lines
-schedule_off h last left lines r = elim (command_next h last left (codes "schedule") lines r) [
+schedule_off v h last left lines r = elim (command_next v h last left (codes "schedule") lines r) [
   | inl l ↦ l.rest
-  | inr m ↦ absurd (apart (codes "schedule") (item_text m.item) refl m.text)
+  | inr m ↦ absurd (apart (codes "schedule") (item_text v m.item) refl m.text)
 ]
 
-pub some_command : (h last left : ℕ) → (lines : List Text) × CommandRest h last left lines
-some_command h last left =
-    let run = some_first_run h in (codes "schedule" ∷ run.0, schedule_onto h last left run.0 run.1)
+pub some_command : (v h last left : ℕ) → (lines : List Text) × CommandRest v h last left lines
+some_command v h last left =
+    let run = some_first_run h in (codes "schedule" ∷ run.0, schedule_onto v h last left run.0 run.1)
 
 -- ---- seats
 
-pub record NextSeat (command : Command) (h last left : ℕ) (line : Text) (lines : List Text) : Type 0 where
+pub record NextSeat (command : Command) (v h last left : ℕ) (line : Text) (lines : List Text) : Type 0 where
   pub seat : Seated
   pub is : IsSeated seat
   pub takes : TakesSeats command
   pub text : line ≡ seat_text seat
-  pub rest : SeatRest command h last left lines
+  pub rest : SeatRest command v h last left lines
 
 all_seats : (command : Command) (seats : List Seated) → TakesSeats command → AllByRecursion IsSeated seats
     → AreSeats command seats
 all_seats command [] takes are = tt
 all_seats command (s ∷ ss) takes are = (takes, are)
 
-pub seat_next : (command : Command) (h last left : ℕ) (line : Text) (lines : List Text)
-    → SeatRest command h last left (line ∷ lines)
-    → NextSeat command h last left line lines ⊎ CommandRest h last left (line ∷ lines)
-seat_next command h last left line lines r = by_seats r.seats r.are r.text
+pub seat_next : (command : Command) (v h last left : ℕ) (line : Text) (lines : List Text)
+    → SeatRest command v h last left (line ∷ lines)
+    → NextSeat command v h last left line lines ⊎ CommandRest v h last left (line ∷ lines)
+seat_next command v h last left line lines r = by_seats r.seats r.are r.text
   where
     by_seats : (ss : List Seated) → AreSeats command ss → line ∷ lines ≡ map seat_text ss ++ r.rest
-        → NextSeat command h last left line lines ⊎ CommandRest h last left (line ∷ lines)
-    by_seats [] are e = inr (subst (CommandRest h last left) (sym e) r.more)
+        → NextSeat command v h last left line lines ⊎ CommandRest v h last left (line ∷ lines)
+    by_seats [] are e = inr (subst (CommandRest v h last left) (sym e) r.more)
     by_seats (s ∷ ss) are e = inl (record {
       seat = s;
       is = are.1.0;
@@ -423,10 +423,10 @@ all_of_seats : (command : Command) (seats : List Seated) → AreSeats command se
 all_of_seats command [] are = tt
 all_of_seats command (s ∷ ss) are = are.1
 
-pub seat_onto : (command : Command) (h last left : ℕ) (seat : Seated) (lines : List Text) → TakesSeats command
-    → IsSeated seat → SeatRest command h last left lines → SeatRest command h last left
+pub seat_onto : (command : Command) (v h last left : ℕ) (seat : Seated) (lines : List Text) → TakesSeats command
+    → IsSeated seat → SeatRest command v h last left lines → SeatRest command v h last left
     (seat_text seat ∷ lines)
-seat_onto command h last left seat lines takes is r = record {
+seat_onto command v h last left seat lines takes is r = record {
   seats = seat ∷ r.seats;
   rest = r.rest;
   are = (takes, (is, all_of_seats command r.seats r.are));
@@ -434,44 +434,44 @@ seat_onto command h last left seat lines takes is r = record {
   text = ap (λ ls. seat_text seat ∷ ls) r.text;
 }
 
-pub no_seat_line : (h last left : ℕ) (seat : Seated) (lines : List Text)
-    → CommandRest h last left (seat_text seat ∷ lines) → ⊥
-no_seat_line h last left seat lines r = elim (command_next h last left (seat_text seat) lines r) [
+pub no_seat_line : (v h last left : ℕ) (seat : Seated) (lines : List Text)
+    → CommandRest v h last left (seat_text seat ∷ lines) → ⊥
+no_seat_line v h last left seat lines r = elim (command_next v h last left (seat_text seat) lines r) [
   | inl l ↦ apart (seat_text seat) (codes "schedule") refl l.text
-  | inr m ↦ apart (seat_text seat) (item_text m.item) refl m.text
+  | inr m ↦ apart (seat_text seat) (item_text v m.item) refl m.text
 ]
 
-pub seat_off : (command : Command) (h last left : ℕ) (seat : Seated) (lines : List Text) → IsSeated seat
-    → SeatRest command h last left (seat_text seat ∷ lines) → SeatRest command h last left lines
-seat_off command h last left seat lines is r =
-    elim (seat_next command h last left (seat_text seat) lines r) [
+pub seat_off : (command : Command) (v h last left : ℕ) (seat : Seated) (lines : List Text) → IsSeated seat
+    → SeatRest command v h last left (seat_text seat ∷ lines) → SeatRest command v h last left lines
+seat_off command v h last left seat lines is r =
+    elim (seat_next command v h last left (seat_text seat) lines r) [
       | inl m ↦ m.rest
-      | inr c ↦ absurd (no_seat_line h last left seat lines c)
+      | inr c ↦ absurd (no_seat_line v h last left seat lines c)
     ]
 
-pub seats_done : (command : Command) (h last left : ℕ) (lines : List Text) → CommandRest h last left lines
-    → SeatRest command h last left lines
-seats_done command h last left lines r = record { seats = []; rest = lines; are = tt; more = r; text = refl }
+pub seats_done : (command : Command) (v h last left : ℕ) (lines : List Text) → CommandRest v h last left lines
+    → SeatRest command v h last left lines
+seats_done command v h last left lines r = record { seats = []; rest = lines; are = tt; more = r; text = refl }
 
 -- ---- answers
 
-pub record NextDone (command : Command) (h last left : ℕ) (line : Text) (lines : List Text) : Type 0 where
+pub record NextDone (command : Command) (v h last left : ℕ) (line : Text) (lines : List Text) : Type 0 where
   pub text : line ≡ codes "= done"
-  pub rest : SeatRest command h last left lines
+  pub rest : SeatRest command v h last left lines
 
-pub record NextRefused (h last left : ℕ) (line : Text) (lines : List Text) : Type 0 where
+pub record NextRefused (v h last left : ℕ) (line : Text) (lines : List Text) : Type 0 where
   pub refusal : Refusal
   pub is : IsRefusal refusal
   pub text : line ≡ codes "= refused " ++ refusal_text refusal
-  pub rest : CommandRest h last left lines
+  pub rest : CommandRest v h last left lines
 
-pub answer_next : (command : Command) (h last left : ℕ) (line : Text) (lines : List Text)
-    → AnswerRest command h last left (line ∷ lines)
-    → NextDone command h last left line lines ⊎ NextRefused h last left line lines
-answer_next command h last left line lines r = by_answer r.answer r.is r.text
+pub answer_next : (command : Command) (v h last left : ℕ) (line : Text) (lines : List Text)
+    → AnswerRest command v h last left (line ∷ lines)
+    → NextDone command v h last left line lines ⊎ NextRefused v h last left line lines
+answer_next command v h last left line lines r = by_answer r.answer r.is r.text
   where
     by_answer : (p : Answer) → MayAnswer command p → line ∷ lines ≡ answer_lines p ++ r.rest
-        → NextDone command h last left line lines ⊎ NextRefused h last left line lines
+        → NextDone command v h last left line lines ⊎ NextRefused v h last left line lines
     by_answer (Done seats) is e = inl (record {
       text = ap first_line e;
       rest = record { seats = seats; rest = r.rest; are = is; more = r.more; text = ap later_lines e };
@@ -480,16 +480,16 @@ answer_next command h last left line lines r = by_answer r.answer r.is r.text
       refusal = refusal;
       is = is;
       text = ap first_line e;
-      rest = subst (CommandRest h last left) (sym (ap later_lines e)) r.more;
+      rest = subst (CommandRest v h last left) (sym (ap later_lines e)) r.more;
     })
 
 done_not_refused : (r : Refusal) → codes "= done" ≡ codes "= refused " ++ refusal_text r → ⊥
 done_not_refused r e = apart (codes "done") (codes "refused " ++ refusal_text r) refl (ap (λ
     (t : Text). drop 2 t) e)
 
-pub done_onto : (command : Command) (h last left : ℕ) (lines : List Text) → SeatRest command h last left lines
-    → AnswerRest command h last left (codes "= done" ∷ lines)
-done_onto command h last left lines r = record {
+pub done_onto : (command : Command) (v h last left : ℕ) (lines : List Text) → SeatRest command v h last left lines
+    → AnswerRest command v h last left (codes "= done" ∷ lines)
+done_onto command v h last left lines r = record {
   answer = Done r.seats;
   rest = r.rest;
   is = r.are;
@@ -497,9 +497,9 @@ done_onto command h last left lines r = record {
   text = ap (λ ls. codes "= done" ∷ ls) r.text;
 }
 
-pub done_off : (command : Command) (h last left : ℕ) (lines : List Text)
-    → AnswerRest command h last left (codes "= done" ∷ lines) → SeatRest command h last left lines
-done_off command h last left lines r = elim (answer_next command h last left (codes "= done") lines r) [
+pub done_off : (command : Command) (v h last left : ℕ) (lines : List Text)
+    → AnswerRest command v h last left (codes "= done" ∷ lines) → SeatRest command v h last left lines
+done_off command v h last left lines r = elim (answer_next command v h last left (codes "= done") lines r) [
   | inl m ↦ m.rest
   | inr m ↦ absurd (done_not_refused m.refusal m.text)
 ]
@@ -507,9 +507,9 @@ done_off command h last left lines r = elim (answer_next command h last left (co
 abbrev pub refused_line : Refusal → Text
 refused_line refusal = codes "= refused " ++ refusal_text refusal
 
-pub refused_onto : (command : Command) (h last left : ℕ) (r : Refusal) (lines : List Text) → IsRefusal r
-    → CommandRest h last left lines → AnswerRest command h last left (refused_line r ∷ lines)
-refused_onto command h last left r lines is rest = record {
+pub refused_onto : (command : Command) (v h last left : ℕ) (r : Refusal) (lines : List Text) → IsRefusal r
+    → CommandRest v h last left lines → AnswerRest command v h last left (refused_line r ∷ lines)
+refused_onto command v h last left r lines is rest = record {
   answer = Refused r;
   rest = lines;
   is = is;
@@ -517,20 +517,20 @@ refused_onto command h last left r lines is rest = record {
   text = refl;
 }
 
-pub refused_off : (command : Command) (h last left : ℕ) (r : Refusal) (lines : List Text)
-    → AnswerRest command h last left (refused_line r ∷ lines) → CommandRest h last left lines
-refused_off command h last left r lines rest =
-    elim (answer_next command h last left (refused_line r) lines rest) [
+pub refused_off : (command : Command) (v h last left : ℕ) (r : Refusal) (lines : List Text)
+    → AnswerRest command v h last left (refused_line r ∷ lines) → CommandRest v h last left lines
+refused_off command v h last left r lines rest =
+    elim (answer_next command v h last left (refused_line r) lines rest) [
       | inl m ↦ absurd (done_not_refused r (sym m.text))
       | inr m ↦ m.rest
     ]
 
-pub some_answer : (command : Command) (h last left : ℕ) →
-    (lines : List Text) × AnswerRest command h last left lines
-some_answer command h last left =
-    let c = some_command h last left in (
+pub some_answer : (command : Command) (v h last left : ℕ) →
+    (lines : List Text) × AnswerRest command v h last left lines
+some_answer command v h last left =
+    let c = some_command v h last left in (
       codes "= done" ∷ c.0,
-      done_onto command h last left c.0 (seats_done command h last left c.0 c.1),
+      done_onto command v h last left c.0 (seats_done command v h last left c.0 c.1),
     )
 
 -- ---- the head
@@ -541,44 +541,57 @@ depth_line depth = codes "depth " ++ decimal depth
 abbrev pub horizon_line : ℕ → Text
 horizon_line horizon = codes "horizon " ++ decimal horizon
 
-pub depth_onto : (h depth : ℕ) (lines : List Text) → depth ≤ 6 → CommandRest h 0 65536 lines
-    → DepthRest h (depth_line depth ∷ lines)
-depth_onto h depth lines is r = record { depth = depth; rest = lines; is = is; more = r; text = refl }
+abbrev pub header_line : ℕ → Text
+header_line version = codes "hls-report " ++ decimal version
 
-pub depth_off : (h depth : ℕ) (lines : List Text) → DepthRest h (depth_line depth ∷ lines)
-    → CommandRest h 0 65536 lines
-depth_off h depth lines r = subst (CommandRest h 0 65536) (sym (ap later_lines r.text)) r.more
+pub depth_onto : (v h depth : ℕ) (lines : List Text) → depth ≤ 6 → CommandRest v h 0 65536 lines
+    → DepthRest v h (depth_line depth ∷ lines)
+depth_onto v h depth lines is r = record { depth = depth; rest = lines; is = is; more = r; text = refl }
 
-pub some_depth : (h : ℕ) → (lines : List Text) × DepthRest h lines
-some_depth h =
-    let c = some_command h 0 65536 in (depth_line 0 ∷ c.0, depth_onto h 0 c.0 (omega arith) c.1)
+pub depth_off : (v h depth : ℕ) (lines : List Text) → DepthRest v h (depth_line depth ∷ lines)
+    → CommandRest v h 0 65536 lines
+depth_off v h depth lines r = subst (CommandRest v h 0 65536) (sym (ap later_lines r.text)) r.more
 
-pub horizon_onto : (h : ℕ) (lines : List Text) → IsWithin 1 100000 h → DepthRest h lines
-    → HorizonRest (horizon_line h ∷ lines)
-horizon_onto h lines is r = record { horizon = h; rest = lines; is = is; more = r; text = refl }
+pub some_depth : (v h : ℕ) → (lines : List Text) × DepthRest v h lines
+some_depth v h =
+    let c = some_command v h 0 65536 in (depth_line 0 ∷ c.0, depth_onto v h 0 c.0 (omega arith) c.1)
 
-pub horizon_off : (h : ℕ) (lines : List Text) → IsWithin 1 100000 h → HorizonRest (horizon_line h ∷ lines)
-    → DepthRest h lines
-horizon_off h lines is r =
-    let le : h ≤ 100000 = is.1 in
-    let le_too : r.horizon ≤ 100000 = r.is.1 in
+pub horizon_onto : (v h : ℕ) (lines : List Text) → IsWithin 1 (most_ticks v) h → DepthRest v h lines
+    → HorizonRest v (horizon_line h ∷ lines)
+horizon_onto v h lines is r = record { horizon = h; rest = lines; is = is; more = r; text = refl }
+
+pub horizon_off : (v h : ℕ) (lines : List Text) → IsWithin 1 (most_ticks v) h
+    → HorizonRest v (horizon_line h ∷ lines) → DepthRest v h lines
+horizon_off v h lines is r =
+    let le = horizon_fits v h is in
+    let le_too = horizon_fits v r.horizon r.is in
     let same = number_same h r.horizon (omega arith) (omega arith) (ap (λ ls. drop 8
     (first_line ls)) r.text) in
-    subst (DepthRest h) (sym (ap later_lines r.text)) (subst (λ (n : ℕ). DepthRest n r.rest)
+    subst (DepthRest v h) (sym (ap later_lines r.text)) (subst (λ (n : ℕ). DepthRest v n r.rest)
     (sym same) r.more)
 
-pub some_horizon : (lines : List Text) × HorizonRest lines
-some_horizon =
-    let d = some_depth 1 in (horizon_line 1 ∷ d.0, horizon_onto 1 d.0 (omega arith, omega arith) d.1)
+pub some_horizon : (v : ℕ) → (lines : List Text) × HorizonRest v lines
+some_horizon v =
+    let d = some_depth v 1 in (horizon_line 1 ∷ d.0, horizon_onto v 1 d.0 (least_horizon v) d.1)
 
-pub header_onto : (lines : List Text) → HorizonRest lines → HeaderRest (codes "hls-report 1" ∷ lines)
-header_onto lines r = record { rest = lines; more = r; text = refl }
+pub header_onto : (v : ℕ) (lines : List Text) → IsVersion v → HorizonRest v lines
+    → HeaderRest (header_line v ∷ lines)
+header_onto v lines is r = record { version = v; rest = lines; is = is; more = r; text = refl }
 
-pub header_off : (lines : List Text) → HeaderRest (codes "hls-report 1" ∷ lines) → HorizonRest lines
-header_off lines r = subst HorizonRest (sym (ap later_lines r.text)) r.more
+pub header_off : (v : ℕ) (lines : List Text) → IsVersion v → HeaderRest (header_line v ∷ lines)
+    → HorizonRest v lines
+header_off v lines is r =
+    let le : v ≤ 2 = is.1 in
+    let le_too : r.version ≤ 2 = r.is.1 in
+    let same = number_same v r.version (omega arith) (omega arith) (ap (λ ls. drop 11
+    (first_line ls)) r.text) in
+    subst (HorizonRest v) (sym (ap later_lines r.text)) (subst (λ (n : ℕ). HorizonRest n r.rest)
+    (sym same) r.more)
 
 pub some_header : (lines : List Text) × HeaderRest lines
-some_header = (codes "hls-report 1" ∷ some_horizon.0, header_onto some_horizon.0 some_horizon.1)
+some_header =
+    let h = some_horizon 1 in
+    (header_line 1 ∷ h.0, header_onto 1 h.0 (omega arith, omega arith) h.1)
 
 -- ---- a line has to come
 
@@ -595,31 +608,31 @@ pub no_last_run : (h from : ℕ) (last : Option (Option (List Text))) (known : L
 no_last_run h from last known r =
     none_behind (map stretch_text r.stretches) (codes "accounts") r.rest r.text
 
-pub no_last_command : (h last left : ℕ) → CommandRest h last left [] → ⊥
-no_last_command h last left r =
-    none_behind (flat_map answered_lines r.answered) (codes "schedule") r.rest r.text
+pub no_last_command : (v h last left : ℕ) → CommandRest v h last left [] → ⊥
+no_last_command v h last left r =
+    none_behind (flat_map (answered_lines v) r.answered) (codes "schedule") r.rest r.text
 
 empty_behind : (xs ys : List Text) → [] ≡ xs ++ ys → ys ≡ []
 empty_behind [] ys e = sym e
 empty_behind (x ∷ xs) ys e = absurd cc
 
-pub no_last_seat : (command : Command) (h last left : ℕ) → SeatRest command h last left [] → ⊥
-no_last_seat command h last left r =
-    no_last_command h last left (subst (CommandRest h last left)
+pub no_last_seat : (command : Command) (v h last left : ℕ) → SeatRest command v h last left [] → ⊥
+no_last_seat command v h last left r =
+    no_last_command v h last left (subst (CommandRest v h last left)
     (empty_behind (map seat_text r.seats) r.rest r.text) r.more)
 
-pub no_last_answer : (command : Command) (h last left : ℕ) → AnswerRest command h last left [] → ⊥
-no_last_answer command h last left r = by_answer r.answer r.text
+pub no_last_answer : (command : Command) (v h last left : ℕ) → AnswerRest command v h last left [] → ⊥
+no_last_answer command v h last left r = by_answer r.answer r.text
   where
     by_answer : (p : Answer) → [] ≡ answer_lines p ++ r.rest → ⊥
     by_answer (Done seats) e = cc
     by_answer (Refused refusal) e = cc
 
-pub no_last_depth : (h : ℕ) → DepthRest h [] → ⊥
-no_last_depth h r = let e = r.text in cc
+pub no_last_depth : (v h : ℕ) → DepthRest v h [] → ⊥
+no_last_depth v h r = let e = r.text in cc
 
-pub no_last_horizon : HorizonRest [] → ⊥
-no_last_horizon r = let e = r.text in cc
+pub no_last_horizon : (v : ℕ) → HorizonRest v [] → ⊥
+no_last_horizon v r = let e = r.text in cc
 
 pub no_last_header : HeaderRest [] → ⊥
 no_last_header r = let e = r.text in cc

@@ -34,7 +34,7 @@ use Rattle.hls_report.proofs.Stuck.{none_passed, pass_on, pass_line, fail_line, 
 
 -- ---- the ticks of a run
 
-pub no_front : (h from : ℕ) (line : Text) → h ≤ 100000 → spanned_at line ≡ None → (s : Stretch)
+pub no_front : (h from : ℕ) (line : Text) → h ≤ 1000000 → spanned_at line ≡ None → (s : Stretch)
     → s.from ≡ from → from ≤ s.to → s.to < h → line ≡ stretch_text s → ⊥
 no_front h from line fits none s at forward within e =
     let f = sym none ∙ ap spanned_at e ∙ spanned_again s.from s.to (path_text s.path) (omega arith)
@@ -43,7 +43,7 @@ no_front h from line fits none s at forward within e =
 some_span : (a b : ℕ × ℕ × Text) → Some a ≡ Some b → a ≡ b
 some_span a b e = cc
 
-pub other_front : (h from first to : ℕ) (line words : Text) → h ≤ 100000
+pub other_front : (h from first to : ℕ) (line words : Text) → h ≤ 1000000
     → spanned_at line ≡ Some (first, to, words) → (first ≡ from → from ≤ to → to < h → ⊥) → (s : Stretch)
     → s.from ≡ from → from ≤ s.to → s.to < h → line ≡ stretch_text s → ⊥
 other_front h from first to line words fits read other s at forward within e =
@@ -54,7 +54,7 @@ other_front h from first to line words fits read other s at forward within e =
 
 -- ---- the words of a run's path
 
-same_words : (h from to : ℕ) (line words : Text) (s : Stretch) → h ≤ 100000 → from ≤ to → to < h
+same_words : (h from to : ℕ) (line words : Text) (s : Stretch) → h ≤ 1000000 → from ≤ to → to < h
     → s.from ≡ from → from ≤ s.to → s.to < h → line ≡ two_words (span_text from to) words
     → line ≡ stretch_text s → words ≡ path_text s.path
 same_words h from to line words s fits forward within at forward_too within_too e f =
@@ -62,13 +62,13 @@ same_words h from to line words s fits forward within at forward_too within_too 
     (span_lacks 32 from to (omega arith) (omega arith) (omega arith))
     (span_lacks 32 s.from s.to (omega arith) (omega arith) (omega arith))).1
 
-pub same_path : (h from to : ℕ) (last line words : Text) (known : List Text) (s : Stretch) → h ≤ 100000
+pub same_path : (h from to : ℕ) (last line words : Text) (known : List Text) (s : Stretch) → h ≤ 1000000
     → from ≤ to → to < h → line ≡ two_words (span_text from to) words → last ≡ words
     → IsNextRun h from last known s → line ≡ stretch_text s → ⊥
 same_path h from to last line words known s fits forward within e same n f =
     n.other (same ∙ same_words h from to line words s fits forward within n.start n.forward n.within e f)
 
-pub no_path : (h from to : ℕ) (last line words : Text) (known : List Text) (s : Stretch) → h ≤ 100000
+pub no_path : (h from to : ℕ) (last line words : Text) (known : List Text) (s : Stretch) → h ≤ 1000000
     → from ≤ to → to < h → line ≡ two_words (span_text from to) words
     → ((p : Option (List Text)) → FitsPath known p → words ≡ path_text p → ⊥)
     → IsNextRun h from last known s → line ≡ stretch_text s → ⊥
@@ -120,7 +120,7 @@ next_run h from path last known s l n = record {
 -- ---- a run's line
 
 pub run_read : (h from : ℕ) (last : Text) (known new : List Text) (told words : Text) (run : Run)
-    (old now : Lines) → h ≤ 100000 → AreNames known → IsOneLine told
+    (old now : Lines) → h ≤ 1000000 → AreNames known → IsOneLine told
     → old.rest.now ≡ told ++ (10 ∷ now.rest.now) → now.count ≡ old.count + 1
     → IsRunTold h from last known new told words run → IsRunRead h from last known new words run old now
 run_read h from last known new told words run old now fits are one is next t = record {
@@ -362,7 +362,7 @@ accounts_fail h known runs from last start old fault r reached fails =
     (fails h (last_path None ss) known))
 
 pub whole_schedule : (h : ℕ) (known names : List Text) (runs : List Run) (from : ℕ) (last : Text)
-    (start old now : Lines) → h ≤ 100000 → RunsRead h known runs from last start old → h ≤ from
+    (start old now : Lines) → h ≤ 1000000 → RunsRead h known runs from last start old → h ≤ from
     → AccountsPass old now → names ≡ known → (IsSchedule h (record { names = names; runs = runs }))
     × Passes (RunRest h 0 None []) (AccountRest h)
     (map stretch_text (map (stretch_of names) runs) ++ codes "accounts" ∷ []) start now

@@ -29,7 +29,7 @@ use Rattle.hls_report_text.proofs.LineTexts.{item_line, seat_same, seat_line, fi
 use Rattle.hls_report.proofs.ItemTexts.{item_same}
 use Rattle.hls_report_text.proofs.LineTexts.{IsStretch, stretch_same, stretch_line, account_same}
 use Rattle.hls_report_text.proofs.LineTexts.{account_line}
-use Rattle.hls_report_text.proofs.LineTexts.{digit_first}
+use Rattle.hls_report_text.proofs.LineTexts.{digit_first, horizon_fits}
 use Rattle.hls_report_text.proofs.Writings.{seats_all}
 use Rattle.hls_scenario.proofs.CanonicalLines.{all_append}
 
@@ -87,34 +87,34 @@ answer_front c d (Refused r) (Refused s) xs ys a b free free_too e =
 abbrev pub then_schedule : List Text → List Text
 then_schedule xs = codes "schedule" ∷ xs
 
-pub no_seat_next : (answered : List Answered) (xs : List Text)
-    → NoSeat (flat_map answered_lines answered ++ then_schedule xs)
-no_seat_next [] xs = refl
-no_seat_next (a ∷ more) xs = refl
+pub no_seat_next : (v : ℕ) (answered : List Answered) (xs : List Text)
+    → NoSeat (flat_map (answered_lines v) answered ++ then_schedule xs)
+no_seat_next v [] xs = refl
+no_seat_next v (a ∷ more) xs = refl
 
 made : Item → Answer → Answered
 made item answer = record { tick = item.tick; command = item.command; answer = answer }
 
-pub answered_front : (h l m : ℕ) (ps qs : List Answered) (xs ys : List Text) → h ≤ 100000 → AreAnswered h l ps
-    → AreAnswered h m qs
-    → flat_map answered_lines ps ++ then_schedule xs ≡ flat_map answered_lines qs ++ then_schedule ys
+pub answered_front : (v h l m : ℕ) (ps qs : List Answered) (xs ys : List Text) → h ≤ 1000000 → AreAnswered v h l ps
+    → AreAnswered v h m qs
+    → flat_map (answered_lines v) ps ++ then_schedule xs ≡ flat_map (answered_lines v) qs ++ then_schedule ys
     → (ps ≡ qs) × (xs ≡ ys)
 unfolding made
-answered_front h l m [] [] xs ys fits a b e = (refl, ap later_lines e)
-answered_front h l m [] (t ∷ ts) xs ys fits a b e =
-    absurd (apart (codes "schedule") (item_text (item_of t)) refl (ap first_line e))
-answered_front h l m (s ∷ ss) [] xs ys fits a b e =
-    absurd (apart (item_text (item_of s)) (codes "schedule") refl (ap first_line e))
-answered_front h l m (s ∷ ss) (t ∷ ts) xs ys fits a b e =
+answered_front v h l m [] [] xs ys fits a b e = (refl, ap later_lines e)
+answered_front v h l m [] (t ∷ ts) xs ys fits a b e =
+    absurd (apart (codes "schedule") (item_text v (item_of t)) refl (ap first_line e))
+answered_front v h l m (s ∷ ss) [] xs ys fits a b e =
+    absurd (apart (item_text v (item_of s)) (codes "schedule") refl (ap first_line e))
+answered_front v h l m (s ∷ ss) (t ∷ ts) xs ys fits a b e =
     let s_below : s.tick < h = a.3 in
     let t_below : t.tick < h = b.3 in
-    let item = item_same (item_of s) (item_of t) (a.0, omega arith) (b.0, omega arith) (ap first_line e) in
-    let f = sym (append_assoc (answer_lines s.answer) (flat_map answered_lines ss) (then_schedule xs))
-    ∙ ap later_lines e ∙ append_assoc (answer_lines t.answer) (flat_map answered_lines ts)
+    let item = item_same v (item_of s) (item_of t) (a.0, omega arith) (b.0, omega arith) (ap first_line e) in
+    let f = sym (append_assoc (answer_lines s.answer) (flat_map (answered_lines v) ss) (then_schedule xs))
+    ∙ ap later_lines e ∙ append_assoc (answer_lines t.answer) (flat_map (answered_lines v) ts)
     (then_schedule ys) in
-    let answer = answer_front s.command t.command s.answer t.answer _ _ a.1 b.1 (no_seat_next ss xs)
-    (no_seat_next ts ys) f in
-    let more = answered_front h s.tick t.tick ss ts xs ys fits a.4 b.4 answer.1 in
+    let answer = answer_front s.command t.command s.answer t.answer _ _ a.1 b.1 (no_seat_next v ss xs)
+    (no_seat_next v ts ys) f in
+    let more = answered_front v h s.tick t.tick ss ts xs ys fits a.4 b.4 answer.1 in
     let one : made (item_of s) s.answer ≡ made (item_of t) s.answer =
     ap (λ (i : Item). made i s.answer) item in
     let two : made (item_of t) s.answer ≡ made (item_of t) t.answer =
@@ -133,7 +133,7 @@ cover_reaches from last (s ∷ ss) end is =
     let le : from ≤ s.to = is.1 in omega arith
 
 pub cover_stretches : (from : ℕ) (last : Option (Option (List Text))) (ss : List Stretch) (end : ℕ)
-    → end ≤ 100000 → Cover from last ss end → AllByRecursion IsStretch ss
+    → end ≤ 1000000 → Cover from last ss end → AllByRecursion IsStretch ss
 cover_stretches from last [] end fits is = tt
 cover_stretches from last (s ∷ ss) end fits is =
     let more = cover_reaches (s.to + 1) (Some s.path) ss end is.4 in
@@ -177,7 +177,7 @@ stretches_front (s ∷ ss) (t ∷ ts) xs ys a b e =
 abbrev pub idle_text : ℕ → Text
 idle_text idle = codes "idle " ++ decimal idle
 
-pub account_not_idle : (h : ℕ) (a : Account) (idle : ℕ) → h ≤ 100000 → IsAccount h a → idle < 2 ^ 32
+pub account_not_idle : (h : ℕ) (a : Account) (idle : ℕ) → h ≤ 1000000 → IsAccount h a → idle < 2 ^ 32
     → account_text a ≡ idle_text idle → ⊥
 account_not_idle h a idle fits is lt e =
     let cut = cut_same 32 a.name (two_words (span_text a.from a.to) _) (codes "idle") (decimal idle) e
@@ -187,7 +187,7 @@ account_not_idle h a idle fits is lt e =
     ∙ append_assoc (decimal a.from) (codes ".." ++ decimal a.to) _) in
     let f : false ≡ true = sym lacks ∙ has ∙ has_mark 46 (decimal a.from) _ in cc
 
-pub accounts_front : (h : ℕ) (ps qs : List Account) (i j : ℕ) (xs ys : List Text) → h ≤ 100000
+pub accounts_front : (h : ℕ) (ps qs : List Account) (i j : ℕ) (xs ys : List Text) → h ≤ 1000000
     → AllByRecursion (IsAccount h) ps → AllByRecursion (IsAccount h) qs → i < 2 ^ 32 → j < 2 ^ 32
     → map account_text ps ++ idle_text i ∷ xs ≡ map account_text qs ++ idle_text j ∷ ys
     → (ps ≡ qs) × (i ≡ j) × (xs ≡ ys)
@@ -210,8 +210,9 @@ accounts_front h (a ∷ ps) (b ∷ qs) i j xs ys fits is is_too lt lt_too e =
 
 -- ---- all lines
 
-made_content : (horizon depth : ℕ) → List Answered → List Stretch → List Account → ℕ → Content
-made_content horizon depth answered stretches accounts idle = record {
+made_content : (version horizon depth : ℕ) → List Answered → List Stretch → List Account → ℕ → Content
+made_content version horizon depth answered stretches accounts idle = record {
+  version = version;
   horizon = horizon;
   depth = depth;
   answered = answered;
@@ -223,19 +224,25 @@ made_content horizon depth answered stretches accounts idle = record {
 pub content_same : (c d : Content) → IsContent c → IsContent d → content_lines c ≡ content_lines d → c ≡ d
 unfolding made_content
 content_same c d is is_too e =
-    let fits : c.horizon ≤ 100000 = is.horizon.1 in
-    let fits_too : d.horizon ≤ 100000 = is_too.horizon.1 in
+    let fits = horizon_fits c.version c.horizon is.horizon in
+    let fits_too = horizon_fits d.version d.horizon is_too.horizon in
+    let first : c.version ≤ 2 = is.version.1 in
+    let first_too : d.version ≤ 2 = is_too.version.1 in
     let low = is.depth in
     let low_too = is_too.depth in
+    let version = number_same c.version d.version (omega arith) (omega arith)
+    (ap (λ ls. drop 11 (first_line ls)) e) in
     let horizon = number_same c.horizon d.horizon (omega arith) (omega arith)
     (ap (λ ls. drop 8 (first_line (later_lines ls))) e) in
     let depth = number_same c.depth d.depth (omega arith) (omega arith)
     (ap (λ ls. drop 6 (first_line (later_lines (later_lines ls)))) e) in
-    let answered = answered_front c.horizon 0 0 c.answered d.answered
-    (map stretch_text c.stretches ++ (accounts_lines c.accounts ++ end_lines c.idle))
-    (map stretch_text d.stretches ++ (accounts_lines d.accounts ++ end_lines d.idle)) fits is.answered
-    (subst (λ h. AreAnswered h 0 d.answered) (sym horizon) is_too.answered)
-    (ap (λ ls. later_lines (later_lines (later_lines ls))) e) in
+    let more : List Text = map stretch_text c.stretches ++ (accounts_lines c.accounts ++ end_lines c.idle) in
+    let more_too : List Text = map stretch_text d.stretches ++ (accounts_lines d.accounts ++ end_lines d.idle) in
+    let answered = answered_front c.version c.horizon 0 0 c.answered d.answered more more_too fits is.answered
+    (subst (λ v. AreAnswered v c.horizon 0 d.answered) (sym version)
+    (subst (λ h. AreAnswered d.version h 0 d.answered) (sym horizon) is_too.answered))
+    (ap (λ ls. later_lines (later_lines (later_lines ls))) e
+    ∙ ap (λ v. flat_map (answered_lines v) d.answered ++ then_schedule more_too) (sym version)) in
     let stretches = stretches_front c.stretches d.stretches (map account_text c.accounts ++ end_lines c.idle)
     (map account_text d.accounts ++ end_lines d.idle)
     (cover_stretches 0 None c.stretches c.horizon fits is.cover)
@@ -244,13 +251,14 @@ content_same c d is is_too e =
     (codes "end" ∷ []) fits is.accounts
     (subst (λ h. AllByRecursion (IsAccount h) d.accounts) (sym horizon) is_too.accounts) is.idle is_too.idle
     stretches.1 in
-    let h = ap (λ x. made_content x c.depth c.answered c.stretches c.accounts c.idle) horizon in
-    let k = ap (λ x. made_content d.horizon x c.answered c.stretches c.accounts c.idle) depth in
-    let a = ap (λ x. made_content d.horizon d.depth x c.stretches c.accounts c.idle) answered.0 in
-    let s = ap (λ x. made_content d.horizon d.depth d.answered x c.accounts c.idle) stretches.0 in
-    let t = ap (λ x. made_content d.horizon d.depth d.answered d.stretches x c.idle) accounts.0 in
-    let i = ap (λ x. made_content d.horizon d.depth d.answered d.stretches d.accounts x) accounts.1 in
-    h ∙ k ∙ a ∙ s ∙ t ∙ i
+    let v = ap (λ x. made_content x c.horizon c.depth c.answered c.stretches c.accounts c.idle) version in
+    let h = ap (λ x. made_content d.version x c.depth c.answered c.stretches c.accounts c.idle) horizon in
+    let k = ap (λ x. made_content d.version d.horizon x c.answered c.stretches c.accounts c.idle) depth in
+    let a = ap (λ x. made_content d.version d.horizon d.depth x c.stretches c.accounts c.idle) answered.0 in
+    let s = ap (λ x. made_content d.version d.horizon d.depth d.answered x c.accounts c.idle) stretches.0 in
+    let t = ap (λ x. made_content d.version d.horizon d.depth d.answered d.stretches x c.idle) accounts.0 in
+    let i = ap (λ x. made_content d.version d.horizon d.depth d.answered d.stretches d.accounts x) accounts.1 in
+    v ∙ h ∙ k ∙ a ∙ s ∙ t ∙ i
 
 -- ---- each is one line
 
@@ -265,20 +273,20 @@ answer_one : (c : Command) (p : Answer) → MayAnswer c p → AreOneLine (answer
 answer_one c (Done seats) is = (refl, seats_lines seats (seats_all c seats is))
 answer_one c (Refused r) is = (refusal_line r is, tt)
 
-answered_one : (h l : ℕ) (ps : List Answered) → h ≤ 100000 → AreAnswered h l ps
-    → AreOneLine (flat_map answered_lines ps)
-answered_one h l [] fits are = tt
-answered_one h l (a ∷ more) fits are =
+answered_one : (v h l : ℕ) (ps : List Answered) → h ≤ 1000000 → AreAnswered v h l ps
+    → AreOneLine (flat_map (answered_lines v) ps)
+answered_one v h l [] fits are = tt
+answered_one v h l (a ∷ more) fits are =
     let below : a.tick < h = are.3 in
-    all_append (Lacks 10) (answered_lines a) (flat_map answered_lines more)
-    (item_line (item_of a) (are.0, omega arith), answer_one a.command a.answer are.1)
-    (answered_one h a.tick more fits are.4)
+    all_append (Lacks 10) (answered_lines v a) (flat_map (answered_lines v) more)
+    (item_line v (item_of a) (are.0, omega arith), answer_one a.command a.answer are.1)
+    (answered_one v h a.tick more fits are.4)
 
 stretches_one : (ss : List Stretch) → AllByRecursion IsStretch ss → AreOneLine (map stretch_text ss)
 stretches_one [] are = tt
 stretches_one (s ∷ ss) are = (stretch_line s are.0, stretches_one ss are.1)
 
-accounts_one : (h : ℕ) (ps : List Account) → h ≤ 100000 → AllByRecursion (IsAccount h) ps
+accounts_one : (h : ℕ) (ps : List Account) → h ≤ 1000000 → AllByRecursion (IsAccount h) ps
     → AreOneLine (map account_text ps)
 accounts_one h [] fits are = tt
 accounts_one h (a ∷ ps) fits are = (account_line h a fits are.0, accounts_one h ps fits are.1)
@@ -288,15 +296,16 @@ small_line n lt = number_lacks 10 n (omega arith) (omega arith)
 
 pub content_one : (c : Content) → IsContent c → AreOneLine (content_lines c)
 content_one c is =
-    let fits : c.horizon ≤ 100000 = is.horizon.1 in
+    let fits = horizon_fits c.version c.horizon is.horizon in
+    let first : c.version ≤ 2 = is.version.1 in
     let low = is.depth in (
-      refl,
+      small_line c.version (omega arith),
       (
         small_line c.horizon (omega arith),
         (
           small_line c.depth (omega arith),
-          all_append (Lacks 10) (flat_map answered_lines c.answered) _
-              (answered_one c.horizon 0 c.answered fits is.answered) (
+          all_append (Lacks 10) (flat_map (answered_lines c.version) c.answered) _
+              (answered_one c.version c.horizon 0 c.answered fits is.answered) (
                 refl,
                 all_append (Lacks 10) (map stretch_text c.stretches) _
                     (stretches_one c.stretches (cover_stretches 0 None c.stretches c.horizon fits is.cover)) (

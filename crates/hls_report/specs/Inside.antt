@@ -1,4 +1,5 @@
 pub mod Rests
+pub mod HeadLines
 pub mod AccountLines
 pub mod CommandLines
 pub mod RunLines

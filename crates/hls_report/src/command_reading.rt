@@ -96,8 +96,8 @@ fn answer(alloc: Global, lines: &mut Lines<'_>, command: &Command) -> Result<Ans
     requires { CanCount lines.old }
     ensures ok { IfOk result (λ answer. MayAnswer command.now answer
         × AnswerPasses command.now (answer_lines answer) lines.old lines.new) }
-    ensures err { IfErr result (λ fault. (horizon last left : ℕ) →
-        FailsAt (AnswerRest command.now horizon last left) lines.old fault) }
+    ensures err { IfErr result (λ fault. (version horizon last left : ℕ) →
+        FailsAt (AnswerRest command.now version horizon last left) lines.old fault) }
 {
     let Some(line) = lines.next() else {
         return Err(lines.fault());
@@ -116,14 +116,15 @@ fn answer(alloc: Global, lines: &mut Lines<'_>, command: &Command) -> Result<Ans
 fn next_item(
     alloc: Global,
     lines: &mut Lines<'_>,
+    version: u8,
     horizon: u32,
     last: u32,
     left: u32,
 ) -> Result<Option<Item>, ReportFault>
     requires room { CanCount lines.old }
-    requires few { horizon ≤ 100000 }
-    ensures ok { IfOk result (λ found. ItemPasses horizon last left found lines.old lines.new) }
-    ensures err { IfErr result (λ fault. FailsAt (CommandRest horizon last left) lines.old fault) }
+    requires few { horizon ≤ 1000000 }
+    ensures ok { IfOk result (λ found. ItemPasses version horizon last left found lines.old lines.new) }
+    ensures err { IfErr result (λ fault. FailsAt (CommandRest version horizon last left) lines.old fault) }
 {
     let Some(line) = lines.next() else {
         return Err(lines.fault());
@@ -134,7 +135,7 @@ fn next_item(
     if left == 0 {
         return Err(lines.fault());
     }
-    match item(alloc, line, horizon, last)? {
+    match item(alloc, version, line, horizon, last)? {
         Some(item) => Ok(Some(item)),
         None => Err(lines.fault()),
     }
@@ -144,16 +145,17 @@ fn next_item(
 fn next_command(
     alloc: Global,
     lines: &mut Lines<'_>,
+    version: u8,
     horizon: u32,
     last: u32,
     left: u32,
 ) -> Result<Option<Answered>, ReportFault>
     requires room { CanCount lines.old }
-    requires few { horizon ≤ 100000 }
-    ensures ok { IfOk result (λ found. CommandPasses horizon last left found lines.old lines.new) }
-    ensures err { IfErr result (λ fault. FailsAt (CommandRest horizon last left) lines.old fault) }
+    requires few { horizon ≤ 1000000 }
+    ensures ok { IfOk result (λ found. CommandPasses version horizon last left found lines.old lines.new) }
+    ensures err { IfErr result (λ fault. FailsAt (CommandRest version horizon last left) lines.old fault) }
 {
-    match next_item(alloc, lines, horizon, last, left)? {
+    match next_item(alloc, lines, version, horizon, last, left)? {
         Some(item) => {
             let answer = answer(alloc, lines, &item.command)?;
             Ok(Some(Answered {
@@ -177,20 +179,21 @@ fn keep_answered(answered: &mut Vec<Answered>, one: Answered) -> Result<(), Allo
 pub fn commands(
     alloc: Global,
     lines: &mut Lines<'_>,
+    version: u8,
     horizon: u32,
 ) -> Result<Vec<Answered>, ReportFault>
     requires room { CanCount lines.old }
-    requires few { horizon ≤ 100000 }
-    ensures ok { IfOk result (λ answered. AreAnswered horizon 0 answered.items
+    requires few { horizon ≤ 1000000 }
+    ensures ok { IfOk result (λ answered. AreAnswered version horizon 0 answered.items
         × (length answered.items ≤ 65536)
-        × Passes (CommandRest horizon 0 65536) (RunRest horizon 0 None [])
-        (flat_map answered_lines answered.items ++ codes "schedule" ∷ []) lines.old lines.new) }
-    ensures err { IfErr result (λ fault. FailsAt (CommandRest horizon 0 65536) lines.old fault) }
+        × Passes (CommandRest version horizon 0 65536) (RunRest horizon 0 None [])
+        (flat_map (answered_lines version) answered.items ++ codes "schedule" ∷ []) lines.old lines.new) }
+    ensures err { IfErr result (λ fault. FailsAt (CommandRest version horizon 0 65536) lines.old fault) }
 {
     let mut answered = Vec::new(alloc);
     let mut last = 0;
     let mut left = MOST_COMMANDS;
-    while let Some(one) = next_command(alloc, lines, horizon, last, left)? {
+    while let Some(one) = next_command(alloc, lines, version, horizon, last, left)? {
         last = one.tick;
         left -= 1;
         keep_answered(&mut answered, one)?;

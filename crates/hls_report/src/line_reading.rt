@@ -22,17 +22,24 @@ use hls_report_text::{Account, Seated, put_command};
 use hls_text::{after, cut};
 use std::alloc::{AllocError, Global};
 
-/// The item that a line spells, of a tick from the last one on and below the horizon.
-pub fn item(alloc: Global, line: &[u8], horizon: u32, last: u32) -> Result<Option<Item>, AllocError>
-    requires { horizon ≤ 100000 }
+/// The item of this version that a line spells, of a tick from the last one on and below the horizon.
+pub fn item(
+    alloc: Global,
+    version: u8,
+    line: &[u8],
+    horizon: u32,
+    last: u32,
+) -> Result<Option<Item>, AllocError>
+    requires { horizon ≤ 1000000 }
     ensures found { IfOk result (λ found.
-        IfSome found (λ item. IsNext horizon last item × (line.now ≡ item_text item))) }
+        IfSome found (λ item. IsNext version horizon last item × (line.now ≡ item_text version item))) }
     ensures exact { IfOk result (λ found.
-        (item : Item) → IsNext horizon last item → line.now ≡ item_text item → found ≡ Some item) }
+        (item : Item) → IsNext version horizon last item → line.now ≡ item_text version item →
+        found ≡ Some item) }
 {
-    match read_item(alloc, line, horizon, last)? {
+    match read_item(alloc, version, line, horizon, last)? {
         Some(item) => {
-            if spells(alloc, line, &item)? {
+            if spells(alloc, version, line, &item)? {
                 Ok(Some(item))
             } else {
                 Ok(None)
@@ -42,12 +49,12 @@ pub fn item(alloc: Global, line: &[u8], horizon: u32, last: u32) -> Result<Optio
     }
 }
 
-fn spells(alloc: Global, line: &[u8], item: &Item) -> Result<bool, AllocError>
-    requires { IsCommand item.now.command }
-    ensures { IfOk result (λ is. IsTrue is ↔ (line.now ≡ item_text item.now)) }
+fn spells(alloc: Global, version: u8, line: &[u8], item: &Item) -> Result<bool, AllocError>
+    requires { IsCommand version item.now.command }
+    ensures { IfOk result (λ is. IsTrue is ↔ (line.now ≡ item_text version item.now)) }
 {
     let mut text = Vec::with_capacity(alloc, line.len())?;
-    put_command(&mut text, item.tick, &item.command)?;
+    put_command(&mut text, version, item.tick, &item.command)?;
     Ok(line == text.as_slice())
 }
 
@@ -170,7 +177,7 @@ fn account_back(text: &[u8]) -> Option<(Guarantee, u32, u32)>
 
 /// The account that a line spells.
 pub fn account(line: &[u8], horizon: u32) -> Option<Account>
-    requires { horizon ≤ 100000 }
+    requires { horizon ≤ 1000000 }
     ensures found { IfSome result (λ a. IsAccount horizon a × (line.now ≡ account_text a)) }
     ensures exact { (a : Account) → IsAccount horizon a → line.now ≡ account_text a → result ≡ Some a }
 {

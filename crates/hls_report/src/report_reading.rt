@@ -1,10 +1,10 @@
 // Reading a whole report.
 ghost use Rattle.std.specs.Prelude.{◌≡◌, ◌^◌, ◌-◌, ◌<◌, ◌≤◌, ◌++◌, map, length, IfOk, IfErr};
 ghost use Rattle.std.specs.List.{AllByRecursion};
-ghost use Rattle.hls_chron.specs.Ranges.{IsWithin};
-ghost use Rattle.hls_report_text.specs.ReportText.{account_text, head_lines, end_lines, ended};
+ghost use Rattle.hls_report_text.specs.ReportText.{account_text, end_lines, ended};
 ghost use Rattle.hls_report_text.specs.WellFormed.{IsAccount, IsReportText};
-ghost use Rattle.hls_report.specs.Inside.Rests.{CanCount, Passes, FailsAt, HeaderRest, CommandRest, AccountRest};
+ghost use Rattle.hls_report.specs.Inside.Rests.{CanCount, Passes, FailsAt, HeaderRest, AccountRest};
+ghost use Rattle.hls_report.specs.Inside.HeadLines.{IsHeadRead};
 ghost use Rattle.hls_report.specs.Reports.{HasNamesByUse, ReadsAs, IsBadAt};
 
 use crate::ReportFault;
@@ -17,17 +17,28 @@ use hls_chron::List;
 use hls_report_text::{Account, Report};
 use std::alloc::Global;
 
+/// What stands before the commands.
+#[derive(Debug, Drop)]
+struct Heading {
+    version: u8,
+    horizon: u32,
+    depth: u8,
+}
+
 /// Reads the lines before the commands.
-fn head(lines: &mut Lines<'_>) -> Result<(u32, u8), ReportFault>
+fn head(lines: &mut Lines<'_>) -> Result<Heading, ReportFault>
     requires { CanCount lines.old }
-    ensures ok { IfOk result (λ p. IsWithin 1 100000 p.0 × (p.1 ≤ 6)
-        × Passes HeaderRest (CommandRest p.0 0 65536) (head_lines p.0 p.1) lines.old lines.new) }
+    ensures ok { IfOk result (IsHeadRead lines.old lines.new) }
     ensures err { IfErr result (λ fault. FailsAt HeaderRest lines.old fault) }
 {
-    header(lines)?;
-    let horizon = horizon(lines)?;
-    let depth = depth(lines, horizon)?;
-    Ok((horizon, depth))
+    let version = header(lines)?;
+    let horizon = horizon(lines, version)?;
+    let depth = depth(lines, version, horizon)?;
+    Ok(Heading {
+        version,
+        horizon,
+        depth,
+    })
 }
 
 /// Reads the accounts, the idle ticks and the end.
@@ -37,7 +48,7 @@ fn tail(
     horizon: u32,
 ) -> Result<(Vec<Account>, u32), ReportFault>
     requires room { CanCount lines.old }
-    requires few { horizon ≤ 100000 }
+    requires few { horizon ≤ 1000000 }
     ensures ok { IfOk result (λ p. AllByRecursion (IsAccount horizon) p.0.items × (p.1 < 2 ^ 32)
         × (lines.old.rest.now ≡ ended (map account_text p.0.items ++ end_lines p.1))) }
     ensures err { IfErr result (λ fault. FailsAt (AccountRest horizon) lines.old fault) }
@@ -54,13 +65,14 @@ fn report(alloc: Global, lines: &mut Lines<'_>) -> Result<Report, ReportFault>
     ensures names { IfOk result HasNamesByUse }
     ensures err { IfErr result (λ fault. FailsAt HeaderRest lines.old fault) }
 {
-    let (horizon, depth) = head(lines)?;
-    let answered = commands(alloc, lines, horizon)?;
-    let schedule = runs(alloc, lines, horizon)?;
-    let (accounts, idle) = tail(alloc, lines, horizon)?;
+    let head = head(lines)?;
+    let answered = commands(alloc, lines, head.version, head.horizon)?;
+    let schedule = runs(alloc, lines, head.horizon)?;
+    let (accounts, idle) = tail(alloc, lines, head.horizon)?;
     Ok(Report {
-        horizon,
-        depth,
+        version: head.version,
+        horizon: head.horizon,
+        depth: head.depth,
         answered: List::of(answered),
         names: schedule.names,
         runs: schedule.runs,

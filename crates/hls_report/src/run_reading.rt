@@ -38,7 +38,7 @@ struct RunFront<'a> {
 
 /// The last tick of a run from that tick on, and the words of its path.
 fn run_front(line: &[u8], from: u32, horizon: u32) -> Option<RunFront<'_>>
-    requires { horizon ≤ 100000 }
+    requires { horizon ≤ 1000000 }
     ensures { MatchOption result
         ((s : Stretch) → s.from ≡ from → from ≤ s.to → s.to < horizon → line.now ≡ stretch_text s → ⊥)
         (λ f. (from ≤ f.to) × (f.to < horizon)
@@ -88,7 +88,7 @@ fn told_run<'a>(
     last: &[u8],
     horizon: u32,
 ) -> Result<Option<ToldRun<'a>>, AllocError>
-    requires few { horizon ≤ 100000 }
+    requires few { horizon ≤ 1000000 }
     requires known { length known.old.keys ≤ 2 ^ 16 }
     ensures { IfOk result (λ found. MatchOption found
         ((s : Stretch) → IsNextRun horizon from last.now known.old.keys s →
@@ -124,7 +124,7 @@ fn next_run<'a>(
     horizon: u32,
 ) -> Result<ToldRun<'a>, ReportFault>
     requires room { CanCount lines.old }
-    requires few { horizon ≤ 100000 }
+    requires few { horizon ≤ 1000000 }
     requires left { from < horizon }
     requires known { AreNames known.old.keys }
     ensures ok { IfOk result (λ t. IsRunRead horizon from last.now known.old.keys known.new.keys t.words.now
@@ -174,7 +174,7 @@ fn names_of(alloc: Global, known: &IndexSet<Name>) -> Result<List<Name>, AllocEr
 /// Reads the runs, and the line behind them.
 pub fn runs(alloc: Global, lines: &mut Lines<'_>, horizon: u32) -> Result<Schedule, ReportFault>
     requires room { CanCount lines.old }
-    requires few { horizon ≤ 100000 }
+    requires few { horizon ≤ 1000000 }
     ensures ok { IfOk result (λ s. IsSchedule horizon s
         × Passes (RunRest horizon 0 None []) (AccountRest horizon)
         (map stretch_text (stretches_of s) ++ codes "accounts" ∷ []) lines.old lines.new) }

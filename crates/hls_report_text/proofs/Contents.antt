@@ -104,6 +104,7 @@ runs_short known from last (s ∷ ss) end cover = (
 
 pub report_of : Content → Report
 report_of c = record {
+  version = c.version;
   horizon = c.horizon;
   depth = c.depth;
   answered = c.answered;
@@ -115,6 +116,7 @@ report_of c = record {
 
 with_stretches : Content → List Stretch → Content
 with_stretches c ss = record {
+  version = c.version;
   horizon = c.horizon;
   depth = c.depth;
   answered = c.answered;

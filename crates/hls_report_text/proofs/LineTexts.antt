@@ -1,8 +1,8 @@
 -- One line's text is of one item, one seat, one stretch and one account, and is one line.
-use Rattle.std.proofs.Common.{◌≡◌, ℕ, ◌^◌, ◌<◌, ◌≤◌, ◌++◌, true, false, List, [], ◌∷◌, refl, sym, ap}
+use Rattle.std.proofs.Common.{◌≡◌, ℕ, ◌^◌, ◌<◌, ◌≤◌, ◌++◌, Bool, true, false, List, [], ◌∷◌, refl, sym, ap}
 use Rattle.std.proofs.Common.{◌∙◌, subst, arith, append_assoc, drop, get_or, inl, inr, length}
 use Rattle.std.proofs.lemmas.List.Elements.{All-head, All-tail}
-use Rattle.std.specs.Prelude.{◌==◌, nat_le, codes, decimal, flat_map, Option, Some, None, Ok}
+use Rattle.std.specs.Prelude.{◌==◌, nat_le, codes, decimal, flat_map, if◌then◌else◌, Option, Some, None}
 use Rattle.std.specs.List.{AllByRecursion}
 use Rattle.hls_text.specs.Lines.{Text}
 use Rattle.std.proofs.lemmas.Bool.{eq-eqb, leb-true}
@@ -11,8 +11,9 @@ use Rattle.hls_text.specs.Numbers.{is_digit, are_digits}
 use Rattle.hls_text.proofs.NumberLaws.{digits_of_decimal}
 use Rattle.hls_text.specs.Tokens.{tokens_of}
 use Rattle.hls_frac.specs.declared.Frac.{Frac}
-use Rattle.hls_frac.specs.Frac.{IsWithin}
+use Rattle.hls_frac.specs.Frac.{IsWithin as IsFractionWithin}
 use Rattle.hls_chron.specs.Name.{IsName}
+use Rattle.hls_chron.specs.Ranges.{IsWithin, most_ticks}
 use Rattle.hls_chron.specs.declared.plain.Kind.{Kind}
 use Rattle.hls_chron.specs.declared.plain.Kind.TheVariants as kinds
 use Rattle.hls_guarantee.specs.declared.Guarantee.{Guarantee}
@@ -49,11 +50,29 @@ use Rattle.hls_report_text.proofs.Marks.{name_lacks}
 use Rattle.hls_report_text.proofs.Marks.{plain_lacks, marked, marked_same, named}
 use Rattle.hls_text.proofs.Marks.{lacks_byte, both}
 
+-- ---- horizons
+
+most_by : (first : Bool) → (if first then 100000 else 1000000) ≤ 1000000
+most_by true = omega arith
+most_by false = omega arith
+
+-- whatever the version, a horizon is no longer than that
+pub horizon_fits : (version horizon : ℕ) → IsWithin 1 (most_ticks version) horizon → horizon ≤ 1000000
+horizon_fits version horizon is = let most = most_by (version == 1) in omega (arith, is.1, most)
+
+least_by : (first : Bool) → 1 ≤ (if first then 100000 else 1000000)
+least_by true = omega arith
+least_by false = omega arith
+
+-- each version has a horizon of one tick
+pub least_horizon : (version : ℕ) → IsWithin 1 (most_ticks version) 1
+least_horizon version = (omega arith, least_by (version == 1))
+
 -- ---- items
 
--- a command, and a tick of a report
-abbrev pub IsItem : Item → Type 0
-IsItem item = IsCommand item.command × (item.tick < 100000)
+-- a command of this version, and a tick of a report
+abbrev pub IsItem : (version : ℕ) → Item → Type 0
+IsItem version item = IsCommand version item.command × (item.tick < 1000000)
 
 at_word : IsWord (codes "at")
 at_word = (
@@ -61,27 +80,27 @@ at_word = (
   (record { low = omega arith; high = omega arith }, tt),
 )
 
-item_printable : (item : Item) → IsItem item → ArePrintable (item_forms item)
-item_printable item is =
-    let lt : item.tick < 100000 = is.1 in
-    (at_word, (decimal_word item.tick (omega arith), command_printable item.command is.0))
+item_printable : (version : ℕ) (item : Item) → IsItem version item → ArePrintable (item_forms version item)
+item_printable version item is =
+    let lt : item.tick < 1000000 = is.1 in
+    (at_word, (decimal_word item.tick (omega arith), command_printable version item.command is.0))
 
 -- the tokens of an item's text stand for it
-pub item_stands : (item : Item) → IsItem item → IsLine (item_forms item) (tokens_of (item_text item))
-item_stands item is =
-    let printable = item_printable item is in
-    subst (IsLine (item_forms item)) (sym (joined_tokens (item_forms item) (forms_words (item_forms item)
-    printable)))
-    (canonical_line (item_forms item) printable)
+pub item_stands : (version : ℕ) (item : Item) → IsItem version item
+    → IsLine (item_forms version item) (tokens_of (item_text version item))
+item_stands version item is =
+    let forms = item_forms version item in
+    let printable = item_printable version item is in
+    subst (IsLine forms) (sym (joined_tokens forms (forms_words forms printable))) (canonical_line forms printable)
 
-pub item_line : (item : Item) → IsItem item → Lacks 10 (item_text item)
-item_line item is =
-    plain_lacks (item_text item) (joined_plain (item_forms item) (forms_words (item_forms item)
-    (item_printable item is)))
+pub item_line : (version : ℕ) (item : Item) → IsItem version item → Lacks 10 (item_text version item)
+item_line version item is =
+    plain_lacks (item_text version item) (joined_plain (item_forms version item)
+    (forms_words (item_forms version item) (item_printable version item is)))
 
 -- ---- guarantees and derivations
 
-fraction_line : (f : Frac) → IsWithin f (10 ^ 13) (10 ^ 8) → Lacks 10 (fraction_text f)
+fraction_line : (f : Frac) → IsFractionWithin f (10 ^ 13) (10 ^ 8) → Lacks 10 (fraction_text f)
 fraction_line f w =
     let num = number_lacks 10 f.num (omega arith) (fits_num f w) in
     let den = number_lacks 10 f.den (omega arith) (fits_den f w) in
@@ -272,7 +291,7 @@ span_same from to other more a b c d e =
 -- ticks of a report, and a path
 pub record IsStretch (s : Stretch) : Type 0 where
   pub forward : s.from ≤ s.to
-  pub within : s.to < 100000
+  pub within : s.to < 1000000
   pub path : IsPath s.path
 
 pub stretch_same : (a b : Stretch) → IsStretch a → IsStretch b → stretch_text a ≡ stretch_text b → a ≡ b
@@ -335,7 +354,7 @@ stay : Text → (from to : ℕ) → Guarantee → (ready served : ℕ) → Accou
 stay name from to kept ready served =
     record { name = name; from = from; to = to; kept = kept; ready = ready; served = served }
 
-pub account_same : (horizon : ℕ) (a b : Account) → horizon ≤ 100000 → IsAccount horizon a
+pub account_same : (horizon : ℕ) (a b : Account) → horizon ≤ 1000000 → IsAccount horizon a
     → IsAccount horizon b
     → account_text a ≡ account_text b → a ≡ b
 unfolding kept_text stay
@@ -368,7 +387,7 @@ ticks_line ready served a b =
     lacks_both 10 (decimal ready) (codes " served " ++ decimal served) (number_lacks 10 ready (omega arith)
     (omega arith)) (number_lacks 10 served (omega arith) (omega arith))
 
-pub account_line : (horizon : ℕ) (a : Account) → horizon ≤ 100000 → IsAccount horizon a → Lacks 10
+pub account_line : (horizon : ℕ) (a : Account) → horizon ≤ 1000000 → IsAccount horizon a → Lacks 10
     (account_text a)
 account_line horizon a fits is =
     let forward = is.forward in

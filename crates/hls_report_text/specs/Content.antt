@@ -9,6 +9,7 @@ use Rattle.hls_report_text.specs.declared.report.Account.{Account}
 use Rattle.hls_report_text.specs.declared.report.Report.{Report}
 
 pub record Content : Type 0 where
+  pub version : ℕ
   pub horizon : ℕ
   pub depth : ℕ
   pub answered : List Answered
@@ -25,6 +26,7 @@ stretch_of names run = record { from = run.from; to = run.to; path = option_map 
 -- two reports with the same content are the same, whatever their lists of names are
 abbrev pub content_of : Report → Content
 content_of r = record {
+  version = r.version;
   horizon = r.horizon;
   depth = r.depth;
   answered = r.answered;

@@ -18,9 +18,9 @@ use Rattle.hls_report_text.specs.declared.report.Report.{Report}
 use Rattle.hls_report_text.specs.declared.stretch.Stretch.{Stretch}
 use Rattle.hls_report_text.specs.Content.{Content, content_of}
 
--- at T and the command's canonical spelling
-abbrev pub item_text : Item → Text
-item_text item = joined (item_forms item)
+-- at T and the command's canonical spelling in this version
+abbrev pub item_text : (version : ℕ) → Item → Text
+item_text version item = joined (item_forms version item)
 
 abbrev pub item_of : Answered → Item
 item_of a = record { tick = a.tick; command = a.command }
@@ -72,8 +72,8 @@ abbrev pub answer_lines : Answer → List Text
 answer_lines (Done seats) = codes "= done" ∷ map seat_text seats
 answer_lines (Refused refusal) = (codes "= refused " ++ refusal_text refusal) ∷ []
 
-abbrev pub answered_lines : Answered → List Text
-answered_lines a = item_text (item_of a) ∷ answer_lines a.answer
+abbrev pub answered_lines : (version : ℕ) → Answered → List Text
+answered_lines version a = item_text version (item_of a) ∷ answer_lines a.answer
 
 -- ---- the schedule and the accounts
 
@@ -97,8 +97,9 @@ account_text a = two_words a.name (two_words (span_text a.from a.to) (spelling a
 
 -- ---- reports
 
-abbrev pub head_lines : (horizon depth : ℕ) → List Text
-head_lines horizon depth = codes "hls-report 1" ∷ (codes "horizon " ++ decimal horizon)
+abbrev pub head_lines : (version horizon depth : ℕ) → List Text
+head_lines version horizon depth =
+    (codes "hls-report " ++ decimal version) ∷ (codes "horizon " ++ decimal horizon)
     ∷ (codes "depth " ++ decimal depth) ∷ []
 
 abbrev pub end_lines : (idle : ℕ) → List Text
@@ -111,7 +112,7 @@ abbrev pub accounts_lines : List Account → List Text
 accounts_lines accounts = codes "accounts" ∷ map account_text accounts
 
 abbrev pub content_lines : Content → List Text
-content_lines c = head_lines c.horizon c.depth ++ (flat_map answered_lines c.answered
+content_lines c = head_lines c.version c.horizon c.depth ++ (flat_map (answered_lines c.version) c.answered
     ++ (schedule_lines c.stretches ++ (accounts_lines c.accounts ++ end_lines c.idle)))
 
 abbrev pub with_end : Text → Text

@@ -5,7 +5,7 @@ use Rattle.std.specs.List.{AllByRecursion, list_any}
 use Rattle.std.specs.Str.{bytes_eq}
 use Rattle.hls_text.specs.Lines.{Text}
 use Rattle.hls_chron.specs.Name.{IsName}
-use Rattle.hls_chron.specs.Ranges.{IsWithin}
+use Rattle.hls_chron.specs.Ranges.{IsWithin, IsVersion, most_ticks}
 use Rattle.hls_chron.specs.declared.plain.Kind.{Kind}
 use Rattle.hls_chron.specs.declared.plain.Kind.TheVariants as kinds
 use Rattle.hls_guarantee.specs.Limits.{IsValid}
@@ -79,10 +79,11 @@ MayAnswer command (Done seats) = AreSeats command seats
 MayAnswer command (Refused refusal) = IsRefusal refusal
 
 -- ticks never fall and are below the horizon
-abbrev pub AreAnswered : (horizon last : ℕ) → List Answered → Type 0
-AreAnswered horizon last [] = Unit {0}
-AreAnswered horizon last (a ∷ more) = IsCommand a.command × MayAnswer a.command a.answer × (last ≤ a.tick)
-    × (a.tick < horizon) × AreAnswered horizon a.tick more
+abbrev pub AreAnswered : (version horizon last : ℕ) → List Answered → Type 0
+AreAnswered version horizon last [] = Unit {0}
+AreAnswered version horizon last (a ∷ more) =
+    IsCommand version a.command × MayAnswer a.command a.answer × (last ≤ a.tick) × (a.tick < horizon)
+    × AreAnswered version horizon a.tick more
 
 -- ---- the schedule
 
@@ -133,10 +134,11 @@ pub record IsAccount (horizon : ℕ) (a : Account) : Type 0 where
 -- ---- reports
 
 pub record IsContent (c : Content) : Type 0 where
-  pub horizon : IsWithin 1 100000 c.horizon
+  pub version : IsVersion c.version
+  pub horizon : IsWithin 1 (most_ticks c.version) c.horizon
   pub depth : c.depth ≤ 6
   pub few : length c.answered ≤ 65536
-  pub answered : AreAnswered c.horizon 0 c.answered
+  pub answered : AreAnswered c.version c.horizon 0 c.answered
   pub cover : Cover 0 None c.stretches c.horizon
   pub names : FewNames [] c.stretches
   pub accounts : AllByRecursion (IsAccount c.horizon) c.accounts

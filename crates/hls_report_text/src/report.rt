@@ -78,6 +78,8 @@ pub struct Account {
 /// What a run of a scenario tells. Ticks are counted from 0 to below the horizon.
 #[derive(Debug, Drop)]
 pub struct Report {
+    /// The version of the language, 1 or 2.
+    pub version: u8,
     pub horizon: u32,
     /// How many conversions a derivation had at most.
     pub depth: u8,

@@ -24,10 +24,10 @@ fn writes_head_runs_and_end(rt: HostRuntime) -> Result<(), Fail> {
         },
     ];
     let mut out = Vec::new(rt.alloc());
-    put_head(&mut out, 11, 3)?;
+    put_head(&mut out, 2, 11, 3)?;
     put_runs(&mut out, names.as_slice(), runs.as_slice())?;
     put_end(&mut out, 1)?;
-    let wanted = b"hls-report 1\nhorizon 11\ndepth 3\n0..9 cpu/root/a\n10..10 idle\nidle 1\nend\n";
+    let wanted = b"hls-report 2\nhorizon 11\ndepth 3\n0..9 cpu/root/a\n10..10 idle\nidle 1\nend\n";
     assert_eq!(rt; out.as_slice(), wanted.as_slice());
     Ok(())
 }

@@ -30,8 +30,8 @@ pub fn write_report(alloc: Global, report: &Report) -> Result<Vec<u8>, AllocErro
     ensures { IfOk result (λ text. text.items ≡ report_text report.now) }
 {
     let mut out = Vec::new(alloc);
-    put_head(&mut out, report.horizon, report.depth)?;
-    put_all_answered(&mut out, report.answered.items())?;
+    put_head(&mut out, report.version, report.horizon, report.depth)?;
+    put_all_answered(&mut out, report.version, report.answered.items())?;
     put(&mut out, b"schedule\n")?;
     put_runs(&mut out, report.names.items(), report.runs.items())?;
     put(&mut out, b"accounts\n")?;
@@ -44,60 +44,69 @@ pub fn write_report(alloc: Global, report: &Report) -> Result<Vec<u8>, AllocErro
 ///
 /// # Errors
 /// Returns `AllocError` for want of memory.
-pub fn put_head(out: &mut Vec<u8>, horizon: u32, depth: u8) -> Result<(), AllocError>
-    ensures { OnOk result (out.new.items ≡ out.old.items ++ ended (head_lines horizon depth)) }
+pub fn put_head(out: &mut Vec<u8>, version: u8, horizon: u32, depth: u8) -> Result<(), AllocError>
+    ensures { OnOk result (out.new.items ≡ out.old.items ++ ended (head_lines version horizon depth)) }
 {
-    put(out, b"hls-report 1\nhorizon ")?;
+    put(out, b"hls-report ")?;
+    put_number(out, u128::from(version))?;
+    put(out, b"\nhorizon ")?;
     put_number(out, u128::from(horizon))?;
     put(out, b"\ndepth ")?;
     put_number(out, u128::from(depth))?;
     put(out, b"\n")
 }
 
-fn put_all_answered(out: &mut Vec<u8>, answered: &[Answered]) -> Result<(), AllocError>
-    requires { AllByRecursion (λ a. IsCommand a.command × MayAnswer a.command a.answer) answered.now }
+fn put_all_answered(out: &mut Vec<u8>, version: u8, answered: &[Answered]) -> Result<(), AllocError>
+    requires { AllByRecursion (λ a. IsCommand version a.command × MayAnswer a.command a.answer) answered.now }
     ensures { OnOk result (out.new.items
-        ≡ out.old.items ++ flat_map (λ a. ended (answered_lines a)) answered.now) }
+        ≡ out.old.items ++ flat_map (λ a. ended (answered_lines version a)) answered.now) }
 {
     for one in answered {
-        put_answered(out, one.tick, &one.command, &one.answer)?;
+        put_answered(out, version, one.tick, &one.command, &one.answer)?;
     }
     Ok(())
 }
 
-/// Appends the lines of a command at its tick, and of its answer.
+/// Appends the lines of a command at its tick in this version of the language, and of its answer.
 ///
 /// # Errors
 /// Returns `AllocError` for want of memory.
 pub fn put_answered(
     out: &mut Vec<u8>,
+    version: u8,
     tick: u32,
     command: &Command,
     answer: &Answer,
 ) -> Result<(), AllocError>
-    requires command { IsCommand command.now }
+    requires command { IsCommand version command.now }
     requires answer { MayAnswer command.now answer.now }
     ensures { OnOk result (out.new.items ≡ out.old.items
-        ++ ended (answered_lines (record { tick = tick; command = command.now; answer = answer.now }))) }
+        ++ ended (answered_lines version
+        (record { tick = tick; command = command.now; answer = answer.now }))) }
 {
-    put_command(out, tick, command)?;
+    put_command(out, version, tick, command)?;
     put(out, b"\n")?;
     put_answer(out, answer)
 }
 
-/// Appends a tick and a command.
+/// Appends a tick and a command, in this version of the language.
 ///
 /// # Errors
 /// Returns `AllocError` for want of memory.
-pub fn put_command(out: &mut Vec<u8>, tick: u32, command: &Command) -> Result<(), AllocError>
-    requires { IsCommand command.now }
+pub fn put_command(
+    out: &mut Vec<u8>,
+    version: u8,
+    tick: u32,
+    command: &Command,
+) -> Result<(), AllocError>
+    requires { IsCommand version command.now }
     ensures { OnOk result (out.new.items
-        ≡ out.old.items ++ item_text (record { tick = tick; command = command.now })) }
+        ≡ out.old.items ++ item_text version (record { tick = tick; command = command.now })) }
 {
     put(out, b"at ")?;
     put_number(out, u128::from(tick))?;
     put(out, b" ")?;
-    hls_scenario::put_command(out, command)
+    hls_scenario::put_command(out, version, command)
 }
 
 fn put_answer(out: &mut Vec<u8>, answer: &Answer) -> Result<(), AllocError>

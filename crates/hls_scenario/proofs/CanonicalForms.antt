@@ -1,10 +1,11 @@
 -- A scenario within the grammar has lines that can be printed.
 use Rattle.std.proofs.Common.{◌≡◌, ℕ, ◌<◌, ◌≤◌, Bool, true, false, List, [], ◌∷◌, ◌++◌}
-use Rattle.std.proofs.Common.{refl, arith}
-use Rattle.std.specs.Prelude.{◌&&◌, nat_le, codes, decimal, map, Option, Some, None}
+use Rattle.std.proofs.Common.{refl, arith, cond}
+use Rattle.std.specs.Prelude.{◌&&◌, ◌==◌, nat_le, codes, decimal, map, Option, Some, None}
 use Rattle.std.specs.List.{AllByRecursion, list_all}
 use Rattle.std.proofs.lemmas.Bool.{leb-true}
 use Rattle.hls_text.specs.Lines.{Text}
+use Rattle.hls_chron.specs.Ranges.{most_ticks}
 use Rattle.hls_chron.specs.declared.plain.Config.{Config}
 use Rattle.hls_chron.specs.declared.plain.Config.TheVariants as configs
 use Rattle.hls_chron.specs.declared.plain.Terms.{Terms}
@@ -20,7 +21,7 @@ use Rattle.hls_scenario.specs.declared.scenario.Command.TheVariants.{Load, Threa
 use Rattle.hls_scenario.specs.declared.scenario.Item.{Item}
 use Rattle.hls_scenario.specs.declared.scenario.Scenario.{Scenario}
 use Rattle.hls_scenario.specs.Forms.{the, number, pair_forms, guarantee_forms, terms_forms}
-use Rattle.hls_scenario.specs.Forms.{config_forms, spot_forms, perch_forms}
+use Rattle.hls_scenario.specs.Forms.{config_forms, quantum_forms, spot_forms, perch_forms}
 use Rattle.hls_scenario.specs.Forms.{more_perches_forms, perches_forms, burst_forms, command_forms, item_forms}
 use Rattle.hls_scenario.specs.Forms.{depth_lines, scenario_lines}
 use Rattle.hls_scenario.specs.Grammar.{IsTerms, IsSpot, IsPerch, IsLoad, IsBurst, IsCommand, AreItems}
@@ -128,79 +129,107 @@ perches_printable (perch ∷ perches) are =
     all_append IsPrintable (perch_forms perch) (more_perches_forms perches) (perch_printable perch are.0)
     (more_printable perches are.1)
 
-config_printable : (config : Config) (perches : List Perch) → IsLoad config perches
-    → ArePrintable (config_forms config)
-config_printable configs.Cpu perches is = tt
-config_printable configs.Fp perches is = (word (codes "fp") refl, tt)
-config_printable configs.Edf perches is = (word (codes "edf") refl, tt)
-config_printable (configs.Join ports) perches is = (word (codes "join") refl, tt)
-config_printable (configs.Sfq total most) [] is = absurd is
-config_printable (configs.Sfq total most) (perch ∷ []) is =
-    let fits : total ≤ 100 = is.0.0.1 in
-    let few : most ≤ 20 = is.0.1.1 in
-    (word (codes "sfq") refl, (small_word total (omega arith), (small_word most (omega arith), tt)))
-config_printable (configs.Sfq total most) (perch ∷ other ∷ perches) is = absurd is
-config_printable (configs.Rr quantum) [] is = absurd is
-config_printable (configs.Rr quantum) (perch ∷ []) is =
-    let fits : quantum ≤ 100 = is.0.1 in number_words (codes "rr") quantum refl (omega arith)
-config_printable (configs.Rr quantum) (perch ∷ other ∷ perches) is = absurd is
-config_printable (configs.Wheel frame) [] is = absurd is
-config_printable (configs.Wheel frame) (perch ∷ []) is =
-    let fits : frame ≤ 1000 = is.0.1 in number_words (codes "wheel") frame refl (omega arith)
-config_printable (configs.Wheel frame) (perch ∷ other ∷ perches) is = absurd is
+quantum_printable : (version quantum : ℕ) → quantum ≤ 100 → ArePrintable (quantum_forms version quantum)
+quantum_printable version quantum fits =
+    elim (version == 1) as (λ b. ArePrintable (cond b [] (number quantum ∷ []))) [
+      | true ↦ tt
+      | false ↦ (small_word quantum (omega arith), tt)
+    ]
 
-load_printable : (config : Config) (perches : List Perch) → IsLoad config perches
-    → ArePrintable (config_forms config ++ the (codes "on") ∷ perches_forms perches)
-load_printable config perches is =
-    all_append IsPrintable (config_forms config) (the (codes "on") ∷ perches_forms perches)
-    (config_printable config perches is)
-    (word (codes "on") refl, perches_printable perches (load_perches config perches is))
+config_printable : (version : ℕ) (config : Config) (perches : List Perch) → IsLoad version config perches
+    → ArePrintable (config_forms version config)
+config_printable version configs.Cpu perches is = tt
+config_printable version configs.Fp perches is = (word (codes "fp") refl, tt)
+config_printable version configs.Edf perches is = (word (codes "edf") refl, tt)
+config_printable version (configs.Join ports) perches is = (word (codes "join") refl, tt)
+config_printable version (configs.Sfq total most quantum) [] is = absurd is
+config_printable version (configs.Sfq total most quantum) (perch ∷ []) is =
+    let ranges = is.0.0 in
+    let fits : total ≤ 100 = ranges.0.1 in
+    let few : most ≤ 20 = ranges.1.1 in
+    let short : quantum ≤ 100 = ranges.2.1 in (
+      word (codes "sfq") refl,
+      (
+        small_word total (omega arith),
+        (small_word most (omega arith), quantum_printable version quantum short),
+      ),
+    )
+config_printable version (configs.Sfq total most quantum) (perch ∷ other ∷ perches) is = absurd is
+config_printable version (configs.Rr quantum) [] is = absurd is
+config_printable version (configs.Rr quantum) (perch ∷ []) is =
+    let fits : quantum ≤ 100 = is.0.0.1 in number_words (codes "rr") quantum refl (omega arith)
+config_printable version (configs.Rr quantum) (perch ∷ other ∷ perches) is = absurd is
+config_printable version (configs.Wheel frame) [] is = absurd is
+config_printable version (configs.Wheel frame) (perch ∷ []) is =
+    let fits : frame ≤ 1000 = is.0.0.1 in number_words (codes "wheel") frame refl (omega arith)
+config_printable version (configs.Wheel frame) (perch ∷ other ∷ perches) is = absurd is
+
+load_printable : (version : ℕ) (config : Config) (perches : List Perch) → IsLoad version config perches
+    → ArePrintable (config_forms version config ++ the (codes "on") ∷ perches_forms perches)
+load_printable version config perches is =
+    all_append IsPrintable (config_forms version config) (the (codes "on") ∷ perches_forms perches)
+    (config_printable version config perches is)
+    (word (codes "on") refl, perches_printable perches (load_perches version config perches is))
 
 burst_printable : (burst : Option ℕ) → IsBurst burst → ArePrintable (burst_forms burst)
 burst_printable None is = tt
 burst_printable (Some ticks) is =
     let fits : ticks ≤ 100000 = is.1 in number_words (codes "for") ticks refl (omega arith)
 
-pub command_printable : (command : Command) → IsCommand command → ArePrintable (command_forms command)
-command_printable (Load name config perches) is =
-    (word (codes "load") refl, (name_word name is.0, load_printable config perches is.1))
-command_printable (Thread name perch) is = (
+pub command_printable : (version : ℕ) (command : Command) → IsCommand version command
+    → ArePrintable (command_forms version command)
+command_printable version (Load name config perches) is =
+    (word (codes "load") refl, (name_word name is.0, load_printable version config perches is.1))
+command_printable version (Thread name perch) is = (
   word (codes "thread") refl,
   (name_word name is.0, (word (codes "on") refl, perch_printable perch is.1)),
 )
-command_printable (End name) is = (word (codes "end") refl, (name_word name is, tt))
-command_printable (Unload name) is = (word (codes "unload") refl, (name_word name is, tt))
-command_printable (Move name perch) is = (
+command_printable version (End name) is = (word (codes "end") refl, (name_word name is, tt))
+command_printable version (Unload name) is = (word (codes "unload") refl, (name_word name is, tt))
+command_printable version (Move name perch) is = (
   word (codes "move") refl,
   (name_word name is.0, (word (codes "to") refl, perch_printable perch is.1)),
 )
-command_printable (Wake name burst) is =
+command_printable version (Wake name burst) is =
     (word (codes "wake") refl, (name_word name is.0, burst_printable burst is.1))
-command_printable (Block name) is = (word (codes "block") refl, (name_word name is, tt))
+command_printable version (Block name) is = (word (codes "block") refl, (name_word name is, tt))
 
 -- ---- the lines of a scenario
 
-items_printable : (horizon last : ℕ) (items : List Item) → horizon ≤ 100000 → AreItems horizon last items
-    → ArePrintableLines (map item_forms items)
-items_printable horizon last [] fits are = tt
-items_printable horizon last (item ∷ items) fits are =
+items_printable : (version horizon last : ℕ) (items : List Item) → horizon ≤ 1000000
+    → AreItems version horizon last items → ArePrintableLines (map (item_forms version) items)
+items_printable version horizon last [] fits are = tt
+items_printable version horizon last (item ∷ items) fits are =
     let below : item.tick < horizon = are.2 in (
-      (word (codes "at") refl, (small_word item.tick (omega arith), command_printable item.command are.0)),
-      items_printable horizon item.tick items fits are.3,
+      (
+        word (codes "at") refl,
+        (small_word item.tick (omega arith), command_printable version item.command are.0),
+      ),
+      items_printable version horizon item.tick items fits are.3,
     )
 
 depth_printable : (depth : Option ℕ) → IsDepth depth → ArePrintableLines (depth_lines depth)
 depth_printable None is = tt
 depth_printable (Some depth) is = (number_words (codes "depth") depth refl (omega arith), tt)
 
+-- no version has a longer horizon
+pub most_ticks_fit : (version : ℕ) → most_ticks version ≤ 1000000
+most_ticks_fit version = elim (version == 1) as (λ b. cond b 100000 1000000 ≤ 1000000) [
+  | true ↦ omega arith
+  | false ↦ omega arith
+]
+
 pub scenario_printable : (s : Scenario) → IsScenario s → ArePrintableLines (scenario_lines s)
 scenario_printable s is =
-    let fits : s.horizon ≤ 100000 = is.horizon.1 in (
-      (word (codes "hls") refl, (word (codes "1") refl, tt)),
+    let version : s.version ≤ 2 = is.version.1 in
+    let within : s.horizon ≤ most_ticks s.version = is.horizon.1 in
+    let most = most_ticks_fit s.version in
+    let fits : s.horizon ≤ 1000000 = omega arith in (
+      (word (codes "hls") refl, (small_word s.version (omega arith), tt)),
       (
-        number_words (codes "horizon") s.horizon refl (omega arith),
-        all_append IsPrintableLine (depth_lines s.depth) (map item_forms s.items)
+        number_words (codes "horizon") s.horizon refl fits,
+        all_append IsPrintableLine (depth_lines s.depth) (map (item_forms s.version) s.items)
             (depth_printable s.depth is.depth)
-            (items_printable s.horizon 0 s.items fits is.items),
+            (items_printable s.version s.horizon 0 s.items fits is.items),
       ),
     )

@@ -1,8 +1,8 @@
 -- The canonical text stands for its scenario, and for its command.
-use Rattle.std.proofs.Common.{◌≡◌, List, [], ◌∷◌}
-use Rattle.std.proofs.Common.{refl, sym, ap, ◌∙◌, subst, arith}
-use Rattle.std.specs.Prelude.{codes, decimal, map, Result, Ok}
-use Rattle.hls_text.specs.Lines.{Text, lines_of, shown_of}
+use Rattle.std.proofs.Common.{◌≡◌, ℕ, List, [], ◌∷◌}
+use Rattle.std.proofs.Common.{refl, sym, ap, ◌∙◌, subst}
+use Rattle.std.specs.Prelude.{map}
+use Rattle.hls_text.specs.Lines.{Text, shown_of}
 use Rattle.hls_text.specs.Tokens.{tokens_of}
 use Rattle.hls_scenario.specs.declared.scenario.Command.{Command}
 use Rattle.hls_scenario.specs.declared.scenario.Scenario.{Scenario}
@@ -50,10 +50,10 @@ canonical_stands s is =
 -- ---- commands
 
 -- the tokens of a command's canonical text stand for it
-pub command_stands : (command : Command) → IsCommand command
-    → IsLine (command_forms command) (tokens_of (command_text command))
-command_stands command is =
-    let printable = command_printable command is in
-    subst (IsLine (command_forms command)) (sym (joined_tokens (command_forms command) (forms_words
-    (command_forms command) printable)))
-    (canonical_line (command_forms command) printable)
+pub command_stands : (version : ℕ) (command : Command) → IsCommand version command
+    → IsLine (command_forms version command) (tokens_of (command_text version command))
+command_stands version command is =
+    let forms : List Form = command_forms version command in
+    let printable = command_printable version command is in
+    subst (IsLine forms) (sym (joined_tokens forms (forms_words forms printable)))
+    (canonical_line forms printable)

@@ -51,25 +51,25 @@ ports_perches [] are = tt
 ports_perches (perch ∷ perches) are = (are.0, ports_perches perches are.2)
 
 -- the perches of a load
-pub load_perches : (config : Config) (perches : List Perch) → IsLoad config perches
+pub load_perches : (version : ℕ) (config : Config) (perches : List Perch) → IsLoad version config perches
     → AllByRecursion IsPerch perches
-load_perches configs.Cpu perches is = absurd is
-load_perches (configs.Join ports) perches is = ports_perches perches is.2
-load_perches configs.Fp [] is = absurd is
-load_perches configs.Fp (perch ∷ []) is = (is.1, tt)
-load_perches configs.Fp (perch ∷ other ∷ perches) is = absurd is
-load_perches configs.Edf [] is = absurd is
-load_perches configs.Edf (perch ∷ []) is = (is.1, tt)
-load_perches configs.Edf (perch ∷ other ∷ perches) is = absurd is
-load_perches (configs.Sfq total most) [] is = absurd is
-load_perches (configs.Sfq total most) (perch ∷ []) is = (is.1, tt)
-load_perches (configs.Sfq total most) (perch ∷ other ∷ perches) is = absurd is
-load_perches (configs.Rr quantum) [] is = absurd is
-load_perches (configs.Rr quantum) (perch ∷ []) is = (is.1, tt)
-load_perches (configs.Rr quantum) (perch ∷ other ∷ perches) is = absurd is
-load_perches (configs.Wheel frame) [] is = absurd is
-load_perches (configs.Wheel frame) (perch ∷ []) is = (is.1, tt)
-load_perches (configs.Wheel frame) (perch ∷ other ∷ perches) is = absurd is
+load_perches version configs.Cpu perches is = absurd is
+load_perches version (configs.Join ports) perches is = ports_perches perches is.2
+load_perches version configs.Fp [] is = absurd is
+load_perches version configs.Fp (perch ∷ []) is = (is.1, tt)
+load_perches version configs.Fp (perch ∷ other ∷ perches) is = absurd is
+load_perches version configs.Edf [] is = absurd is
+load_perches version configs.Edf (perch ∷ []) is = (is.1, tt)
+load_perches version configs.Edf (perch ∷ other ∷ perches) is = absurd is
+load_perches version (configs.Sfq total most quantum) [] is = absurd is
+load_perches version (configs.Sfq total most quantum) (perch ∷ []) is = (is.1, tt)
+load_perches version (configs.Sfq total most quantum) (perch ∷ other ∷ perches) is = absurd is
+load_perches version (configs.Rr quantum) [] is = absurd is
+load_perches version (configs.Rr quantum) (perch ∷ []) is = (is.1, tt)
+load_perches version (configs.Rr quantum) (perch ∷ other ∷ perches) is = absurd is
+load_perches version (configs.Wheel frame) [] is = absurd is
+load_perches version (configs.Wheel frame) (perch ∷ []) is = (is.1, tt)
+load_perches version (configs.Wheel frame) (perch ∷ other ∷ perches) is = absurd is
 
 abbrev pub AreNarrow : List Perch → Type 0
 AreNarrow perches = AllByRecursion (λ perch. IsNarrow perch.want) perches
@@ -78,23 +78,27 @@ perches_narrow : (perches : List Perch) → AllByRecursion IsPerch perches → A
 perches_narrow [] are = tt
 perches_narrow (perch ∷ perches) are = (are.0.want, perches_narrow perches are.1)
 
-pub load_narrow : (config : Config) (perches : List Perch) → IsLoad config perches → AreNarrow perches
-load_narrow config perches is = perches_narrow perches (load_perches config perches is)
+pub load_narrow : (version : ℕ) (config : Config) (perches : List Perch) → IsLoad version config perches
+    → AreNarrow perches
+load_narrow version config perches is = perches_narrow perches (load_perches version config perches is)
 
-pub items_commands : (horizon last : ℕ) (items : List Item) → AreItems horizon last items
-    → AllByRecursion (λ item. IsCommand item.command) items
-items_commands horizon last [] are = tt
-items_commands horizon last (item ∷ items) are = (are.0, items_commands horizon item.tick items are.3)
+pub items_commands : (version horizon last : ℕ) (items : List Item) → AreItems version horizon last items
+    → AllByRecursion (λ item. IsCommand version item.command) items
+items_commands version horizon last [] are = tt
+items_commands version horizon last (item ∷ items) are =
+    (are.0, items_commands version horizon item.tick items are.3)
 
-lines_of_head : (lines : List (List Form)) (items : List Item)
-    → flat_map line_text (lines ++ map item_forms items)
-    ≡ flat_map line_text lines ++ flat_map (λ item. line_text (item_forms item)) items
-lines_of_head lines items =
-    flat_map-append line_text lines (map item_forms items)
-    ∙ ap (λ (t : Text). flat_map line_text lines ++ t) (flat_map-map line_text item_forms items)
+lines_of_head : (version : ℕ) (lines : List (List Form)) (items : List Item)
+    → flat_map line_text (lines ++ map (item_forms version) items)
+    ≡ flat_map line_text lines ++ flat_map (λ item. line_text (item_forms version item)) items
+lines_of_head version lines items =
+    flat_map-append line_text lines (map (item_forms version) items)
+    ∙ ap (λ (t : Text). flat_map line_text lines ++ t) (flat_map-map line_text (item_forms version) items)
 
 pub whole_text : (s : Scenario)
-    → flat_map line_text (header_forms ∷ horizon_forms s.horizon ∷ depth_lines s.depth)
-    ++ flat_map (λ item. line_text (item_forms item)) s.items ≡ scenario_text s
+    → flat_map line_text (header_forms s.version ∷ horizon_forms s.horizon ∷ depth_lines s.depth)
+    ++ flat_map (λ item. line_text (item_forms s.version item)) s.items ≡ scenario_text s
 unfolding scenario_text
-whole_text s = sym (lines_of_head (header_forms ∷ horizon_forms s.horizon ∷ depth_lines s.depth) s.items)
+whole_text s =
+    sym (lines_of_head s.version (header_forms s.version ∷ horizon_forms s.horizon ∷ depth_lines s.depth)
+    s.items)

@@ -1,6 +1,6 @@
 -- The words of a scenario, line by line.
 use Rattle.std.specs.Prelude.{ℕ, true, false, List, [], ◌∷◌, ◌++◌, codes, decimal, flat_map, map, Option}
-use Rattle.std.specs.Prelude.{Some, None}
+use Rattle.std.specs.Prelude.{Some, None, ◌==◌, if◌then◌else◌}
 use Rattle.hls_text.specs.Lines.{Text}
 use Rattle.hls_frac.specs.declared.Frac.{Frac}
 use Rattle.hls_guarantee.specs.Spelling.{fraction_text}
@@ -48,14 +48,19 @@ terms_forms (terms.Slots places) = the (codes "slots") ∷ number places ∷ []
 terms_forms terms.Turn = the (codes "turn") ∷ []
 terms_forms terms.Sole = the (codes "sole") ∷ []
 
-abbrev pub config_forms : Config → List Form
-config_forms configs.Cpu = []
-config_forms configs.Fp = the (codes "fp") ∷ []
-config_forms configs.Edf = the (codes "edf") ∷ []
-config_forms (configs.Sfq total most) = the (codes "sfq") ∷ number total ∷ number most ∷ []
-config_forms (configs.Rr quantum) = the (codes "rr") ∷ number quantum ∷ []
-config_forms (configs.Wheel frame) = the (codes "wheel") ∷ number frame ∷ []
-config_forms (configs.Join ports) = the (codes "join") ∷ []
+-- version 1 has no word for fair queueing's quantum, which is 1 there
+abbrev pub quantum_forms : (version quantum : ℕ) → List Form
+quantum_forms version quantum = if version == 1 then [] else number quantum ∷ []
+
+abbrev pub config_forms : (version : ℕ) → Config → List Form
+config_forms version configs.Cpu = []
+config_forms version configs.Fp = the (codes "fp") ∷ []
+config_forms version configs.Edf = the (codes "edf") ∷ []
+config_forms version (configs.Sfq total most quantum) =
+    the (codes "sfq") ∷ number total ∷ number most ∷ quantum_forms version quantum
+config_forms version (configs.Rr quantum) = the (codes "rr") ∷ number quantum ∷ []
+config_forms version (configs.Wheel frame) = the (codes "wheel") ∷ number frame ∷ []
+config_forms version (configs.Join ports) = the (codes "join") ∷ []
 
 abbrev pub spot_forms : Spot → List Form
 spot_forms spots.Cpu = the (codes "cpu") ∷ []
@@ -86,24 +91,24 @@ verb_of (Wake name burst) = codes "wake"
 verb_of (Block name) = codes "block"
 
 -- what stands after the verb
-abbrev pub operands_of : Command → List Form
-operands_of (Load name config perches) =
-    the name ∷ (config_forms config ++ the (codes "on") ∷ perches_forms perches)
-operands_of (Thread name perch) = the name ∷ the (codes "on") ∷ perch_forms perch
-operands_of (End name) = the name ∷ []
-operands_of (Unload name) = the name ∷ []
-operands_of (Move name perch) = the name ∷ the (codes "to") ∷ perch_forms perch
-operands_of (Wake name burst) = the name ∷ burst_forms burst
-operands_of (Block name) = the name ∷ []
+abbrev pub operands_of : (version : ℕ) → Command → List Form
+operands_of version (Load name config perches) =
+    the name ∷ (config_forms version config ++ the (codes "on") ∷ perches_forms perches)
+operands_of version (Thread name perch) = the name ∷ the (codes "on") ∷ perch_forms perch
+operands_of version (End name) = the name ∷ []
+operands_of version (Unload name) = the name ∷ []
+operands_of version (Move name perch) = the name ∷ the (codes "to") ∷ perch_forms perch
+operands_of version (Wake name burst) = the name ∷ burst_forms burst
+operands_of version (Block name) = the name ∷ []
 
-abbrev pub command_forms : Command → List Form
-command_forms command = the (verb_of command) ∷ operands_of command
+abbrev pub command_forms : (version : ℕ) → Command → List Form
+command_forms version command = the (verb_of command) ∷ operands_of version command
 
-abbrev pub item_forms : Item → List Form
-item_forms item = the (codes "at") ∷ number item.tick ∷ command_forms item.command
+abbrev pub item_forms : (version : ℕ) → Item → List Form
+item_forms version item = the (codes "at") ∷ number item.tick ∷ command_forms version item.command
 
-abbrev pub header_forms : List Form
-header_forms = the (codes "hls") ∷ the (codes "1") ∷ []
+abbrev pub header_forms : (version : ℕ) → List Form
+header_forms version = the (codes "hls") ∷ number version ∷ []
 
 abbrev pub horizon_forms : ℕ → List Form
 horizon_forms horizon = the (codes "horizon") ∷ number horizon ∷ []
@@ -117,7 +122,9 @@ depth_lines (Some depth) = depth_forms depth ∷ []
 
 -- the lines that are not blank
 abbrev pub scenario_lines : Scenario → List (List Form)
-scenario_lines s = header_forms ∷ horizon_forms s.horizon ∷ (depth_lines s.depth ++ map item_forms s.items)
+scenario_lines s =
+    header_forms s.version ∷ horizon_forms s.horizon
+    ∷ (depth_lines s.depth ++ map (item_forms s.version) s.items)
 
 -- ---- the canonical text
 
@@ -134,8 +141,8 @@ abbrev pub joined : List Form → Text
 joined [] = []
 joined (form ∷ forms) = canonical form ++ spaced forms
 
-abbrev pub command_text : Command → Text
-command_text command = joined (command_forms command)
+abbrev pub command_text : (version : ℕ) → Command → Text
+command_text version command = joined (command_forms version command)
 
 abbrev pub line_text : List Form → Text
 line_text forms = joined forms ++ 10 ∷ []

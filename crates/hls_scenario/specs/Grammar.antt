@@ -7,7 +7,7 @@ use Rattle.hls_text.specs.Tokens.{tokens_of}
 use Rattle.hls_frac.specs.declared.Frac.{Frac}
 use Rattle.hls_frac.specs.Frac.{IsQuotient}
 use Rattle.hls_chron.specs.Name.{IsName}
-use Rattle.hls_chron.specs.Ranges.{IsWithin, ConfigInRange, TermsInRange}
+use Rattle.hls_chron.specs.Ranges.{IsWithin, ConfigInRange, TermsInRange, IsVersion, most_ticks}
 use Rattle.hls_chron.specs.declared.plain.Config.{Config}
 use Rattle.hls_chron.specs.declared.plain.Config.TheVariants as configs
 use Rattle.hls_chron.specs.declared.plain.Terms.{Terms}
@@ -48,31 +48,41 @@ ArePorts [] = Unit {0}
 ArePorts (perch ∷ perches) =
     IsPerch perch × AllByRecursion (λ other. Differ perch.spot other.spot) perches × ArePorts perches
 
+-- in version 1 fair queueing's quantum is 1
+abbrev pub HasQuantum : (version : ℕ) → Config → Type 0
+HasQuantum version (configs.Sfq total most quantum) = (version ≡ 1) → quantum ≡ 1
+HasQuantum version _ = Unit {0}
+
+abbrev pub IsConfig : (version : ℕ) → Config → Type 0
+IsConfig version config = ConfigInRange config × HasQuantum version config
+
 -- a join has two to four perches, any other scheduler has one
-abbrev pub IsLoad : Config → List Perch → Type 0
-IsLoad configs.Cpu perches = ⊥
-IsLoad (configs.Join ports) perches = (ports ≡ length perches) × IsWithin 2 4 ports × ArePorts perches
-IsLoad config (perch ∷ []) = ConfigInRange config × IsPerch perch
-IsLoad config _ = ⊥
+abbrev pub IsLoad : (version : ℕ) → Config → List Perch → Type 0
+IsLoad version configs.Cpu perches = ⊥
+IsLoad version (configs.Join ports) perches =
+    (ports ≡ length perches) × IsWithin 2 4 ports × ArePorts perches
+IsLoad version config (perch ∷ []) = IsConfig version config × IsPerch perch
+IsLoad version config _ = ⊥
 
 abbrev pub IsBurst : Option ℕ → Type 0
 IsBurst None = Unit {0}
 IsBurst (Some ticks) = IsWithin 1 100000 ticks
 
-abbrev pub IsCommand : Command → Type 0
-IsCommand (Load name config perches) = IsName name × IsLoad config perches
-IsCommand (Thread name perch) = IsName name × IsPerch perch
-IsCommand (End name) = IsName name
-IsCommand (Unload name) = IsName name
-IsCommand (Move name perch) = IsName name × IsPerch perch
-IsCommand (Wake name burst) = IsName name × IsBurst burst
-IsCommand (Block name) = IsName name
+abbrev pub IsCommand : (version : ℕ) → Command → Type 0
+IsCommand version (Load name config perches) = IsName name × IsLoad version config perches
+IsCommand version (Thread name perch) = IsName name × IsPerch perch
+IsCommand version (End name) = IsName name
+IsCommand version (Unload name) = IsName name
+IsCommand version (Move name perch) = IsName name × IsPerch perch
+IsCommand version (Wake name burst) = IsName name × IsBurst burst
+IsCommand version (Block name) = IsName name
 
 -- ticks never fall and are below the horizon
-abbrev pub AreItems : (horizon last : ℕ) → List Item → Type 0
-AreItems horizon last [] = Unit {0}
-AreItems horizon last (item ∷ items) =
-    IsCommand item.command × (last ≤ item.tick) × (item.tick < horizon) × AreItems horizon item.tick items
+abbrev pub AreItems : (version horizon last : ℕ) → List Item → Type 0
+AreItems version horizon last [] = Unit {0}
+AreItems version horizon last (item ∷ items) =
+    IsCommand version item.command × (last ≤ item.tick) × (item.tick < horizon)
+    × AreItems version horizon item.tick items
 
 abbrev pub IsDepth : Option ℕ → Type 0
 IsDepth None = Unit {0}
@@ -80,10 +90,11 @@ IsDepth (Some depth) = depth ≤ 6
 
 -- the scenario is within the grammar's limits
 pub record IsScenario (s : Scenario) : Type 0 where
-  pub horizon : IsWithin 1 100000 s.horizon
+  pub version : IsVersion s.version
+  pub horizon : IsWithin 1 (most_ticks s.version) s.horizon
   pub depth : IsDepth s.depth
   pub few : length s.items ≤ 65536
-  pub items : AreItems s.horizon 0 s.items
+  pub items : AreItems s.version s.horizon 0 s.items
 
 -- ---- which texts are theirs
 
@@ -112,9 +123,10 @@ IsLine (form ∷ forms) (token ∷ tokens) = IsToken form token × IsLine forms 
 IsLine _ _ = ⊥
 
 -- the line's tokens are an item's, of a tick from the last one on and below the horizon
-abbrev pub IsItemLine : (horizon last : ℕ) → List Text → Item → Type 0
-IsItemLine horizon last tokens item =
-    IsCommand item.command × (last ≤ item.tick) × (item.tick < horizon) × IsLine (item_forms item) tokens
+abbrev pub IsItemLine : (version horizon last : ℕ) → List Text → Item → Type 0
+IsItemLine version horizon last tokens item =
+    IsCommand version item.command × (last ≤ item.tick) × (item.tick < horizon)
+    × IsLine (item_forms version item) tokens
 
 abbrev pub AreLines : List (List Form) → List (List Text) → Type 0
 AreLines [] [] = Unit {0}

@@ -1,5 +1,6 @@
 //! What holds of canonical texts: each function's contract is a law, and its body does nothing.
 
+ghost use Rattle.std.specs.Prelude.{ℕ};
 ghost use Rattle.hls_text.specs.Tokens.{tokens_of};
 ghost use Rattle.hls_scenario.specs.Forms.{command_forms, command_text, scenario_text};
 ghost use Rattle.hls_scenario.specs.Grammar.{IsCommand, IsScenario, IsLine, IsScenarioText};
@@ -13,6 +14,6 @@ pub fn canonical_text_stands()
 
 /// The tokens of a command's canonical text are words that stand for the command.
 pub fn command_text_stands()
-    ensures { (command : Command) → IsCommand command →
-        IsLine (command_forms command) (tokens_of (command_text command)) }
+    ensures { (version : ℕ) (command : Command) → IsCommand version command →
+        IsLine (command_forms version command) (tokens_of (command_text version command)) }
 {}

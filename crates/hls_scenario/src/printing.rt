@@ -4,7 +4,8 @@ ghost use Rattle.std.specs.List.{AllByRecursion};
 ghost use Rattle.hls_guarantee.specs.Limits.{IsNarrow};
 ghost use Rattle.hls_scenario.specs.Forms.{the, fraction, number, spaced, joined, line_text, header_forms};
 ghost use Rattle.hls_scenario.specs.Forms.{horizon_forms, depth_lines, guarantee_forms, terms_forms};
-ghost use Rattle.hls_scenario.specs.Forms.{config_forms, spot_forms, perch_forms, perches_forms, burst_forms};
+ghost use Rattle.hls_scenario.specs.Forms.{config_forms, quantum_forms, spot_forms, perch_forms, perches_forms};
+ghost use Rattle.hls_scenario.specs.Forms.{burst_forms};
 ghost use Rattle.hls_scenario.specs.Printing.{comma_text};
 ghost use Rattle.hls_scenario.specs.Forms.{command_forms, item_forms, command_text, scenario_text};
 ghost use Rattle.hls_scenario.specs.Grammar.{IsScenario, IsCommand, IsScenarioText};
@@ -29,32 +30,41 @@ pub fn print_scenario(alloc: Global, scenario: &Scenario) -> Result<Vec<u8>, All
 {
     let mut out = Vec::new(alloc);
     put_head(&mut out, scenario)?;
-    put_items(&mut out, scenario.items.items())?;
+    put_items(&mut out, scenario.version, scenario.items.items())?;
     Ok(out)
 }
 
-/// The canonical text of a command without its tick, as reports have it.
+/// The canonical text of a command without its tick, as reports of this version have it.
 ///
 /// # Errors
 /// Returns `AllocError` for want of memory.
-pub fn print_command(alloc: Global, command: &Command) -> Result<Vec<u8>, AllocError>
-    requires { IsCommand command.now }
-    ensures { IfOk result (λ text. text.items ≡ command_text command.now) }
+pub fn print_command(alloc: Global, version: u8, command: &Command) -> Result<Vec<u8>, AllocError>
+    requires { IsCommand version command.now }
+    ensures { IfOk result (λ text. text.items ≡ command_text version command.now) }
 {
     let mut out = Vec::new(alloc);
-    put_command(&mut out, command)?;
+    put_command(&mut out, version, command)?;
     Ok(out)
 }
 
 fn put_head(out: &mut Vec<u8>, scenario: &Scenario) -> Result<(), AllocError>
     ensures { OnOk result (out.new.items ≡ out.old.items
         ++ flat_map line_text
-        (header_forms ∷ horizon_forms scenario.now.horizon ∷ depth_lines scenario.now.depth)) }
+        (header_forms scenario.now.version ∷ horizon_forms scenario.now.horizon ∷ depth_lines scenario.now.depth)) }
 {
-    put(out, b"hls 1\nhorizon")?;
-    put_number(out, scenario.horizon)?;
-    put(out, b"\n")?;
+    put_counted(out, b"hls", u32::from(scenario.version))?;
+    put_counted(out, b"horizon", scenario.horizon)?;
     put_depth(out, scenario.depth)
+}
+
+// A line of a word and a number.
+fn put_counted(out: &mut Vec<u8>, word: &[u8], count: u32) -> Result<(), AllocError>
+    ensures { OnOk result (out.new.items
+        ≡ out.old.items ++ line_text (the word.now ∷ number count ∷ [])) }
+{
+    put(out, word)?;
+    put_number(out, count)?;
+    put(out, b"\n")
 }
 
 fn put_depth(out: &mut Vec<u8>, depth: Option<u8>) -> Result<(), AllocError>
@@ -63,40 +73,38 @@ fn put_depth(out: &mut Vec<u8>, depth: Option<u8>) -> Result<(), AllocError>
     let Some(depth) = depth else {
         return Ok(());
     };
-    put(out, b"depth")?;
-    put_number(out, u32::from(depth))?;
-    put(out, b"\n")
+    put_counted(out, b"depth", u32::from(depth))
 }
 
-fn put_items(out: &mut Vec<u8>, items: &[Item]) -> Result<(), AllocError>
-    requires { AllByRecursion (λ item. IsCommand item.command) items.now }
+fn put_items(out: &mut Vec<u8>, version: u8, items: &[Item]) -> Result<(), AllocError>
+    requires { AllByRecursion (λ item. IsCommand version item.command) items.now }
     ensures { OnOk result (out.new.items
-        ≡ out.old.items ++ flat_map (λ item. line_text (item_forms item)) items.now) }
+        ≡ out.old.items ++ flat_map (λ item. line_text (item_forms version item)) items.now) }
 {
     for item in items {
-        put_item(out, item)?;
+        put_item(out, version, item)?;
     }
     Ok(())
 }
 
-fn put_item(out: &mut Vec<u8>, item: &Item) -> Result<(), AllocError>
-    requires { IsCommand item.now.command }
-    ensures { OnOk result (out.new.items ≡ out.old.items ++ line_text (item_forms item.now)) }
+fn put_item(out: &mut Vec<u8>, version: u8, item: &Item) -> Result<(), AllocError>
+    requires { IsCommand version item.now.command }
+    ensures { OnOk result (out.new.items ≡ out.old.items ++ line_text (item_forms version item.now)) }
 {
     put(out, b"at")?;
     put_number(out, item.tick)?;
     put(out, b" ")?;
-    put_command(out, &item.command)?;
+    put_command(out, version, &item.command)?;
     put(out, b"\n")
 }
 
-/// Appends the canonical text of a command without its tick.
+/// Appends the canonical text of a command without its tick, in this version of the language.
 ///
 /// # Errors
 /// Returns `AllocError` for want of memory.
-pub fn put_command(out: &mut Vec<u8>, command: &Command) -> Result<(), AllocError>
-    requires { IsCommand command.now }
-    ensures { OnOk result (out.new.items ≡ out.old.items ++ command_text command.now) }
+pub fn put_command(out: &mut Vec<u8>, version: u8, command: &Command) -> Result<(), AllocError>
+    requires { IsCommand version command.now }
+    ensures { OnOk result (out.new.items ≡ out.old.items ++ command_text version command.now) }
 {
     match command {
         Command::Load {
@@ -105,7 +113,7 @@ pub fn put_command(out: &mut Vec<u8>, command: &Command) -> Result<(), AllocErro
             perches,
         } => {
             put_named(out, b"load", name)?;
-            put_config(out, config)?;
+            put_config(out, version, config)?;
             put(out, b" on")?;
             put_perches(out, perches.items())
         }
@@ -129,17 +137,22 @@ pub fn put_command(out: &mut Vec<u8>, command: &Command) -> Result<(), AllocErro
     }
 }
 
-fn put_config(out: &mut Vec<u8>, config: &Config) -> Result<(), AllocError>
-    ensures { OnOk result (out.new.items ≡ out.old.items ++ spaced (config_forms config.now)) }
+fn put_config(out: &mut Vec<u8>, version: u8, config: &Config) -> Result<(), AllocError>
+    ensures { OnOk result (out.new.items ≡ out.old.items ++ spaced (config_forms version config.now)) }
 {
     match config {
         Config::Cpu => Ok(()),
         Config::Fp => put(out, b" fp"),
         Config::Edf => put(out, b" edf"),
-        Config::Sfq { total, most } => {
+        Config::Sfq {
+            total,
+            most,
+            quantum,
+        } => {
             put(out, b" sfq")?;
             put_number(out, *total)?;
-            put_number(out, *most)
+            put_number(out, *most)?;
+            put_quantum(out, version, *quantum)
         }
         Config::Rr { quantum } => {
             put(out, b" rr")?;
@@ -151,6 +164,15 @@ fn put_config(out: &mut Vec<u8>, config: &Config) -> Result<(), AllocError>
         }
         Config::Join { .. } => put(out, b" join"),
     }
+}
+
+fn put_quantum(out: &mut Vec<u8>, version: u8, quantum: u32) -> Result<(), AllocError>
+    ensures { OnOk result (out.new.items ≡ out.old.items ++ spaced (quantum_forms version quantum)) }
+{
+    if version == 1 {
+        return Ok(());
+    }
+    put_number(out, quantum)
 }
 
 fn put_perches(out: &mut Vec<u8>, perches: &[Perch]) -> Result<(), AllocError>

@@ -63,10 +63,12 @@ pub struct Item {
     pub command: Command,
 }
 
-/// How many ticks there are, how many conversions a derivation has at most where that is stated,
-/// and the commands in their order.
+/// The version of the language, how many ticks there are, how many conversions a derivation has at most where that is
+/// stated, and the commands in their order.
 #[derive(Debug, Drop)]
 pub struct Scenario {
+    /// 1 or 2.
+    pub version: u8,
     pub horizon: u32,
     pub depth: Option<u8>,
     pub items: List<Item>,

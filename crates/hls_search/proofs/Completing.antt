@@ -54,7 +54,7 @@ nothing-on : (config : Config) (h want : Guarantee) (n : ℕ) → LendsNothing c
 nothing-on configs.Cpu h want n lends c = lends
 nothing-on configs.Fp h want n lends c = closed-null (subst (λ v. Closed n v want) lends c)
 nothing-on configs.Edf h want n lends c = closed-null (subst (λ v. Closed n v want) lends c)
-nothing-on (configs.Sfq total most) h want n lends c = closed-null (subst (λ v. Closed n v want) lends c)
+nothing-on (configs.Sfq total most quantum) h want n lends c = closed-null (subst (λ v. Closed n v want) lends c)
 nothing-on (configs.Rr quantum) h want n lends c = closed-null (subst (λ v. Closed n v want) lends c)
 nothing-on (configs.Wheel frame) h want n lends c = closed-null (subst (λ v. Closed n v want) lends c)
 nothing-on (configs.Join ports) h want n lends c = closed-null (subst (λ v. Closed n v want) lends c)
@@ -132,7 +132,7 @@ after-hits (configs.Wheel frame) (terms.Slots places) n i j have All out want vh
   found-more n (omega arith) (found-closed j vo (narrow-valid want vw) after),
 )
 after-hits configs.Fp its n i j have into out want vh vw vo of lends before after room = absurd of
-after-hits (configs.Sfq total most) its n i j have into out want vh vw vo of lends before after room = absurd of
+after-hits (configs.Sfq total most quantum) its n i j have into out want vh vw vo of lends before after room = absurd of
 after-hits (configs.Rr quantum) its n i j have into out want vh vw vo of lends before after room = absurd of
 after-hits (configs.Join ports) its n i j have into out want vh vw vo of lends before after room = absurd of
 after-hits config its n i j have into out want vh vw vo of lends before after room = absurd lends

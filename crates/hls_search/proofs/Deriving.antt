@@ -34,10 +34,11 @@ lent-valid configs.Edf (terms.Res hard x y) All h rc rt narrow lends =
     subst IsValid (sym lends) (record { some = rt.0; fits = rt.1; size = omega (arith, rt.2) })
 lent-valid (configs.Wheel frame) (terms.Slots places) All h rc rt narrow lends =
     subst IsValid (sym lends.1) (record { some = rt.0; fits = lends.0; size = omega (arith, rc.1) })
-lent-valid (configs.Sfq total most) (terms.Weight weight) (Psbe s d) (Psbe p e) rc rt narrow lends =
+lent-valid (configs.Sfq total most quantum) (terms.Weight weight) (Psbe s d) (Psbe p e) rc rt narrow lends =
     let fits : weight ≤ total = (let sum = lends.weights in omega arith) in
-    part-valid weight total (others_of total most weight) s d p e (fair-size total most weight rc rt fits) narrow
-    (fair-part total most weight s d p e lends)
+    part-valid weight total (others_of total most quantum weight) s d p e
+    (fair-size total most quantum weight rc rt fits) narrow
+    (fair-part total most quantum weight s d p e lends)
 lent-valid (configs.Rr quantum) terms.Turn (Psbe s d) (Psbe p e) rc rt narrow lends =
     part-valid 1 32 (31 * quantum) s d p e (turn-size quantum rc) narrow (turn-part quantum s d p e lends)
 lent-valid (configs.Join ports) terms.Sole g h rc rt narrow lends =

@@ -47,7 +47,7 @@ module _ (weight total others : ℕ) where
       let num : s.num * weight ≤ 10 ^ 6 * 20 = mul-le-mul small size.light in
       let den : s.den * total ≤ 10 ^ 6 * 100 = mul-le-mul narrow.rate.den size.small in
       let paid : weight * d.num ≤ 20 * 10 ^ 10 = mul-le-mul size.light narrow.error.num in
-      let lost : others * d.den ≤ 3100 * 10 ^ 6 = mul-le-mul size.few narrow.error.den in
+      let lost : others * d.den ≤ 48000 * 10 ^ 6 = mul-le-mul size.few narrow.error.den in
       let under : total * d.den ≤ 100 * 10 ^ 6 = mul-le-mul size.small narrow.error.den in
       quotients-share (10 ^ 13) (10 ^ 8) (s.num * weight) (s.den * total) _ _ p e
       (mul-pos narrow.some size.some) (mul-le-mul narrow.fits size.fits) (mul-pos pos d.positive)

@@ -16,52 +16,59 @@ use Rattle.hls_search.specs.Inside.Places.{LendsShares}
 -- ---- of a weight
 
 -- what the other seats add to the error, by total
-abbrev pub others_of : (total most weight : ℕ) → ℕ
-others_of total most weight = (most - 1) * weight + (total - weight)
+abbrev pub others_of : (total most quantum weight : ℕ) → ℕ
+others_of total most quantum weight = ((most - 1) * weight + (total - weight)) * quantum
 
-pub fair-size : (total most weight : ℕ) → ConfigInRange (Sfq total most) → TermsInRange (Weight weight)
-    → weight ≤ total → IsPartSize weight total (others_of total most weight)
-fair-size total most weight config its fits =
+pub fair-size : (total most quantum weight : ℕ) → ConfigInRange (Sfq total most quantum) → TermsInRange (Weight weight)
+    → weight ≤ total → IsPartSize weight total (others_of total most quantum weight)
+fair-size total most quantum weight config its fits =
     let few : most - 1 ≤ 19 = omega (arith, config.1.1) in
     let product : (most - 1) * weight ≤ 19 * 20 = mul-le-mul few its.1 in
+    let each : (most - 1) * weight + (total - weight) ≤ 480 = omega (arith, product, config.0.1) in
+    let turns : ((most - 1) * weight + (total - weight)) * quantum ≤ 480 * 100 = mul-le-mul each config.2.1 in
     record {
       some = its.0;
       light = its.1;
       fits = fits;
       small = config.0.1;
-      few = omega (arith, product, config.0.1);
+      few = omega (arith, turns);
     }
 
-by_total : (dn dd en ed total most weight others rest : ℕ) → others + 1 ≡ most → weight + rest ≡ total
-    → en * (dd * total) ≡ ((dn + others * dd) * weight + rest * dd) * ed
-    → en * (total * dd) ≡ (weight * dn + others_of total most weight * dd) * ed
-by_total dn dd en ed total most weight others rest seats weights error =
+by_total : (dn dd en ed total most quantum weight others rest : ℕ) → others + 1 ≡ most → weight + rest ≡ total
+    → en * (dd * total) ≡ ((dn + others * quantum * dd) * weight + rest * quantum * dd) * ed
+    → en * (total * dd) ≡ (weight * dn + others_of total most quantum weight * dd) * ed
+by_total dn dd en ed total most quantum weight others rest seats weights error =
     let first : others ≡ most - 1 = omega arith in
     let second : rest ≡ total - weight = omega arith in
-    omega (arith, error, ap (λ (n : ℕ). n * dd * weight * ed) first, ap (λ (n : ℕ). n * dd * ed) second)
+    omega (
+      arith,
+      error,
+      ap (λ (n : ℕ). n * quantum * dd * weight * ed) first,
+      ap (λ (n : ℕ). n * quantum * dd * ed) second,
+    )
 
-pub fair-part : (total most weight : ℕ) (s d p e : Frac) → IsFairShare total most weight s d p e
-    → IsPart weight total (others_of total most weight) s d p e
-fair-part total most weight s d p e fair = record {
+pub fair-part : (total most quantum weight : ℕ) (s d p e : Frac) → IsFairShare total most quantum weight s d p e
+    → IsPart weight total (others_of total most quantum weight) s d p e
+fair-part total most quantum weight s d p e fair = record {
   rate = fair.rate;
-  error = by_total d.num d.den e.num e.den total most weight fair.others fair.rest fair.seats fair.weights
-      fair.error;
+  error = by_total d.num d.den e.num e.den total most quantum weight fair.others fair.rest fair.seats
+      fair.weights fair.error;
 }
 
-by_parts : (dn dd en ed total most weight : ℕ)
-    → en * (total * dd) ≡ (weight * dn + ((most - 1) * weight + (total - weight)) * dd) * ed
-    → en * (dd * total) ≡ ((dn + (most - 1) * dd) * weight + (total - weight) * dd) * ed
-by_parts dn dd en ed total most weight error = omega (arith, error)
+by_parts : (dn dd en ed total most quantum weight : ℕ)
+    → en * (total * dd) ≡ (weight * dn + ((most - 1) * weight + (total - weight)) * quantum * dd) * ed
+    → en * (dd * total) ≡ ((dn + (most - 1) * quantum * dd) * weight + (total - weight) * quantum * dd) * ed
+by_parts dn dd en ed total most quantum weight error = omega (arith, error)
 
-pub part-fair : (total most weight : ℕ) (s d p e : Frac) → 1 ≤ most → weight ≤ total
-    → IsPart weight total (others_of total most weight) s d p e → IsFairShare total most weight s d p e
-part-fair total most weight s d p e some fits part = record {
+pub part-fair : (total most quantum weight : ℕ) (s d p e : Frac) → 1 ≤ most → weight ≤ total
+    → IsPart weight total (others_of total most quantum weight) s d p e → IsFairShare total most quantum weight s d p e
+part-fair total most quantum weight s d p e some fits part = record {
   others = most - 1;
   rest = total - weight;
   seats = omega arith;
   weights = omega arith;
   rate = part.rate;
-  error = by_parts d.num d.den e.num e.den total most weight part.error;
+  error = by_parts d.num d.den e.num e.den total most quantum weight part.error;
 }
 
 -- ---- of a turn
@@ -108,23 +115,25 @@ pub record Parted (config : Config) (its : Terms) : Type 0 where
   pub others : ℕ
   pub is : LendsPart config its weight total others
 
-fair_to : (total most weight : ℕ) (g h : Guarantee) → LendsByTerms (Sfq total most) (Weight weight) g h
-    → PartOf weight total (others_of total most weight) g h
-fair_to total most weight (Psbe s d) (Psbe p e) lends = fair-part total most weight s d p e lends
-fair_to total most weight g h lends = absurd lends
+fair_to : (total most quantum weight : ℕ) (g h : Guarantee) → LendsByTerms (Sfq total most quantum) (Weight weight) g h
+    → PartOf weight total (others_of total most quantum weight) g h
+fair_to total most quantum weight (Psbe s d) (Psbe p e) lends = fair-part total most quantum weight s d p e lends
+fair_to total most quantum weight g h lends = absurd lends
 
-fair_from : (total most weight : ℕ) (g h : Guarantee) → 1 ≤ most → weight ≤ total
-    → PartOf weight total (others_of total most weight) g h → LendsByTerms (Sfq total most) (Weight weight) g h
-fair_from total most weight (Psbe s d) (Psbe p e) some fits part =
-    part-fair total most weight s d p e some fits part
-fair_from total most weight g h some fits part = absurd part
+fair_from : (total most quantum weight : ℕ) (g h : Guarantee) → 1 ≤ most → weight ≤ total
+    → PartOf weight total (others_of total most quantum weight) g h
+    → LendsByTerms (Sfq total most quantum) (Weight weight) g h
+fair_from total most quantum weight (Psbe s d) (Psbe p e) some fits part =
+    part-fair total most quantum weight s d p e some fits part
+fair_from total most quantum weight g h some fits part = absurd part
 
-pub fair-lends : (total most weight : ℕ) → ConfigInRange (Sfq total most) → TermsInRange (Weight weight)
-    → weight ≤ total → LendsPart (Sfq total most) (Weight weight) weight total (others_of total most weight)
-fair-lends total most weight config its fits = record {
-  size = fair-size total most weight config its fits;
-  part = fair_to total most weight;
-  lends = λ g h part. fair_from total most weight g h config.1.0 fits part;
+pub fair-lends : (total most quantum weight : ℕ) → ConfigInRange (Sfq total most quantum) → TermsInRange (Weight weight)
+    → weight ≤ total
+    → LendsPart (Sfq total most quantum) (Weight weight) weight total (others_of total most quantum weight)
+fair-lends total most quantum weight config its fits = record {
+  size = fair-size total most quantum weight config its fits;
+  part = fair_to total most quantum weight;
+  lends = λ g h part. fair_from total most quantum weight g h config.1.0 fits part;
 }
 
 turn_to : (quantum : ℕ) (g h : Guarantee) → LendsByTerms (Rr quantum) Turn g h → PartOf 1 32 (31 * quantum) g h
@@ -145,11 +154,11 @@ turn-lends quantum config = record {
 -- terms on which such a place lends anything lend a part
 pub parted : (config : Config) (its : Terms) (g h : Guarantee) → ConfigInRange config → TermsInRange its
     → LendsShares config → LendsByTerms config its g h → Parted config its
-parted (Sfq total most) (Weight weight) (Psbe s d) (Psbe p e) rc rt of lends = record {
+parted (Sfq total most quantum) (Weight weight) (Psbe s d) (Psbe p e) rc rt of lends = record {
   weight = weight;
   total = total;
-  others = others_of total most weight;
-  is = fair-lends total most weight rc rt (let sum = lends.weights in omega arith);
+  others = others_of total most quantum weight;
+  is = fair-lends total most quantum weight rc rt (let sum = lends.weights in omega arith);
 }
 parted (Rr quantum) Turn g h rc rt of lends = record {
   weight = 1;
@@ -157,6 +166,6 @@ parted (Rr quantum) Turn g h rc rt of lends = record {
   others = 31 * quantum;
   is = turn-lends quantum rc;
 }
-parted (Sfq total most) its g h rc rt of lends = absurd lends
+parted (Sfq total most quantum) its g h rc rt of lends = absurd lends
 parted (Rr quantum) its g h rc rt of lends = absurd lends
 parted config its g h rc rt of lends = absurd of

@@ -85,10 +85,21 @@ pub fn share_for(place: &Place, want: &Guarantee) -> Option<Guarantee>
 {
     match (place.config, place.terms, *want) {
         (
-            Config::Sfq { total, most },
+            Config::Sfq {
+                total,
+                most,
+                quantum,
+            },
             Terms::Weight(weight),
             Guarantee::Psbe { s: rate, d: error },
-        ) => fair_before(total, most, weight, &rate, &error),
+        ) => {
+            let queue = Queue {
+                total,
+                most,
+                quantum,
+            };
+            fair_before(&queue, weight, &rate, &error)
+        }
         (Config::Rr { quantum }, Terms::Turn, Guarantee::Psbe { s: rate, d: error }) => {
             turn_before(quantum, &rate, &error)
         }
@@ -96,27 +107,37 @@ pub fn share_for(place: &Place, want: &Guarantee) -> Option<Guarantee>
     }
 }
 
+/// Fair queueing: weights of this total, of at most so many seats, in turns of a quantum.
+#[derive(Clone, Copy)]
+struct Queue {
+    total: u32,
+    most: u32,
+    quantum: u32,
+}
+
 /// The share of which a seat of this weight is lent the share `rate` with the error `error`, if there is one.
-fn fair_before(total: u32, most: u32, weight: u32, rate: &Frac, error: &Frac) -> Option<Guarantee>
-    requires config { ConfigInRange (Config.Sfq total most) }
+fn fair_before(queue: &Queue, weight: u32, rate: &Frac, error: &Frac) -> Option<Guarantee>
+    requires config { ConfigInRange (Config.Sfq queue.now.total queue.now.most queue.now.quantum) }
     requires terms { TermsInRange (Terms.Weight weight) }
     requires narrow { IsShare (10 ^ 10) (10 ^ 6) rate.now error.now }
-    ensures some { IfSome result (λ goal. LendsByTerms (Config.Sfq total most) (Terms.Weight weight) goal
+    ensures some { IfSome result (λ goal.
+        LendsByTerms (Config.Sfq queue.now.total queue.now.most queue.now.quantum) (Terms.Weight weight) goal
         (Guarantee.Psbe rate.now error.now)) }
     ensures of_all { IfSome result (λ goal. Converts RuleName.R8 Guarantee.All goal) }
     ensures none { IsNone result → (goal : Guarantee) → IsValid goal →
-        LendsByTerms (Config.Sfq total most) (Terms.Weight weight) goal (Guarantee.Psbe rate.now error.now) → ⊥ }
+        LendsByTerms (Config.Sfq queue.now.total queue.now.most queue.now.quantum) (Terms.Weight weight) goal
+        (Guarantee.Psbe rate.now error.now) → ⊥ }
 {
+    let Queue {
+        total,
+        most,
+        quantum,
+    } = *queue;
     if weight > total {
         return None;
     }
-    share_before(
-        weight,
-        total,
-        (most - 1) * weight + (total - weight),
-        rate,
-        error,
-    )
+    let others = ((most - 1) * weight + (total - weight)) * quantum;
+    share_before(weight, total, others, rate, error)
 }
 
 /// The same of a turn in a round.

@@ -7,8 +7,8 @@ use Rattle.hls_sfq.specs.Choice.{tag_asking}
 use Rattle.hls_sfq.specs.declared.shares.FairSeat.{FairSeat}
 
 -- exactly the asking seats are in the queue, by the start tags of the present tick
-abbrev pub QueuesTags : Ledger → (mask : ℕ) → (keys : List (Option ℕ)) → Type 0
-QueuesTags b mask keys = (slot : ℕ) → slot < 32 → key_of keys slot ≡ tag_of_asking b mask slot
+abbrev pub QueuesTags : (quantum : ℕ) → Ledger → (mask : ℕ) → (keys : List (Option ℕ)) → Type 0
+QueuesTags quantum b mask keys = (slot : ℕ) → slot < 32 → key_of keys slot ≡ tag_of_asking quantum b mask slot
 
 -- the same by what a box holds
 pub record IsQueue (keys : List (Option ℕ)) (time : ℕ) (seats : List (Option FairSeat)) (mask : ℕ) : Type 0 where

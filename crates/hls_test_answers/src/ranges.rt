@@ -10,7 +10,13 @@ pub fn config_in_range(config: &Config) -> bool
     ensures { result ≡ true → ConfigInRange config.now }
 {
     match *config {
-        Config::Sfq { total, most } => 1 <= total && total <= 100 && 1 <= most && most <= 20,
+        Config::Sfq {
+            total,
+            most,
+            quantum,
+        } => {
+            1 <= total && total <= 100 && 1 <= most && most <= 20 && 1 <= quantum && quantum <= 100
+        }
         Config::Rr { quantum } => 1 <= quantum && quantum <= 100,
         Config::Wheel { frame } => 1 <= frame && frame <= 1000,
         Config::Join { ports } => 2 <= ports && ports <= 4,

@@ -455,14 +455,14 @@ fn keeps_tags_in_drawn_calls(rt: HostRuntime) -> Result<(), Fail> {
     for _list in 0..LISTS {
         let total = 1 + series.below(10);
         let most = 1 + series.below(4);
+        let quantum = 1 + series.below(4);
+        let config = Config::Sfq {
+            total,
+            most,
+            quantum,
+        };
         let mut sfq = Sfq::blank(rt.alloc());
-        play(
-            &mut sfq,
-            &Config::Sfq { total, most },
-            &mut series,
-            &rt,
-            rt.alloc(),
-        )?;
+        play(&mut sfq, &config, &mut series, &rt, rt.alloc())?;
     }
     Ok(())
 }

@@ -270,8 +270,47 @@ fn serves_by_weight(rt: HostRuntime) -> Result<(), Fail> {
         tick,
     ];
     let served = [1, 1, 0, 1, 1, 1, 0, 1, 1, 1, 0].map(|slot| Some(slot));
+    let config = Config::Sfq {
+        total: 4,
+        most: 2,
+        quantum: 1,
+    };
     let mut sfq = Sfq::blank(rt.alloc());
-    take_all(&mut sfq, &Config::Sfq { total: 4, most: 2 }, &steps, &rt)?;
+    take_all(&mut sfq, &config, &steps, &rt)?;
+    check_served(&rows_of(sfq.book(), rt.alloc())?, &served, &rt);
+    Ok(())
+}
+
+/// With a quantum of two ticks. A tick adds 3 at weight 1 and 1 at weight 3: the first tags are 6 and 2, and after
+/// two turns of slot 1 both are 6.
+#[test]
+fn serves_by_weight_and_turns_of_a_quantum(rt: HostRuntime) -> Result<(), Fail> {
+    let tick = Step::Tick(Some(0));
+    let steps = [
+        Step::Seat(Terms::Weight(1), 0),
+        Step::Seat(Terms::Weight(3), 1),
+        Step::Request(0),
+        Step::Request(1),
+        tick,
+        tick,
+        tick,
+        tick,
+        tick,
+        tick,
+        tick,
+        tick,
+        tick,
+        tick,
+        tick,
+    ];
+    let served = [1, 1, 1, 1, 0, 0, 1, 1, 1, 1, 1].map(|slot| Some(slot));
+    let config = Config::Sfq {
+        total: 4,
+        most: 2,
+        quantum: 2,
+    };
+    let mut sfq = Sfq::blank(rt.alloc());
+    take_all(&mut sfq, &config, &steps, &rt)?;
     check_served(&rows_of(sfq.book(), rt.alloc())?, &served, &rt);
     Ok(())
 }
@@ -291,7 +330,12 @@ fn weights_fill_up(rt: HostRuntime) -> Result<(), Fail> {
         Step::Refuse(Terms::Weight(2), room),
     ];
     let mut sfq = Sfq::blank(rt.alloc());
-    take_all(&mut sfq, &Config::Sfq { total: 4, most: 3 }, &steps, &rt)?;
+    let config = Config::Sfq {
+        total: 4,
+        most: 3,
+        quantum: 1,
+    };
+    take_all(&mut sfq, &config, &steps, &rt)?;
     check_served(&rows_of(sfq.book(), rt.alloc())?, &[None], &rt);
     Ok(())
 }

@@ -10,19 +10,22 @@ const COMMANDS: u32 = 80;
 /// The commands come up to two ticks after this one.
 const LAST: u32 = 90;
 
-/// How each scenario begins: with a scheduler of each kind.
-const BEGINNING: &str = "hls 1\nhorizon 100\n\
+/// How each scenario begins behind its first line: with a scheduler of each kind, of which these come before the fair
+/// queue.
+const BEFORE_QUEUE: &str = "horizon 100\n\
     at 0 load f0 fp on cpu as ALL\n\
     at 0 load e0 edf on f0 prio 0 as ALL\n\
-    at 0 load r0 rr 2 on f0 prio 1 as NULL\n\
-    at 0 load s0 sfq 8 3 on e0 res 2 8 hard as PSBE 1/4 20\n\
-    at 0 load w0 wheel 6 on r0 turn as NULL\n\
+    at 0 load r0 rr 2 on f0 prio 1 as NULL\n";
+
+/// And these behind it.
+const BEHIND_QUEUE: &str = "at 0 load w0 wheel 6 on r0 turn as NULL\n\
     at 0 load j0 join on e0 res 1 8 soft as RESBS 1 8 , r0 turn as NULL\n";
 
 /// What is drawn of a scenario as words, on a few names of schedulers of each kind and of threads.
 #[derive(Drop)]
 struct Drawing {
     alloc: Global,
+    version: u8,
     draws: Draws,
 }
 
@@ -76,12 +79,21 @@ impl Drawing {
         }
     }
 
+    /// The configuration of a fair queue, whose quantum only version 2 names.
+    fn fair_queue(&mut self) -> Result<String, AllocError> {
+        if self.version == 1 {
+            return "sfq 8 3".to_string(self.alloc);
+        }
+        let quantum = self.number(3);
+        format!(in self.alloc; "sfq 8 3 {quantum}")
+    }
+
     /// The configuration of a kind that is no join.
     fn config(&mut self, kind: u32) -> Result<String, AllocError> {
         match kind {
             0 => "fp".to_string(self.alloc),
             1 => "edf".to_string(self.alloc),
-            2 => "sfq 8 3".to_string(self.alloc),
+            2 => self.fair_queue(),
             3 => {
                 let quantum = self.number(3);
                 format!(in self.alloc; "rr {quantum}")
@@ -225,13 +237,24 @@ impl Drawing {
     }
 }
 
-/// The text of the scenario of a number.
-pub fn drawn_scenario(alloc: Global, number: u32) -> Result<String, AllocError> {
+/// The first lines of a scenario.
+fn beginning(drawing: &mut Drawing) -> Result<String, AllocError> {
+    let version = drawing.version;
+    let queue = drawing.fair_queue()?;
+    let load = format!(in drawing.alloc;
+        "at 0 load s0 {queue} on e0 res 2 8 hard as PSBE 1/4 20\n"
+    )?;
+    format!(in drawing.alloc; "hls {version}\n{BEFORE_QUEUE}{load}{BEHIND_QUEUE}")
+}
+
+/// The text of the scenario of a number, in a version of the language.
+pub fn drawn_scenario(alloc: Global, version: u8, number: u32) -> Result<String, AllocError> {
     let mut drawing = Drawing {
         alloc,
+        version,
         draws: Draws::new(number),
     };
-    let mut text = BEGINNING.to_string(alloc)?;
+    let mut text = beginning(&mut drawing)?;
     let mut tick = 0;
     for _ in 0..COMMANDS {
         tick = tick.min(LAST) + drawing.draw(3) / 2 + drawing.draw(2);

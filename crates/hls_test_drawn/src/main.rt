@@ -11,7 +11,10 @@ use hls_test_report::judged;
 use std::{io, str};
 
 /// How many scenarios are drawn.
-const SCENARIOS: u32 = 30;
+const SCENARIOS: u32 = 40;
+
+/// From which on they are of version 2 of the language.
+const FIRST_OF_SECOND: u32 = 30;
 
 /// How many commands a report tells as done.
 fn done_in(report: &[u8]) -> usize {
@@ -24,7 +27,8 @@ fn done_in(report: &[u8]) -> usize {
 fn main(rt: HostRuntime) -> io::Result<()> {
     let alloc = rt.alloc();
     for number in 0..SCENARIOS {
-        let scenario = drawn_scenario(alloc, number)?;
+        let version = if number < FIRST_OF_SECOND { 1 } else { 2 };
+        let scenario = drawn_scenario(alloc, version, number)?;
         match report_on(alloc, scenario)? {
             Some(report) => {
                 let done = done_in(&report);

@@ -30,7 +30,7 @@ const NOBODY_WOKEN: &str = "hls-report 1\nhorizon 5\ndepth 3\n\
     schedule\n0..4 idle\naccounts\nidle 5\nend\n";
 
 /// Texts, and what comes of them.
-const TEXTS: [(&[u8], Status, &str); 3] = [
+const TEXTS: [(&[u8], Status, &str); 7] = [
     (
         b"hls 1\nhorizon 5\nat 0 wake a #\x80\n",
         Status::Done,
@@ -45,6 +45,26 @@ const TEXTS: [(&[u8], Status, &str); 3] = [
         b"hls 1\nhorizon 5\ndepth 1\ndepth 2\n",
         Status::RefusedText,
         "refused line 4 Word\n",
+    ),
+    (
+        b"hls 2\nhorizon 1000001\n",
+        Status::RefusedText,
+        "refused line 2 Horizon\n",
+    ),
+    (
+        b"hls 2\nhorizon 5\nat 0 load r sfq 4 2 on cpu as ALL\n",
+        Status::RefusedText,
+        "refused line 3 Number\n",
+    ),
+    (
+        b"hls 1\nhorizon 5\nat 0 load r sfq 4 2 2 on cpu as ALL\n",
+        Status::RefusedText,
+        "refused line 3 Word\n",
+    ),
+    (
+        b"hls 3\nhorizon 5\n",
+        Status::RefusedText,
+        "refused line 1 Header\n",
     ),
 ];
 

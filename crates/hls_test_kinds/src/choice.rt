@@ -7,7 +7,7 @@ ghost use Rattle.hls_kinds.specs.Asks.{asks as asks_of};
 ghost use Rattle.hls_kinds.specs.Discipline.{Serves};
 ghost use Rattle.hls_chron.specs.Ranges.{ConfigInRange};
 ghost use Rattle.hls_kinds.specs.Reservations.{deadline_at as deadline_of, budget_at as budget_of};
-ghost use Rattle.hls_test_kinds.specs.Rankings.{takes_part as takes_part_in, key_of, better_of};
+ghost use Rattle.hls_test_kinds.specs.Rankings.{takes_part as takes_part_in, key_of, better_of, HasQuantum};
 
 use crate::frames::owner_now;
 use crate::reservations::{claim_at, is_soft};
@@ -26,8 +26,8 @@ pub enum Ranking {
     Budget,
     /// The deadlines of the asking soft seats.
     Soft,
-    /// The start tags of the slots that ask.
-    Tag,
+    /// The start tags of the slots that ask, in turns of a quantum.
+    Tag { quantum: u32 },
     /// The places of the slots that ask, in the cyclic order after the slot of the turn.
     Turn,
 }
@@ -80,7 +80,7 @@ fn takes_part(book: &Book, ranking: Ranking, mask: u32, slot: u32) -> bool
         Ranking::Priority => has_slot(mask, slot) && priority_at(book, slot).is_some(),
         Ranking::Budget => has_slot(mask, slot) && 0 < budget_at(book, mask, slot),
         Ranking::Soft => has_slot(mask, slot) && is_soft(book, slot),
-        Ranking::Tag => has_slot(mask, slot),
+        Ranking::Tag { .. } => has_slot(mask, slot),
         Ranking::Turn => has_slot(mask, slot),
     }
 }
@@ -89,6 +89,7 @@ fn takes_part(book: &Book, ranking: Ranking, mask: u32, slot: u32) -> bool
 fn key(book: &Book, ranking: Ranking, mask: u32, slot: u32) -> u128
     requires now { now_of book.now + 1 < 2 ^ 32 }
     requires slot { slot < 32 }
+    requires some { HasQuantum ranking }
     ensures { result ≡ key_of ranking book.now mask slot }
 {
     match ranking {
@@ -98,7 +99,7 @@ fn key(book: &Book, ranking: Ranking, mask: u32, slot: u32) -> u128
         },
         Ranking::Budget => u128::from(deadline_at(book, mask, slot)),
         Ranking::Soft => u128::from(deadline_at(book, mask, slot)),
-        Ranking::Tag => start_tag(book, book.now(), slot),
+        Ranking::Tag { quantum } => start_tag(book, quantum, book.now(), slot),
         Ranking::Turn => u128::from(turns_after(turn_slot(book), slot)),
     }
 }
@@ -116,7 +117,8 @@ fn better(best: Option<Ranked>, other: Ranked) -> Ranked
 /// The slot of least key in a ranking, and the least such.
 #[tactic(auto, using(crate::proofs::RankingLaws::best_laws))]
 fn first_slot(book: &Book, ranking: Ranking, mask: u32) -> Option<u32>
-    requires { now_of book.now + 1 < 2 ^ 32 }
+    requires now { now_of book.now + 1 < 2 ^ 32 }
+    requires some { HasQuantum ranking }
     ensures any { is_some result ≡ any_below (takes_part_in ranking book.now mask) 32 }
     ensures first { IfSome result
         (λ slot. IsFirst 32 (takes_part_in ranking book.now mask) (key_of ranking book.now mask) slot) }
@@ -149,7 +151,13 @@ pub fn discipline_choice(book: &Book, config: &Config, mask: u32) -> Option<u32>
             None => first_slot(book, Ranking::Soft, mask),
             Some(slot) => Some(slot),
         },
-        Config::Sfq { .. } => first_slot(book, Ranking::Tag, mask),
+        Config::Sfq { quantum, .. } => {
+            if turn_goes_on(book, quantum, mask) {
+                Some(turn_slot(book))
+            } else {
+                first_slot(book, Ranking::Tag { quantum }, mask)
+            }
+        }
         Config::Rr { quantum } => {
             if turn_goes_on(book, quantum, mask) {
                 Some(turn_slot(book))

@@ -12,15 +12,17 @@ use Rattle.hls_tree.specs.Lists.{is_on}
 use Rattle.hls_tree.specs.Reads.{IsLoaded, IsSort, taken_on}
 use Rattle.hls_tree.specs.declared.seat.Sort.TheVariants.{Sched}
 use Rattle.hls_manager.proofs.Rederivals.{filter_passes}
+use Rattle.hls_manager.proofs.Versions.{of_either}
 
-all_commands : (horizon last : ℕ) (items : List Item) → AreItems horizon last items
-    → AllByRecursion (λ item. IsCommand item.command) items
-all_commands horizon last [] are = tt
-all_commands horizon last (item ∷ items) are = (are.0, all_commands horizon item.tick items are.3)
+all_commands : (version horizon last : ℕ) (items : List Item) → AreItems version horizon last items
+    → AllByRecursion (λ item. IsCommand 2 item.command) items
+all_commands version horizon last [] are = tt
+all_commands version horizon last (item ∷ items) are =
+    (of_either version item.command are.0, all_commands version horizon item.tick items are.3)
 
-pub read_commands : (items all : List Item) (horizon : ℕ) → items ≡ all → AreItems horizon 0 all
-    → AllByRecursion (λ item. IsCommand item.command) items
-read_commands items all horizon same are = rw same (all_commands horizon 0 all are)
+pub read_commands : (items all : List Item) (version horizon : ℕ) → items ≡ all → AreItems version horizon 0 all
+    → AllByRecursion (λ item. IsCommand 2 item.command) items
+read_commands items all version horizon same are = rw same (all_commands version horizon 0 all are)
 
 none_on : (seat : Option Seat) (p : ℕ) → is_on (option_map (λ (s : Seat). s.place) seat) p ≡ true → seat ≢ None
 none_on None p e none = cc

@@ -24,6 +24,9 @@ const DEPTH: u8 = 3;
 /// How many commands there may be.
 const COMMANDS: u32 = 64;
 
+/// The version of the language whose commands are carried out, which has those of version 1 too.
+const VERSION: u8 = 2;
+
 /// Carries a command out, the next of so many that are left. Wakes and blocks are no calls of the manager.
 fn carry_out(
     alloc: Global,
@@ -33,7 +36,7 @@ fn carry_out(
     left: u32,
     command: &Command,
 ) -> Result<Answer, AllocError>
-    requires command { IsCommand command.now }
+    requires command { IsCommand 2 command.now }
     requires some { 0 < left }
     requires few { left ≤ 64 }
     requires kit { IsGood (boxed seen) kit.old }
@@ -62,7 +65,7 @@ fn carry_anyway(
     command: &Command,
     text: &mut Vec<u8>,
 ) -> Result<Answer, AllocError>
-    requires command { IsCommand command.now }
+    requires command { IsCommand 2 command.now }
     requires some { 0 < left }
     requires few { left ≤ 64 }
     requires kit { IsGood (boxed seen) kit.old }
@@ -90,9 +93,9 @@ fn tell(
     answer: &Answer,
     text: &mut Vec<u8>,
 ) -> Result<(), AllocError>
-    requires { IsCommand command.now }
+    requires { IsCommand 2 command.now }
 {
-    let words = print_command(alloc, command)?;
+    let words = print_command(alloc, VERSION, command)?;
     put(text, &words)?;
     match answer {
         Answer::Done(_) => put(text, b"\n= done\n"),
@@ -114,7 +117,7 @@ fn carry_and_tell(
     command: &Command,
     text: &mut Vec<u8>,
 ) -> Result<(), AllocError>
-    requires command { IsCommand command.now }
+    requires command { IsCommand 2 command.now }
     requires some { 0 < left }
     requires few { left ≤ 64 }
     requires kit { IsGood (boxed seen) kit.old }
@@ -135,7 +138,7 @@ pub fn carry_all(
     items: &[Item],
     text: &mut Vec<u8>,
 ) -> Result<(), AllocError>
-    requires commands { AllByRecursion (λ item. IsCommand item.command) items.now }
+    requires commands { AllByRecursion (λ item. IsCommand 2 item.command) items.now }
     requires kit { IsGood (boxed seen) kit.old }
     requires stands { Stands seen tree.old (MayCarry 64) }
     ensures { OnOk result (Stands seen tree.new Any) }

@@ -27,10 +27,19 @@ fn is_answer(line: &str) -> bool {
     line.starts_with("= ") || line.starts_with("by ")
 }
 
-/// The scenario of the horizon, the depth and the commands that a report tells.
+/// The first line of the scenario of a report, which is of the same version.
+fn header_of(report: &str) -> &'static str {
+    if report.starts_with("hls-report 2\n") {
+        "hls 2\n"
+    } else {
+        "hls 1\n"
+    }
+}
+
+/// The scenario of the version, the horizon, the depth and the commands that a report tells.
 fn scenario_of(alloc: Global, report: &str) -> Result<String, AllocError> {
     let mut scenario = String::new(alloc);
-    scenario.push_str("hls 1\n")?;
+    scenario.push_str(header_of(report))?;
     for line in report.lines().skip(1) {
         if line == "schedule" {
             break;

@@ -29,8 +29,8 @@ use Rattle.hls_test_runs.specs.Moves.{root_seat}
 use Rattle.hls_test_runs.proofs.Small.{Few, few_after, each_of_three, beyond, take_one, the, bit_off}
 use Rattle.hls_test_runs.proofs.Small.{SeatsAsk, seat_asks, root_asks_so, FreeSilent, all_silent}
 use Rattle.hls_test_runs.proofs.Awake.{off_two}
-use Rattle.hls_test_runs.proofs.Desk.{first_first, second_first, IsDesk, can_load_desk, desk_asking, desk_ticked}
-use Rattle.hls_test_runs.proofs.Desk.{desk_runs}
+use Rattle.hls_test_runs.proofs.Desk.{first_first, second_first, least_served, IsDesk, can_load_desk}
+use Rattle.hls_test_runs.proofs.Desk.{desk_asking, desk_ticked, desk_runs}
 use Rattle.hls_test_runs.proofs.Shared.{unit, whole, given_with, valid_given}
 use Rattle.hls_test_runs.proofs.Couple.{single, double, once, twice, thrice, tags_once, tags_twice, tags_thrice}
 
@@ -220,12 +220,12 @@ starter_asking = record {
 }
 
 serves_alone : Serves couple double 2 1
-serves_alone = record {
+serves_alone = least_served 2 2 double 2 1 (record {
   within = omega arith;
   chosen = refl;
   least = λ other lt on. let same = only other on in rw same (omega arith);
   first = λ other lt on tie. let same = only other on in omega (arith, same);
-}
+})
   where
     only : (other : ℕ) → slot_asks 2 other ≡ true → other ≡ 1
     only other on = elim (cases_eq other 1) [
@@ -294,13 +294,19 @@ at_h4 = desk_ticked h3 couple twice (Some (sleeper_thread Awake)) (Some starter_
     (Some (path_down 0 1))
 
 serves_once : Serves couple once 3 0
-serves_once = first_first (start_tag once (now_of once)) (omega (arith, tags_once.first, tags_once.second))
+serves_once =
+    least_served 2 2 once 3 0 (first_first (start_tag 1 once (now_of once))
+    (omega (arith, tags_once.first, tags_once.second)))
 
 serves_twice : Serves couple twice 3 0
-serves_twice = first_first (start_tag twice (now_of twice)) (omega (arith, tags_twice.first, tags_twice.second))
+serves_twice =
+    least_served 2 2 twice 3 0 (first_first (start_tag 1 twice (now_of twice))
+    (omega (arith, tags_twice.first, tags_twice.second)))
 
 serves_thrice : Serves couple thrice 3 1
-serves_thrice = second_first (start_tag thrice (now_of thrice)) (omega (arith, tags_thrice.first, tags_thrice.second))
+serves_thrice =
+    least_served 2 2 thrice 3 1 (second_first (start_tag 1 thrice (now_of thrice))
+    (omega (arith, tags_thrice.first, tags_thrice.second)))
 
 ticks_legal : IsLegal h2 (sleeper_tick ∷ sleeper_tick ∷ starter_tick ∷ [])
 unfolding terms_at
@@ -314,7 +320,8 @@ ticks_legal = (
 
 pub apart_legal : IsLegal start apart
 apart_legal = (
-  can_load_desk couple 4 8 (λ e. cc) ((omega arith, omega arith), (omega arith, omega arith)) refl,
+  can_load_desk couple 4 8 (λ e. cc)
+      ((omega arith, omega arith), (omega arith, omega arith), (omega arith, omega arith)) refl,
   (
     can_admit_sleeper,
     (

@@ -7,7 +7,7 @@ use Rattle.hls_chron.specs.Ledger.{Ledger, with_row, with_mark, row_at, before}
 use Rattle.hls_chron.specs.Seats.{asked, served}
 use Rattle.hls_chron.specs.Ticks.{count}
 use Rattle.hls_kinds.specs.Tags.{start_tags, start_tag}
-use Rattle.hls_kinds.specs.Tenants.{tenant_at}
+use Rattle.hls_kinds.specs.Tenants.{tenant_at, settled_at, left_at}
 use Rattle.hls_kinds.specs.Ticks.{last_of}
 use Rattle.hls_machine.specs.Ledgers.{empty_book}
 
@@ -31,17 +31,17 @@ thrice = with_row twice (row_of 3 0)
 
 -- by slot
 pub record HasTags (b : Ledger) (t lower upper : ℕ) : Type 0 where
-  pub first : start_tag b t 0 ≡ lower
-  pub second : start_tag b t 1 ≡ upper
+  pub first : start_tag 1 b t 0 ≡ lower
+  pub second : start_tag 1 b t 1 ≡ upper
 
 pub tags_once : HasTags once 1 232792560 465585120
-unfolding start_tags last_of count asked served row_at tenant_at before
+unfolding start_tags last_of count asked served row_at tenant_at settled_at left_at before
 tags_once = record { first = refl; second = refl }
 
 pub tags_twice : HasTags twice 2 465585120 465585120
-unfolding start_tags last_of count asked served row_at tenant_at before
+unfolding start_tags last_of count asked served row_at tenant_at settled_at left_at before
 tags_twice = record { first = refl; second = refl }
 
 pub tags_thrice : HasTags thrice 3 698377680 465585120
-unfolding start_tags last_of count asked served row_at tenant_at before
+unfolding start_tags last_of count asked served row_at tenant_at settled_at left_at before
 tags_thrice = record { first = refl; second = refl }

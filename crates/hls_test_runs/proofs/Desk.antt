@@ -1,16 +1,20 @@
 -- A scheduler at the processor with at most two threads on it: its ticks, and what they leave.
 use Rattle.std.proofs.Common.{◌≡◌, ◌≢◌, ℕ, zero, suc, ◌<◌, ◌≤◌, [], ◌∷◌, Option, Some, None, Bool, true}
 use Rattle.std.proofs.Common.{false, refl, sym, ap, ◌∙◌, arith}
-use Rattle.std.specs.Prelude.{codes}
+use Rattle.std.specs.Prelude.{codes, ◌&&◌, ◌%◌}
+use Rattle.std.proofs.Math.Nat.{mod-lt}
 use Rattle.hls_chron.specs.declared.plain.Config.{Config}
+use Rattle.hls_chron.specs.declared.plain.Config.TheVariants.{Sfq}
 use Rattle.hls_chron.specs.declared.plain.Kind.TheVariants as kinds
 use Rattle.hls_chron.specs.Kinds.{kind_of}
 use Rattle.hls_chron.specs.Ranges.{ConfigInRange}
-use Rattle.hls_chron.specs.Ledger.{Ledger, with_row}
+use Rattle.hls_chron.specs.Ledger.{Ledger, now_of, with_row}
 use Rattle.hls_chron.specs.Seats.{terms_at}
 use Rattle.hls_kinds.specs.Asks.{asks, slot_asks}
 use Rattle.hls_kinds.specs.Discipline.{Serves}
 use Rattle.hls_kinds.specs.Slots.{IsFirst}
+use Rattle.hls_kinds.specs.Tags.{start_tag}
+use Rattle.hls_kinds.specs.Turns.{turn_slot, turn_ticks, turn_goes_on}
 use Rattle.hls_machine.specs.Ledgers.{empty_book}
 use Rattle.hls_machine.specs.Hierarchy.{Hierarchy, Node, Loaded, Admitted, Thread, Awake, At, start}
 use Rattle.hls_machine.specs.Steps.{Step, Load, Elapse, Hop, Path, after, row_by, hop_at, hops_of, ticked}
@@ -21,6 +25,22 @@ use Rattle.hls_test_runs.proofs.Small.{Few, few_after, each_of_three, LowSeats, 
 use Rattle.hls_test_runs.proofs.Small.{thread_low, flat, take_one, root_all, SeatsAsk, seat_asks, root_asks_so}
 use Rattle.hls_test_runs.proofs.Small.{FreeSilent, all_silent}
 use Rattle.hls_test_runs.proofs.Awake.{off_two}
+
+-- with a quantum of 1 no turn goes on, so that the slot of least tag is served
+none_of : (asks : Bool) → (asks && false) ≡ false
+none_of true = refl
+none_of false = refl
+
+none_on : (b : Ledger) (mask : ℕ) → turn_goes_on 1 b mask ≡ false
+none_on b mask =
+    let whole : turn_ticks b (turn_slot b) % 1 ≡ 0 = (
+    let lt = mod-lt (turn_ticks b (turn_slot b)) (let one : 0 < 1 = omega arith in one) in omega (arith, lt)) in
+    rw whole (none_of (slot_asks mask (turn_slot b)))
+
+pub least_served : (total most : ℕ) (b : Ledger) (mask slot : ℕ)
+    → IsFirst 32 (slot_asks mask) (start_tag 1 b (now_of b)) slot → Serves (Sfq total most 1) b mask slot
+least_served total most b mask slot is =
+    record { goes_on = λ on. absurd (let no = sym on ∙ none_on b mask in cc); passes = λ off. is }
 
 -- of two slots that ask, the one of least key is first, and the lesser where both are the same
 pub second_first : (key : ℕ → ℕ) → key 1 < key 0 → IsFirst 32 (slot_asks 3) key 1

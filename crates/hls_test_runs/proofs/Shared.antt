@@ -33,7 +33,7 @@ use Rattle.hls_test_runs.proofs.Small.{Few, few_after, each_of_three, beyond, ta
 use Rattle.hls_test_runs.proofs.Awake.{off_two}
 use Rattle.hls_test_runs.proofs.Tagged.{lone, pair, first, again, second, third, tags_pair, tags_again, tags_second}
 use Rattle.hls_test_runs.proofs.Tagged.{tags_third}
-use Rattle.hls_test_runs.proofs.Desk.{first_first, second_first, IsDesk, can_load_desk}
+use Rattle.hls_test_runs.proofs.Desk.{first_first, second_first, least_served, IsDesk, can_load_desk}
 use Rattle.hls_test_runs.proofs.Desk.{desk_flat, desk_asking, desk_ticked, desk_runs}
 
 -- what a seat of weight 1 or 2 is guaranteed
@@ -313,16 +313,24 @@ at_h4 = desk_ticked h3 queue second (Some (lighter_thread 1)) (Some heavier_thre
     (Some (path_to 0 1))
 
 serves_pair : Serves queue pair 3 1
-serves_pair = second_first (start_tag pair (now_of pair)) (omega (arith, tags_pair.0, tags_pair.1))
+serves_pair =
+    least_served 4 3 pair 3 1 (second_first (start_tag 1 pair (now_of pair))
+    (omega (arith, tags_pair.0, tags_pair.1)))
 
 serves_again : Serves queue again 3 1
-serves_again = second_first (start_tag again (now_of again)) (omega (arith, tags_again.0, tags_again.1))
+serves_again =
+    least_served 4 3 again 3 1 (second_first (start_tag 1 again (now_of again))
+    (omega (arith, tags_again.0, tags_again.1)))
 
 serves_second : Serves queue second 3 0
-serves_second = first_first (start_tag second (now_of second)) (omega (arith, tags_second.0, tags_second.1))
+serves_second =
+    least_served 4 3 second 3 0 (first_first (start_tag 1 second (now_of second))
+    (omega (arith, tags_second.0, tags_second.1)))
 
 serves_third : Serves queue third 3 1
-serves_third = second_first (start_tag third (now_of third)) (omega (arith, tags_third.0, tags_third.1))
+serves_third =
+    least_served 4 3 third 3 1 (second_first (start_tag 1 third (now_of third))
+    (omega (arith, tags_third.0, tags_third.1)))
 
 -- the move
 three_used : room_used queue first ≡ 3
@@ -395,7 +403,8 @@ first_legal = can_serve_heavier awake pair 0 at_awake (λ e. cc) (λ e. cc) serv
 
 pub shared_legal : IsLegal start shared
 shared_legal = (
-  can_load_desk queue 4 8 (λ e. cc) ((omega arith, omega arith), (omega arith, omega arith)) refl,
+  can_load_desk queue 4 8 (λ e. cc)
+      ((omega arith, omega arith), (omega arith, omega arith), (omega arith, omega arith)) refl,
   (
     can_admit_lighter,
     (

@@ -19,7 +19,7 @@ starter = 2
 
 -- a total weight of 2, and two seats at most
 abbrev pub couple : Config
-couple = Sfq 2 2
+couple = Sfq 2 2 1
 
 abbrev pub sleeper_seat : Seat
 sleeper_seat = record { place = At root 0; terms = Weight 1; kept = Resc false 1 4 }

@@ -20,7 +20,7 @@ heavier = 2
 
 -- a total weight of 4, and three seats at most
 abbrev pub queue : Config
-queue = Sfq 4 3
+queue = Sfq 4 3 1
 
 abbrev pub lighter_seat : Seat
 lighter_seat = record { place = At root 0; terms = Weight 1; kept = Resc false 1 12 }

@@ -59,7 +59,7 @@ pub fn a_fair_seat_waits_as_long_as_it_may()
     ensures ahead { count (was_served (state start apart).past sleeper) 1 2 ≡ 2 }
     ensures waits { count (was_served (state start apart).past starter) 1 2 ≡ 0 }
     ensures third { count (was_served (state start apart).past starter) 1 3 ≡ 1 }
-    ensures bound { delay 2 2 1 1 ≡ 3 }
+    ensures bound { delay 2 2 1 1 1 ≡ 3 }
     ensures no_less { (s d : Frac) → s.num ≡ 1 → s.den ≡ 2 →
         Satisfies (Psbe s d) (was_served (state start apart).past starter) 1 3 → d.den ≤ d.num }
 {}

@@ -158,6 +158,31 @@ const AT_HEAVY_WEIGHT: [Case; 5] = [
     ),
 ];
 
+const AT_LIGHT_TURNS: [Case; 5] = [
+    ("ALL", "PSBE 1/4 2", 3, "ALL R8 PSBE 1 0 SFQ PSBE 1/4 2"),
+    ("ALL", "PSBE 1/4 1", 3, ""),
+    ("ALL", "PSBE 1/8 2", 1, "ALL R8 PSBE 1/2 0 SFQ PSBE 1/8 2"),
+    ("ALL", "PSBE 1/8 1", 1, ""),
+    (
+        "ALL",
+        "PSBE 1/8 1",
+        2,
+        "ALL R8 PSBE 1 0 SFQ PSBE 1/4 2 R1 PSBE 1/8 1",
+    ),
+];
+
+const AT_HEAVY_TURNS: [Case; 4] = [
+    ("ALL", "PSBE 3/4 2", 3, "ALL R8 PSBE 1 0 SFQ PSBE 3/4 2"),
+    ("ALL", "PSBE 3/4 1", 3, ""),
+    (
+        "RESBS 3 10",
+        "PSBE 9/40 103/20",
+        1,
+        "RESBS 3 10 R4 PSBE 3/10 21/5 SFQ PSBE 9/40 103/20",
+    ),
+    ("RESBS 3 10", "PSBE 9/40 83/20", 6, ""),
+];
+
 const AT_RESERVATION: [Case; 6] = [
     ("ALL", "RESBH 20 40", 0, "ALL EDF RESBH 20 40"),
     (
@@ -309,11 +334,20 @@ fn with_lent(
     Ok(all)
 }
 
-fn worked_derivations(rt: &impl Abort, alloc: Global, book: &RuleBook) -> Result<(), Fail> {
-    let light = otherwise(alloc, book, &fair_queueing(1), &AT_LIGHT_WEIGHT)?;
+fn by_weights(rt: &impl Abort, alloc: Global, book: &RuleBook) -> Result<(), Fail> {
+    let light = otherwise(alloc, book, &fair_queueing(1, 1), &AT_LIGHT_WEIGHT)?;
     assert_eq!(rt; light, None, "a light weight");
-    let heavy = otherwise(alloc, book, &fair_queueing(3), &AT_HEAVY_WEIGHT)?;
+    let heavy = otherwise(alloc, book, &fair_queueing(3, 1), &AT_HEAVY_WEIGHT)?;
     assert_eq!(rt; heavy, None, "a heavy weight");
+    let light = otherwise(alloc, book, &fair_queueing(1, 2), &AT_LIGHT_TURNS)?;
+    assert_eq!(rt; light, None, "a light weight, by turns");
+    let heavy = otherwise(alloc, book, &fair_queueing(3, 2), &AT_HEAVY_TURNS)?;
+    assert_eq!(rt; heavy, None, "a heavy weight, by turns");
+    Ok(())
+}
+
+fn worked_derivations(rt: &impl Abort, alloc: Global, book: &RuleBook) -> Result<(), Fail> {
+    by_weights(rt, alloc, book)?;
     let reserved = Place {
         config: Config::Edf,
         terms: Terms::Res {
@@ -353,13 +387,18 @@ fn worked_derivations(rt: &impl Abort, alloc: Global, book: &RuleBook) -> Result
     Ok(())
 }
 
-/// A seat of this weight of four, beside one other.
-fn fair_queueing(weight: u32) -> Place
-    requires { IsWithin 1 4 weight }
-    ensures { result ≡ record { config = Config.Sfq 4 2; terms = Terms.Weight weight } }
+/// A seat of this weight of four, beside one other, in turns of a quantum.
+fn fair_queueing(weight: u32, quantum: u32) -> Place
+    requires weight { IsWithin 1 4 weight }
+    requires quantum { IsWithin 1 100 quantum }
+    ensures { result ≡ record { config = Config.Sfq 4 2 quantum; terms = Terms.Weight weight } }
 {
     Place {
-        config: Config::Sfq { total: 4, most: 2 },
+        config: Config::Sfq {
+            total: 4,
+            most: 2,
+            quantum,
+        },
         terms: Terms::Weight(weight),
     }
 }
@@ -410,11 +449,21 @@ fn small_chains(rt: &impl Abort, alloc: Global, book: &RuleBook) -> Result<(), F
         let differ = differences(alloc, book, &known, &PASSING, depth)?;
         assert_eq!(rt; differ, (0, 0), "fixed priority, depth {depth}");
     }
-    let fair = Place {
-        config: Config::Sfq { total: 3, most: 2 },
-        terms: Terms::Weight(2),
-    };
-    assert_eq!(rt; missed_of_shares(alloc, book, &fair)?, 0, "fair queueing");
+    for quantum in 1..3 {
+        let fair = Place {
+            config: Config::Sfq {
+                total: 3,
+                most: 2,
+                quantum,
+            },
+            terms: Terms::Weight(2),
+        };
+        assert_eq!(rt;
+            missed_of_shares(alloc, book, &fair)?,
+            0,
+            "fair queueing, turns of {quantum}"
+        );
+    }
     let turning = Place {
         config: Config::Rr { quantum: 1 },
         terms: Terms::Turn,

@@ -38,6 +38,15 @@ at 1 wake a for 2
 at 4 wake a for 1
 "
             .as_slice(),
+        b"hls 2\nhorizon 1000000\ndepth 6\n".as_slice(),
+        b"hls 2
+horizon 6
+at 0 load root sfq 4 2 2 on cpu as ALL
+at 0 load below sfq 100 20 1 on root weight 1 as NULL
+at 0 load even rr 5 on root weight 2 as NULL
+at 5 thread a on below weight 20 as NULL
+"
+            .as_slice(),
     ];
     for text in table {
         assert_eq!(rt; printed(rt.alloc(), text)?.as_slice(), text);
@@ -101,13 +110,24 @@ fn prints_each_part_in_one_way(rt: HostRuntime) -> Result<(), Fail> {
 }
 
 #[test]
+fn prints_a_quantum_in_one_way(rt: HostRuntime) -> Result<(), Fail> {
+    let text = b"\nhls\t2 # two\r\nhorizon 9\nat 0 load r sfq 4  2\t2 on cpu as ALL # quanta";
+    let want = b"hls 2\nhorizon 9\nat 0 load r sfq 4 2 2 on cpu as ALL\n";
+    let again = printed(rt.alloc(), text.as_slice())?;
+    assert_eq!(rt; again.as_slice(), want.as_slice());
+    Ok(())
+}
+
+#[test]
 fn prints_a_command_without_its_tick(rt: HostRuntime) -> Result<(), Fail> {
     let name = Name::read(b"a").ok_or("no name")?;
     let wake = Command::Wake {
         name,
         burst: Some(3),
     };
-    let text = print_command(rt.alloc(), &wake)?;
-    assert_eq!(rt; text.as_slice(), b"wake a for 3".as_slice());
+    let first = print_command(rt.alloc(), 1, &wake)?;
+    assert_eq!(rt; first.as_slice(), b"wake a for 3".as_slice());
+    let second = print_command(rt.alloc(), 2, &wake)?;
+    assert_eq!(rt; second.as_slice(), b"wake a for 3".as_slice());
     Ok(())
 }

@@ -75,7 +75,7 @@ fn writes_and_reads_each_refusal(rt: HostRuntime) -> Result<(), Fail> {
         put_refusal(&mut out, &one)?;
         assert_eq!(rt; out.as_slice(), text);
         let answer = [b"= refused ".as_slice(), text].concat(rt.alloc())?;
-        let read = with_line(rt.alloc(), 4, &answer)?;
+        let read = with_line(rt.alloc(), SMALLEST, 4, &answer)?;
         assert_eq!(rt; bad_line(rt.alloc(), &read), Some(6), "at {text:?}");
     }
     Ok(())
@@ -100,7 +100,7 @@ fn reads_no_other_refusal(rt: HostRuntime) -> Result<(), Fail> {
     ];
     for text in table {
         let answer = [b"= refused ".as_slice(), text].concat(rt.alloc())?;
-        let read = with_line(rt.alloc(), 4, &answer)?;
+        let read = with_line(rt.alloc(), SMALLEST, 4, &answer)?;
         assert_eq!(rt; bad_line(rt.alloc(), &read), Some(5), "at {text:?}");
     }
     Ok(())
@@ -153,11 +153,11 @@ fn reads_and_writes_the_smallest_report(rt: HostRuntime) {
     assert_eq!(rt; again.as_deref(), Some(SMALLEST));
 }
 
-/// The first so many lines of the smallest report, and one line behind them.
-fn with_line(alloc: Global, kept: u32, line: &[u8]) -> Result<Vec<u8>, AllocError> {
+/// The first so many lines of a text, and one line behind them.
+fn with_line(alloc: Global, whole: &[u8], kept: u32, line: &[u8]) -> Result<Vec<u8>, AllocError> {
     let mut text = Vec::new(alloc);
     let mut left = kept;
-    for byte in SMALLEST {
+    for byte in whole {
         if left == 0 {
             break;
         }
@@ -174,7 +174,10 @@ fn with_line(alloc: Global, kept: u32, line: &[u8]) -> Result<Vec<u8>, AllocErro
 #[test]
 fn finds_the_bad_line(rt: HostRuntime) -> Result<(), Fail> {
     let table = [
-        (0, b"hls-report 2".as_slice()),
+        (0, b"hls-report 3".as_slice()),
+        (0, b"hls-report 0".as_slice()),
+        (0, b"hls-report 01".as_slice()),
+        (0, b"hls-report".as_slice()),
         (0, b"hls-report 1 ".as_slice()),
         (1, b"horizon 0".as_slice()),
         (1, b"horizon 100001".as_slice()),
@@ -183,6 +186,7 @@ fn finds_the_bad_line(rt: HostRuntime) -> Result<(), Fail> {
         (3, b"at 1 wake a".as_slice()),
         (3, b"at 0  wake a".as_slice()),
         (3, b"at 0 wake a for 0".as_slice()),
+        (3, b"at 0 load root sfq 4 2 1 on cpu as ALL".as_slice()),
         (4, b"= gone".as_slice()),
         (4, b"= refused 10 NameTaken cpu".as_slice()),
         (4, b"schedule".as_slice()),
@@ -208,7 +212,69 @@ fn finds_the_bad_line(rt: HostRuntime) -> Result<(), Fail> {
         (17, b"end".as_slice()),
     ];
     for (kept, line) in table {
-        let text = with_line(rt.alloc(), kept, line)?;
+        let text = with_line(rt.alloc(), SMALLEST, kept, line)?;
+        assert_eq!(rt;
+            bad_line(rt.alloc(), &text),
+            kept.checked_add(1),
+            "at {line:?}"
+        );
+    }
+    Ok(())
+}
+
+/// A report of the longest run in version 2, with a quantum.
+const LONGEST: &[u8] = b"hls-report 2\n\
+    horizon 1000000\n\
+    depth 3\n\
+    at 0 load root sfq 4 2 2 on cpu as ALL\n\
+    = done\n\
+    by root 0 ALL CPU ALL\n\
+    at 999999 thread a on root weight 5 as NULL\n\
+    = refused 16 TermsUnfit root\n\
+    schedule\n\
+    0..999999 idle\n\
+    accounts\n\
+    idle 1000000\n\
+    end\n";
+
+#[test]
+fn reads_and_writes_a_report_of_version_two(rt: HostRuntime) {
+    let again = written_again(rt.alloc(), LONGEST);
+    assert_eq!(rt; again.as_deref(), Some(LONGEST));
+}
+
+/// The version of the report that a text is of.
+fn version_of(alloc: Global, text: &[u8]) -> Option<u8> {
+    if text.len() > 4_000_000 {
+        return None;
+    }
+    match read_report(alloc, text) {
+        Ok(report) => Some(report.version),
+        Err(_) => None,
+    }
+}
+
+#[test]
+fn reads_the_version(rt: HostRuntime) {
+    assert_eq!(rt; version_of(rt.alloc(), SMALLEST), Some(1));
+    assert_eq!(rt; version_of(rt.alloc(), LONGEST), Some(2));
+}
+
+#[test]
+fn finds_the_bad_line_in_version_two(rt: HostRuntime) -> Result<(), Fail> {
+    let table = [
+        (1, b"horizon 0".as_slice()),
+        (1, b"horizon 1000001".as_slice()),
+        (3, b"at 1000000 wake a".as_slice()),
+        (3, b"at 0 load root sfq 4 2 on cpu as ALL".as_slice()),
+        (3, b"at 0 load root sfq 4 2 0 on cpu as ALL".as_slice()),
+        (3, b"at 0 load root sfq 4 2 101 on cpu as ALL".as_slice()),
+        (3, b"at 0 load root sfq 4 2 02 on cpu as ALL".as_slice()),
+        (9, b"0..1000000 idle".as_slice()),
+        (11, b"a 0..1000000 ALL ready 1 served 1".as_slice()),
+    ];
+    for (kept, line) in table {
+        let text = with_line(rt.alloc(), LONGEST, kept, line)?;
         assert_eq!(rt;
             bad_line(rt.alloc(), &text),
             kept.checked_add(1),

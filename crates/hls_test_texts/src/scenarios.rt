@@ -40,6 +40,10 @@ fn finds_the_faults_of_lines(rt: HostRuntime) -> Result<(), Fail> {
             Cause::Number,
         ),
         (
+            b"at 0 load r sfq 4 2 2 on cpu as ALL".as_slice(),
+            Cause::Word,
+        ),
+        (
             b"at 0 load r wheel 1001 on cpu as ALL".as_slice(),
             Cause::Number,
         ),
@@ -113,15 +117,58 @@ fn finds_the_faults_of_lines(rt: HostRuntime) -> Result<(), Fail> {
 }
 
 #[test]
+fn finds_the_faults_of_quanta(rt: HostRuntime) -> Result<(), Fail> {
+    let table = [
+        (
+            b"at 0 load r sfq 4 2 on cpu as ALL".as_slice(),
+            Cause::Number,
+        ),
+        (
+            b"at 0 load r sfq 4 2 0 on cpu as ALL".as_slice(),
+            Cause::Number,
+        ),
+        (
+            b"at 0 load r sfq 4 2 101 on cpu as ALL".as_slice(),
+            Cause::Number,
+        ),
+        (
+            b"at 0 load r sfq 4 21 2 on cpu as ALL".as_slice(),
+            Cause::Number,
+        ),
+        (
+            b"at 0 load r sfq 4 2 2 2 on cpu as ALL".as_slice(),
+            Cause::Word,
+        ),
+        (b"at 0 load r sfq 4 2".as_slice(), Cause::Short),
+    ];
+    for (line, cause) in table {
+        let mut text = Vec::new(rt.alloc());
+        text.extend_from_slice(b"hls 2\nhorizon 5\n")?;
+        text.extend_from_slice(line)?;
+        assert_eq!(rt;
+            fault_of(rt.alloc(), &text),
+            Some((3, cause)),
+            "at {line:?}"
+        );
+    }
+    Ok(())
+}
+
+#[test]
 fn finds_the_faults_of_texts(rt: HostRuntime) {
     let table = [
         (b"".as_slice(), 1, Cause::Header),
         (b"\n\n".as_slice(), 3, Cause::Header),
         (b"hls 1".as_slice(), 2, Cause::Horizon),
         (b"hls 1\n".as_slice(), 2, Cause::Horizon),
-        (b"\n# a\nhls 2\n".as_slice(), 3, Cause::Header),
+        (b"\n# a\nhls 3\n".as_slice(), 3, Cause::Header),
+        (b"hls 0\nhorizon 5".as_slice(), 1, Cause::Header),
+        (b"hls 02\nhorizon 5".as_slice(), 1, Cause::Header),
+        (b"hls 2 2\nhorizon 5".as_slice(), 1, Cause::Header),
         (b"hls 1\nhorizon 0".as_slice(), 2, Cause::Horizon),
         (b"hls 1\nhorizon 100001".as_slice(), 2, Cause::Horizon),
+        (b"hls 2\nhorizon 0".as_slice(), 2, Cause::Horizon),
+        (b"hls 2\nhorizon 1000001".as_slice(), 2, Cause::Horizon),
         (
             b"hls 1\nhorizon 5\nat 3 wake a\nat 2 wake a".as_slice(),
             4,
@@ -170,9 +217,65 @@ fn reads_lines_as_they_may_be_written(rt: HostRuntime) {
             b"hls 1\nhorizon 5\nat 0 load a sfq 100 20 on b weight 20 as PSBE 1 0/7".as_slice(),
             1,
         ),
+        (b"hls 2\nhorizon 1".as_slice(), 0),
+        (b"\n hls\t2 # 1\r\nhorizon 1000000\ndepth 6".as_slice(), 0),
+        (
+            b"hls 2\nhorizon 1000000\nat 999999 load a sfq 100 20 100 on b weight 20 as ALL".as_slice(),
+            1,
+        ),
     ];
     for (text, count) in table {
         assert_eq!(rt; count_of(rt.alloc(), text), Some(count), "at {text:?}");
+    }
+}
+
+/// The version of a text that loads one scheduler, and its configuration.
+fn loaded(alloc: Global, text: &[u8]) -> Option<(u8, Config)> {
+    if text.len() > 4_000_000 {
+        return None;
+    }
+    match read_scenario(alloc, text) {
+        Ok(scenario) => match scenario.items.items().first() {
+            Some(item) => match &item.command {
+                Command::Load { config, .. } => Some((scenario.version, *config)),
+                _ => None,
+            },
+            None => None,
+        },
+        Err(_) => None,
+    }
+}
+
+#[test]
+fn reads_a_quantum_in_version_two(rt: HostRuntime) {
+    let table = [
+        (
+            b"hls 1\nhorizon 9\nat 0 load r sfq 4 2 on cpu as ALL".as_slice(),
+            1,
+            1,
+        ),
+        (
+            b"hls 2\nhorizon 9\nat 0 load r sfq 4 2 1 on cpu as ALL".as_slice(),
+            2,
+            1,
+        ),
+        (
+            b"hls 2\nhorizon 9\nat 0 load r sfq 4 2 2 on cpu as ALL".as_slice(),
+            2,
+            2,
+        ),
+    ];
+    for (text, version, quantum) in table {
+        let config = Config::Sfq {
+            total: 4,
+            most: 2,
+            quantum,
+        };
+        assert_eq!(rt;
+            loaded(rt.alloc(), text),
+            Some((version, config)),
+            "at {text:?}"
+        );
     }
 }
 

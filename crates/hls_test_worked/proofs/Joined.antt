@@ -365,21 +365,22 @@ tells = (
 
 formed : IsContent joined
 formed = record {
+  version = omega arith;
   horizon = omega arith;
   depth = omega arith;
   few = omega arith;
   answered = (
-    (refl, (tt, cpu_formed All tt)),
+    (refl, ((tt, tt), cpu_formed All tt)),
     (tt, (lent_formed (codes "root") 0 All kinds.Cpu All refl (omega arith) tt tt, tt)),
     omega arith,
     omega arith,
     (
-      (refl, (tt, on_formed (codes "root") (terms.Prio 0) All refl (omega arith) tt)),
+      (refl, ((tt, tt), on_formed (codes "root") (terms.Prio 0) All refl (omega arith) tt)),
       (tt, (lent_formed (codes "e") 0 All kinds.Fp All refl (omega arith) tt tt, tt)),
       omega arith,
       omega arith,
       (
-        (refl, ((omega arith, omega arith), on_formed (codes "root") (terms.Prio 1) Null refl (omega arith) tt)),
+        (refl, (((omega arith, omega arith), tt), on_formed (codes "root") (terms.Prio 1) Null refl (omega arith) tt)),
         (tt, (lent_formed (codes "r") 0 All kinds.Fp Null refl (omega arith) tt tt, tt)),
         omega arith,
         omega arith,
@@ -487,6 +488,7 @@ idle_is = sym (idle_told joined steps legal tells)
 pub joined_legal : IsLegalContent joined_scenario 3 full_kit joined
 joined_legal = record {
   formed = formed;
+  version = refl;
   horizon = refl;
   depth = refl;
   commands = refl;

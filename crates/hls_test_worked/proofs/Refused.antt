@@ -21,11 +21,12 @@ use Rattle.hls_test_worked.proofs.Smallest.{smallest_legal}
 
 formed : IsContent refuses_the_thread
 formed = record {
+  version = omega arith;
   horizon = omega arith;
   depth = omega arith;
   few = omega arith;
   answered = (
-    (refl, (tt, cpu_formed All tt)),
+    (refl, ((tt, tt), cpu_formed All tt)),
     (tt, (lent_formed (codes "root") 0 All kinds.Cpu All refl (omega arith) tt tt, tt)),
     omega arith,
     omega arith,
@@ -56,6 +57,7 @@ no_wrong_refusal is =
     let run = answered_run full_kit refuses_the_thread is in
     (one_report smallest_scenario 3 full_kit smallest refuses_the_thread smallest_legal (record {
       formed = formed;
+      version = refl;
       horizon = refl;
       depth = refl;
       commands = refl;

@@ -158,16 +158,17 @@ tells = (
 
 formed : IsContent settled
 formed = record {
+  version = omega arith;
   horizon = omega arith;
   depth = omega arith;
   few = omega arith;
   answered = (
-    (refl, (tt, cpu_formed All tt)),
+    (refl, ((tt, tt), cpu_formed All tt)),
     (tt, (lent_formed (codes "root") 0 All kinds.Cpu All refl (omega arith) tt tt, tt)),
     omega arith,
     omega arith,
     (
-      (refl, (tt, on_formed (codes "root") (terms.Prio 0) Null refl (omega arith) tt)),
+      (refl, ((tt, tt), on_formed (codes "root") (terms.Prio 0) Null refl (omega arith) tt)),
       (tt, (lent_formed (codes "e") 0 All kinds.Fp Null refl (omega arith) tt tt, tt)),
       omega arith,
       omega arith,
@@ -218,6 +219,7 @@ idle_is = sym (idle_told settled steps legal tells)
 pub settled_legal : IsLegalContent settled_scenario 3 full_kit settled
 settled_legal = record {
   formed = formed;
+  version = refl;
   horizon = refl;
   depth = refl;
   commands = refl;

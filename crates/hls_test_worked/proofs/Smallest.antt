@@ -177,11 +177,12 @@ tells = (
 
 formed : IsContent smallest
 formed = record {
+  version = omega arith;
   horizon = omega arith;
   depth = omega arith;
   few = omega arith;
   answered = (
-    (refl, (tt, cpu_formed All tt)),
+    (refl, ((tt, tt), cpu_formed All tt)),
     (tt, (lent_formed (codes "root") 0 All kinds.Cpu All refl (omega arith) tt tt, tt)),
     omega arith,
     omega arith,
@@ -213,6 +214,7 @@ idle_is = sym (idle_told smallest steps legal tells)
 pub smallest_legal : IsLegalContent smallest_scenario 3 full_kit smallest
 smallest_legal = record {
   formed = formed;
+  version = refl;
   horizon = refl;
   depth = refl;
   commands = refl;

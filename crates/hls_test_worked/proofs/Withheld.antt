@@ -314,11 +314,12 @@ tells = (
 
 formed : IsContent withheld
 formed = record {
+  version = omega arith;
   horizon = omega arith;
   depth = omega arith;
   few = omega arith;
   answered = (
-    (refl, (tt, cpu_formed All tt)),
+    (refl, ((tt, tt), cpu_formed All tt)),
     (tt, (lent_formed (codes "root") 0 All kinds.Cpu All refl (omega arith) tt tt, tt)),
     omega arith,
     omega arith,
@@ -382,6 +383,7 @@ idle_is = sym (idle_told withheld steps legal tells)
 pub withheld_legal : IsLegalContent withheld_scenario 3 full_kit withheld
 withheld_legal = record {
   formed = formed;
+  version = refl;
   horizon = refl;
   depth = refl;
   commands = refl;

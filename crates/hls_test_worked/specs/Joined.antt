@@ -54,6 +54,7 @@ answered =
 
 abbrev pub joined : Content
 joined = record {
+  version = 1;
   horizon = 4;
   depth = 3;
   answered = answered;
@@ -68,4 +69,4 @@ joined = record {
 }
 
 abbrev pub joined_scenario : Scenario
-joined_scenario = record { horizon = 4; depth = None; items = map item_of answered }
+joined_scenario = record { version = 1; horizon = 4; depth = None; items = map item_of answered }

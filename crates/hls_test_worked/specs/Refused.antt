@@ -11,6 +11,7 @@ use Rattle.hls_test_worked.specs.Smallest.{load_root, admit_a}
 
 abbrev pub refuses_the_thread : Content
 refuses_the_thread = record {
+  version = 1;
   horizon = 1;
   depth = 3;
   answered = done 0 load_root (seated (codes "root") 0 (lent All kinds.Cpu All) ∷ [])

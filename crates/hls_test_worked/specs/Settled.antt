@@ -42,6 +42,7 @@ to_a = Some (codes "root" ∷ codes "e" ∷ codes "a" ∷ [])
 -- the stay of the thread ends with the move, and another begins
 abbrev pub settled : Content
 settled = record {
+  version = 1;
   horizon = 2;
   depth = 3;
   answered = answered;
@@ -53,7 +54,7 @@ settled = record {
 }
 
 abbrev pub settled_scenario : Scenario
-settled_scenario = record { horizon = 2; depth = None; items = map item_of answered }
+settled_scenario = record { version = 1; horizon = 2; depth = None; items = map item_of answered }
 
 -- the moved scheduler is not settled: the budget of its thread is still used up in the second tick
 abbrev pub unsettled : Content

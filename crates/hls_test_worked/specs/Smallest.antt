@@ -28,6 +28,7 @@ answered =
 
 abbrev pub smallest : Content
 smallest = record {
+  version = 1;
   horizon = 1;
   depth = 3;
   answered = answered;
@@ -37,4 +38,4 @@ smallest = record {
 }
 
 abbrev pub smallest_scenario : Scenario
-smallest_scenario = record { horizon = 1; depth = None; items = map item_of answered }
+smallest_scenario = record { version = 1; horizon = 1; depth = None; items = map item_of answered }

@@ -35,6 +35,7 @@ answered =
 
 abbrev pub withheld : Content
 withheld = record {
+  version = 1;
   horizon = 4;
   depth = 3;
   answered = answered;
@@ -44,4 +45,4 @@ withheld = record {
 }
 
 abbrev pub withheld_scenario : Scenario
-withheld_scenario = record { horizon = 4; depth = None; items = map item_of answered }
+withheld_scenario = record { version = 1; horizon = 4; depth = None; items = map item_of answered }

@@ -53,13 +53,13 @@ pub tight_ways : (c : Content) (s : Scale) (rows : List (List Label)) (all : Lis
     → AreTights c s rows all → length all ≡ length rows
 tight_ways c s rows all are = least_ways c s are.margins rows all are.least
 
-commands_in : (horizon last : ℕ) (all : List Answered) → AreAnswered horizon last all
-    → AllByRecursion (λ (a : Answered). IsCommand a.command) all
-commands_in horizon last [] are = tt
-commands_in horizon last (a ∷ all) are = (are.0, commands_in horizon a.tick all are.4)
+commands_in : (version horizon last : ℕ) (all : List Answered) → AreAnswered version horizon last all
+    → AllByRecursion (λ (a : Answered). IsCommand version a.command) all
+commands_in version horizon last [] are = tt
+commands_in version horizon last (a ∷ all) are = (are.0, commands_in version horizon a.tick all are.4)
 
 pub commands_told : (r : Report) (answered : List Answered) → IsWellFormed r → answered ≡ r.answered
-    → AllByRecursion (λ (a : Answered). IsCommand a.command) answered
+    → AllByRecursion (λ (a : Answered). IsCommand r.version a.command) answered
 commands_told r answered formed e =
-    subst (AllByRecursion (λ (a : Answered). IsCommand a.command)) (sym e)
-    (commands_in r.horizon 0 r.answered formed.content.answered)
+    subst (AllByRecursion (λ (a : Answered). IsCommand r.version a.command)) (sym e)
+    (commands_in r.version r.horizon 0 r.answered formed.content.answered)

@@ -28,11 +28,13 @@ pub record CommandData : Type 0 where
 abbrev pub data_of : ShownCommand → CommandData
 data_of s = record { tick = s.tick; text = s.text.items; refusal = option_map (λ text. text.items) s.refusal }
 
-abbrev pub shown : Answered → CommandData
-shown a = record { tick = a.tick; text = command_text a.command; refusal = refusal_of a.answer }
+-- in its canonical spelling in this version of the language
+abbrev pub shown : (version : ℕ) → Answered → CommandData
+shown version a =
+    record { tick = a.tick; text = command_text version a.command; refusal = refusal_of a.answer }
 
-abbrev pub shown_if : Scale → Answered → List CommandData
-shown_if s a = if is_shown s a.tick then shown a ∷ [] else []
+abbrev pub shown_if : (version : ℕ) → Scale → Answered → List CommandData
+shown_if version s a = if is_shown s a.tick then shown version a ∷ [] else []
 
 abbrev pub commands_shown : Content → Scale → List CommandData
-commands_shown c s = flat_map (shown_if s) c.answered
+commands_shown c s = flat_map (shown_if c.version s) c.answered

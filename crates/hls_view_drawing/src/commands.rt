@@ -18,12 +18,12 @@ fn is_shown(scale: &Scale, tick: u32) -> bool
     scale.from <= tick && tick <= scale.to
 }
 
-fn command_text(alloc: Global, command: &Command) -> Result<Vec<u8>, AllocError>
-    requires { IsCommand command.now }
-    ensures { IfOk result (λ text. text.items ≡ spelled.command_text command.now) }
+fn command_text(alloc: Global, version: u8, command: &Command) -> Result<Vec<u8>, AllocError>
+    requires { IsCommand version command.now }
+    ensures { IfOk result (λ text. text.items ≡ spelled.command_text version command.now) }
 {
     let mut text = Vec::new(alloc);
-    put_command(&mut text, command)?;
+    put_command(&mut text, version, command)?;
     Ok(text)
 }
 
@@ -41,13 +41,13 @@ fn refusal_text(alloc: Global, answer: &Answer) -> Result<Option<Vec<u8>>, Alloc
     }
 }
 
-fn shown(alloc: Global, answered: &Answered) -> Result<ShownCommand, AllocError>
-    requires { IsCommand answered.now.command }
-    ensures { IfOk result (λ s. commands.data_of s ≡ commands.shown answered.now) }
+fn shown(alloc: Global, version: u8, answered: &Answered) -> Result<ShownCommand, AllocError>
+    requires { IsCommand version answered.now.command }
+    ensures { IfOk result (λ s. commands.data_of s ≡ commands.shown version answered.now) }
 {
     Ok(ShownCommand {
         tick: answered.tick,
-        text: command_text(alloc, &answered.command)?,
+        text: command_text(alloc, version, &answered.command)?,
         refusal: refusal_text(alloc, &answered.answer)?,
     })
 }
@@ -55,35 +55,37 @@ fn shown(alloc: Global, answered: &Answered) -> Result<ShownCommand, AllocError>
 fn put_shown(
     alloc: Global,
     all: &mut Vec<ShownCommand>,
+    version: u8,
     scale: &Scale,
     a: &Answered,
 ) -> Result<(), AllocError>
-    requires { IsCommand a.now.command }
+    requires { IsCommand version a.now.command }
     ensures { OnOk result (map commands.data_of all.new.items
-        ≡ map commands.data_of all.old.items ++ commands.shown_if scale.now a.now) }
+        ≡ map commands.data_of all.old.items ++ commands.shown_if version scale.now a.now) }
 {
     if is_shown(scale, a.tick) {
-        all.push(shown(alloc, a)?)?;
+        all.push(shown(alloc, version, a)?)?;
     }
     Ok(())
 }
 
-/// The commands of the ticks shown, in their order, with what became of them.
+/// The commands of the ticks shown, in their order and as reports of this version spell them, with what became of them.
 ///
 /// # Errors
 /// Returns `AllocError` for want of memory.
 pub fn commands_shown(
     alloc: Global,
+    version: u8,
     answered: &[Answered],
     scale: &Scale,
 ) -> Result<Vec<ShownCommand>, AllocError>
-    requires { AllByRecursion (λ (a : told.Answered). IsCommand a.command) answered.now }
+    requires { AllByRecursion (λ (a : told.Answered). IsCommand version a.command) answered.now }
     ensures { IfOk result (λ all. map commands.data_of all.items
-        ≡ flat_map (commands.shown_if scale.now) answered.now) }
+        ≡ flat_map (commands.shown_if version scale.now) answered.now) }
 {
     let mut all = Vec::new(alloc);
     for a in answered {
-        put_shown(alloc, &mut all, scale, a)?;
+        put_shown(alloc, &mut all, version, scale, a)?;
     }
     Ok(all)
 }

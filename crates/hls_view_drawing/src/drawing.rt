@@ -93,7 +93,7 @@ fn drawing_over(
         threads: threads_among(alloc, found.rows)?,
         schedulers: schedulers_among(alloc, found.rows)?,
         rows: all_rows(alloc, scale, found.rows, found.counts, &signs, &tights)?,
-        commands: commands_shown(alloc, report.answered.items(), scale)?,
+        commands: commands_shown(alloc, report.version, report.answered.items(), scale)?,
         moves: moves_of(alloc, &shifts)?,
         strips: what_ran(alloc, report, scale, found.rows, found.counts)?,
     })

@@ -30,13 +30,13 @@ pub record IsAdmitted (c : Content) (life : Life) : Type 0 where
   pub after : List Answered
   pub split : c.answered ≡ before ++ by ∷ after
   pub early : by.tick < c.horizon
-  pub order : AreAnswered c.horizon by.tick after
+  pub order : AreAnswered c.version c.horizon by.tick after
   pub admits : admitted by ≡ Some life.name
   pub from : life.from ≡ by.tick
   pub words : life.words ≡ words_on life.name after
 
 one_admitted : (c : Content) (before : List Answered) (a : Answered) (after : List Answered) (found : Option Text)
-    → c.answered ≡ before ++ a ∷ after → a.tick < c.horizon → AreAnswered c.horizon a.tick after
+    → c.answered ≡ before ++ a ∷ after → a.tick < c.horizon → AreAnswered c.version c.horizon a.tick after
     → admitted a ≡ found → All (IsAdmitted c) (life_of a.tick after found)
 one_admitted c before a after None split early order is = All-nil (IsAdmitted c)
 one_admitted c before a after (Some name) split early order is =
@@ -53,7 +53,7 @@ one_admitted c before a after (Some name) split early order is =
     }) (All-nil (IsAdmitted c))
 
 all_admitted : (c : Content) (before after : List Answered) (last : ℕ) → c.answered ≡ before ++ after
-    → AreAnswered c.horizon last after → All (IsAdmitted c) (lives after)
+    → AreAnswered c.version c.horizon last after → All (IsAdmitted c) (lives after)
 all_admitted c before [] last split order = All-nil (IsAdmitted c)
 all_admitted c before (a ∷ after) last split order =
     All-append (IsAdmitted c) (life_of a.tick after (admitted a)) (lives after)
@@ -79,7 +79,7 @@ life_early c life is =
 
 pub life_words : (c : Content) (life : Life) → IsAdmitted c life → AreWords c.horizon life.from life.words
 life_words c life is =
-    rw (is.words, is.from) (words_sound c.horizon is.by.tick life.name is.after is.order)
+    rw (is.words, is.from) (words_sound c.version c.horizon is.by.tick life.name is.after is.order)
 
 pub life_said : (c : Content) (life : Life) → IsAdmitted c life → AreSaid c life.name life.words
 life_said c life is =

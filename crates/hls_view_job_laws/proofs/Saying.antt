@@ -46,14 +46,14 @@ last_of test front x xs on none =
 abbrev up_to : (t : ℕ) → (name : Text) → Answered → Bool
 up_to t name a = nat_le a.tick t && has_done (rouses name) a
 
-late : (horizon last t : ℕ) (name : Text) (after : List Answered) → AreAnswered horizon last after → t < last
-    → AllByRecursion (λ a. up_to t name a ≡ false) after
-late horizon last t name [] are lt = tt
-late horizon last t name (a ∷ after) are lt =
+late : (version horizon last t : ℕ) (name : Text) (after : List Answered) → AreAnswered version horizon last after
+    → t < last → AllByRecursion (λ a. up_to t name a ≡ false) after
+late version horizon last t name [] are lt = tt
+late version horizon last t name (a ∷ after) are lt =
     let order = are.2 in
     let past : t < a.tick = omega (arith, order, lt) in (
       and_left (nat_le a.tick t) (has_done (rouses name) a) (lt-leb a.tick t past),
-      late horizon a.tick t name after are.4 past,
+      late version horizon a.tick t name after are.4 past,
     )
 
 -- the tick of the next word, or else the horizon
@@ -61,19 +61,19 @@ abbrev pub until_next : (horizon : ℕ) → Option Word → ℕ
 until_next horizon next = end_by horizon (option_map (λ (w : Word). w.tick) next)
 
 -- before the first word none of these commands says anything
-quiet : (horizon last t : ℕ) (name : Text) (after : List Answered) → AreAnswered horizon last after
+quiet : (version horizon last t : ℕ) (name : Text) (after : List Answered) → AreAnswered version horizon last after
     → t < until_next horizon (first (words_on name after)) → AllByRecursion (λ a. up_to t name a ≡ false) after
 unfolding words_on
-quiet horizon last t name [] are soon = tt
-quiet horizon last t name (a ∷ after) are soon = elim (cases_Bool (has_done (rouses name) a)) [
+quiet version horizon last t name [] are soon = tt
+quiet version horizon last t name (a ∷ after) are soon = elim (cases_Bool (has_done (rouses name) a)) [
   | inl on ↦
       let past : t < a.tick = rw on at soon in (
         and_left (nat_le a.tick t) (has_done (rouses name) a) (lt-leb a.tick t past),
-        late horizon a.tick t name after are.4 past,
+        late version horizon a.tick t name after are.4 past,
       )
   | inr off ↦ (
     and_right (nat_le a.tick t) (has_done (rouses name) a) off,
-    quiet horizon a.tick t name after are.4 (rw off at soon),
+    quiet version horizon a.tick t name after are.4 (rw off at soon),
   )
 ]
 
@@ -108,7 +108,7 @@ AreSaid c name (word ∷ words) = (is_end word.sort ≡ false → IsSaid c name 
     × (is_end word.sort ≡ true → words ≡ []) × AreSaid c name words
 
 pub says : (c : Content) (name : Text) (front : List Answered) (a : Answered) (after : List Answered)
-    → c.answered ≡ front ++ a ∷ after → AreAnswered c.horizon a.tick after → has_done (rouses name) a ≡ true
+    → c.answered ≡ front ++ a ∷ after → AreAnswered c.version c.horizon a.tick after → has_done (rouses name) a ≡ true
     → IsSaid c name (word_of a) (first (words_on name after))
 unfolding is_ready last_rousing
 says c name front a after split are on = λ t from before.
@@ -116,7 +116,7 @@ says c name front a after split are on = λ t from before.
     (ap (last_rousing name t) split
     ∙ last_of (up_to t name) front a after
     (and_from (nat_le a.tick t) (has_done (rouses name) a) (le-leb a.tick t from) on)
-    (quiet c.horizon a.tick t name after are before))
+    (quiet c.version c.horizon a.tick t name after are before))
     ∙ lasts_by (is_served c.stretches name) a.tick t a.command
 
 up_to_end : (c : Content) (name : Text) (word : Word) (words : List Word) (end : Bool) → is_end word.sort ≡ end
@@ -127,7 +127,7 @@ up_to_end c name word words false ends said rest =
     (λ off. said, λ on. absurd (both_ways (is_end word.sort) ends on), rest)
 
 pub words_said : (c : Content) (name : Text) (front after : List Answered) (last : ℕ) → c.answered ≡ front ++ after
-    → AreAnswered c.horizon last after → AreSaid c name (words_on name after)
+    → AreAnswered c.version c.horizon last after → AreSaid c name (words_on name after)
 unfolding words_on
 words_said c name front [] last split are = tt
 words_said c name front (a ∷ after) last split are =

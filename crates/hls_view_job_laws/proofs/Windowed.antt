@@ -147,7 +147,7 @@ stay_valid : (c : Content) (number : ℕ) (stay : Stay) → IsContent c → slic
     → IsValid stay.kept
 stay_valid c number stay formed listed =
     subst (λ (s : Stay). IsValid s.kept) (get_or_from_slice_get (stays c.answered) number stay stay listed)
-    (stays_good c.horizon c.answered formed.answered number stay
+    (stays_good c.version c.horizon c.answered formed.answered number stay
     (slice_get_within (stays c.answered) number stay listed)).kept
 
 -- ---- bounds

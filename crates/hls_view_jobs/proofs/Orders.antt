@@ -144,17 +144,17 @@ open_at c name (r ∷ rs) (job ∷ jobs) apart are (suc i) one here left =
 
 -- ---- of the commands behind an admission
 
-behind : (horizon last : ℕ) (before : List Answered) (a : Answered) (after : List Answered)
-    → AreAnswered horizon last (before ++ a ∷ after) → AreAnswered horizon a.tick after
-behind horizon last [] a after are = are.4
-behind horizon last (b ∷ before) a after are = behind horizon b.tick before a after are.4
+behind : (version horizon last : ℕ) (before : List Answered) (a : Answered) (after : List Answered)
+    → AreAnswered version horizon last (before ++ a ∷ after) → AreAnswered version horizon a.tick after
+behind version horizon last [] a after are = are.4
+behind version horizon last (b ∷ before) a after are = behind version horizon b.tick before a after are.4
 
 orders : (c : Content) (before : List Answered) (a : Answered) (after : List Answered) (name : Text) → IsContent c
     → c.answered ≡ before ++ a ∷ after → AreApart c.horizon (releases (words_on name after))
 orders c before a after name formed split =
     releases_apart c.horizon a.tick (words_on name after)
-    (words_sound c.horizon a.tick name after
-    (behind c.horizon 0 before a after (subst (AreAnswered c.horizon 0) split formed.answered)))
+    (words_sound c.version c.horizon a.tick name after
+    (behind c.version c.horizon 0 before a after (subst (AreAnswered c.version c.horizon 0) split formed.answered)))
 
 pub jobs_apart : (c : Content) (before : List Answered) (a : Answered) (after : List Answered) (name : Text)
     (jobs : List Job) (i j : ℕ) (one other : Job) → IsContent c → c.answered ≡ before ++ a ∷ after

@@ -19,14 +19,14 @@ use Rattle.hls_view_jobs.specs.Words.{sort_of, is_end, words_on}
 use Rattle.hls_view_jobs.specs.Jobs.{first, release_of, releases}
 use Rattle.hls_view_jobs.specs.Inside.Sound.{HasBurst, AreWords, IsRelease}
 
-burst_of : (command : Command) → IsCommand command → HasBurst (sort_of command)
-burst_of (Load name config perches) is = tt
-burst_of (Thread name perch) is = tt
-burst_of (End name) is = tt
-burst_of (Unload name) is = tt
-burst_of (Move name perch) is = tt
-burst_of (Wake name burst) is = is.1
-burst_of (Block name) is = tt
+burst_of : (version : ℕ) (command : Command) → IsCommand version command → HasBurst (sort_of command)
+burst_of version (Load name config perches) is = tt
+burst_of version (Thread name perch) is = tt
+burst_of version (End name) is = tt
+burst_of version (Unload name) is = tt
+burst_of version (Move name perch) is = tt
+burst_of version (Wake name burst) is = is.1
+burst_of version (Block name) is = tt
 
 pub words_since : (horizon last later : ℕ) (words : List Word) → last ≤ later → AreWords horizon later words
     → AreWords horizon last words
@@ -39,15 +39,15 @@ up_to_end : (horizon tick : ℕ) (words : List Word) (end : Bool) → AreWords h
 up_to_end horizon tick words true are = tt
 up_to_end horizon tick words false are = are
 
-pub words_sound : (horizon last : ℕ) (name : Text) (all : List Answered) → AreAnswered horizon last all
+pub words_sound : (version horizon last : ℕ) (name : Text) (all : List Answered) → AreAnswered version horizon last all
     → AreWords horizon last (words_on name all)
 unfolding words_on
-words_sound horizon last name [] are = tt
-words_sound horizon last name (a ∷ after) are =
-    let rest = words_sound horizon a.tick name after are.4 in
+words_sound version horizon last name [] are = tt
+words_sound version horizon last name (a ∷ after) are =
+    let rest = words_sound version horizon a.tick name after are.4 in
     elim (cases_Bool (has_done (rouses name) a)) [
       | inl roused ↦ rw roused (
-        burst_of a.command are.0,
+        burst_of version a.command are.0,
         are.2,
         are.3,
         up_to_end horizon a.tick (words_on name after) (is_end (sort_of a.command)) rest,
@@ -55,18 +55,21 @@ words_sound horizon last name (a ∷ after) are =
       | inr quiet ↦ rw quiet (words_since horizon last a.tick (words_on name after) are.2 rest)
     ]
 
-behind : (horizon last : ℕ) (all : List Answered) (i : ℕ) (a : Answered) → i < length all → a ≡ get_or all i a
-    → AreAnswered horizon last all → AreAnswered horizon a.tick (drop (suc i) all)
-behind horizon last [] i a lt is are = absurd (omega (arith, lt))
-behind horizon last (b ∷ all) zero a lt is are =
-    subst (λ (one : Answered). AreAnswered horizon one.tick all) (sym is) are.4
-behind horizon last (b ∷ all) (suc i) a lt is are = behind horizon b.tick all i a (omega (arith, lt)) is are.4
+behind : (version horizon last : ℕ) (all : List Answered) (i : ℕ) (a : Answered) → i < length all → a ≡ get_or all i a
+    → AreAnswered version horizon last all → AreAnswered version horizon a.tick (drop (suc i) all)
+behind version horizon last [] i a lt is are = absurd (omega (arith, lt))
+behind version horizon last (b ∷ all) zero a lt is are =
+    subst (λ (one : Answered). AreAnswered version horizon one.tick all) (sym is) are.4
+behind version horizon last (b ∷ all) (suc i) a lt is are =
+    behind version horizon b.tick all i a (omega (arith, lt)) is are.4
 
 -- behind one of the commands
-pub words_behind : (horizon : ℕ) (name : Text) (all : List Answered) (i : ℕ) (a : Answered) → i < length all
-    → a ≡ get_or all i a → AreAnswered horizon 0 all → AreWords horizon a.tick (words_on name (drop (i + 1) all))
-words_behind horizon name all i a lt is are =
-    rw (add-one i) (words_sound horizon a.tick name (drop (suc i) all) (behind horizon 0 all i a lt is are))
+pub words_behind : (version horizon : ℕ) (name : Text) (all : List Answered) (i : ℕ) (a : Answered) → i < length all
+    → a ≡ get_or all i a → AreAnswered version horizon 0 all
+    → AreWords horizon a.tick (words_on name (drop (i + 1) all))
+words_behind version horizon name all i a lt is are =
+    rw (add-one i)
+    (words_sound version horizon a.tick name (drop (suc i) all) (behind version horizon 0 all i a lt is are))
 
 -- ---- releases
 

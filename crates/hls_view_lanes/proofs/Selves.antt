@@ -36,7 +36,7 @@ config-self : (c : Config) → configs.eq-value.it c c ≡ true
 config-self k.Cpu = refl
 config-self k.Fp = refl
 config-self k.Edf = refl
-config-self (k.Sfq total most) = grind (arith, common_steps)
+config-self (k.Sfq total most quantum) = grind (arith, common_steps)
 config-self (k.Rr quantum) = grind (arith, common_steps)
 config-self (k.Wheel frame) = grind (arith, common_steps)
 config-self (k.Join ports) = grind (arith, common_steps)
@@ -88,7 +88,7 @@ config-same : (a b : Config) → configs.eq-value.it a b ≡ true → a ≡ b
 config-same k.Cpu k.Cpu e = refl
 config-same k.Fp k.Fp e = refl
 config-same k.Edf k.Edf e = refl
-config-same (k.Sfq total most) (k.Sfq other few) e = grind (arith, common_steps)
+config-same (k.Sfq total most quantum) (k.Sfq other few turn) e = grind (arith, common_steps)
 config-same (k.Rr m) (k.Rr n) e = grind (arith, common_steps)
 config-same (k.Wheel m) (k.Wheel n) e = grind (arith, common_steps)
 config-same (k.Join m) (k.Join n) e = grind (arith, common_steps)

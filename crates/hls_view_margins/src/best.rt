@@ -20,7 +20,7 @@ pub(crate) struct Pieces {
 
 /// The ticks from one on and before another, if there is one.
 fn part_between(served: &Spans, from: u32, until: u32) -> Option<Part>
-    requires few { until ≤ 100000 }
+    requires few { until ≤ 1000000 }
     ensures { (f : ℕ → Bool) (end : ℕ) → Tell f served.now.spans.items end → until ≤ end →
         IsBetween f from until result }
 {

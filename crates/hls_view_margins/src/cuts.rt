@@ -9,7 +9,7 @@ pub(crate) struct Cut {
     pub(crate) offset: u32,
     pub(crate) period: u32,
     pub(crate) ghost order: { lo ≤ hi },
-    pub(crate) ghost few: { hi ≤ 100000 },
+    pub(crate) ghost few: { hi ≤ 1000000 },
     pub(crate) ghost some: { 1 ≤ period },
     pub(crate) ghost small: { period ≤ 20000 },
     pub(crate) ghost within: { offset < period },
@@ -21,7 +21,7 @@ pub(crate) struct Window {
     pub(crate) lo: u32,
     pub(crate) hi: u32,
     pub(crate) ghost some: { lo < hi },
-    pub(crate) ghost few: { hi ≤ 100000 },
+    pub(crate) ghost few: { hi ≤ 1000000 },
 }
 
 /// A reservation by blocks: where it is hard, at most so many of the ticks of a period.

@@ -23,6 +23,7 @@ use hls_report_text::Report;
 use std::alloc::{AllocError, Global};
 
 /// The ticks of a stay, if it has one.
+#[tactic(auto, using(hls_report_text::proofs::LineTexts::horizon_fits))]
 fn window_of(report: &Report, stay: &Stay) -> Option<Window>
     requires formed { IsWellFormed report.now }
     requires ends { end_of (content_of report.now) stay.now ≤ report.now.horizon }

@@ -33,32 +33,32 @@ use Rattle.hls_view_place_laws.proofs.Leading.{way-short, led, down-over, first-
 
 -- ---- the commands that came are the first ones
 
-none-early : (horizon last t : ℕ) (all : List Answered) → AreAnswered horizon last all → t < last
+none-early : (version horizon last t : ℕ) (all : List Answered) → AreAnswered version horizon last all → t < last
     → filter (λ (a : Answered). nat_le a.tick t) all ≡ []
-none-early horizon last t [] are late = refl
-none-early horizon last t (a ∷ all) are late =
+none-early version horizon last t [] are late = refl
+none-early version horizon last t (a ∷ all) are late =
     let first = are.2 in
     let behind : t < a.tick = omega (arith, first, late) in
     ap (λ (b : Bool). cond b (a ∷ filter (λ (a : Answered). nat_le a.tick t) all)
     (filter (λ (a : Answered). nat_le a.tick t) all)) (lt-leb a.tick t behind)
-    ∙ none-early horizon a.tick t all are.4 behind
+    ∙ none-early version horizon a.tick t all are.4 behind
 
-came-first : (horizon last t : ℕ) (all : List Answered) → AreAnswered horizon last all
+came-first : (version horizon last t : ℕ) (all : List Answered) → AreAnswered version horizon last all
     → take (came_by t all) all ≡ filter (λ (a : Answered). nat_le a.tick t) all
-came-first horizon last t [] are = refl
-came-first horizon last t (a ∷ all) are =
+came-first version horizon last t [] are = refl
+came-first version horizon last t (a ∷ all) are =
     let rest = filter (λ (a : Answered). nat_le a.tick t) all in
     elim (cases_lt t a.tick) [
       | inl late ↦
           let none : (cond (nat_le a.tick t) (a ∷ rest) rest) ≡ [] =
           ap (λ (b : Bool). cond b (a ∷ rest) rest) (lt-leb a.tick t late)
-          ∙ none-early horizon a.tick t all are.4 late in
+          ∙ none-early version horizon a.tick t all are.4 late in
           ap (λ (l : List Answered). take (length l) (a ∷ all)) none ∙ sym none
       | inr early ↦
           let one : (cond (nat_le a.tick t) (a ∷ rest) rest) ≡ a ∷ rest =
           ap (λ (b : Bool). cond b (a ∷ rest) rest) (le-leb a.tick t early) in
           ap (λ (l : List Answered). take (length l) (a ∷ all)) one
-          ∙ ap (λ (l : List Answered). a ∷ l) (came-first horizon a.tick t all are.4)
+          ∙ ap (λ (l : List Answered). a ∷ l) (came-first version horizon a.tick t all are.4)
           ∙ sym one
     ]
 
@@ -72,7 +72,7 @@ came-early : (c : Content) (t k : ℕ) (a : Answered) → IsContent c → k < ca
     → slice_get c.answered k ≡ Some a → a.tick ≤ t
 came-early c t k a formed lt there =
     let here : slice_get (filter (λ (b : Answered). nat_le b.tick t) c.answered) k ≡ Some a =
-    ap (λ (l : List Answered). slice_get l k) (sym (came-first c.horizon 0 t c.answered formed.answered))
+    ap (λ (l : List Answered). slice_get l k) (sym (came-first c.version c.horizon 0 t c.answered formed.answered))
     ∙ take-get (came_by t c.answered) k c.answered lt ∙ there in
     leb-true a.tick t (kept_of (λ (b : Answered). nat_le b.tick t) c.answered k a here).passes
 
@@ -90,7 +90,7 @@ pub tale-here : (c : Content) (t : ℕ) → IsContent c → TellsUpTo c t
     → IsSoFar (tree_at t c.answered) (threads (take (came_by t c.answered) c.answered)) (standing_at c t)
 tale-here c t formed tells =
     subst (λ (tree : List Member). IsSoFar tree (threads (take (came_by t c.answered) c.answered)) (standing_at c t))
-    (ap tree_of (came-first c.horizon 0 t c.answered formed.answered))
+    (ap tree_of (came-first c.version c.horizon 0 t c.answered formed.answered))
     (so-far c.answered (came_by t c.answered)
     (record { allowed = λ k a lt there done. not-misplaced c t k a formed tells lt there done }))
 

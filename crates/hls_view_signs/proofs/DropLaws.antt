@@ -137,12 +137,12 @@ none_behind c t name last ws i w rising there late =
 
 -- ---- commands come before the horizon, and so do words
 
-drop_early : (k last h : ℕ) (all : List Answered) → AreAnswered h last all
+drop_early : (version k last h : ℕ) (all : List Answered) → AreAnswered version h last all
     → AllByRecursion (λ (a : Answered). a.tick < h) (drop k all)
-drop_early zero last h [] are = tt
-drop_early zero last h (a ∷ all) are = (are.3, drop_early zero a.tick h all are.4)
-drop_early (suc k) last h [] are = tt
-drop_early (suc k) last h (a ∷ all) are = drop_early k a.tick h all are.4
+drop_early version zero last h [] are = tt
+drop_early version zero last h (a ∷ all) are = (are.3, drop_early version zero a.tick h all are.4)
+drop_early version (suc k) last h [] are = tt
+drop_early version (suc k) last h (a ∷ all) are = drop_early version k a.tick h all are.4
 
 word_early : (h : ℕ) (a : Answered) (ws : List Word) (roused end : Bool) → a.tick < h → AreEarly h ws
     → AreEarly h (cond roused (word_of a ∷ cond end [] ws) ws)
@@ -161,7 +161,7 @@ words_early h name (a ∷ all) early =
 pub early_behind : (c : Content) (name : Text) (k : ℕ) → IsContent c
     → AreEarly c.horizon (words_on name (drop k c.answered))
 early_behind c name k formed =
-    words_early c.horizon name (drop k c.answered) (drop_early k 0 c.horizon c.answered formed.answered)
+    words_early c.horizon name (drop k c.answered) (drop_early c.version k 0 c.horizon c.answered formed.answered)
 
 pub early_more : (t h : ℕ) (ws : List Word) → t ≤ h → AreEarly t ws → AreEarly h ws
 early_more t h [] le early = tt
@@ -197,20 +197,20 @@ word_rises last a ws true true le more = (le, tt)
 word_rises last a ws true false le more = (le, more)
 word_rises last a ws false end le more = rise_sooner last a.tick ws le more
 
-words_rise : (h last : ℕ) (name : Text) (all : List Answered) → AreAnswered h last all
+words_rise : (version h last : ℕ) (name : Text) (all : List Answered) → AreAnswered version h last all
     → rises_from last (words_on name all)
 unfolding words_on
-words_rise h last name [] are = tt
-words_rise h last name (a ∷ all) are =
+words_rise version h last name [] are = tt
+words_rise version h last name (a ∷ all) are =
     word_rises last a (words_on name all) (has_done (rouses name) a) (is_end (sort_of a.command)) are.2
-    (words_rise h a.tick name all are.4)
+    (words_rise version h a.tick name all are.4)
 
-rise_behind : (k h last : ℕ) (name : Text) (all : List Answered) → AreAnswered h last all
+rise_behind : (version k h last : ℕ) (name : Text) (all : List Answered) → AreAnswered version h last all
     → rises_from last (words_on name (drop k all))
-rise_behind zero h last name all are = words_rise h last name all are
-rise_behind (suc k) h last name [] are = words_rise h last name [] are
-rise_behind (suc k) h last name (a ∷ all) are =
-    rise_sooner last a.tick (words_on name (drop k all)) are.2 (rise_behind k h a.tick name all are.4)
+rise_behind version zero h last name all are = words_rise version h last name all are
+rise_behind version (suc k) h last name [] are = words_rise version h last name [] are
+rise_behind version (suc k) h last name (a ∷ all) are =
+    rise_sooner last a.tick (words_on name (drop k all)) are.2 (rise_behind version k h a.tick name all are.4)
 
 rise_at : (t : ℕ) (ws : List Word) (j : ℕ) (b : Word) → rises_from t ws → slice_get ws j ≡ Some b → t ≤ b.tick
 rise_at t [] j b rise there = absurd (cc)
@@ -232,4 +232,4 @@ in_order t (w ∷ ws) rise (suc i) (suc j) a b le e f = in_order w.tick ws rise.
 
 pub rising_behind : (c : Content) (name : Text) (k : ℕ) → IsContent c → AreRising (words_on name (drop k c.answered))
 rising_behind c name k formed =
-    in_order 0 (words_on name (drop k c.answered)) (rise_behind k c.horizon 0 name c.answered formed.answered)
+    in_order 0 (words_on name (drop k c.answered)) (rise_behind c.version k c.horizon 0 name c.answered formed.answered)

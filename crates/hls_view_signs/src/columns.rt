@@ -16,7 +16,7 @@ pub(crate) fn column_of(scale: &Scale, tick: u32) -> u32
 
 /// How many columns there are.
 fn column_count(scale: &Scale) -> u32
-    requires { scale.now.to < 100000 }
+    requires { scale.now.to < 1000000 }
     ensures { result ≡ scale.now.columns }
 {
     column_of(scale, scale.to) + 1
@@ -46,7 +46,7 @@ fn is_found(found: &[u32], column: u32) -> bool
 /// # Errors
 /// Returns `AllocError` for want of memory.
 pub(crate) fn in_order(alloc: Global, scale: &Scale, found: &[u32]) -> Result<Vec<u32>, AllocError>
-    requires { scale.now.to < 100000 }
+    requires { scale.now.to < 1000000 }
     ensures { IfOk result (λ columns. columns.items
         ≡ filter (is_found found.now) (range_with_len 0 scale.now.columns)) }
 {

@@ -78,8 +78,8 @@ fn is_broken(word: &Word, tick: u32) -> bool
 
 /// Whether a word in a tick drops a job that the word before it on the thread of a name released.
 fn is_cut(served: &Spans, last: &Word, word: &Word, tick: u32) -> bool
-    requires last { last.now.tick < 100000 }
-    requires word { word.now.tick < 100000 }
+    requires last { last.now.tick < 1000000 }
+    requires word { word.now.tick < 1000000 }
     ensures { (c : Content) (name : Text) → TellsServed c name served.now.spans.items → last.now.tick < c.horizon →
         word.now.tick < c.horizon → result
         ≡ list_any (told.is_dropped c tick name) (release_of last.now.tick last.now.sort (Some word.now)) }
@@ -97,8 +97,8 @@ fn is_cut(served: &Spans, last: &Word, word: &Word, tick: u32) -> bool
 
 /// Whether a word in a tick drops a job that the word before it, if there is one, released.
 fn is_cut_by(served: &Spans, last: Option<Word>, word: &Word, tick: u32) -> bool
-    requires last { IfSome last (λ (w : spoken.Word). w.tick < 100000) }
-    requires word { word.now.tick < 100000 }
+    requires last { IfSome last (λ (w : spoken.Word). w.tick < 1000000) }
+    requires word { word.now.tick < 1000000 }
     ensures { (c : Content) (name : Text) → TellsServed c name served.now.spans.items →
         IfSome last (λ (w : spoken.Word). w.tick < c.horizon) → word.now.tick < c.horizon →
         result ≡ list_any (told.is_dropped c tick name) (released last (Some word.now)) }
@@ -139,7 +139,7 @@ fn last_of(words: &[Word], count: usize) -> Option<Word>
 
 /// Whether a wake or a block in a tick drops a job of a thread on which these are the words.
 pub(crate) fn is_dropped(served: &Spans, tick: u32, words: &[Word]) -> bool
-    requires early { AreEarly 100000 words.now }
+    requires early { AreEarly 1000000 words.now }
     requires rising { AreRising words.now }
     ensures { (c : Content) (name : Text) → TellsServed c name served.now.spans.items → AreEarly c.horizon words.now →
         result ≡ list_any (told.is_dropped c tick name) (releases words.now) }

@@ -57,7 +57,7 @@ fn columns_for(
     event: Event,
     row: &[Label],
 ) -> Result<List<u32>, AllocError>
-    requires { scale.now.to < 100000 }
+    requires { scale.now.to < 1000000 }
     ensures { IfOk result (λ columns. (c : Content) → AreMoments c scale.now moments.now →
         columns ≡ columns_with scale.now (happens_in c event row.now)) }
 {
@@ -72,7 +72,7 @@ fn signs_for(
     moments: &[Moment],
     row: &[Label],
 ) -> Result<Signs, AllocError>
-    requires { scale.now.to < 100000 }
+    requires { scale.now.to < 1000000 }
     ensures { IfOk result (λ signs. (c : Content) → AreMoments c scale.now moments.now →
         IsSigns c scale.now row.now signs) }
 {
@@ -87,6 +87,7 @@ fn signs_for(
 ///
 /// # Errors
 /// Returns `AllocError` where there is no memory for what is kept beside the report.
+#[tactic(auto, using(hls_report_text::proofs::LineTexts::horizon_fits))]
 pub fn signs_of(
     alloc: Global,
     report: &Report,

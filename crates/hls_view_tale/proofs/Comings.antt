@@ -33,37 +33,39 @@ up_to t (suc came) (a ∷ all) early late =
     (up_to t came all (λ k b lt. early (suc k) b (omega (arith, lt))) (λ k b le. late (suc k) b (omega (arith, le))))
 
 -- ticks never fall
-tail_late : (horizon last : ℕ) (xs : List Answered) (j : ℕ) (b : Answered) → AreAnswered horizon last xs
+tail_late : (version horizon last : ℕ) (xs : List Answered) (j : ℕ) (b : Answered) → AreAnswered version horizon last xs
     → slice_get xs j ≡ Some b → last ≤ b.tick
-tail_late horizon last [] j b are e = absurd (cc)
-tail_late horizon last (a ∷ xs) zero b are e =
+tail_late version horizon last [] j b are e = absurd (cc)
+tail_late version horizon last (a ∷ xs) zero b are e =
     let same : a ≡ b = cc in
     subst (λ (x : Answered). last ≤ x.tick) same are.2
-tail_late horizon last (a ∷ xs) (suc j) b are e =
+tail_late version horizon last (a ∷ xs) (suc j) b are e =
     let first = are.2 in
-    let rest = tail_late horizon a.tick xs j b are.4 e in omega (arith, first, rest)
+    let rest = tail_late version horizon a.tick xs j b are.4 e in omega (arith, first, rest)
 
-late_from : (horizon last t : ℕ) (xs : List Answered) (i k : ℕ) (a b : Answered) → AreAnswered horizon last xs
-    → slice_get xs i ≡ Some a → t < a.tick → i ≤ k → slice_get xs k ≡ Some b → t < b.tick
-late_from horizon last t [] i k a b are e late le f = absurd (cc)
-late_from horizon last t (x ∷ xs) zero zero a b are e late le f =
+late_from : (version horizon last t : ℕ) (xs : List Answered) (i k : ℕ) (a b : Answered)
+    → AreAnswered version horizon last xs → slice_get xs i ≡ Some a → t < a.tick → i ≤ k → slice_get xs k ≡ Some b
+    → t < b.tick
+late_from version horizon last t [] i k a b are e late le f = absurd (cc)
+late_from version horizon last t (x ∷ xs) zero zero a b are e late le f =
     let same : a ≡ b = cc in
     subst (λ (y : Answered). t < y.tick) same late
-late_from horizon last t (x ∷ xs) zero (suc k) a b are e late le f =
+late_from version horizon last t (x ∷ xs) zero (suc k) a b are e late le f =
     let same : a ≡ x = cc in
     let first : t < x.tick = subst (λ (y : Answered). t < y.tick) same late in
-    let rest = tail_late horizon x.tick xs k b are.4 f in omega (arith, first, rest)
-late_from horizon last t (x ∷ xs) (suc i) zero a b are e late le f = absurd (omega (arith, le))
-late_from horizon last t (x ∷ xs) (suc i) (suc k) a b are e late le f =
-    late_from horizon x.tick t xs i k a b are.4 e late (omega (arith, le)) f
+    let rest = tail_late version horizon x.tick xs k b are.4 f in omega (arith, first, rest)
+late_from version horizon last t (x ∷ xs) (suc i) zero a b are e late le f = absurd (omega (arith, le))
+late_from version horizon last t (x ∷ xs) (suc i) (suc k) a b are e late le f =
+    late_from version horizon x.tick t xs i k a b are.4 e late (omega (arith, le)) f
 
 -- so many came, where the next one comes later
-pub came_before : (horizon : ℕ) (all : List Answered) (t came : ℕ) (a : Answered) → AreAnswered horizon 0 all
-    → AreEarly all t came → came < length all → a ≡ get_or all came a → t < a.tick → came ≡ came_by t all
-came_before horizon all t came a are early lt is late =
+pub came_before : (version horizon : ℕ) (all : List Answered) (t came : ℕ) (a : Answered)
+    → AreAnswered version horizon 0 all → AreEarly all t came → came < length all → a ≡ get_or all came a
+    → t < a.tick → came ≡ came_by t all
+came_before version horizon all t came a are early lt is late =
     let there : slice_get all came ≡ Some a = slice_get_read all (length all) came a refl lt is in
     sym (ap (λ (l : List Answered). length l)
-    (up_to t came all early (λ k b le f. late_from horizon 0 t all came k a b are there late le f))
+    (up_to t came all early (λ k b le f. late_from version horizon 0 t all came k a b are there late le f))
     ∙ length-take-le came all (omega (arith, lt)))
 
 -- all came
@@ -86,37 +88,37 @@ early_more all t came a lt is le early k b less f =
     ]
 
 -- those that came are the first so many
-none_early : (horizon last t : ℕ) (all : List Answered) → AreAnswered horizon last all → t < last
+none_early : (version horizon last t : ℕ) (all : List Answered) → AreAnswered version horizon last all → t < last
     → filter (λ (a : Answered). nat_le a.tick t) all ≡ []
-none_early horizon last t [] are late = refl
-none_early horizon last t (a ∷ all) are late =
+none_early version horizon last t [] are late = refl
+none_early version horizon last t (a ∷ all) are late =
     let first = are.2 in
     let behind : t < a.tick = omega (arith, first, late) in
     ap (λ (b : Bool). cond b (a ∷ filter (λ (a : Answered). nat_le a.tick t) all)
     (filter (λ (a : Answered). nat_le a.tick t) all)) (lt-leb a.tick t behind)
-    ∙ none_early horizon a.tick t all are.4 behind
+    ∙ none_early version horizon a.tick t all are.4 behind
 
-taken : (horizon last t : ℕ) (all : List Answered) → AreAnswered horizon last all
+taken : (version horizon last t : ℕ) (all : List Answered) → AreAnswered version horizon last all
     → take (length (filter (λ (a : Answered). nat_le a.tick t) all)) all
     ≡ filter (λ (a : Answered). nat_le a.tick t) all
-taken horizon last t [] are = refl
-taken horizon last t (a ∷ all) are =
+taken version horizon last t [] are = refl
+taken version horizon last t (a ∷ all) are =
     let rest = filter (λ (a : Answered). nat_le a.tick t) all in
     elim (cases_lt t a.tick) [
       | inl late ↦
           let none : (cond (nat_le a.tick t) (a ∷ rest) rest) ≡ [] =
           ap (λ (b : Bool). cond b (a ∷ rest) rest) (lt-leb a.tick t late)
-          ∙ none_early horizon a.tick t all are.4 late in
+          ∙ none_early version horizon a.tick t all are.4 late in
           ap (λ (l : List Answered). take (length l) (a ∷ all)) none ∙ sym none
       | inr early ↦
           let one : (cond (nat_le a.tick t) (a ∷ rest) rest) ≡ a ∷ rest =
           ap (λ (b : Bool). cond b (a ∷ rest) rest) (le-leb a.tick t early) in
           ap (λ (l : List Answered). take (length l) (a ∷ all)) one
-          ∙ ap (λ (l : List Answered). a ∷ l) (taken horizon a.tick t all are.4)
+          ∙ ap (λ (l : List Answered). a ∷ l) (taken version horizon a.tick t all are.4)
           ∙ sym one
     ]
 
 -- the tree is that of the tick
-pub tree_came : (horizon last : ℕ) (all : List Answered) (t : ℕ) → AreAnswered horizon last all
+pub tree_came : (version horizon last : ℕ) (all : List Answered) (t : ℕ) → AreAnswered version horizon last all
     → tree_of (take (came_by t all) all) ≡ tree_at t all
-tree_came horizon last all t are = ap tree_of (taken horizon last t all are)
+tree_came version horizon last all t are = ap tree_of (taken version horizon last t all are)

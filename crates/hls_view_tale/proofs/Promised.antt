@@ -71,24 +71,25 @@ ports_valid : (perches : List Perch) → ArePorts perches → AllByRecursion IsS
 ports_valid [] are = tt
 ports_valid (perch ∷ perches) are = (valid_narrow perch.want are.0.want, ports_valid perches are.2)
 
-load_valid : (config : Config) (perches : List Perch) → IsLoad config perches → AllByRecursion IsSeatValid perches
-load_valid configs.Cpu perches is = absurd is
-load_valid (configs.Join ports) perches is = ports_valid perches is.2
-load_valid configs.Fp (perch ∷ []) is = (valid_narrow perch.want is.1.want, tt)
-load_valid configs.Edf (perch ∷ []) is = (valid_narrow perch.want is.1.want, tt)
-load_valid (configs.Sfq total most) (perch ∷ []) is = (valid_narrow perch.want is.1.want, tt)
-load_valid (configs.Rr quantum) (perch ∷ []) is = (valid_narrow perch.want is.1.want, tt)
-load_valid (configs.Wheel frame) (perch ∷ []) is = (valid_narrow perch.want is.1.want, tt)
-load_valid configs.Fp [] is = tt
-load_valid configs.Edf [] is = tt
-load_valid (configs.Sfq total most) [] is = tt
-load_valid (configs.Rr quantum) [] is = tt
-load_valid (configs.Wheel frame) [] is = tt
-load_valid configs.Fp (one ∷ two ∷ perches) is = absurd is
-load_valid configs.Edf (one ∷ two ∷ perches) is = absurd is
-load_valid (configs.Sfq total most) (one ∷ two ∷ perches) is = absurd is
-load_valid (configs.Rr quantum) (one ∷ two ∷ perches) is = absurd is
-load_valid (configs.Wheel frame) (one ∷ two ∷ perches) is = absurd is
+load_valid : (version : ℕ) (config : Config) (perches : List Perch) → IsLoad version config perches
+    → AllByRecursion IsSeatValid perches
+load_valid version configs.Cpu perches is = absurd is
+load_valid version (configs.Join ports) perches is = ports_valid perches is.2
+load_valid version configs.Fp (perch ∷ []) is = (valid_narrow perch.want is.1.want, tt)
+load_valid version configs.Edf (perch ∷ []) is = (valid_narrow perch.want is.1.want, tt)
+load_valid version (configs.Sfq total most quantum) (perch ∷ []) is = (valid_narrow perch.want is.1.want, tt)
+load_valid version (configs.Rr quantum) (perch ∷ []) is = (valid_narrow perch.want is.1.want, tt)
+load_valid version (configs.Wheel frame) (perch ∷ []) is = (valid_narrow perch.want is.1.want, tt)
+load_valid version configs.Fp [] is = tt
+load_valid version configs.Edf [] is = tt
+load_valid version (configs.Sfq total most quantum) [] is = tt
+load_valid version (configs.Rr quantum) [] is = tt
+load_valid version (configs.Wheel frame) [] is = tt
+load_valid version configs.Fp (one ∷ two ∷ perches) is = absurd is
+load_valid version configs.Edf (one ∷ two ∷ perches) is = absurd is
+load_valid version (configs.Sfq total most quantum) (one ∷ two ∷ perches) is = absurd is
+load_valid version (configs.Rr quantum) (one ∷ two ∷ perches) is = absurd is
+load_valid version (configs.Wheel frame) (one ∷ two ∷ perches) is = absurd is
 
 without_valid : (tree : List Member) (name : Text) → AllByRecursion HasValid tree
     → AllByRecursion HasValid (without name tree)
@@ -101,42 +102,45 @@ moved_valid tree perch (Some m) valid all =
     all_append HasValid (without m.name tree) (record m { perches = perch ∷ [] } ∷ []) (without_valid tree m.name all)
     ((valid, tt), tt)
 
-after_valid : (tree : List Member) (command : Command) → IsCommand command → AllByRecursion HasValid tree
-    → AllByRecursion HasValid (after tree command)
-after_valid tree (Load name config perches) is all =
-    all_append HasValid tree _ all (load_valid config perches is.1, tt)
-after_valid tree (Thread name perch) is all =
+after_valid : (version : ℕ) (tree : List Member) (command : Command) → IsCommand version command
+    → AllByRecursion HasValid tree → AllByRecursion HasValid (after tree command)
+after_valid version tree (Load name config perches) is all =
+    all_append HasValid tree _ all (load_valid version config perches is.1, tt)
+after_valid version tree (Thread name perch) is all =
     all_append HasValid tree _ all ((valid_narrow perch.want is.1.want, tt), tt)
-after_valid tree (End name) is all = without_valid tree name all
-after_valid tree (Unload name) is all = without_valid tree name all
-after_valid tree (Move name perch) is all =
+after_valid version tree (End name) is all = without_valid tree name all
+after_valid version tree (Unload name) is all = without_valid tree name all
+after_valid version tree (Move name perch) is all =
     moved_valid tree perch (member_of tree name) (valid_narrow perch.want is.1.want) all
-after_valid tree (Wake name burst) is all = all
-after_valid tree (Block name) is all = all
+after_valid version tree (Wake name burst) is all = all
+after_valid version tree (Block name) is all = all
 
-answer_valid : (tree : List Member) (a : Answered) → IsCommand a.command → AllByRecursion HasValid tree
+answer_valid : (version : ℕ) (tree : List Member) (a : Answered) → IsCommand version a.command
+    → AllByRecursion HasValid tree
     → AllByRecursion HasValid (after_answer tree a)
-answer_valid tree a is all =
+answer_valid version tree a is all =
     elim (is_done a.answer) as (λ b. AllByRecursion HasValid (if b then after tree a.command else tree))
-    [ true ↦ after_valid tree a.command is all | false ↦ all ]
+    [ true ↦ after_valid version tree a.command is all | false ↦ all ]
 
-abbrev pub AreCommands : List Answered → Type 0
-AreCommands all = AllByRecursion (λ (a : Answered). IsCommand a.command) all
+abbrev pub AreCommands : (version : ℕ) → List Answered → Type 0
+AreCommands version all = AllByRecursion (λ (a : Answered). IsCommand version a.command) all
 
-commands_in : (horizon last : ℕ) (all : List Answered) → AreAnswered horizon last all → AreCommands all
-commands_in horizon last [] are = tt
-commands_in horizon last (a ∷ all) are = (are.0, commands_in horizon a.tick all are.4)
+commands_in : (version horizon last : ℕ) (all : List Answered) → AreAnswered version horizon last all
+    → AreCommands version all
+commands_in version horizon last [] are = tt
+commands_in version horizon last (a ∷ all) are = (are.0, commands_in version horizon a.tick all are.4)
 
-fold_valid : (tree : List Member) (all : List Answered) → AreCommands all → AllByRecursion HasValid tree
-    → AllByRecursion HasValid (fold after_answer tree all)
-fold_valid tree [] are valid = valid
-fold_valid tree (a ∷ all) are valid = fold_valid (after_answer tree a) all are.1 (answer_valid tree a are.0 valid)
+fold_valid : (version : ℕ) (tree : List Member) (all : List Answered) → AreCommands version all
+    → AllByRecursion HasValid tree → AllByRecursion HasValid (fold after_answer tree all)
+fold_valid version tree [] are valid = valid
+fold_valid version tree (a ∷ all) are valid =
+    fold_valid version (after_answer tree a) all are.1 (answer_valid version tree a are.0 valid)
 
 tree_valid : (c : Content) (t : ℕ) → IsContent c → AllByRecursion HasValid (tree_at t c.answered)
 tree_valid c t formed =
-    fold_valid [] (filter (λ (a : Answered). nat_le a.tick t) c.answered)
-    (all_filter (λ (a : Answered). IsCommand a.command) (λ (a : Answered). nat_le a.tick t) c.answered
-    (commands_in c.horizon 0 c.answered formed.answered)) tt
+    fold_valid c.version [] (filter (λ (a : Answered). nat_le a.tick t) c.answered)
+    (all_filter (λ (a : Answered). IsCommand c.version a.command) (λ (a : Answered). nat_le a.tick t) c.answered
+    (commands_in c.version c.horizon 0 c.answered formed.answered)) tt
 
 -- ---- labels and places
 

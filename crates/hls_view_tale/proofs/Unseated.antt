@@ -85,7 +85,7 @@ found_of : (c : Content) (t : ℕ) (tale : Tale) (h : Hierarchy) → IsContent c
     → IsHierarchy c t h
 found_of c t tale h formed told stays places =
     let tree : tale.tree.items ≡ tree_at t c.answered =
-    told.tree ∙ tree_came c.horizon 0 c.answered t formed.answered in
+    told.tree ∙ tree_came c.version c.horizon 0 c.answered t formed.answered in
     record {
       standing = stays ∙ told.standing;
       places = places
@@ -106,7 +106,7 @@ kept_of : (c : Content) (t : ℕ) (f : Following) → IsContent c → IsFollowin
     → IsAlike c.answered f.came (came_by t c.answered) → IsHierarchy c t f.hierarchy
 kept_of c t f formed is alike =
     let tree : tree_of (take f.came c.answered) ≡ tree_at t c.answered =
-    sym alike.tree ∙ tree_came c.horizon 0 c.answered t formed.answered in
+    sym alike.tree ∙ tree_came c.version c.horizon 0 c.answered t formed.answered in
     record {
       standing = is.standing ∙ sym alike.standing;
       places = is.places

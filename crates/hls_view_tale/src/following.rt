@@ -67,7 +67,7 @@ fn follow_to(
     first: usize,
     tick: u32,
 ) -> Result<Came, AllocError>
-    requires answered { (horizon : ℕ) × AreAnswered horizon 0 answered.now }
+    requires answered { (version : ℕ) × (horizon : ℕ) × AreAnswered version horizon 0 answered.now }
     requires within { first ≤ length answered.now }
     requires early { came.AreBefore answered.now (tick + 1) first }
     requires told { IsTold tale.old answered.now first }

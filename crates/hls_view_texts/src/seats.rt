@@ -1,6 +1,7 @@
 // Configurations and terms as texts.
 ghost use Rattle.std.specs.Prelude.{◌≡◌, ◌∷◌, ◌++◌, OnOk, IfOk, decimal};
-ghost use Rattle.hls_scenario.specs.Forms.{joined, config_forms, terms_forms};
+ghost use Rattle.hls_chron.specs.declared.plain.Config.TheVariants as configs;
+ghost use Rattle.hls_scenario.specs.Forms.{joined, quantum_forms, spaced, terms_forms};
 ghost use Rattle.hls_view_texts.specs.Texts as texts;
 
 use hls_audit_clauses::Sort;
@@ -16,19 +17,40 @@ fn put_blank_number(text: &mut Vec<u8>, number: u32) -> Result<(), AllocError>
     put_number(text, u128::from(number))
 }
 
+/// The quantum of fair queueing, where it is not 1.
+fn put_quantum(text: &mut Vec<u8>, quantum: u32) -> Result<(), AllocError>
+    ensures { OnOk result (text.new.items ≡ text.old.items
+        ++ spaced (quantum_forms (texts.version_with quantum) quantum)) }
+{
+    if quantum == 1 {
+        return Ok(());
+    }
+    put_blank_number(text, quantum)
+}
+
+fn put_queue(text: &mut Vec<u8>, total: u32, most: u32, quantum: u32) -> Result<(), AllocError>
+    ensures { OnOk result (text.new.items ≡ text.old.items
+        ++ joined (texts.config_forms (configs.Sfq total most quantum))) }
+{
+    put(text, b"sfq")?;
+    put_blank_number(text, total)?;
+    put_blank_number(text, most)?;
+    put_quantum(text, quantum)
+}
+
 fn config_text(alloc: Global, config: &Config) -> Result<Vec<u8>, AllocError>
-    ensures { IfOk result (λ text. text.items ≡ joined (config_forms config.now)) }
+    ensures { IfOk result (λ text. text.items ≡ joined (texts.config_forms config.now)) }
 {
     let mut text = Vec::new(alloc);
     match config {
         Config::Cpu => {}
         Config::Fp => put(&mut text, b"fp")?,
         Config::Edf => put(&mut text, b"edf")?,
-        Config::Sfq { total, most } => {
-            put(&mut text, b"sfq")?;
-            put_blank_number(&mut text, *total)?;
-            put_blank_number(&mut text, *most)?;
-        }
+        Config::Sfq {
+            total,
+            most,
+            quantum,
+        } => put_queue(&mut text, *total, *most, *quantum)?,
         Config::Rr { quantum } => {
             put(&mut text, b"rr")?;
             put_blank_number(&mut text, *quantum)?;

@@ -22,7 +22,7 @@ rows_shown c = rows_of c 0 c.horizon
 abbrev pub events_over : Content → (rows : List (List Label)) → List Event
 events_over c rows = naming_events rows
     ++ (flame (schedule_track rows) [] c.stretches
-    ++ (instants (commands_track rows) c.answered
+    ++ (instants c.version (commands_track rows) c.answered
     ++ flat_map (account_events c rows) (accounts_of c)))
 
 -- a tick is shown as so many microseconds

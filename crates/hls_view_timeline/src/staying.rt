@@ -76,7 +76,7 @@ fn put_track(
 ) -> Result<(), AllocError>
     requires valid { IsValid stay.now.account.now.kept }
     requires alike { length stay.now.taken.now ≡ length stay.now.ready.now }
-    requires few { stay.now.account.now.from + length stay.now.ready.now ≤ 100000 }
+    requires few { stay.now.account.now.from + length stay.now.ready.now ≤ 1000000 }
     ensures { OnOk result (events.new.items ≡ events.old.items
         ++ told.track_events place stay.now.account.now stay.now.ready.now stay.now.taken.now number) }
 {
@@ -102,7 +102,7 @@ fn put_stay(
     requires rows { length rows.now < 4096 }
     requires valid { IsValid stay.now.account.now.kept }
     requires alike { length stay.now.taken.now ≡ length stay.now.ready.now }
-    requires few { stay.now.account.now.from + length stay.now.ready.now ≤ 100000 }
+    requires few { stay.now.account.now.from + length stay.now.ready.now ≤ 1000000 }
     ensures { OnOk result (events.new.items ≡ events.old.items
         ++ told.stay_events rows.now ways.now stay.now.account.now stay.now.ready.now stay.now.taken.now) }
 {
@@ -121,6 +121,7 @@ pub(crate) struct Shown<'a> {
 }
 
 /// Adds the events of the stay of an account.
+#[tactic(auto, using(hls_report_text::proofs::LineTexts::horizon_fits))]
 fn put_account(
     alloc: Global,
     events: &mut Vec<Event>,

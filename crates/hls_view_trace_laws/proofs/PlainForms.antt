@@ -1,6 +1,6 @@
 -- Commands and answers have no byte that JSON must escape.
 use Rattle.std.proofs.Common.{◌≡◌, ℕ, List, [], ◌∷◌, ◌++◌, true, false, refl}
-use Rattle.std.specs.Prelude.{codes, decimal, flat_map, Option, Some, None}
+use Rattle.std.specs.Prelude.{◌==◌, codes, cond, decimal, flat_map, Option, Some, None}
 use Rattle.std.specs.List.{AllByRecursion}
 use Rattle.hls_text.specs.Lines.{Text}
 use Rattle.hls_chron.specs.Name.{IsName}
@@ -73,14 +73,20 @@ plain_terms (terms.Slots places) = (refl, (plain_number places, tt))
 plain_terms terms.Turn = (refl, tt)
 plain_terms terms.Sole = (refl, tt)
 
-pub plain_config : (config : Config) → ArePlain (forms.config_forms config)
-plain_config configs.Cpu = tt
-plain_config configs.Fp = (refl, tt)
-plain_config configs.Edf = (refl, tt)
-plain_config (configs.Sfq total most) = (refl, (plain_number total, (plain_number most, tt)))
-plain_config (configs.Rr quantum) = (refl, (plain_number quantum, tt))
-plain_config (configs.Wheel frame) = (refl, (plain_number frame, tt))
-plain_config (configs.Join ports) = (refl, tt)
+plain_quantum : (version quantum : ℕ) → ArePlain (forms.quantum_forms version quantum)
+plain_quantum version quantum =
+    elim (version == 1) as (λ b. ArePlain (cond b [] (forms.number quantum ∷ [])))
+    [ true ↦ tt | false ↦ (plain_number quantum, tt) ]
+
+pub plain_config : (version : ℕ) (config : Config) → ArePlain (forms.config_forms version config)
+plain_config version configs.Cpu = tt
+plain_config version configs.Fp = (refl, tt)
+plain_config version configs.Edf = (refl, tt)
+plain_config version (configs.Sfq total most quantum) =
+    (refl, (plain_number total, (plain_number most, plain_quantum version quantum)))
+plain_config version (configs.Rr quantum) = (refl, (plain_number quantum, tt))
+plain_config version (configs.Wheel frame) = (refl, (plain_number frame, tt))
+plain_config version (configs.Join ports) = (refl, tt)
 
 -- ---- seats
 
@@ -109,24 +115,25 @@ pub ports_perches : (perches : List Perch) → ArePorts perches → AllByRecursi
 ports_perches [] are = tt
 ports_perches (perch ∷ perches) are = (are.0, ports_perches perches are.2)
 
-pub load_perches : (config : Config) (perches : List Perch) → IsLoad config perches → AllByRecursion IsPerch perches
-load_perches configs.Cpu perches is = absurd is
-load_perches (configs.Join ports) perches is = ports_perches perches is.2
-load_perches configs.Fp [] is = absurd is
-load_perches configs.Fp (perch ∷ []) is = (is.1, tt)
-load_perches configs.Fp (perch ∷ other ∷ perches) is = absurd is
-load_perches configs.Edf [] is = absurd is
-load_perches configs.Edf (perch ∷ []) is = (is.1, tt)
-load_perches configs.Edf (perch ∷ other ∷ perches) is = absurd is
-load_perches (configs.Sfq total most) [] is = absurd is
-load_perches (configs.Sfq total most) (perch ∷ []) is = (is.1, tt)
-load_perches (configs.Sfq total most) (perch ∷ other ∷ perches) is = absurd is
-load_perches (configs.Rr quantum) [] is = absurd is
-load_perches (configs.Rr quantum) (perch ∷ []) is = (is.1, tt)
-load_perches (configs.Rr quantum) (perch ∷ other ∷ perches) is = absurd is
-load_perches (configs.Wheel frame) [] is = absurd is
-load_perches (configs.Wheel frame) (perch ∷ []) is = (is.1, tt)
-load_perches (configs.Wheel frame) (perch ∷ other ∷ perches) is = absurd is
+pub load_perches : (version : ℕ) (config : Config) (perches : List Perch) → IsLoad version config perches
+    → AllByRecursion IsPerch perches
+load_perches version configs.Cpu perches is = absurd is
+load_perches version (configs.Join ports) perches is = ports_perches perches is.2
+load_perches version configs.Fp [] is = absurd is
+load_perches version configs.Fp (perch ∷ []) is = (is.1, tt)
+load_perches version configs.Fp (perch ∷ other ∷ perches) is = absurd is
+load_perches version configs.Edf [] is = absurd is
+load_perches version configs.Edf (perch ∷ []) is = (is.1, tt)
+load_perches version configs.Edf (perch ∷ other ∷ perches) is = absurd is
+load_perches version (configs.Sfq total most quantum) [] is = absurd is
+load_perches version (configs.Sfq total most quantum) (perch ∷ []) is = (is.1, tt)
+load_perches version (configs.Sfq total most quantum) (perch ∷ other ∷ perches) is = absurd is
+load_perches version (configs.Rr quantum) [] is = absurd is
+load_perches version (configs.Rr quantum) (perch ∷ []) is = (is.1, tt)
+load_perches version (configs.Rr quantum) (perch ∷ other ∷ perches) is = absurd is
+load_perches version (configs.Wheel frame) [] is = absurd is
+load_perches version (configs.Wheel frame) (perch ∷ []) is = (is.1, tt)
+load_perches version (configs.Wheel frame) (perch ∷ other ∷ perches) is = absurd is
 
 -- ---- commands
 
@@ -134,24 +141,27 @@ plain_burst : (burst : Option ℕ) → ArePlain (forms.burst_forms burst)
 plain_burst None = tt
 plain_burst (Some ticks) = (refl, (plain_number ticks, tt))
 
-plain_command_forms : (command : Command) → IsCommand command → ArePlain (forms.command_forms command)
-plain_command_forms (Load name config perches) is = (
+plain_command_forms : (version : ℕ) (command : Command) → IsCommand version command
+    → ArePlain (forms.command_forms version command)
+plain_command_forms version (Load name config perches) is = (
   refl,
   (
     plain_name name is.0,
-    all-append IsPlainForm (forms.config_forms config) (the (codes "on") ∷ forms.perches_forms perches)
-        (plain_config config) (refl, plain_perches perches (load_perches config perches is.1)),
+    all-append IsPlainForm (forms.config_forms version config) (the (codes "on") ∷ forms.perches_forms perches)
+        (plain_config version config) (refl, plain_perches perches (load_perches version config perches is.1)),
   ),
 )
-plain_command_forms (Thread name perch) is = (refl, (plain_name name is.0, (refl, plain_perch perch is.1)))
-plain_command_forms (End name) is = (refl, (plain_name name is, tt))
-plain_command_forms (Unload name) is = (refl, (plain_name name is, tt))
-plain_command_forms (Move name perch) is = (refl, (plain_name name is.0, (refl, plain_perch perch is.1)))
-plain_command_forms (Wake name burst) is = (refl, (plain_name name is.0, plain_burst burst))
-plain_command_forms (Block name) is = (refl, (plain_name name is, tt))
+plain_command_forms version (Thread name perch) is = (refl, (plain_name name is.0, (refl, plain_perch perch is.1)))
+plain_command_forms version (End name) is = (refl, (plain_name name is, tt))
+plain_command_forms version (Unload name) is = (refl, (plain_name name is, tt))
+plain_command_forms version (Move name perch) is = (refl, (plain_name name is.0, (refl, plain_perch perch is.1)))
+plain_command_forms version (Wake name burst) is = (refl, (plain_name name is.0, plain_burst burst))
+plain_command_forms version (Block name) is = (refl, (plain_name name is, tt))
 
-pub plain_command : (command : Command) → IsCommand command → IsPlain (forms.command_text command)
-plain_command command is = plain_joined (forms.command_forms command) (plain_command_forms command is)
+pub plain_command : (version : ℕ) (command : Command) → IsCommand version command
+    → IsPlain (forms.command_text version command)
+plain_command version command is =
+    plain_joined (forms.command_forms version command) (plain_command_forms version command is)
 
 -- ---- refusals
 

@@ -11,6 +11,7 @@ use Rattle.hls_report_text.specs.declared.report.Answered.{Answered}
 use Rattle.hls_report_text.specs.declared.stretch.Stretch.{Stretch}
 use Rattle.hls_report_text.specs.ReportText.{refusal_text}
 use Rattle.hls_report_text.specs.Content.{Content}
+use Rattle.hls_report_text.proofs.LineTexts.{horizon_fits}
 use Rattle.hls_report_text.specs.WellFormed.{AreAnswered, MayAnswer, Cover, IsPath, IsContent}
 use Rattle.hls_view_trace.specs.declared.event.Place.{Place}
 use Rattle.hls_view_trace.specs.declared.event.Event.{Event}
@@ -86,13 +87,19 @@ plain_answer command (answers.Done seats) may = refl
 plain_answer command (answers.Refused refusal) may =
     plain-append (codes "refused ") (refusal_text refusal) refl (plain_refusal refusal may)
 
-pub instants_plain : (place : Place) (horizon last : ℕ) (answered : List Answered) → IsHeldPlace place
-    → horizon < 2 ^ 32 → AreAnswered horizon last answered → AllByRecursion IsPlainEvent (instants place answered)
-instants_plain place horizon last [] held few are = tt
-instants_plain place horizon last (a ∷ answered) held few are =
+pub instants_plain : (version : ℕ) (place : Place) (horizon last : ℕ) (answered : List Answered) → IsHeldPlace place
+    → horizon < 2 ^ 32 → AreAnswered version horizon last answered
+    → AllByRecursion IsPlainEvent (instants version place answered)
+instants_plain version place horizon last [] held few are = tt
+instants_plain version place horizon last (a ∷ answered) held few are =
     let early = are.3 in (
-      (held, plain_command a.command are.0, omega (arith, early, few), plain_answer a.command a.answer are.1),
-      instants_plain place horizon a.tick answered held few are.4,
+      (
+        held,
+        plain_command version a.command are.0,
+        omega (arith, early, few),
+        plain_answer a.command a.answer are.1,
+      ),
+      instants_plain version place horizon a.tick answered held few are.4,
     )
 
 -- ---- of a report
@@ -100,11 +107,11 @@ instants_plain place horizon last (a ∷ answered) held few are =
 pub schedule_plain : (place : Place) (c : Content) → IsContent c → IsHeldPlace place
     → AllByRecursion IsPlainEvent (flame place [] c.stretches)
 schedule_plain place c formed held =
-    let late = formed.horizon.1 in
+    let late = horizon_fits c.version c.horizon formed.horizon in
     flame_plain place [] 0 c.horizon None c.stretches held (omega (arith, late)) formed.cover
 
 pub commands_plain : (place : Place) (c : Content) → IsContent c → IsHeldPlace place
-    → AllByRecursion IsPlainEvent (instants place c.answered)
+    → AllByRecursion IsPlainEvent (instants c.version place c.answered)
 commands_plain place c formed held =
-    let late = formed.horizon.1 in
-    instants_plain place c.horizon 0 c.answered held (omega (arith, late)) formed.answered
+    let late = horizon_fits c.version c.horizon formed.horizon in
+    instants_plain c.version place c.horizon 0 c.answered held (omega (arith, late)) formed.answered

@@ -33,5 +33,5 @@ pub fn schedules_are_plain()
 /// The commands of a report, and the answers to them, have nothing that JSON must escape.
 pub fn commands_are_plain()
     ensures { (place : Place) (c : Content) → IsContent c → IsHeldPlace place →
-        AllByRecursion IsPlainEvent (instants place c.answered) }
+        AllByRecursion IsPlainEvent (instants c.version place c.answered) }
 {}

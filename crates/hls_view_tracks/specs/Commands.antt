@@ -1,5 +1,5 @@
 -- Commands as instants.
-use Rattle.std.specs.Prelude.{◌++◌, codes, List, map}
+use Rattle.std.specs.Prelude.{ℕ, ◌++◌, codes, List, map}
 use Rattle.hls_text.specs.Lines.{Text}
 use Rattle.hls_scenario.specs.Forms.{command_text}
 use Rattle.hls_report_text.specs.declared.report.Answer.{Answer}
@@ -20,15 +20,15 @@ abbrev pub answer_text : Answer → Text
 answer_text (answers.Done seats) = codes "done"
 answer_text (answers.Refused refusal) = codes "refused " ++ refusal_text refusal
 
--- a command in its canonical spelling, at its tick
-abbrev pub instant_of : Place → Answered → Event
-instant_of place a = Instant (record {
+-- a command in its canonical spelling in this version of the language, at its tick
+abbrev pub instant_of : (version : ℕ) → Place → Answered → Event
+instant_of version place a = Instant (record {
   category = category_of a.answer;
-  name = command_text a.command;
+  name = command_text version a.command;
   place = place;
   tick = a.tick;
   answer = answer_text a.answer;
 })
 
-abbrev pub instants : Place → List Answered → List Event
-instants place answered = map (instant_of place) answered
+abbrev pub instants : (version : ℕ) → Place → List Answered → List Event
+instants version place answered = map (instant_of version place) answered

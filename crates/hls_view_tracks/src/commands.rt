@@ -34,11 +34,11 @@ fn put_answer(text: &mut Vec<u8>, answer: &Answer) -> Result<(), AllocError>
     }
 }
 
-fn instant_of(alloc: Global, place: Place, a: &Answered) -> Result<Instant, AllocError>
-    requires { IsCommand a.now.command }
-    ensures { IfOk result (λ instant. events.Instant instant ≡ told.instant_of place a.now) }
+fn instant_of(alloc: Global, version: u8, place: Place, a: &Answered) -> Result<Instant, AllocError>
+    requires { IsCommand version a.now.command }
+    ensures { IfOk result (λ instant. events.Instant instant ≡ told.instant_of version place a.now) }
 {
-    let name = print_command(alloc, &a.command)?;
+    let name = print_command(alloc, version, &a.command)?;
     let mut answer = Vec::new(alloc);
     put_answer(&mut answer, &a.answer)?;
     Ok(Instant {
@@ -50,13 +50,18 @@ fn instant_of(alloc: Global, place: Place, a: &Answered) -> Result<Instant, Allo
     })
 }
 
-fn instants_of(alloc: Global, place: Place, answered: &[Answered]) -> Result<Vec<Event>, AllocError>
-    requires { AllByRecursion (λ a. IsCommand a.command × MayAnswer a.command a.answer) answered.now }
-    ensures { IfOk result (λ events. events.items ≡ told.instants place answered.now) }
+fn instants_of(
+    alloc: Global,
+    version: u8,
+    place: Place,
+    answered: &[Answered],
+) -> Result<Vec<Event>, AllocError>
+    requires { AllByRecursion (λ a. IsCommand version a.command × MayAnswer a.command a.answer) answered.now }
+    ensures { IfOk result (λ events. events.items ≡ told.instants version place answered.now) }
 {
     let mut events = Vec::new(alloc);
     for a in answered {
-        let instant = instant_of(alloc, place, a)?;
+        let instant = instant_of(alloc, version, place, a)?;
         events.push(Event::Instant(instant))?;
     }
     Ok(events)
@@ -72,7 +77,7 @@ pub fn command_events(
     place: Place,
 ) -> Result<Vec<Event>, AllocError>
     requires { IsWellFormed report.now }
-    ensures { IfOk result (λ events. events.items ≡ told.instants place report.now.answered) }
+    ensures { IfOk result (λ events. events.items ≡ told.instants report.now.version place report.now.answered) }
 {
-    instants_of(alloc, place, report.answered.items())
+    instants_of(alloc, report.version, place, report.answered.items())
 }

@@ -59,10 +59,11 @@ answer_sound : (command : Command) (answer : Answer) → MayAnswer command answe
 answer_sound command (Done seats) is = seats_sound command seats is
 answer_sound command (Refused refusal) is = tt
 
-lines_sound : (horizon last : ℕ) (all : List Answered) → AreAnswered horizon last all → AllByRecursion HasLines all
-lines_sound horizon last [] are = tt
-lines_sound horizon last (a ∷ all) are =
-    (answer_sound a.command a.answer are.1, lines_sound horizon a.tick all are.4)
+lines_sound : (version horizon last : ℕ) (all : List Answered) → AreAnswered version horizon last all
+    → AllByRecursion HasLines all
+lines_sound version horizon last [] are = tt
+lines_sound version horizon last (a ∷ all) are =
+    (answer_sound a.command a.answer are.1, lines_sound version horizon a.tick all are.4)
 
 commands_sound : (all : List Answered) (s : Option Standing) → AllByRecursion HasLines all
     → AllByRecursion HasLines (commands_of all s)
@@ -78,12 +79,12 @@ line_sound name port (Some a) holds =
     (all_reverse IsSeated (seats_in a.answer) holds)
 
 -- the line with the derivation in force is one of the report
-pub told_sound : (horizon : ℕ) (all : List Answered) (s : Option Standing) (name : Text) (port : ℕ)
-    → AreAnswered horizon 0 all → HoldsIn IsSeated (last_told name port (commands_of all s))
-told_sound horizon all s name port are =
+pub told_sound : (version horizon : ℕ) (all : List Answered) (s : Option Standing) (name : Text) (port : ℕ)
+    → AreAnswered version horizon 0 all → HoldsIn IsSeated (last_told name port (commands_of all s))
+told_sound version horizon all s name port are =
     line_sound name port (find (tells_of name port) (reverse (commands_of all s)))
     (found_holds HasLines (tells_of name port) (reverse (commands_of all s))
-    (all_reverse HasLines (commands_of all s) (commands_sound all s (lines_sound horizon 0 all are))))
+    (all_reverse HasLines (commands_of all s) (commands_sound all s (lines_sound version horizon 0 all are))))
 
 pub within_if : (found : Option Seated) → HoldsIn IsSeated found
     → IfSome found (λ (s : Seated). IsWithinGrammar s.derivation)

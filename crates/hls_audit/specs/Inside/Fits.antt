@@ -1,5 +1,5 @@
 -- Numbers in their ranges, and a seat for each port.
-use Rattle.std.specs.Prelude.{◌≡◌, List, [], ◌∷◌, length, All}
+use Rattle.std.specs.Prelude.{◌≡◌, ℕ, List, [], ◌∷◌, length, All}
 use Rattle.hls_chron.specs.Kinds.{port_count}
 use Rattle.hls_chron.specs.Ranges.{ConfigInRange, TermsInRange}
 use Rattle.hls_guarantee.specs.Limits.{IsValid}
@@ -10,9 +10,9 @@ use Rattle.hls_audit_clauses.specs.declared.member.Sort.{Sort}
 use Rattle.hls_audit_clauses.specs.declared.member.Sort.TheVariants.{Scheduler, Thread}
 use Rattle.hls_audit_clauses.specs.declared.member.Member.{Member}
 
--- the seats of a scheduler or a thread are as the grammar has them
+-- the seats of a scheduler or a thread are as the grammar has them in some version
 abbrev pub HasSeats : Sort → List Perch → Type 0
-HasSeats (Scheduler config) perches = IsLoad config perches
+HasSeats (Scheduler config) perches = (version : ℕ) × IsLoad version config perches
 HasSeats Thread (perch ∷ []) = IsPerch perch
 HasSeats Thread _ = ⊥
 

@@ -65,8 +65,8 @@ pub fn only_seats_ask(config: Config)
 /// It has what the laws of its kind ask of a book.
 pub fn made_books_meet_their_kind()
     ensures reservations { (b : Ledger) → IsMade Config.Edf b → KeepsReservations b }
-    ensures shares { (total most : ℕ) (b : Ledger) → IsMade (Config.Sfq total most) b →
-        KeepsShareBook total most b }
+    ensures shares { (total most quantum : ℕ) (b : Ledger) → IsMade (Config.Sfq total most quantum) b →
+        KeepsShareBook total most quantum b }
     ensures places { (frame : ℕ) (b : Ledger) → IsMade (Config.Wheel frame) b → KeepsPlaces frame b }
 {}
 

@@ -18,8 +18,8 @@ use Rattle.hls_core.specs.declared.cores.Core.{Core}
 
 -- the head of the report, and the first commands of the scenario with these answers
 abbrev pub told_by : Scenario → (depth : ℕ) → List Answer → Text
-told_by s depth answers = ended (head_lines s.horizon depth)
-    ++ flat_map (λ (a : Answered). ended (answered_lines a)) (answered_by s.items answers)
+told_by s depth answers = ended (head_lines s.version s.horizon depth)
+    ++ flat_map (λ (a : Answered). ended (answered_lines s.version a)) (answered_by s.items answers)
 
 -- V and P are what the checker knows a box by, and W, Q and X a rule
 module _ {V W : Type 0} {P : V → Type 0} {Q : W → Type 0}

@@ -23,5 +23,5 @@ abbrev pub with_command : List Item → ℕ → Command → Result (List Item) C
 with_command items tick command = Ok (items ++ record { tick = tick; command = command } ∷ [])
 
 -- the items with a command more, which is read behind its tick
-abbrev pub kept_at : List Item → ℕ → List Text → Result (List Item) Cause
-kept_at items tick ts = command_at ts >>= with_command items tick
+abbrev pub kept_at : (version : ℕ) → List Item → ℕ → List Text → Result (List Item) Cause
+kept_at version items tick ts = command_at version ts >>= with_command items tick

@@ -59,7 +59,7 @@ pub fn doable_commands_are_done()
 /// what the machine forbids.
 pub fn unrefused_commands_may_be_done()
     ensures { (past : List Step) → IsLegal start past → (m : Moment) → m.hierarchy ≡ state start past →
-        (command : Command) → IsCommand command → ((r : Refusal) → ¬ Applies m command r) →
+        (version : ℕ) (command : Command) → IsCommand version command → ((r : Refusal) → ¬ Applies m command r) →
         AreDerivable m command → MayDo m.hierarchy command }
 {}
 

@@ -17,7 +17,7 @@ place_of _ = 0
 -- how many places there are
 abbrev pub place_count : Config → ℕ
 place_count configs.Fp = 32
-place_count (configs.Sfq total most) = min total 20
+place_count (configs.Sfq total most quantum) = min total 20
 place_count (configs.Wheel frame) = frame
 place_count _ = 1
 

@@ -20,10 +20,10 @@ use Rattle.hls_offer_words.specs.declared.asked.Asked.{Asked}
 
 -- ---- seats
 
--- the line admits a thread at this perch, at the one tick that there is
+-- the line admits a thread at this perch, at the one tick that there is; each version spells admissions alike
 pub record IsAdmission (tokens : List Text) (perch : Perch) : Type 0 where
   pub item : Item
-  pub line : IsItemLine 1 0 tokens item
+  pub line : IsItemLine 1 1 0 tokens item
   pub name : Text
   pub admits : item.command ≡ Thread name perch
 

@@ -4,7 +4,7 @@ use Rattle.std.specs.Prelude.{map}
 use Rattle.std.specs.Prelude.{flat_map, Option, Some, None}
 use Rattle.std.specs.List.{AllByRecursion}
 use Rattle.hls_text.specs.Lines.{Text}
-use Rattle.hls_chron.specs.Ranges.{IsWithin}
+use Rattle.hls_chron.specs.Ranges.{IsWithin, IsVersion, most_ticks}
 use Rattle.hls_scenario.specs.declared.scenario.Command.{Command}
 use Rattle.hls_report.specs.declared.fault.ReportFault.{ReportFault}
 use Rattle.hls_report.specs.declared.fault.ReportFault.TheVariants as faults
@@ -58,51 +58,54 @@ pub record RunRest (horizon from : ℕ) (last : Option (Option (List Text))) (kn
   pub text : lines ≡ map stretch_text stretches ++ codes "accounts" ∷ rest
 
 -- an item that may come next
-abbrev pub IsNext : (horizon last : ℕ) → Item → Type 0
-IsNext horizon last item = IsCommand item.command × (last ≤ item.tick) × (item.tick < horizon)
+abbrev pub IsNext : (version horizon last : ℕ) → Item → Type 0
+IsNext version horizon last item =
+    IsCommand version item.command × (last ≤ item.tick) × (item.tick < horizon)
 
 -- commands from the last tick on, at most so many
-pub record CommandRest (horizon last left : ℕ) (lines : List Text) : Type 0 where
+pub record CommandRest (version horizon last left : ℕ) (lines : List Text) : Type 0 where
   pub answered : List Answered
   pub rest : List Text
-  pub are : AreAnswered horizon last answered
+  pub are : AreAnswered version horizon last answered
   pub few : length answered ≤ left
   pub more : RunRest horizon 0 None [] rest
-  pub text : lines ≡ flat_map answered_lines answered ++ codes "schedule" ∷ rest
+  pub text : lines ≡ flat_map (answered_lines version) answered ++ codes "schedule" ∷ rest
 
 -- seats of a command that was done, and further commands
-pub record SeatRest (command : Command) (horizon last left : ℕ) (lines : List Text) : Type 0 where
+pub record SeatRest (command : Command) (version horizon last left : ℕ) (lines : List Text) : Type 0 where
   pub seats : List Seated
   pub rest : List Text
   pub are : AreSeats command seats
-  pub more : CommandRest horizon last left rest
+  pub more : CommandRest version horizon last left rest
   pub text : lines ≡ map seat_text seats ++ rest
 
-pub record AnswerRest (command : Command) (horizon last left : ℕ) (lines : List Text) : Type 0 where
+pub record AnswerRest (command : Command) (version horizon last left : ℕ) (lines : List Text) : Type 0 where
   pub answer : Answer
   pub rest : List Text
   pub is : MayAnswer command answer
-  pub more : CommandRest horizon last left rest
+  pub more : CommandRest version horizon last left rest
   pub text : lines ≡ answer_lines answer ++ rest
 
-pub record DepthRest (horizon : ℕ) (lines : List Text) : Type 0 where
+pub record DepthRest (version horizon : ℕ) (lines : List Text) : Type 0 where
   pub depth : ℕ
   pub rest : List Text
   pub is : depth ≤ 6
-  pub more : CommandRest horizon 0 65536 rest
+  pub more : CommandRest version horizon 0 65536 rest
   pub text : lines ≡ (codes "depth " ++ decimal depth) ∷ rest
 
-pub record HorizonRest (lines : List Text) : Type 0 where
+pub record HorizonRest (version : ℕ) (lines : List Text) : Type 0 where
   pub horizon : ℕ
   pub rest : List Text
-  pub is : IsWithin 1 100000 horizon
-  pub more : DepthRest horizon rest
+  pub is : IsWithin 1 (most_ticks version) horizon
+  pub more : DepthRest version horizon rest
   pub text : lines ≡ (codes "horizon " ++ decimal horizon) ∷ rest
 
 pub record HeaderRest (lines : List Text) : Type 0 where
+  pub version : ℕ
   pub rest : List Text
-  pub more : HorizonRest rest
-  pub text : lines ≡ codes "hls-report 1" ∷ rest
+  pub is : IsVersion version
+  pub more : HorizonRest version rest
+  pub text : lines ≡ (codes "hls-report " ++ decimal version) ∷ rest
 
 -- ---- where a reading stands
 

@@ -85,7 +85,7 @@ RunFails horizon from last known old fault = (path : Option (Option (List Text))
 -- the line behind the last run was read, or another stands there
 abbrev pub AccountsPass : (old new : Lines) → Type 0
 AccountsPass old new = (horizon : ℕ) (path : Option (Option (List Text))) (known : List Text) →
-    horizon ≤ 100000 → Passes (RunRest horizon horizon path known) (AccountRest horizon)
+    horizon ≤ 1000000 → Passes (RunRest horizon horizon path known) (AccountRest horizon)
     (codes "accounts" ∷ []) old new
 
 abbrev pub AccountsFail : Lines → ReportFault → Type 0

@@ -11,7 +11,7 @@ pub record IsPartSize (weight total others : ℕ) : Type 0 where
   pub light : weight ≤ 20
   pub fits : weight ≤ total
   pub small : total ≤ 100
-  pub few : others ≤ 3100
+  pub few : others ≤ 48000
 
 -- the share p with the error e that is such a part of s with d
 pub record IsPart (weight total others : ℕ) (s d p e : Frac) : Type 0 where

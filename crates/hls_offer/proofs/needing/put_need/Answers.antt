@@ -11,12 +11,14 @@ put_place-requires-clause-on g c = subst (λ (o : Option Text). IsPlace o) c.in-
 
 pub returns-in-Some : goal.returns-in-Some
 returns-in-Some g c =
-    ok_so c.put_place.result _ _ (λ offers adds m at.
-    told_place m c.args.core.now.journal.ticks c.args.sought.now.need c.args.on (option_copied c.args.sought.now.periods) offers
-    c.args.out.now.items c.put_place.new.out.items c.in-Some.scheduler c.in-Some.is (adds m at)) c.put_place.ensures
+    ok_so c.put_place.result _ _ (λ offers adds version m at.
+    told_place version m c.args.core.now.journal.ticks c.args.sought.now.need c.args.on
+    (option_copied c.args.sought.now.periods) offers c.args.out.now.items c.put_place.new.out.items
+    c.in-Some.scheduler c.in-Some.is (adds m at)) c.put_place.ensures
 
 pub returns-in-None : goal.returns-in-None
 returns-in-None g c =
-    ok_so c.put_places.result _ _ (λ offers adds m at.
-    told_places m c.args.core.now.journal.ticks c.args.sought.now.need c.args.on (option_copied c.args.sought.now.periods) offers
-    c.args.out.now.items c.put_places.new.out.items c.in-None.is (adds m at)) c.put_places.ensures
+    ok_so c.put_places.result _ _ (λ offers adds version m at.
+    told_places version m c.args.core.now.journal.ticks c.args.sought.now.need c.args.on
+    (option_copied c.args.sought.now.periods) offers c.args.out.now.items c.put_places.new.out.items
+    c.in-None.is (adds m at)) c.put_places.ensures

@@ -19,9 +19,9 @@ put_requests-requires-clause-narrow g c =
     (c.in_ok-lines.ensures m at)).narrow)
 
 pub returns-in_ok-put_requests-in-Open : goal.returns-in_ok-put_requests-in-Open
-returns-in_ok-put_requests-in-Open g c = λ m at.
-    told_open m c.args.core.now.journal.ticks c.args.wish.now (option_copied c.args.periods) c.in-Open.lines.items
-    c.args.out.now.items c.put_requests.new.out.items
+returns-in_ok-put_requests-in-Open g c = λ version m at.
+    told_open version m c.args.core.now.journal.ticks c.args.wish.now (option_copied c.args.periods)
+    c.in-Open.lines.items c.args.out.now.items c.put_requests.new.out.items
     (subst (λ o. IsOffer m c.args.wish.now (option_copied c.args.periods) o) c.in-Open.is
     (c.in_ok-lines.ensures m at))
     (subst (λ (gs : List Guarantee). c.put_requests.new.out.items
@@ -30,8 +30,8 @@ returns-in_ok-put_requests-in-Open g c = λ m at.
     c.deref.ensures.value (c.in_ok-put_requests-in-Open.ensures m at))
 
 pub returns-in_ok-put_refused-in-Shut : goal.returns-in_ok-put_refused-in-Shut
-returns-in_ok-put_refused-in-Shut g c = λ m at.
-    told_shut m c.args.core.now.journal.ticks c.args.wish.now (option_copied c.args.periods) c.in-Shut.refusal
+returns-in_ok-put_refused-in-Shut g c = λ version m at.
+    told_shut version m c.args.core.now.journal.ticks c.args.wish.now (option_copied c.args.periods) c.in-Shut.refusal
     c.args.out.now.items c.put_refused.new.out.items
     (subst (λ o. IsOffer m c.args.wish.now (option_copied c.args.periods) o) c.in-Shut.is
     (c.in_ok-lines.ensures m at)) c.in_ok-put_refused-in-Shut.ensures

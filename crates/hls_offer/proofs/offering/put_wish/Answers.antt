@@ -9,7 +9,7 @@ request-requires g c =
 pub put_request-requires : goal.put_request-requires
 put_request-requires g c =
     request_within _ c.args.core.now c.tree.result.now c.tree.ensures c.requires.runs c.args.wish.now
-    c.args.wanted.now c.request.result c.request.ensures c.requires.wish c.requires.narrow
+    c.args.wanted.now c.request.result c.request.ensures 1 c.requires.wish c.requires.narrow
 
 pub returns : goal.returns
 returns g c =

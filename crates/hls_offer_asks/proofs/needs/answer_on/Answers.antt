@@ -18,7 +18,7 @@ pub ask-requires-clause-command : goal.ask-requires-clause-command
 ask-requires-clause-command g c =
     request_within _ c.args.core.now c.tree.result.now c.tree.ensures c.requires.runs
     (wish_of c.args.need.now c.args.on.now c.args.terms) c.args.need.now.wanted c.request.result c.request.ensures
-    (record { name = c.requires.need.name; on = c.requires.on; terms = c.requires.terms }) c.requires.need.wanted
+    2 (record { name = c.requires.need.name; on = c.requires.on; terms = c.requires.terms }) c.requires.need.wanted
 
 pub returns : goal.returns
 returns g c =

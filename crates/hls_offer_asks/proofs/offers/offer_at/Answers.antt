@@ -18,7 +18,7 @@ ask-requires-clause-kind g c =
 pub ask-requires-clause-command : goal.ask-requires-clause-command
 ask-requires-clause-command g c =
     request_within _ c.args.core.now c.tree.result.now c.tree.ensures c.requires.runs c.args.wish.now Null
-    c.request.result c.request.ensures c.requires.wish tt
+    c.request.result c.request.ensures 2 c.requires.wish tt
 
 pub returns-in-Some : goal.returns-in-Some
 returns-in-Some g c = λ m at.

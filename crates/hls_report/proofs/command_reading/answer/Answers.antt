@@ -10,11 +10,11 @@ use Rattle.hls_report.proofs.Stuck.{fail_line, fail_end}
 use Rattle.hls_report.proofs.command_reading.answer.Goals as goal
 
 pub returns-in_default-clause-err : goal.returns-in_default-clause-err
-returns-in_default-clause-err c = λ h last left.
-    let some = some_answer c.args.command.now h last left in
-    fail_end (AnswerRest c.args.command.now h last left) c.args.lines.now some.0 c.fault.result some.1
+returns-in_default-clause-err c = λ v h last left.
+    let some = some_answer c.args.command.now v h last left in
+    fail_end (AnswerRest c.args.command.now v h last left) c.args.lines.now some.0 c.fault.result some.1
     c.in_default.ensures.line (c.fault.ensures ∙ ap faults.At c.next.ensures.count)
-    (no_last_answer c.args.command.now h last left)
+    (no_last_answer c.args.command.now v h last left)
 
 pub returns-then-eq-clause-ok : goal.returns-then-eq-clause-ok
 returns-then-eq-clause-ok c =
@@ -38,11 +38,11 @@ returns-in-Some-refused-clause-ok c =
     )
 
 pub returns-in-None-clause-err : goal.returns-in-None-clause-err
-returns-in-None-clause-err c = λ h last left.
-    let some = some_answer c.args.command.now h last left in
-    fail_line (AnswerRest c.args.command.now h last left) c.in-Some.line.now c.next.new.self.rest.now
+returns-in-None-clause-err c = λ v h last left.
+    let some = some_answer c.args.command.now v h last left in
+    fail_line (AnswerRest c.args.command.now v h last left) c.in-Some.line.now c.next.new.self.rest.now
     c.args.lines.now some.0 c.fault-in-None.result some.1 c.in-Some.ensures.line.0 c.in-Some.ensures.line.1
-    (λ ls r. no_answer c.args.command.now h last left c.in-Some.line.now ls
+    (λ ls r. no_answer c.args.command.now v h last left c.in-Some.line.now ls
     (λ e.
     let same = (bytes_eq-Decides c.in-Some.line.now c.as_slice.result.now).1 (e ∙ sym c.as_slice.ensures) in
     let f : false ≡ true = c.if-eq.ensures ∙ same in cc)

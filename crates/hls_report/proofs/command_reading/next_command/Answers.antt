@@ -13,15 +13,15 @@ returns-in_err-answer-in-Some-clause-err c =
     let left = c.args.left - 1 in
     let e = err_from_is_err_and c.from_residual-in_err-answer-in-Some.result
     c.from_residual-in_err-answer-in-Some.ensures.1 in
-    rw (e.1, e.2) (fail_behind (CommandRest c.args.horizon c.args.last c.args.left)
-    (AnswerRest i.command c.args.horizon i.tick left) (item_text i ∷ []) c.args.lines.now
+    rw (e.1, e.2) (fail_behind (CommandRest c.args.version c.args.horizon c.args.last c.args.left)
+    (AnswerRest i.command c.args.version c.args.horizon i.tick left) (item_text c.args.version i ∷ []) c.args.lines.now
     c.next_item.new.lines c.in_err-answer-in-Some.field-0.0 p.2
-    (c.in_err-answer-in-Some.ensures.err c.args.horizon i.tick left))
+    (c.in_err-answer-in-Some.ensures.err c.args.version c.args.horizon i.tick left))
 
 pub returns-in_ok-answer-in-Some-clause-ok : goal.returns-in_ok-answer-in-Some-clause-ok
 returns-in_ok-answer-in-Some-clause-ok c =
     let i = c.in-Some.item in
     let p = rw c.in-Some.is at c.in_ok-item.ensures.ok in
-    answer_comes c.args.horizon c.args.last c.args.left i c.in_ok-answer-in-Some.answer c.args.lines.now
+    answer_comes c.args.version c.args.horizon c.args.last c.args.left i c.in_ok-answer-in-Some.answer c.args.lines.now
     c.next_item.new.lines c.answer.new.lines p c.in_ok-answer-in-Some.ensures.ok.0
     c.in_ok-answer-in-Some.ensures.ok.1

@@ -2,7 +2,7 @@ use Rattle.hls_report_text.proofs.Writings.{commands_answers, accounts_kept, who
 use Rattle.hls_report_text.proofs.writing.write_report.Goals as goal
 
 pub put_all_answered-requires : goal.put_all_answered-requires
-put_all_answered-requires c = rw c.items.ensures (commands_answers _ _ _ c.requires.content.answered)
+put_all_answered-requires c = rw c.items.ensures (commands_answers _ _ _ _ c.requires.content.answered)
 
 pub put_accounts-requires : goal.put_accounts-requires
 put_accounts-requires c = rw c.items-4.ensures (accounts_kept _ _ c.requires.content.accounts)

@@ -6,7 +6,7 @@ use Rattle.hls_scenario.proofs.CanonicalLaws.{canonical_stands}
 use Rattle.hls_scenario.proofs.printing.print_scenario.Goals as goal
 
 pub put_items-requires : goal.put_items-requires
-put_items-requires c = rw c.items.ensures (items_commands _ _ _ c.requires.items)
+put_items-requires c = rw c.items.ensures (items_commands _ _ _ _ c.requires.items)
 
 pub returns : goal.returns
 returns c =

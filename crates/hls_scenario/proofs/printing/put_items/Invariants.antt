@@ -4,4 +4,6 @@ use Rattle.hls_scenario.proofs.printing.put_items.Given as goal
 
 abbrev pub invariant-loop-item : goal.invariant-loop-item
 invariant-loop-item l =
-    l.out.items ≡ l.fn.out.items ++ flat_map (λ item. line_text (item_forms item)) (take l.item-index l.items)
+    l.out.items
+    ≡ l.fn.out.items
+    ++ flat_map (λ item. line_text (item_forms l.version item)) (take l.item-index l.items)

@@ -7,13 +7,15 @@ use Rattle.hls_search.proofs.sharing.fair_before.Goals as goal
 pub returns-clause-some : goal.returns-clause-some
 returns-clause-some c =
     let a = c.args in
-    part-found (Sfq a.total a.most) (Weight a.weight) a.weight a.total (others_of a.total a.most a.weight)
-    c.share_before.result (Psbe a.rate.now a.error.now)
-    (fair-lends a.total a.most a.weight c.requires.config c.requires.terms c.if-weight-total.false)
+    let q = a.queue.now in
+    part-found (Sfq q.total q.most q.quantum) (Weight a.weight) a.weight q.total
+    (others_of q.total q.most q.quantum a.weight) c.share_before.result (Psbe a.rate.now a.error.now)
+    (fair-lends q.total q.most q.quantum a.weight c.requires.config c.requires.terms c.if-weight-total.false)
     c.share_before.ensures.some
 
 pub returns-clause-none : goal.returns-clause-none
 returns-clause-none c = λ none given valid lends.
     let a = c.args in
-    let by = fair-lends a.total a.most a.weight c.requires.config c.requires.terms c.if-weight-total.false in
+    let q = a.queue.now in
+    let by = fair-lends q.total q.most q.quantum a.weight c.requires.config c.requires.terms c.if-weight-total.false in
     c.share_before.ensures.none none given valid (by.part given (Psbe a.rate.now a.error.now) lends)

@@ -28,17 +28,19 @@ returns-in-None-clause-none c =
     rw c.in-Edf.is (λ none slot is. edf-none c.args.book.now c.args.mask slot urgent
     (sym c.first_slot-in-None.ensures.any ∙ none) is)
 
-pub returns-in-Sfq-clause-none : goal.returns-in-Sfq-clause-none
-returns-in-Sfq-clause-none c =
-    let b = c.args.book.now in
-    let mask = c.args.mask in
-    rw c.in-Sfq.is (λ none slot is. first-none (takes_part Tag b mask) (key_of Tag b mask) 32 slot
-    (sym c.first_slot-in-Sfq.ensures.any ∙ none) is)
-
 pub returns-else-turn_goes_on-clause-none : goal.returns-else-turn_goes_on-clause-none
 returns-else-turn_goes_on-clause-none c =
     let b = c.args.book.now in
     let mask = c.args.mask in
     let passes = sym c.turn_goes_on.ensures ∙ c.if-turn_goes_on.false in
+    rw c.in-Sfq.is (λ none slot is. first-none (takes_part (Tag c.in-Sfq.quantum) b mask)
+    (key_of (Tag c.in-Sfq.quantum) b mask) 32 slot (sym c.first_slot-else-turn_goes_on.ensures.any ∙ none)
+    (is.passes passes))
+
+pub returns-else-turn_goes_on-2-clause-none : goal.returns-else-turn_goes_on-2-clause-none
+returns-else-turn_goes_on-2-clause-none c =
+    let b = c.args.book.now in
+    let mask = c.args.mask in
+    let passes = sym c.turn_goes_on-in-Rr.ensures ∙ c.if-turn_goes_on-2.false in
     rw c.in-Rr.is (λ none slot is. first-none (takes_part Turn b mask) (key_of Turn b mask) 32 slot
-    (sym c.first_slot-else-turn_goes_on.ensures.any ∙ none) (is.passes passes))
+    (sym c.first_slot-else-turn_goes_on-2.ensures.any ∙ none) (is.passes passes))

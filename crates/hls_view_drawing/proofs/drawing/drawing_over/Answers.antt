@@ -44,7 +44,7 @@ returns c =
           ∙ ap (λ (cs : List Counts). all_rows s rows cs signs tights) c.requires.counts
           ∙ ap (λ (rs : List (List Label)). all_rows s rs (all_counts content s rs) signs tights) ways;
       commands_are = c.in_ok-commands_shown.ensures
-          ∙ ap (λ (all : List Answered). flat_map (shown_if s) all) c.items.ensures;
+          ∙ ap (λ (all : List Answered). flat_map (shown_if content.version s) all) c.items.ensures;
       moves_are = c.in_ok-moves_of.ensures
           ∙ ap (map move_of) (c.deref-3.ensures.value ∙ c.in_ok-shifts.ensures
           ∙ ap (λ (rs : List (List Label)). shifts_among content s rs) ways);

@@ -1,6 +1,7 @@
 use Rattle.std.proofs.Common.{ℕ, ◌-◌, arith, refl, ◌∙◌, ap, subst}
 use Rattle.std.specs.Prelude.{Option}
 use Rattle.hls_report_text.specs.Content.{content_of}
+use Rattle.hls_report_text.proofs.LineTexts.{horizon_fits}
 use Rattle.hls_legal.specs.declared.stay.Stay.{Stay}
 use Rattle.hls_legal.specs.Schedule.{is_served}
 use Rattle.hls_audit_spans.specs.Spans.{IsReach}
@@ -28,7 +29,8 @@ count-got-requires c =
     let begins = (reached c).begins in
     let ends = (reached c).ends in
     let soon = c.requires.sound.ends in
-    let few = c.requires.formed.content.horizon.1 in
+    let report = c.args.report.now in
+    let few = horizon_fits report.version report.horizon c.requires.formed.content.horizon in
     record { few = omega (arith, begins, ends, soon, few) }
 
 pub bound_among-requires-clause-few : goal.bound_among-requires-clause-few
@@ -36,7 +38,8 @@ bound_among-requires-clause-few c =
     let begins = (reached c.before.before).begins in
     let ends = (reached c.before.before).ends in
     let soon = c.requires.sound.ends in
-    let few = c.requires.formed.content.horizon.1 in
+    let report = c.args.report.now in
+    let few = horizon_fits report.version report.horizon c.requires.formed.content.horizon in
     omega (arith, begins, ends, soon, few)
 
 pub returns : goal.returns

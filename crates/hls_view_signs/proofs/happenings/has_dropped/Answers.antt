@@ -2,6 +2,7 @@ use Rattle.std.proofs.Common.{◌≡◌, ◌+◌, ◌<◌, ◌&&◌, ◌∙◌, 
 use Rattle.std.specs.List.{list_any}
 use Rattle.std.proofs.lemmas.Option.{slice_get_read}
 use Rattle.hls_report_text.specs.Content.{content_of}
+use Rattle.hls_report_text.proofs.LineTexts.{horizon_fits}
 use Rattle.hls_audit_threads.proofs.KnownLaws.{known_within, known_served}
 use Rattle.hls_view_jobs.specs.declared.job.Word.{Word}
 use Rattle.hls_view_jobs.specs.Words.{words_on}
@@ -27,8 +28,9 @@ is_dropped-requires-clause-early c =
     ∙ read_at content c.heard_at.new.all.items node c.in_ok-at.at c.index-2.result.now c.in_ok-at.ensures.at
     c.index-2.ensures in
     let formed = c.requires.formed.content in
-    early_more content.horizon 100000 c.deref.result.now
-    (let horizon = formed.horizon in omega (arith, horizon)) (read_early content node c.deref.result.now formed words)
+    early_more content.horizon 1000000 c.deref.result.now
+    (horizon_fits content.version content.horizon formed.horizon)
+    (read_early content node c.deref.result.now formed words)
 
 pub is_dropped-requires-clause-rising : goal.is_dropped-requires-clause-rising
 is_dropped-requires-clause-rising c =

@@ -28,9 +28,9 @@ loop-place-preserved c = record {
 
 pub returns-then-tick-answered : goal.returns-then-tick-answered
 returns-then-tick-answered c =
-    let came = came_before c.requires.answered.0 c.args.answered.now c.args.tick c.loop-place.place
-    c.index-answered-place.result c.requires.answered.1 c.loop-place.invariant.early c.loop-place-test.true
-    c.index-answered-place.is
+    let came = came_before c.requires.answered.0 c.requires.answered.1 c.args.answered.now c.args.tick
+    c.loop-place.place c.index-answered-place.result c.requires.answered.2 c.loop-place.invariant.early
+    c.loop-place-test.true c.index-answered-place.is
     (subst (λ (a : Answered). c.args.tick < a.tick) (sym c.index-answered-place.is) c.if-tick-answered.true) in
     record {
       told = subst (IsTold c.loop-place.tale c.args.answered.now) came c.loop-place.invariant.told;

@@ -11,8 +11,9 @@ use Rattle.hls_view_tree.proofs.derived.derivation_of.Goals as goal
 pub returns-clause-within : goal.returns-clause-within
 returns-clause-within c =
     let standing = standing_of c.args.hierarchy.now.standing.items c.args.name.now in
+    let report = c.args.report.now in
     subst (λ (found : Option Seated). IfSome found (λ (s : Seated). IsWithinGrammar s.derivation))
     (sym (c.last_told.ensures
     ∙ ap (λ (commands : List Answered). last_told c.args.name.now c.args.port commands) c.commands_of.ensures))
-    (within_if _ (told_sound c.args.report.now.horizon c.args.report.now.answered standing c.args.name.now c.args.port
+    (within_if _ (told_sound report.version report.horizon report.answered standing c.args.name.now c.args.port
     c.requires.content.answered))

@@ -1,5 +1,6 @@
 use Rattle.std.proofs.Common.{◌∙◌, ◌<◌, List, ap, subst, arith}
 use Rattle.hls_report_text.specs.Content.{content_of}
+use Rattle.hls_report_text.proofs.LineTexts.{horizon_fits}
 use Rattle.hls_view_tale.specs.declared.label.Label.{Label}
 use Rattle.hls_view_lanes.specs.Facts.{all_facts}
 use Rattle.hls_view_lanes.specs.Inside.Tallies.{no_tallies}
@@ -20,7 +21,7 @@ pub loop-tick-preserved : goal.loop-tick-preserved
 loop-tick-preserved c =
     let content = content_of c.args.report.now in
     let same = c.loop-tick.invariant.telling.rows in
-    let most = c.requires.formed.content.horizon in
+    let most = horizon_fits content.version content.horizon c.requires.formed.content.horizon in
     let few : c.loop-tick.tick < 4294967295 = omega (arith, c.requires.early, c.loop-tick-test.true, most) in
     record {
       telling = subst (λ (rows : List (List Label)). IsTelling c.args.report.now rows c.facts.new.self) same
