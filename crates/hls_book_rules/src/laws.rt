@@ -79,8 +79,8 @@ pub fn places_meet_their_rules()
 {}
 
 /// Each scheduler stands for the present tick: deadlines lie ahead, a turn has some of its quantum left, whose turn
-/// begins has the least tag, and a place is its owner's. So `stands_of`, which says one tick at least, says no more than
-/// these numbers do.
+/// begins has the least tag, and a place is its owner's. So `stands_of`, which says one tick at least, says no more
+/// than these numbers do.
 pub fn each_stands_for_the_present_tick(total: u32, most: u32, quantum: u32)
     requires { 0 < quantum }
     ensures reservations { (b : Ledger) (mask : ℕ) (choice : Option ℕ) → IsMade Config.Edf b → OnlySeatsAsk b mask →

@@ -105,7 +105,8 @@ module _ (P : Config → Type 0) where
   of_edf p (configs.Wheel frame) is = absurd cc
   of_edf p (configs.Join ports) is = absurd cc
 
-  pub of_sfq : ((total most quantum : ℕ) → P (configs.Sfq total most quantum)) → (config : Config) → kind_of config ≡ kinds.Sfq
+  pub of_sfq : ((total most quantum : ℕ) → P (configs.Sfq total most quantum)) → (config : Config) → kind_of config
+      ≡ kinds.Sfq
       → P config
   of_sfq p (configs.Sfq total most quantum) is = p total most quantum
   of_sfq p configs.Cpu is = absurd cc

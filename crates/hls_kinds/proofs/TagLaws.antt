@@ -36,7 +36,8 @@ pub start_of-parts : (quantum : ℕ) (b : Ledger) (start : ℕ → ℕ → ℕ) 
     → finish ≡ finish_by quantum b start share slot r
     → greatest ≡ max time finish → had ≡ count (served b slot) r (t - r) → step ≡ tag_step share.weight
     → more ≡ had * step → greatest + more ≡ start_of quantum b start share t slot
-start_of-parts quantum b start share t slot r time finish greatest had step more is_r is_time is_finish is_greatest is_had
+start_of-parts quantum b start share t slot r time finish greatest had step more is_r is_time is_finish is_greatest
+    is_had
     is_step is_more = rw (is_greatest, is_more, is_time, is_finish, is_had, is_step, is_r) refl
 
 -- two ways to give start tags agree before tick t
@@ -64,7 +65,8 @@ served-agree : (b : Ledger) (f g : ℕ → ℕ → ℕ) (t : ℕ) (last : Option
 served-agree b f g t None agree before = refl
 served-agree b f g t (Some z) agree before = agree z (slot_or (row_at b z).to) (before z refl)
 
-pub time-agree : (quantum : ℕ) (b : Ledger) (f g : ℕ → ℕ → ℕ) (t : ℕ) → AgreeBefore f g t → time_by quantum b f t ≡ time_by quantum b g t
+pub time-agree : (quantum : ℕ) (b : Ledger) (f g : ℕ → ℕ → ℕ) (t : ℕ) → AgreeBefore f g t → time_by quantum b f t
+    ≡ time_by quantum b g t
 time-agree quantum b f g t agree =
     let test : ℕ → Bool = begins_turn quantum b in
     served-agree b f g t (last_of test b.start (t - b.start)) agree (last-before test b.start t)
@@ -76,7 +78,8 @@ finish-by-agree : (quantum : ℕ) (b : Ledger) (f g : ℕ → ℕ → ℕ) (shar
     → share.since ≤ t → AgreeBefore f g t → ((z : ℕ) → last ≡ Some z → z < t)
     → finish_after quantum b f share slot last ≡ finish_after quantum b g share slot last
 finish-by-agree quantum b f g share slot t None since agree before =
-    ap (λ v. v + quantum * tag_step share.weight) (time-agree quantum b f g share.since (earlier f g share.since t since agree))
+    ap (λ v. v + quantum * tag_step share.weight)
+    (time-agree quantum b f g share.since (earlier f g share.since t since agree))
 finish-by-agree quantum b f g share slot t (Some z) since agree before =
     ap (λ v. v + tag_step share.weight) (agree z slot (before z refl))
 
@@ -93,7 +96,10 @@ start_of-agree quantum b f g share t slot since agree =
     let le : asking_since b share.since slot t ≤ t
     = omega (arith, since, after_last-le test share.since (t - share.since)) in
     let r = asking_since b share.since slot t in
-    rw (time-agree quantum b f g r (earlier f g r t le agree), finish-agree quantum b f g share slot t r since le agree) refl
+    rw (
+      time-agree quantum b f g r (earlier f g r t le agree),
+      finish-agree quantum b f g share slot t r since le agree,
+    ) refl
 
 -- a seat that sits in tick t was seated or settled by then
 abbrev SinceBy : (t : ℕ) → Tenant → Type 0
@@ -172,7 +178,8 @@ start_tags-enough quantum b (suc n) (suc m) t slot lt_n lt_m =
     (λ z k lt. start_tags-enough quantum b n m z k (omega (arith, lt, lt_n)) (omega (arith, lt, lt_m)))
 
 -- the start tags are those of the rules, by themselves
-pub start_tag-is : (quantum : ℕ) (b : Ledger) (t slot : ℕ) → start_tag quantum b t slot ≡ start_by quantum b (start_tag quantum b) t slot
+pub start_tag-is : (quantum : ℕ) (b : Ledger) (t slot : ℕ) → start_tag quantum b t slot
+    ≡ start_by quantum b (start_tag quantum b) t slot
 start_tag-is quantum b t slot =
     start_tags-more quantum b (t + 1) t t slot refl
     ∙ start_of-agree quantum b (start_tags quantum b t) (start_tag quantum b) (share_in (tenant_then b slot t)) t slot

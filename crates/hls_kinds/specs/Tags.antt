@@ -1,4 +1,5 @@
--- The tags of fair queueing by turns of a quantum, counted in a unit that each weight divides, recomputed from the book.
+-- The tags of fair queueing by turns of a quantum, counted in a unit that each weight divides, and recomputed from the
+-- book.
 use Rattle.std.specs.Prelude.{◌≡◌, ℕ, zero, suc, ◌+◌, ◌*◌, ◌-◌, ◌/◌, max, Bool, not, ◌&&◌, Option, Some, None}
 use Rattle.std.specs.Prelude.{is_some}
 use Rattle.hls_chron.specs.declared.plain.Terms.TheVariants as terms

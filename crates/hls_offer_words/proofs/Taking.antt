@@ -196,7 +196,8 @@ passed_on first done (word ∷ words) = passed_on first (done ++ word ∷ []) wo
 takes_offer : (words : List Text) → Level (codes "offer") words
     → takes commands.hlsoffer (codes "offer" ∷ words) ≡ true
 unfolding walk_passes walked
-takes_offer words level = rw (behind_first names (codes "offer") [] words, level, passed_on (codes "offer") [] words) refl
+takes_offer words level = rw (behind_first names (codes "offer") [] words, level, passed_on (codes "offer") [] words)
+    refl
 
 takes_need : (words : List Text) → Level (codes "need") words
     → takes commands.hlsoffer (codes "need" ∷ words) ≡ true
@@ -206,7 +207,8 @@ takes_need words level = rw (behind_first names (codes "need") [] words, level, 
 takes_spare : (words : List Text) → Level (codes "spare") words
     → takes commands.hlsoffer (codes "spare" ∷ words) ≡ true
 unfolding walk_passes walked
-takes_spare words level = rw (behind_first names (codes "spare") [] words, level, passed_on (codes "spare") [] words) refl
+takes_spare words level = rw (behind_first names (codes "spare") [] words, level, passed_on (codes "spare") [] words)
+    refl
 
 takes_from : (first : Text) (words : List Text) → IsAsking first → ((name : Text) → Level name words)
     → takes commands.hlsoffer (first ∷ words) ≡ true

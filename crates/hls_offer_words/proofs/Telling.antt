@@ -64,7 +64,8 @@ depths_told (Some text) (Some n) small e = (small, (some_same text (decimal n) [
 options_told : (at depth : Option Text) (m n : Option ℕ) → IsAtMost 99999 m → IsAtMost 6 n
     → options_words at depth ≡ moment_words m n → TellsNumber 99999 at m × TellsNumber 6 depth n
 options_told None depth None n low high e = (tt, depths_told depth n high e)
-options_told None None (Some m) n low high e = absurd (no_empty (codes "--at") (decimal m ∷ option_words (codes "--depth") n) e)
+options_told None None (Some m) n low high e = absurd
+    (no_empty (codes "--at") (decimal m ∷ option_words (codes "--depth") n) e)
 options_told None (Some text) (Some m) n low high e =
     absurd (at_is_no_depth (decimal m ∷ option_words (codes "--depth") n) (text ∷ []) (sym e))
 options_told (Some text) depth None None low high e =
@@ -99,7 +100,8 @@ tells words s a is =
     }
 
 -- so what is made of clap's matches is what the words ask for
-pub answered : {E : Type 0} (words : List Text) (result : Result (Option Asked) E) (found : Option Told) → HasShape words
+pub answered : {E : Type 0} (words : List Text) (result : Result (Option Asked) E) (found : Option Told)
+    → HasShape words
     → found ≡ told_by words
     → IfOk result (λ asked. MatchOption asked ((a : Asked) → ¬ MayTell found a) (MayTell found))
     → IfOk result (λ asked. MatchOption asked (IsNotAsked words) (IsAsked words))
@@ -120,7 +122,8 @@ not_shaped first behind options split none a asked =
     let f = first_asks a halves.early halves.line in
     let rest = rests first f.0 behind (f.1 ++ moment)
     (halves.words_are ∙ ap (λ (ws : List Text). ws ++ moment) f.2) in
-    none a.at a.depth asked.tick asked.depth (one_split split.behind options f.1 moment (sym split.words_are ∙ rest) split.plain
+    none a.at a.depth asked.tick asked.depth (one_split split.behind options f.1 moment (sym split.words_are ∙ rest)
+    split.plain
     (subst (AllByRecursion IsPlain) f.2 halves.plain).1 split.stuck
     (subst (λ (ws : List Text). (word : Text) (more : List Text) → ws ≡ word ∷ more → ¬ IsPlain word)
     (moment_spelled a.at a.depth) (options_stuck (spelled a.at) (spelled a.depth)))).1

@@ -102,7 +102,8 @@ pub next_step : (done : List Text) (last word : Text) → IsPlain word
     → walked rules [] (standing done last) word ≡ standing (done ++ last ∷ []) word
 unfolding walked taken
 next_step done last word plain = ap (λ (met : Held × Step). after_step rules word (standing done last) met.0 met.1)
-    (plain_met positional 1 word (standing done last).held plain) ∙ ap (λ (rows : List Row). taken rows word) (took done last)
+    (plain_met positional 1 word (standing done last).held plain)
+    ∙ ap (λ (rows : List Row). taken rows word) (took done last)
 
 -- the walk over plain words from one that is pending
 pub record Passes (done : List Text) (last : Text) (words tail : List Text) : Type 0 where
@@ -186,7 +187,8 @@ depth_stated rows value plain =
     (plain_met (option (codes "depth")) 1 value (option_open (codes "depth") rows).held plain)
 
 -- the depth behind the tick
-pub depth_behind : (rows : List Row) (value : Text) → walked rules [] (option_done (codes "at") rows value) (codes "--depth")
+pub depth_behind : (rows : List Row) (value : Text)
+    → walked rules [] (option_done (codes "at") rows value) (codes "--depth")
     ≡ option_open (codes "depth") (used (filled commands.at) (value ∷ []) rows)
 unfolding walked
 depth_behind rows value = refl

@@ -111,7 +111,8 @@ pub fn question_in<'a>(
     words: &'a [String],
 ) -> Result<Option<Known<'a>>, AllocError>
     ensures { IfOk result (λ found. MatchOption found (IsNotAsked (first.now ∷ map string_bytes words.entry.now))
-        (λ known. IsQuestionIn (first.now ∷ map string_bytes words.entry.now) known.question (map string_bytes known.rest.now))) }
+        (λ known. IsQuestionIn (first.now ∷ map string_bytes words.entry.now) known.question
+        (map string_bytes known.rest.now))) }
 {
     match first {
         "offer" => offer_in(alloc, words),

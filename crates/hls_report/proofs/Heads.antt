@@ -15,7 +15,8 @@ use Rattle.hls_report_text.proofs.LineTexts.{horizon_fits}
 pub some_text : (a b : Text) → Some a ≡ Some b → a ≡ b
 some_text a b e = cc
 
-pub horizon_read : (v : ℕ) (line rest : Text) (n : ℕ) → IsWithin 1 (most_ticks v) n → line ≡ codes "horizon " ++ decimal n
+pub horizon_read : (v : ℕ) (line rest : Text) (n : ℕ) → IsWithin 1 (most_ticks v) n → line
+    ≡ codes "horizon " ++ decimal n
     → after_words (codes "horizon ") line ≡ Some rest → count_at rest ≡ Some n
 horizon_read v line rest n is e read =
     let le = horizon_fits v n is in

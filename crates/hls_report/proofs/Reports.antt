@@ -40,7 +40,8 @@ run_lines stretches = map stretch_text stretches ++ codes "accounts" ∷ []
 -- the lines of a content were read to the end
 pub content_told : (c : Content) (start a b d : Lines)
     → Passes HeaderRest (CommandRest c.version c.horizon 0 65536) (head_lines c.version c.horizon c.depth) start a
-    → Passes (CommandRest c.version c.horizon 0 65536) (RunRest c.horizon 0 None []) (command_lines c.version c.answered) a b
+    → Passes (CommandRest c.version c.horizon 0 65536) (RunRest c.horizon 0 None [])
+    (command_lines c.version c.answered) a b
     → Passes (RunRest c.horizon 0 None []) (AccountRest c.horizon) (run_lines c.stretches) b d
     → d.rest.now ≡ ended (map account_text c.accounts ++ end_lines c.idle)
     → start.rest.now ≡ ended (content_lines c)
@@ -81,7 +82,8 @@ bad_at start (Err (faults.Memory error)) first bad = tt
 pub report_told : (r : Report) (start a b d : Lines)
     → AllByRecursion (λ run. HasShort run.path) r.runs → IsContent (content_of r)
     → Passes HeaderRest (CommandRest r.version r.horizon 0 65536) (head_lines r.version r.horizon r.depth) start a
-    → Passes (CommandRest r.version r.horizon 0 65536) (RunRest r.horizon 0 None []) (command_lines r.version r.answered) a b
+    → Passes (CommandRest r.version r.horizon 0 65536) (RunRest r.horizon 0 None [])
+    (command_lines r.version r.answered) a b
     → Passes (RunRest r.horizon 0 None []) (AccountRest r.horizon)
     (run_lines (map (stretch_of r.names) r.runs)) b d
     → d.rest.now ≡ ended (map account_text r.accounts ++ end_lines r.idle)

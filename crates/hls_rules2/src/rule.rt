@@ -8,8 +8,8 @@ ghost use Rattle.hls_rules.specs.Book.{is_longer};
 use hls_guarantee::{Guarantee, RuleName};
 use hls_rules::{answer, converts, strongest};
 
-/// What the rule of that name, `R10` or `R11`, answers to `have` where `want` is wanted: `want` where the rule concludes
-/// it; else the strongest of its conclusions, which equals or gives by `R1` every other one; else `None`.
+/// What the rule of that name, `R10` or `R11`, answers to `have` where `want` is wanted: `want` where the rule
+/// concludes it; else the strongest of its conclusions, which equals or gives by `R1` every other one; else `None`.
 pub fn answer2(name: RuleName, have: Guarantee, want: Guarantee) -> Option<Guarantee>
     requires name { is_longer name ≡ true }
     requires have { IsValid have }

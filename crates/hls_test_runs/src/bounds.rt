@@ -65,8 +65,9 @@ pub fn a_fair_seat_waits_as_long_as_it_may()
 {}
 
 /// A reservation of 2 ticks in every 3 is woken beside one of 1 in every 3, which has the lesser slot, for a job as the
-/// law on jobs asks for it. It has its first tick as the second, `y - x + 1` ticks after its wake, its second at the end
-/// of the period, and so on in the next: each of the four as late as the law allows, and none of them a tick sooner.
+/// law on jobs asks for it. It has its first tick as the second, `y - x + 1` ticks after its wake, its second at the
+/// end of the period, and so on in the next: each of the four as late as the law allows, and none of them a tick
+/// sooner.
 pub fn a_job_is_served_as_late_as_it_may_be()
     ensures legal { IsLegal start paced }
     ensures ticks { map (λ (t : ℕ). ((state start paced).past t).to) (0 ∷ 1 ∷ 2 ∷ 3 ∷ 4 ∷ 5 ∷ []) ≡ paced_ticks }

@@ -76,10 +76,12 @@ pub fate_found : (f : ℕ → Bool) (horizon : ℕ) (r : Release) (job : Job) (r
     → IsFate f (until horizon r) r.next job (fate_by r reach job.got)
 fate_found f horizon r job reach sound reached is = elim (cases_Bool (nat_le r.asked job.got)) [
   | inl reaches ↦
-      subst (λ (b : Bool). IsFate f (until horizon r) r.next job (cond b (Done (reach - 1)) (fate_left r.next))) (sym reaches)
+      subst (λ (b : Bool). IsFate f (until horizon r) r.next job (cond b (Done (reach - 1)) (fate_left r.next)))
+      (sym reaches)
       (done_by f horizon r job reach sound reached is (leb-true r.asked job.got reaches))
   | inr lacks ↦
-      subst (λ (b : Bool). IsFate f (until horizon r) r.next job (cond b (Done (reach - 1)) (fate_left r.next))) (sym lacks)
+      subst (λ (b : Bool). IsFate f (until horizon r) r.next job (cond b (Done (reach - 1)) (fate_left r.next)))
+      (sym lacks)
       (left_at f (until horizon r) r.next job
       (left_by f horizon r job reach sound reached is (leb-false r.asked job.got lacks)))
 ]

@@ -97,7 +97,8 @@ lines_next c all i one line old new lt is made put are =
     ∙ ap (λ (x : Admission). take i all ++ x ∷ []) (sym is))
     ∙ map-append (life_by c.answered) (take i all) (one ∷ [])))
     (subst (AreLines c (map (life_by c.answered) (take i all) ++ life_by c.answered one ∷ [])) (sym put)
-    (lines_append c (map (life_by c.answered) (take i all)) (life_by c.answered one ∷ []) old (line ∷ []) are (made, tt)))
+    (lines_append c (map (life_by c.answered) (take i all)) (life_by c.answered one ∷ []) old (line ∷ []) are
+    (made, tt)))
 
 pub lines_all : (c : Content) (all : List Admission) (i : ℕ) (lines : List ThreadJobs) → length all ≤ i
     → map (life_by c.answered) all ≡ lasting c → AreLines c (map (life_by c.answered) (take i all)) lines

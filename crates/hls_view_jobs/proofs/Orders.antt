@@ -161,7 +161,8 @@ pub jobs_apart : (c : Content) (before : List Answered) (a : Answered) (after : 
     → AreJobs c name (releases (words_on name after)) jobs → i < j → slice_get jobs i ≡ Some one
     → slice_get jobs j ≡ Some other → one.release + one.ticks ≤ other.release
 jobs_apart c before a after name jobs i j one other formed split are lt here there =
-    apart_at c name (releases (words_on name after)) jobs (orders c before a after name formed split) are i j one other lt
+    apart_at c name (releases (words_on name after)) jobs (orders c before a after name formed split) are i j one
+    other lt
     here there
 
 pub open_last : (c : Content) (before : List Answered) (a : Answered) (after : List Answered) (name : Text)

@@ -1,6 +1,6 @@
 // The threads of a report, by the places of their admissions.
-ghost use Rattle.std.specs.Prelude.{◌≡◌, ◌+◌, ◌≤◌, ◌<◌, ◌++◌, [], drop, map, filter, get_or, IfOk, OnOk, IfSome, All, length};
-ghost use Rattle.std.specs.Prelude.{◌&&◌};
+ghost use Rattle.std.specs.Prelude.{◌≡◌, ◌+◌, ◌≤◌, ◌<◌, ◌++◌, [], drop, map, filter, get_or, IfOk, OnOk};
+ghost use Rattle.std.specs.Prelude.{◌&&◌, IfSome, All, length};
 ghost use Rattle.hls_report_text.specs.Content.{content_of};
 ghost use Rattle.hls_report_text.specs.WellFormed.{IsWellFormed};
 ghost use Rattle.hls_legal.specs.Commands.{has_done, rouses};

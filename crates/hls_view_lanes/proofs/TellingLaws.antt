@@ -150,7 +150,8 @@ asked-more f ways place flags more b lt is so_far e =
 -- ---- the facts of a tick
 
 pub told-facts : (r : Report) (all : List (List Label)) (t : ℕ) (s : Telling) (flags : List Bool) → IsTelling r all s
-    → s.present.ways.items ≡ ways_at (content_of r) t → flags ≡ map (way_asks (content_of r) t) (ways_at (content_of r) t)
+    → s.present.ways.items ≡ ways_at (content_of r) t → flags
+    ≡ map (way_asks (content_of r) t) (ways_at (content_of r) t)
     → s.through.items ≡ map (λ row. is_through row (given_at (content_of r) t)) all
     → map (told.facts_at s.present flags s.through.items) (range_with_len 0 (length s.present.below.items))
     ≡ map (facts (content_of r) t) all

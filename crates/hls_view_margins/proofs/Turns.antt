@@ -45,7 +45,8 @@ bracket_first f from until = record {
   off = λ less all. absurd (omega (arith, less));
 }
 
-pub bracket_up : (f : ℕ → Bool) (from until low high middle n : ℕ) → from ≤ middle → n ≡ count f from (middle + 1 - from)
+pub bracket_up : (f : ℕ → Bool) (from until low high middle n : ℕ) → from ≤ middle → n
+    ≡ count f from (middle + 1 - from)
     → n ≡ middle + 1 - from → IsBracket f from until low high → IsBracket f from until (middle + 1) high
 bracket_up f from until low high middle n order is full bracket = record {
   on = λ t after before.
@@ -59,7 +60,8 @@ pub bracket_down : (f : ℕ → Bool) (from until low high middle n : ℕ) → f
 bracket_down f from until low high middle n order is not-full bracket = record {
   on = bracket.on;
   off = λ less all.
-      not-full (is ∙ count_on f from (middle + 1 - from) (λ t after before. all t after (omega (arith, before, order))));
+      not-full (is ∙ count_on f from (middle + 1 - from)
+      (λ t after before. all t after (omega (arith, before, order))));
 }
 
 pub bracket_last : (f : ℕ → Bool) (from until low high : ℕ) → low ≡ high → IsBracket f from until low high
@@ -101,7 +103,8 @@ turn_steady f tick hi until on is turn t after before = elim (cases_eq t tick) [
 ]
 
 -- a thread that is not to wait, or is not ready, is counted where it is ready
-not_ready : (waiting : Bool) (r s b d : Bool) → r ≡ s → waiting && s ≡ false → s && not (waiting && b) ≡ s && not (waiting && d)
+not_ready : (waiting : Bool) (r s b d : Bool) → r ≡ s → waiting && s ≡ false → s && not (waiting && b)
+    ≡ s && not (waiting && d)
 not_ready true r true b d e off = absurd (let no : true ≡ false = off in cc)
 not_ready true r false b d e off = refl
 not_ready false r s b d e off = refl

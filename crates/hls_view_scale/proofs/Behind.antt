@@ -8,7 +8,8 @@ pub with_high_behind : (bs : List Bar) (b : Bar) (column high : ℕ)
     → with_high (bs ++ b ∷ []) column high ≡ bs ++ go_on b column high
 with_high_behind [] b column high = refl
 with_high_behind (a ∷ []) b column high = refl
-with_high_behind (a ∷ c ∷ bs) b column high = ap (λ (rest : List Bar). a ∷ rest) (with_high_behind (c ∷ bs) b column high)
+with_high_behind (a ∷ c ∷ bs) b column high = ap (λ (rest : List Bar). a ∷ rest)
+    (with_high_behind (c ∷ bs) b column high)
 
 -- a column that no bar reaches to
 pub apart : (old rest with_bar new : List Bar) (bar one : Bar) (column high : ℕ) → (high == 0) ≡ false

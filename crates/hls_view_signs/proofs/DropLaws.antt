@@ -33,7 +33,8 @@ word_at : (f : Release → Bool) (last : Option Word) (ws : List Word) (i : ℕ)
     → any_released f last (drop i ws)
     ≡ (list_any f (released last (Some w)) || any_released f (Some w) (drop (i + 1) ws))
 word_at f last ws i w there =
-    ap (any_released f last) (dropped_at ws i w (slice_get_within ws i w there) (sym (get_or_from_slice_get ws i w w there)))
+    ap (any_released f last) (dropped_at ws i w (slice_get_within ws i w there)
+    (sym (get_or_from_slice_get ws i w w there)))
     ∙ behind_word f last w (drop (i + 1) ws)
 
 -- the word at a place cuts the job before it short

@@ -70,7 +70,8 @@ columns_are_found c s event row all found each are =
 -- ---- row by row
 
 signs_append : (c : Content) (s : Scale) (rows : List (List Label)) (all : List Signs) (row : List Label)
-    (signs : Signs) → IsSigns c s row signs → AreSigns c s rows all → AreSigns c s (rows ++ row ∷ []) (all ++ signs ∷ [])
+    (signs : Signs) → IsSigns c s row signs → AreSigns c s rows all
+    → AreSigns c s (rows ++ row ∷ []) (all ++ signs ∷ [])
 signs_append c s [] [] row signs one are = (one, tt)
 signs_append c s [] (x ∷ all) row signs one are = absurd are
 signs_append c s (r ∷ rows) [] row signs one are = absurd are

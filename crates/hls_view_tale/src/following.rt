@@ -132,8 +132,8 @@ impl Following {
         Ok(came.changed)
     }
 
-    /// Goes to a tick, once its commands were carried out, and tells whether places may be others than before. An earlier
-    /// tick is come to from the beginning.
+    /// Goes to a tick, once its commands were carried out, and tells whether places may be others than before. An
+    /// earlier tick is come to from the beginning.
     ///
     /// # Errors
     /// Returns `AllocError` where there is no memory for what is kept beside the report.

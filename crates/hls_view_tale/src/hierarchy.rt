@@ -52,7 +52,8 @@ fn in_order(alloc: Global, tree: &[Member], all: &[Standing]) -> Result<Vec<Memb
 pub(crate) fn hierarchy_of(alloc: Global, tale: &Tale) -> Result<Hierarchy, AllocError>
     ensures standing { IfOk result (λ h. h.standing.items ≡ tale.now.standing.items) }
     ensures places { IfOk result (λ h. h.places.items
-        ≡ below (hierarchies.in_order tale.now.tree.items tale.now.standing.items) (length tale.now.tree.items) None []) }
+        ≡ below (hierarchies.in_order tale.now.tree.items tale.now.standing.items) (length tale.now.tree.items)
+        None []) }
 {
     let standing = tale.standing.to_vec(alloc)?;
     let members = in_order(alloc, &tale.tree, &tale.standing)?;

@@ -8,8 +8,8 @@ use hls_chron::List;
 use hls_view_trace::{Category, Event, Place, Slice};
 use std::alloc::{AllocError, Global};
 
-/// Ticks in a row from one on, whether each of them is on, and as what they are shown on which track: a category, and the
-/// word for it.
+/// Ticks in a row from one on, whether each of them is on, and as what they are shown on which track: a category, and
+/// the word for it.
 #[derive(Clone, Copy)]
 struct Strip<'a> {
     category: Category,

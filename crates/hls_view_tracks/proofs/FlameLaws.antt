@@ -62,7 +62,8 @@ goes_off names above places last i run more all less is same begun so_far =
 
 -- ---- the slices of a run
 
-abbrev pub below : Place → (names : List Text) → (before : List ℕ) → Run → List Run → (above places : List ℕ) → List Event
+abbrev pub below : Place → (names : List Text) → (before : List ℕ) → Run → List Run → (above places : List ℕ)
+    → List Event
 below place names before run more above places =
     slices_below place (named names before) (stretch_of names run) (map (stretch_of names) more) (named names above)
     (named names places)

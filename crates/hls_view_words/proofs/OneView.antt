@@ -144,7 +144,8 @@ pub no_time : (words : List Text) (n : ℕ) → n ≡ 0 → Heads (codes "--tick
     → IsView (codes "trace" ∷ words) view → ⊥
 no_time words n none here (Trace tick) (options, is, has) =
     untold words n none here tick
-    (subst (λ (o : List Text). MayLast o tick) (sym (rest_of_words (codes "trace") (codes "trace") words options is)) has)
+    (subst (λ (o : List Text). MayLast o tick) (sym (rest_of_words (codes "trace") (codes "trace") words options is))
+    has)
 no_time words n none here view is =
     let same : letters (codes "trace" ∷ words) ≡ letters_of view = view_letters (codes "trace" ∷ words) view is in
     absurd (omega (arith, same))

@@ -23,7 +23,8 @@ AnswerPasses command front old new = (version horizon last left : ℕ) →
 abbrev pub SeatPasses : Command → Option Seated → (old new : Lines) → Type 0
 SeatPasses command None old new = SeatsPass command [] old new
 SeatPasses command (Some seat) old new = IsSeated seat × TakesSeats command × ((version horizon last left : ℕ) →
-    Passes (SeatRest command version horizon last left) (SeatRest command version horizon last left) (seat_text seat ∷ [])
+    Passes (SeatRest command version horizon last left) (SeatRest command version horizon last left)
+    (seat_text seat ∷ [])
     old new)
 
 abbrev pub SchedulePasses : (version horizon last left : ℕ) → (old new : Lines) → Type 0

@@ -6,7 +6,8 @@ use Rattle.hls_lang.proofs.commands.read_item.Goals as goal
 
 pub returns-in-Ok-clause-found : goal.returns-in-Ok-clause-found
 returns-in-Ok-clause-found c =
-    item_is c.args.version c.args.horizon c.args.last (tokens_of c.args.line.now) c.in-Ok.item (omega arith) c.in-Ok.ensures
+    item_is c.args.version c.args.horizon c.args.last (tokens_of c.args.line.now) c.in-Ok.item (omega arith)
+    c.in-Ok.ensures
 
 pub returns-in-Ok-clause-exact : goal.returns-in-Ok-clause-exact
 returns-in-Ok-clause-exact c = λ item is.

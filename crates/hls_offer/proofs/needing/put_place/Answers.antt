@@ -11,13 +11,15 @@ put_wish-requires-clause-wish g c =
     record {
       name = c.requires.need.name;
       on = c.requires.on;
-      terms = had_formed m at.reached c.args.sought.now.need c.args.on.now (option_copied c.args.sought.now.periods) c.in-At.terms
+      terms = had_formed m at.reached c.args.sought.now.need c.args.on.now (option_copied c.args.sought.now.periods)
+          c.in-At.terms
           c.in_ok-terms.field-0 c.in-At.is (c.in_ok-terms.ensures.is m at);
     }
 
 pub returns-in_ok-put_refused-in-Refused : goal.returns-in_ok-put_refused-in-Refused
 returns-in_ok-put_refused-in-Refused g c = λ m at.
-    place_refused m c.args.core.now.journal.ticks c.args.sought.now.need (option_copied c.args.sought.now.periods) c.args.on.now
+    place_refused m c.args.core.now.journal.ticks c.args.sought.now.need (option_copied c.args.sought.now.periods)
+    c.args.on.now
     c.in-Refused.terms c.in-Refused.refusal c.in_ok-terms.field-0 c.args.out.now.items c.put_refused.new.out.items
     c.in-Refused.is (c.in_ok-terms.ensures.is m at) (c.in_ok-terms.ensures.nowhere m at)
     c.in_ok-put_refused-in-Refused.ensures

@@ -32,9 +32,11 @@ loop-at-preserved g c = λ m at.
       | then-offers w ↦ or_then c.loop-at.offers c.in_ok-here.here c.if-offers.offers w.if-offers.true w.offers-is
       | else-offers w ↦ or_else c.loop-at.offers c.in_ok-here.here c.if-offers.offers w.if-offers.false w.offers-is
     ] in
-    subst (λ (b : Bool). AddsPlaces m c.args.core.now.journal.ticks c.args.sought.now.need (option_copied c.args.sought.now.periods)
+    subst (λ (b : Bool). AddsPlaces m c.args.core.now.journal.ticks c.args.sought.now.need
+    (option_copied c.args.sought.now.periods)
     (c.loop-at.at + 1) b c.args.out.now.items c.put_place.new.out.items) same
-    (one_place m c.args.core.now.journal.ticks c.args.sought.now.need (option_copied c.args.sought.now.periods) c.loop-at.at
+    (one_place m c.args.core.now.journal.ticks c.args.sought.now.need (option_copied c.args.sought.now.periods)
+    c.loop-at.at
     c.sched.result c.name-on.result c.loop-at.offers c.in_ok-here.here c.args.out.now.items c.loop-at.out.items
     c.put_place.new.out.items (c.sched.ensures m.hierarchy tree) (c.name-on.ensures m.hierarchy tree)
     (c.loop-at.invariant m at) (c.in_ok-here.ensures m at))
@@ -44,6 +46,7 @@ returns g c = λ m at.
     let tree = moment_tree _ c.args.core.now c.tree-tree.result.now c.tree-tree.ensures m at in
     let count = c.scheds-at-end.ensures m.hierarchy tree in
     let past = c.loop-at-test.false in
-    every_place m c.args.core.now.journal.ticks c.args.sought.now.need (option_copied c.args.sought.now.periods) c.loop-at.at
+    every_place m c.args.core.now.journal.ticks c.args.sought.now.need (option_copied c.args.sought.now.periods)
+    c.loop-at.at
     c.loop-at.offers c.args.out.now.items c.loop-at.out.items (omega (arith, count, past))
     (c.loop-at.invariant m at)

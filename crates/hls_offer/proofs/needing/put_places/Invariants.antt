@@ -7,4 +7,5 @@ use Rattle.hls_offer.proofs.needing.put_places.Given as goal
 abbrev pub invariant-loop-at : goal.invariant-loop-at
 invariant-loop-at g l =
     (m : Moment) → IsMomentOf (λ z. (goal.Scheduler-dyn g z).seen z.1) l.core m
-    → AddsPlaces m l.core.journal.ticks l.sought.need (option_copied l.sought.periods) l.at l.offers l.fn.out.items l.out.items
+    → AddsPlaces m l.core.journal.ticks l.sought.need (option_copied l.sought.periods) l.at l.offers l.fn.out.items
+    l.out.items

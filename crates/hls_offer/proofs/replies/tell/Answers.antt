@@ -5,7 +5,8 @@ use Rattle.hls_offer.proofs.replies.tell.Goals as goal
 pub returns : goal.returns
 returns g c =
     told_all _ c.carry_to.new.core c.args.point.scenario c.given_depth.result (boxes_in c.args.kit)
-    (c.in_ok-carry_to.ensures.is _ _ _ c.in_ok-core.ensures.is) c.args.asked.now c.args.point.tick c.given_depth.ensures.is
+    (c.in_ok-carry_to.ensures.is _ _ _ c.in_ok-core.ensures.is) c.args.asked.now c.args.point.tick
+    c.given_depth.ensures.is
     c.in_ok-carry_to.ensures.now c.in_ok-carry_to.ensures.none c.in_ok-offers.offers c.status_of-status.result
     c.new-bytes.result.items c.put_head.new.out.items c.put_told.new.out.items c.put_end.new.out.items
     c.new-bytes.ensures.items (rw (← c.depth.ensures) c.in_ok-put_head.ensures) c.in_ok-offers.ensures

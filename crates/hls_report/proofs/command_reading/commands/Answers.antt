@@ -12,6 +12,7 @@ loop-answered-preserved c =
     let left = c.loop-answered.left in
     subst (λ ps. CommandsRead c.args.version c.args.horizon ps c.in-Some.one.tick (left - 1) c.args.lines.now
     c.next_command.new.lines) (sym c.in_ok-keep_answered.ensures)
-    (one_more_command c.args.version c.args.horizon c.loop-answered.last left c.loop-answered.answered.items c.in-Some.one
+    (one_more_command c.args.version c.args.horizon c.loop-answered.last left c.loop-answered.answered.items
+    c.in-Some.one
     c.args.lines.now c.loop-answered.lines c.next_command.new.lines c.loop-answered.invariant
     (rw c.in-Some.is at c.in_ok-one.ensures.ok))

@@ -12,7 +12,8 @@ use Rattle.hls_report.proofs.command_reading.next_item.Goals as goal
 pub returns-in_default-clause-err : goal.returns-in_default-clause-err
 returns-in_default-clause-err c =
     let some = some_command c.args.version c.args.horizon c.args.last c.args.left in
-    fail_end (CommandRest c.args.version c.args.horizon c.args.last c.args.left) c.args.lines.now some.0 c.fault.result some.1
+    fail_end (CommandRest c.args.version c.args.horizon c.args.last c.args.left) c.args.lines.now some.0
+    c.fault.result some.1
     c.in_default.ensures.line (c.fault.ensures ∙ ap faults.At c.next.ensures.count)
     (no_last_command c.args.version c.args.horizon c.args.last c.args.left)
 

@@ -11,7 +11,8 @@ use Rattle.hls_report.proofs.reader.depth.Goals as goal
 
 pub returns-in_default-clause-err : goal.returns-in_default-clause-err
 returns-in_default-clause-err c =
-    fail_end (DepthRest c.args.version c.args.horizon) c.args.lines.now (some_depth c.args.version c.args.horizon).0 c.fault.result
+    fail_end (DepthRest c.args.version c.args.horizon) c.args.lines.now (some_depth c.args.version c.args.horizon).0
+    c.fault.result
     (some_depth c.args.version c.args.horizon).1 c.in_default.ensures.line
     (c.fault.ensures ∙ ap faults.At c.next.ensures.count) (no_last_depth c.args.version c.args.horizon)
 
@@ -21,7 +22,8 @@ returns-in-Some-depth_of-clause-ok c =
     let found = c.in-Some-depth_of.ensures.found in
     let d = some_command c.args.version c.args.horizon 0 65536 in (
       found.0,
-      pass_line (DepthRest c.args.version c.args.horizon) (CommandRest c.args.version c.args.horizon 0 65536) (depth_line n)
+      pass_line (DepthRest c.args.version c.args.horizon) (CommandRest c.args.version c.args.horizon 0 65536)
+          (depth_line n)
           c.args.lines.now c.next.new.self d.0
           (subst IsOneLine found.1 c.in-Some.ensures.line.0)
           (c.in-Some.ensures.line.1 ∙ ap (λ t. t ++ (10 ∷ c.next.new.self.rest.now)) found.1)
@@ -33,7 +35,8 @@ pub returns-in-None-clause-err : goal.returns-in-None-clause-err
 returns-in-None-clause-err c =
     fail_line (DepthRest c.args.version c.args.horizon) c.in-Some.line.now c.next.new.self.rest.now c.args.lines.now
     (some_depth c.args.version c.args.horizon).0
-    c.fault-in-None.result (some_depth c.args.version c.args.horizon).1 c.in-Some.ensures.line.0 c.in-Some.ensures.line.1
+    c.fault-in-None.result (some_depth c.args.version c.args.horizon).1 c.in-Some.ensures.line.0
+    c.in-Some.ensures.line.1
     (λ ls r. no_depth c.args.version c.args.horizon c.in-Some.line.now ls
     (λ n is e. none_some n (c.in-None.ensures.exact n is e)) r)
     (c.fault-in-None.ensures ∙ ap faults.At c.next.ensures.count)

@@ -55,7 +55,8 @@ loop-found-preserved c =
           let other : is_of name stay ≡ false = sym c.eq.ensures ∙ w.if-eq.false in
           let put : c.if-eq.named.items ≡ c.loop-found.named.items = ap (λ v. v.items) w.named-is in
           record {
-            named = put ∙ c.loop-found.invariant.named ∙ sym (stays_more name all i stay false there other ∙ append-nil _);
+            named = put ∙ c.loop-found.invariant.named
+                ∙ sym (stays_more name all i stay false there other ∙ append-nil _);
             valid = subst (All (λ (s : Stay). IsValid s.kept)) (sym put) c.loop-found.invariant.valid;
           }
     ]

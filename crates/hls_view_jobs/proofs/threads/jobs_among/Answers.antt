@@ -24,7 +24,8 @@ loop-at-preserved c =
           subst (λ (n : Text). AreJobs content n (releases (life_by r.answered one).words) more)
           (bytes_same one.name name named) w.in_ok-more.ensures.jobs in
           let put : c.if-eq.jobs.items ≡ c.loop-at.jobs.items ++ more = ap (λ v. v.items) w.jobs-is
-          ∙ w.in_ok-extend_from_slice.ensures.items ∙ ap (λ (l : List Job). c.loop-at.jobs.items ++ l) w.deref.ensures.value
+          ∙ w.in_ok-extend_from_slice.ensures.items
+          ∙ ap (λ (l : List Job). c.loop-at.jobs.items ++ l) w.deref.ensures.value
           in
           record {
             sources = subst (AreSources r) (sym w.sources-is) w.in_ok-more.ensures.sources;

@@ -22,7 +22,8 @@ job_of-requires-clause-sound c =
     let items = c.in_ok-releases.releases.items in
     subst (IsRelease horizon) (sym c.index-in-loop-at.ensures)
     (subst (All (IsRelease horizon)) (sym c.in_ok-releases.ensures)
-    (releases_sound horizon 0 c.args.words.now c.requires.words) c.loop-at.at c.index-in-loop-at.result.now (omega (arith, c.len-at-end.ensures, c.in_ok-releases.releases.ok.0, c.loop-at-test.true)))
+    (releases_sound horizon 0 c.args.words.now c.requires.words) c.loop-at.at c.index-in-loop-at.result.now
+    (omega (arith, c.len-at-end.ensures, c.in_ok-releases.releases.ok.0, c.loop-at-test.true)))
 
 pub job_of-requires-clause-served : goal.job_of-requires-clause-served
 job_of-requires-clause-served c =
@@ -36,7 +37,8 @@ job_of-requires-clause-served c =
 pub loop-at-preserved : goal.loop-at-preserved
 loop-at-preserved c =
     jobs_next (content_of c.args.report.now) c.args.name.now c.in_ok-releases.releases.items c.loop-at.at
-    c.index-in-loop-at.result.now c.job_of.result c.loop-at.jobs.items c.push.new.self.items (omega (arith, c.len-at-end.ensures, c.in_ok-releases.releases.ok.0, c.loop-at-test.true))
+    c.index-in-loop-at.result.now c.job_of.result c.loop-at.jobs.items c.push.new.self.items
+    (omega (arith, c.len-at-end.ensures, c.in_ok-releases.releases.ok.0, c.loop-at-test.true))
     c.index-in-loop-at.ensures c.job_of.ensures c.in_ok-push.ensures.items c.loop-at.invariant
 
 pub returns-clause-jobs : goal.returns-clause-jobs

@@ -25,7 +25,8 @@ loop-at-preserved c = elim c.if-has_roused.branch [
       let sort : w.sort_of-sort.result ≡ sort_of a.command = w.sort_of-sort.ensures in
       let more : is_end (sort_of a.command) ≡ false =
       sym (ap is_end sort) ∙ sym w.is_end.ensures ∙ w.if-is_end.false in
-      let put : c.if-has_roused.words.items ≡ c.loop-at.words.items ++ (record { tick = a.tick; sort = sort_of a.command } ∷ []) =
+      let put : c.if-has_roused.words.items ≡ c.loop-at.words.items
+      ++ (record { tick = a.tick; sort = sort_of a.command } ∷ []) =
       ap (λ v. v.items) w.words-is ∙ w.in_ok-push.ensures.items
       ∙ ap (λ (s : Sort). c.loop-at.words.items ++ (record { tick = a.tick; sort = s } ∷ [])) sort in
       c.loop-at.invariant ∙ words_more c.args.name.now c.args.answered.now c.loop-at.at a c.loop-at.words.items

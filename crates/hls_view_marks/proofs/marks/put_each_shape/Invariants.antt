@@ -4,4 +4,5 @@ use Rattle.hls_view_marks.proofs.marks.put_each_shape.Given as goal
 
 abbrev pub invariant-loop-column : goal.invariant-loop-column
 invariant-loop-column l = l.way.items ≡ l.fn.way.items
-    ++ flat_map (shape_text l.page l.shapes.back l.shapes.down l.shapes.shape.now) (take l.column-index l.shapes.columns.now)
+    ++ flat_map (shape_text l.page l.shapes.back l.shapes.down l.shapes.shape.now)
+    (take l.column-index l.shapes.columns.now)

@@ -41,7 +41,8 @@ loop-at-preserved c =
       }
       | else-scale-tick w ↦ record {
         gathering = subst (IsGathering r) (sym w.gathering-is) c.loop-at.invariant.gathering;
-        moments = subst (λ (g : Gathering). AreMomentsOf content scale (take (at + 1) all) g.moments.items) (sym w.gathering-is)
+        moments = subst (λ (g : Gathering). AreMomentsOf content scale (take (at + 1) all) g.moments.items)
+            (sym w.gathering-is)
             (elim w.else-scale-tick.branch [
               | else-scale-tick-via-then-scale-tick+else-tick-scale v ↦
                   let late = subst (λ n. scale.to < n) tick v.if-tick-scale.false in

@@ -12,7 +12,8 @@ loop-at-preserved c =
     let n = c.loop-at.at in
     let ready = slice_at Ready place ticks.from ticks.ready.now in
     let taken = slice_at Run place ticks.from ticks.taken.now in
-    add_next (λ at. ready at ++ taken at) n c.args.events.now.items c.loop-at.events.items c.put_slice-in-loop-at.new.events.items
+    add_next (λ at. ready at ++ taken at) n c.args.events.now.items c.loop-at.events.items
+    c.put_slice-in-loop-at.new.events.items
     (c.in_ok-put_slice-2.ensures
     ∙ ap (λ (l : List Event). l ++ taken n) c.in_ok-put_slice.ensures
     ∙ append_assoc c.loop-at.events.items (ready n) (taken n))

@@ -22,7 +22,8 @@ returns-clause-ready c =
     let items = known.ticks.items in
     let there = slice_get_read items (length items) c.in_ok-place.place c.index-ticks.result.now refl
     (known_within content known a.name c.in_ok-place.place c.in_ok-place.ensures.place) c.index-ticks.ensures in
-    let tells = known_ready content known a.name c.in_ok-place.place c.index-ticks.result.now c.in_ok-place.ensures.place
+    let tells = known_ready content known a.name c.in_ok-place.place c.index-ticks.result.now
+    c.in_ok-place.ensures.place
     there in
     let early = c.requires.within.early in
     let long = c.in_ok-ready.ensures.long in

@@ -25,7 +25,8 @@ loop-tick-preserved c =
     let readings = c.requires.readings.paths in
     let many = readings.long in
     let early : t < length paths = omega (arith, within, before, many) in
-    let first = λ (path : Option (List Text)). option_and_then (λ (names : List Text). position (spells names) ways) path
+    let first = λ (path : Option (List Text)). option_and_then (λ (names : List Text). position (spells names) ways)
+    path
     in
     let path = get_or_read paths t c.index.result.now early c.index.ensures None in
     let is : c.taken.result ≡ taken_at content ways t =
