@@ -83,7 +83,7 @@ pub end_misplaced : (tree : List Member) (name : Text) → not (is_thread tree n
 end_misplaced tree name = told (member_of tree name)
 
 pub wake_misplaced : (tree : List Member) (name : Text) (burst : Option ℕ)
-    → not (is_thread tree name) ≡ is_misplaced tree (Wake name burst)
+    → not (is_thread tree name) ≡ is_misplaced tree (Wake name every burst)
 wake_misplaced tree name burst = told (member_of tree name)
 
 pub block_misplaced : (tree : List Member) (name : Text) → not (is_thread tree name) ≡ is_misplaced tree (Block name)

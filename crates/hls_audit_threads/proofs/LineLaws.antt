@@ -97,8 +97,8 @@ lasts_so serves since t (Thread name perch) = refl
 lasts_so serves since t (End name) = refl
 lasts_so serves since t (Unload name) = refl
 lasts_so serves since t (Move name perch) = refl
-lasts_so serves since t (Wake name None) = refl
-lasts_so serves since t (Wake name (Some ticks)) = refl
+lasts_so serves since t (Wake name every None) = refl
+lasts_so serves since t (Wake name every (Some ticks)) = refl
 lasts_so serves since t (Block name) = refl
 
 -- in which ticks it is ready, by the ticks in which it is served

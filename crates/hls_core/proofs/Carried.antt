@@ -101,12 +101,12 @@ module _ {V : Type 0} {P : V → Type 0} (seen : (x : V) × P x → Seen) where
       → IsFlagged old new id name true → left_in later id ≡ burst
       → ((k : ℕ) → k ≢ id → left_in later k ≡ left_in bursts k) → (answer : Answer) → answer ≡ Done []
       → (m : Moment) (commands : ℕ) → IsAt seen old bursts m.hierarchy
-      → CarriesOut seen old new later m commands (said.Wake name burst) answer
+      → CarriesOut seen old new later m commands (said.Wake name every burst) answer
   woken old new bursts later id name burst some flagged left rest answer done m commands is =
       let found = flagged.found m.hierarchy is.tree in
-      subst (CarriesOut seen old new later m commands (said.Wake name burst)) (sym done) (record {
+      subst (CarriesOut seen old new later m commands (said.Wake name every burst)) (sym done) (record {
         out = record {
-          answers = flagged.done m (said.Wake name burst) is.tree (reached_listed m.hierarchy is.reached) refl;
+          answers = flagged.done m (said.Wake name every burst) is.tree (reached_listed m.hierarchy is.reached) refl;
           step = Rouse id burst;
           does = (found.0, refl);
           can = found.1;

@@ -91,14 +91,14 @@ module _ (h : Hierarchy) (k : ℕ) (node : Option Node) (below : ℕ → Bool)
       early c t ticks since wake (inl asleep) = absurd (cc)
       early c t ticks since wake (inr from) = is.since c from.0 ticks since from.1 (from.2 ∙ wake)
 
-pub of_seats : (command : Command) → ((name : Text) (burst : Option ℕ) → command ≢ said.Wake name burst)
+pub of_seats : (command : Command) → ((name : Text) (burst : Option ℕ) → command ≢ said.Wake name every burst)
     → ((name : Text) → command ≢ said.Block name) → IsOfSeats command
 of_seats (said.Load name config perches) no_wake no_block = tt
 of_seats (said.Thread name perch) no_wake no_block = tt
 of_seats (said.End name) no_wake no_block = tt
 of_seats (said.Unload name) no_wake no_block = tt
 of_seats (said.Move name perch) no_wake no_block = tt
-of_seats (said.Wake name burst) no_wake no_block = absurd (no_wake name burst refl)
+of_seats (said.Wake name every burst) no_wake no_block = absurd (no_wake name burst refl)
 of_seats (said.Block name) no_wake no_block = absurd (no_block name refl)
 
 abbrev Reseats : Step → Type 0
@@ -118,7 +118,7 @@ does_reseat h (said.Unload name) (Unload k) of does = tt
 does_reseat h (said.Unload name) _ of does = absurd does
 does_reseat h (said.Move name perch) (Move k seat below) of does = tt
 does_reseat h (said.Move name perch) _ of does = absurd does
-does_reseat h (said.Wake name burst) step of does = absurd of
+does_reseat h (said.Wake name every burst) step of does = absurd of
 does_reseat h (said.Block name) step of does = absurd of
 
 answers_reseat : (h : Hierarchy) (command : Command) (answer : Answer) (step : Step) → IsOfSeats command

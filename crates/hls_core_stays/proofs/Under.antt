@@ -55,7 +55,7 @@ pub under_all : (h : Hierarchy) (below : ℕ → Bool) (at : ℕ) (kept : List �
 under_all h below at kept le are = are ∙ ap (filter below) (take_all h.threads at le)
 
 pub roused_wake : (h : Hierarchy) (command : Command) (name : Text) (burst : Option ℕ) (turnover : Turnover)
-    → command ≡ said.Wake name burst → IsRoused h name turnover → IsTurnover h command turnover
+    → command ≡ said.Wake name every burst → IsRoused h name turnover → IsTurnover h command turnover
 roused_wake h command name burst turnover is of = subst (λ k. IsTurnover h k turnover) (sym is) of
 
 pub roused_block : (h : Hierarchy) (command : Command) (name : Text) (turnover : Turnover)

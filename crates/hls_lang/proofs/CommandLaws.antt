@@ -423,11 +423,11 @@ burst_next (Some ticks) (t ∷ ts) is a =
     (number_next 1 100000 ts ticks [] (lit< tt) is.0 is.1 a.1) refl)
 
 wake_next : (name : Text) (burst : Option ℕ) (ts : List Text) → IsName name → IsBurst burst
-    → Front (the name ∷ burst_forms burst) ts [] → wake_at ts ≡ Ok (Wake name burst)
+    → Front (the name ∷ burst_forms burst) ts [] → wake_at ts ≡ Ok (Wake name every burst)
 unfolding wake_at
 wake_next name burst ts named is a =
     let n = front_split (the name ∷ []) (burst_forms burst) ts [] a in
-    bind_again (name_at ts) (λ m. burst_at m.1 >>= λ b. Ok (Wake m.0 b)) (name, n.0) (Wake name burst)
+    bind_again (name_at ts) (λ m. burst_at m.1 >>= λ b. Ok (Wake m.0 b)) (name, n.0) (Wake name every burst)
     (name_next ts name n.0 named n.1)
     (ap (λ r. r >>= λ b. Ok (Wake name b)) (burst_next burst n.0 is n.2))
 
@@ -453,8 +453,8 @@ command_next version (Unload name) (l ∷ ts) is a =
 command_next version (Block name) [] is a = absurd a
 command_next version (Block name) (l ∷ ts) is a =
     ap (λ w. command_by version w ts) a.0 ∙ ap (λ r. r >>= λ n. Ok (Block n)) (last_name_next name ts is a.1)
-command_next version (Wake name burst) [] is a = absurd a
-command_next version (Wake name burst) (l ∷ ts) is a =
+command_next version (Wake name every burst) [] is a = absurd a
+command_next version (Wake name every burst) (l ∷ ts) is a =
     ap (λ w. command_by version w ts) a.0 ∙ wake_next name burst ts is.0 is.1 a.1
 
 -- ---- items

@@ -125,13 +125,13 @@ module _ (m : Moment) (is_reached : IsReached m.hierarchy) where
       by (Admitted t) f =
           record { step = Block f.number; does = f.has; can = record { thread = t; there = f.there } }
 
-  pub wakes : (name : Text) (burst : Option ℕ) → ((r : Refusal) → ¬ Applies m (said.Wake name burst) r)
-      → MayDo h (said.Wake name burst)
+  pub wakes : (name : Text) (burst : Option ℕ) → ((r : Refusal) → ¬ Applies m (said.Wake name every burst) r)
+      → MayDo h (said.Wake name every burst)
   wakes name burst none =
-      by (whom (said.Wake name burst) none name refl).0 (whom (said.Wake name burst) none name refl).1
+      by (whom (said.Wake name every burst) none name refl).0 (whom (said.Wake name every burst) none name refl).1
     where
-      by : (node : Node) → IsFound h name node → MayDo h (said.Wake name burst)
-      by (Loaded s) f = absurd (no_command m (said.Wake name burst) none (refusals.WrongSort (Some name))
+      by : (node : Node) → IsFound h name node → MayDo h (said.Wake name every burst)
+      by (Loaded s) f = absurd (no_command m (said.Wake name every burst) none (refusals.WrongSort (Some name))
           (record { old = refl; wrong = record { scheduler = s; there = found_is name (Loaded s) f } }))
       by (Admitted t) f = record {
         step = Rouse f.number burst;

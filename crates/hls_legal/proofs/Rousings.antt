@@ -100,7 +100,7 @@ name_in (Thread name perch) = name
 name_in (End name) = name
 name_in (Unload name) = name
 name_in (Move name perch) = name
-name_in (Wake name burst) = name
+name_in (Wake name every burst) = name
 name_in (Block name) = name
 
 pub names_differ : (name other : Text) → other ≢ name → bytes_eq other name ≡ false
@@ -117,7 +117,7 @@ rouses_other name (Thread other perch) ne = names_differ name other ne
 rouses_other name (End other) ne = names_differ name other ne
 rouses_other name (Unload other) ne = refl
 rouses_other name (Move other perch) ne = refl
-rouses_other name (Wake other burst) ne = names_differ name other ne
+rouses_other name (Wake other every burst) ne = names_differ name other ne
 rouses_other name (Block other) ne = names_differ name other ne
 
 and_false : (a b : Bool) → b ≡ false → (a && b) ≡ false
@@ -134,8 +134,8 @@ not_meant name a ne = missed (rouses name) a (rouses_other name a.command ne)
 
 -- what stands of wakes and blocks after such a command
 abbrev wake_in : (tick : ℕ) → Command → legal.Wake
-wake_in tick (Wake name None) = legal.Awake
-wake_in tick (Wake name (Some ticks)) = legal.Awake_for ticks tick
+wake_in tick (Wake name every None) = legal.Awake
+wake_in tick (Wake name every (Some ticks)) = legal.Awake_for ticks tick
 wake_in tick _ = legal.Asleep
 
 abbrev pub wake_from : Option Answered → legal.Wake
@@ -156,8 +156,8 @@ lasts_same serves other now tick (Thread name perch) same = refl
 lasts_same serves other now tick (End name) same = refl
 lasts_same serves other now tick (Unload name) same = refl
 lasts_same serves other now tick (Move name perch) same = refl
-lasts_same serves other now tick (Wake name None) same = refl
-lasts_same serves other now tick (Wake name (Some ticks)) same =
+lasts_same serves other now tick (Wake name every None) same = refl
+lasts_same serves other now tick (Wake name every (Some ticks)) same =
     ap (λ n. nat_lt n ticks)
     (count-agree serves other tick (now - tick) (λ t lo hi. same t lo (omega arith)))
 lasts_same serves other now tick (Block name) same = refl

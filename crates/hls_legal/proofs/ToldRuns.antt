@@ -222,7 +222,7 @@ module _ (c : Content) (h : Hierarchy) (asking : ℕ → Bool) (masks : ℕ → 
 
 woken_by : (ticks burst : Option ℕ) (now tick : ℕ) (name : Text) → ticks ≡ burst → tick ≡ now
     → wake_by ticks now
-    ≡ wake_from (Some (record { tick = tick; command = said.Wake name burst; answer = Done [] }))
+    ≡ wake_from (Some (record { tick = tick; command = said.Wake name every burst; answer = Done [] }))
 woken_by ticks None now tick name e at = ap (λ (b : Option ℕ). wake_by b now) e
 woken_by ticks (Some n) now tick name e at = ap (λ (b : Option ℕ). wake_by b now) e
     ∙ ap (λ (t : ℕ). Awake_for n t) (sym at)
@@ -279,8 +279,8 @@ step_told c h before tick (said.Move name perch) (Done by) (Move k seat below) c
     (each_effect c h k node below a (old_name h unique k name does.0)
     (λ n is named. Leaves (record { is = sym moved.sort ∙ is; named = sym moved.name ∙ named }) moved.wake
     refl))
-step_told c h before tick (said.Wake name burst) (Done by) (Rouse k ticks) can does at unique told =
-    let a : Answered = record { tick = tick; command = said.Wake name burst; answer = Done by } in
+step_told c h before tick (said.Wake name every burst) (Done by) (Rouse k ticks) can does at unique told =
+    let a : Answered = record { tick = tick; command = said.Wake name every burst; answer = Done by } in
     told_wake c h k (wake_by ticks h.now) before a at told
     (each_wake c h k (wake_by ticks h.now) a unique does.0 (ap is_thread can.there)
     (names_same name name refl)

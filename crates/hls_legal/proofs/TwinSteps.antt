@@ -204,7 +204,7 @@ step-twin r h g twin go mine listed (said.Move name perch) (Move k seat below) (
     served-reseated h g k c seat None served = tt
     served-reseated h g k c seat (Some (Loaded s)) served = tt
     served-reseated h g k c seat (Some (Admitted x)) served = served
-step-twin r h g twin go mine listed (said.Wake name burst) (Rouse k ticks) (Rouse d more) does doing can could =
+step-twin r h g twin go mine listed (said.Wake name every burst) (Rouse k ticks) (Rouse d more) does doing can could =
     record {
       renaming = r;
       twin = subst (λ n. Twin r (after h (Rouse k ticks)) (after g (Rouse n more)))
@@ -223,6 +223,6 @@ step-twin r h g twin go mine listed (said.Thread name perch) (Admit k new seat) 
 step-twin r h g twin go mine listed (said.End name) (End k) _ does doing can could = absurd doing
 step-twin r h g twin go mine listed (said.Unload name) (Unload k) _ does doing can could = absurd doing
 step-twin r h g twin go mine listed (said.Move name perch) (Move k seat below) _ does doing can could = absurd doing
-step-twin r h g twin go mine listed (said.Wake name burst) (Rouse k ticks) _ does doing can could = absurd doing
+step-twin r h g twin go mine listed (said.Wake name every burst) (Rouse k ticks) _ does doing can could = absurd doing
 step-twin r h g twin go mine listed (said.Block name) (Block k) _ does doing can could = absurd doing
 step-twin r h g twin go mine listed _ _ other does doing can could = absurd does

@@ -101,8 +101,8 @@ lasts_for serves since t ticks (Thread name perch) e = absurd (cc)
 lasts_for serves since t ticks (End name) e = absurd (cc)
 lasts_for serves since t ticks (Unload name) e = absurd (cc)
 lasts_for serves since t ticks (Move name perch) e = absurd (cc)
-lasts_for serves since t ticks (Wake name None) e = absurd (cc)
-lasts_for serves since t ticks (Wake name (Some n)) e =
+lasts_for serves since t ticks (Wake name every None) e = absurd (cc)
+lasts_for serves since t ticks (Wake name every (Some n)) e =
     let same : n ≡ ticks = cc in ap (nat_lt (count serves since (t - since))) same
 lasts_for serves since t ticks (Block name) e = absurd (cc)
 

@@ -61,7 +61,7 @@ pub record IsReservedStay (c : Content) (stay : Stay) (r : Reservation) : Type 0
 
 -- for how many ticks a wake is, where it says so
 abbrev pub burst_in : Command → Option ℕ
-burst_in (Wake name burst) = burst
+burst_in (Wake name every burst) = burst
 burst_in _ = None
 
 -- A command of a tick wakes the thread of a name for so many ticks, and is the last word on it in that tick.

@@ -44,7 +44,7 @@ ends h name = record {
   no_move = λ other perch e. cc;
 }
 
-pub wakes : (h : Hierarchy) (name : Text) (burst : Option ℕ) → IsPlain h (said.Wake name burst) name
+pub wakes : (h : Hierarchy) (name : Text) (burst : Option ℕ) → IsPlain h (said.Wake name every burst) name
 wakes h name burst = record {
   old = refl;
   new = refl;

@@ -26,5 +26,5 @@ of_either version (said.Thread name perch) is = is
 of_either version (said.End name) is = is
 of_either version (said.Unload name) is = is
 of_either version (said.Move name perch) is = is
-of_either version (said.Wake name burst) is = is
+of_either version (said.Wake name every burst) is = is
 of_either version (said.Block name) is = is

@@ -190,7 +190,7 @@ command_printable version (Move name perch) is = (
   word (codes "move") refl,
   (name_word name is.0, (word (codes "to") refl, perch_printable perch is.1)),
 )
-command_printable version (Wake name burst) is =
+command_printable version (Wake name every burst) is =
     (word (codes "wake") refl, (name_word name is.0, burst_printable burst is.1))
 command_printable version (Block name) is = (word (codes "block") refl, (name_word name is, tt))
 

@@ -100,7 +100,7 @@ admits_rouses name (Thread other perch) is =
 admits_rouses name (End other) is = absurd cc
 admits_rouses name (Unload other) is = absurd cc
 admits_rouses name (Move other perch) is = absurd cc
-admits_rouses name (Wake other burst) is = absurd cc
+admits_rouses name (Wake other every burst) is = absurd cc
 admits_rouses name (Block other) is = absurd cc
 
 record Admits (name : Text) (a : Answered) : Type 0 where

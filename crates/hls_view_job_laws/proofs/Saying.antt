@@ -92,8 +92,8 @@ lasts_by serves since t (Thread name perch) = refl
 lasts_by serves since t (End name) = refl
 lasts_by serves since t (Unload name) = refl
 lasts_by serves since t (Move name perch) = refl
-lasts_by serves since t (Wake name None) = refl
-lasts_by serves since t (Wake name (Some ticks)) = refl
+lasts_by serves since t (Wake name every None) = refl
+lasts_by serves since t (Wake name every (Some ticks)) = refl
 lasts_by serves since t (Block name) = refl
 
 -- up to the next word a thread is ready by this one

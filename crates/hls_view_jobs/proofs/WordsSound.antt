@@ -25,7 +25,7 @@ burst_of version (Thread name perch) is = tt
 burst_of version (End name) is = tt
 burst_of version (Unload name) is = tt
 burst_of version (Move name perch) is = tt
-burst_of version (Wake name burst) is = is.1
+burst_of version (Wake name every burst) is = is.1
 burst_of version (Block name) is = tt
 
 pub words_since : (horizon last later : ℕ) (words : List Word) → last ≤ later → AreWords horizon later words

@@ -11,7 +11,7 @@ use Rattle.hls_view_jobs.specs.declared.job.Word.{Word}
 
 -- what a command says of the thread that it rouses; a further admission, which no tale has, ends it as well
 abbrev pub sort_of : Command → Sort
-sort_of (Wake name burst) = Wakes burst
+sort_of (Wake name every burst) = Wakes burst
 sort_of (Block name) = Blocks
 sort_of _ = Ends
 

@@ -92,7 +92,7 @@ heard_on all t came a names order lt is late heard name some =
 -- ---- whatever happens may happen
 
 wakes_rouse : (name : Text) (command : Command) → told.wakes name command ≡ true → rouses name command ≡ true
-wakes_rouse name (Wake other burst) on = on
+wakes_rouse name (Wake other every burst) on = on
 wakes_rouse name command on = absurd (let no : false ≡ true = on in cc)
 
 woken_rouses : (t : ℕ) (name : Text) (a : Answered) → told.has_woken t name a ≡ true → rouses_in t name a ≡ true

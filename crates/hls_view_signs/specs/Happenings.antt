@@ -34,7 +34,7 @@ is_of t (Some a) = a.tick == t
 -- ---- wakes
 
 abbrev pub wakes : (name : Text) → Command → Bool
-wakes name (Wake other burst) = bytes_eq other name
+wakes name (Wake other every burst) = bytes_eq other name
 wakes name _ = false
 
 -- the thread of a name is woken in a tick

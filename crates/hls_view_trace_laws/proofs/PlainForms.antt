@@ -155,7 +155,7 @@ plain_command_forms version (Thread name perch) is = (refl, (plain_name name is.
 plain_command_forms version (End name) is = (refl, (plain_name name is, tt))
 plain_command_forms version (Unload name) is = (refl, (plain_name name is, tt))
 plain_command_forms version (Move name perch) is = (refl, (plain_name name is.0, (refl, plain_perch perch is.1)))
-plain_command_forms version (Wake name burst) is = (refl, (plain_name name is.0, plain_burst burst))
+plain_command_forms version (Wake name every burst) is = (refl, (plain_name name is.0, plain_burst burst))
 plain_command_forms version (Block name) is = (refl, (plain_name name is, tt))
 
 pub plain_command : (version : ℕ) (command : Command) → IsCommand version command

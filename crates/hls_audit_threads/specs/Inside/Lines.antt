@@ -15,8 +15,8 @@ serves name path = is_name name (option_and_then last_name path)
 
 -- what a command leaves of the thread that it rouses
 abbrev pub readiness_of : Command → Readiness
-readiness_of (Wake name None) = Awake
-readiness_of (Wake name (Some ticks)) = Burst ticks
+readiness_of (Wake name every None) = Awake
+readiness_of (Wake name every (Some ticks)) = Burst ticks
 readiness_of _ = Asleep
 
 -- it is ready once it was served so many ticks since

@@ -23,7 +23,7 @@ use Rattle.hls_core.specs.declared.bursts.Bursts.{Bursts}
 
 -- a command of seats: no wake and no block
 abbrev pub IsOfSeats : Command → Type 0
-IsOfSeats (Wake name burst) = ⊥
+IsOfSeats (Wake name every burst) = ⊥
 IsOfSeats (Block name) = ⊥
 IsOfSeats _ = Unit {0}
 

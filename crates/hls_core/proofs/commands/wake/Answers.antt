@@ -7,7 +7,7 @@ use Rattle.hls_core.proofs.commands.wake.Goals as goal
 pub follow-requires-clause-may : goal.follow-requires-clause-may
 follow-requires-clause-may g c =
     may_rouse _ c.args.tree.now c.set_ready.new.self c.args.bursts.now c.set.new.self c.args.stays.now c.in-Ok.id
-    (Wake c.args.name.now c.args.burst) c.requires.stands (λ h tree. (c.in-Ok.ensures.found h tree).0)
+    (Wake c.args.name.now c.args.every c.args.burst) c.requires.stands (λ h tree. (c.in-Ok.ensures.found h tree).0)
     (woken _ c.args.tree.now c.set_ready.new.self c.args.bursts.now c.set.new.self c.in-Ok.id c.args.name.now
     c.args.burst c.requires.command.1 (record {
       found = c.in-Ok.ensures.found;
@@ -31,21 +31,21 @@ returns-in_ok-set-in-Ok-clause-carried g c =
 pub returns-in_ok-set-in-Ok-clause-stays : goal.returns-in_ok-set-in-Ok-clause-stays
 returns-in_ok-set-in-Ok-clause-stays g c =
     roused_stays _ c.args.tree.now c.set_ready.new.self c.args.bursts.now c.args.stays.now c.follow.new.self c.in-Ok.id
-    (Wake c.args.name.now c.args.burst) c.done.result (λ h tree. (c.in-Ok.ensures.found h tree).0) c.follow.ensures
+    (Wake c.args.name.now c.args.every c.args.burst) c.done.result (λ h tree. (c.in-Ok.ensures.found h tree).0) c.follow.ensures
     c.done.ensures
 
 pub returns-in_ok-set-in-Ok-clause-formed : goal.returns-in_ok-set-in-Ok-clause-formed
 returns-in_ok-set-in-Ok-clause-formed g c =
-    formed_none (Wake c.args.name.now c.args.burst) c.done.result c.done.ensures
+    formed_none (Wake c.args.name.now c.args.every c.args.burst) c.done.result c.done.ensures
 
 pub returns-in-Err-clause-carried : goal.returns-in-Err-clause-carried
 returns-in-Err-clause-carried g c =
-    refused _ c.args.tree.now c.args.bursts.now (Wake c.args.name.now c.args.burst) c.args.name.now c.in-Err.refusal
+    refused _ c.args.tree.now c.args.bursts.now (Wake c.args.name.now c.args.every c.args.burst) c.args.name.now c.in-Err.refusal
     refl c.in-Err.ensures.refused
 
 pub returns-in-Err-clause-stays : goal.returns-in-Err-clause-stays
 returns-in-Err-clause-stays g c =
-    refused_stays _ c.args.tree.now c.args.bursts.now c.args.stays.now (Wake c.args.name.now c.args.burst)
+    refused_stays _ c.args.tree.now c.args.bursts.now c.args.stays.now (Wake c.args.name.now c.args.every c.args.burst)
     c.in-Err.refusal
 
 pub returns-in_err-set-in-Ok-clause-unchanged : goal.returns-in_err-set-in-Ok-clause-unchanged
