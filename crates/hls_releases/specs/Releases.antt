@@ -1,6 +1,10 @@
 -- The releases of a wake: the wake itself, and, of a periodic one, one in every so many ticks after it.
-use Rattle.std.specs.Prelude.{ℕ, ◌+◌, ◌-◌, ◌%◌, Option, Some, None, Bool, nat_lt}
+use Rattle.std.specs.Prelude.{◌≡◌, ℕ, ◌+◌, ◌-◌, ◌≤◌, ◌%◌, Option, Some, None, Bool, nat_lt}
 use Rattle.hls_chron.specs.Ticks.{count}
+
+-- tick t has a release of a wake in tick `since` with one in every so many ticks
+abbrev pub IsRelease : (period since t : ℕ) → Type 0
+IsRelease period since t = (since ≤ t) × ((t - since) % period ≡ 0)
 
 -- the last release up to tick t of a wake that came in tick `since`
 abbrev pub last_release : (every : Option ℕ) → (since t : ℕ) → ℕ

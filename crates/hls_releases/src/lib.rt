@@ -11,8 +11,7 @@ pub fn last_release(every: Option<u32>, since: u32, tick: u32) -> u32
     ensures { result ≡ releases.last_release every since tick }
 {
     match every {
-        None => since,
-        Some(0) => tick,
+        None | Some(0) => since,
         Some(period) => tick - (tick - since) % period,
     }
 }
