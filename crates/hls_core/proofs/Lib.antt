@@ -1,4 +1,6 @@
 pub mod Rooms
+pub mod Firsts
+pub mod Wakes
 pub mod Readiness
 pub mod Seats
 pub mod Carried
