@@ -1,10 +1,10 @@
 -- The first release of all.
 use Rattle.std.proofs.Common.{◌≡◌, ◌≢◌, ℕ, zero, suc, ◌<◌, ◌≤◌, ◌⊎◌, inl, inr, min, length, List, [], ◌∷◌, refl, sym, ap}
-use Rattle.std.proofs.Common.{◌∙◌, arith, get_or, slice_set, subst}
+use Rattle.std.proofs.Common.{◌∙◌, arith, get_or, slice_set, subst, false}
 use Rattle.std.specs.Prelude.{Option, Some, None}
-use Rattle.std.proofs.lemmas.Bool.{cases_lt, cases_eq}
+use Rattle.std.proofs.lemmas.Bool.{cases_lt, cases_eq, ne_eqb}
 use Rattle.std.proofs.lemmas.List.{get_or-set_same, get_or-set_other, get_or_default}
-use Rattle.hls_core.specs.Begun.{next_by, sooner, first_from, first_of}
+use Rattle.hls_core.specs.Begun.{next_by, sooner, first_from, first_of, is_due}
 use Rattle.hls_core.specs.declared.begun.Begun.{Begun}
 use Rattle.hls_core.specs.declared.begun.Release.{Release}
 
@@ -70,19 +70,19 @@ is_next_from : (first : Option ℕ) (begun : List (Option Begun)) (tick : ℕ) �
 is_next_from first [] tick e = inl e
 is_next_from first (x ∷ begun) tick e = elim (is_next_from (sooner first (next_by x)) begun tick e) [
   | inl here ↦ elim (sooner_is first (next_by x) tick here) [
-      | inl before ↦ inl before
-      | inr next ↦ inr (record { node = 0; release = next.0; next_is = next.1; tick_is = next.2 })
-    ]
+    | inl before ↦ inl before
+    | inr next ↦ inr (record { node = 0; release = next.0; next_is = next.1; tick_is = next.2 })
+  ]
   | inr later ↦ inr (record {
-      node = suc later.node;
-      release = later.release;
-      next_is = later.next_is;
-      tick_is = later.tick_is;
-    })
+    node = suc later.node;
+    release = later.release;
+    next_is = later.next_is;
+    tick_is = later.tick_is;
+  })
 ]
 
 pub is_next : (begun : List (Option Begun)) (tick : ℕ) → first_of begun ≡ Some tick → IsNext (next_at begun) tick
-is_next begun tick e = elim (is_next_from None begun tick e) [ | inl none ↦ absurd (cc) | inr next ↦ next ]
+is_next begun tick e = elim (is_next_from None begun tick e) [ inl none ↦ absurd (cc) | inr next ↦ next ]
 
 -- ---- bursts with the same next releases have the same first one
 
@@ -122,3 +122,31 @@ first_set begun key new lt next = first_same begun (slice_set begun key new) (λ
 pub next_read : (begun : List (Option Begun)) (key : ℕ) (read : Option Begun) → key < length begun
     → read ≡ get_or begun key read → next_by read ≡ next_at begun key
 next_read begun key read lt e = ap next_by (e ∙ get_or_default begun key read None lt)
+
+-- where the first release is no sooner than a tick, none is
+pub none_sooner : (begun : List (Option Begun)) (first : Option ℕ) (tick : ℕ) → first ≡ first_of begun
+    → ((at : ℕ) → first ≡ Some at → tick ≤ at) → (k : ℕ) (release : Release) → next_at begun k ≡ Some release
+    → tick ≤ release.tick
+none_sooner begun first tick is ahead k release e =
+    by first ahead (subst (λ o. NotAfter o release.tick) (sym is) (not_after begun k release e))
+  where
+    by : (o : Option ℕ) → ((at : ℕ) → o ≡ Some at → tick ≤ at) → NotAfter o release.tick → tick ≤ release.tick
+    by None ahead le = absurd le
+    by (Some at) ahead le = let lo = ahead at refl in omega (arith, lo, le)
+
+-- and where it is not in that tick, none is
+pub none_due : (begun : List (Option Begun)) (first : Option ℕ) (tick : ℕ) → first ≡ first_of begun
+    → ((at : ℕ) → first ≡ Some at → tick ≤ at) → first ≢ Some tick → (k : ℕ) → is_due tick (next_at begun k) ≡ false
+none_due begun first tick is ahead other k = by (next_at begun k) refl
+  where
+    late : (o : Option ℕ) (release : Release) → ((at : ℕ) → o ≡ Some at → tick ≤ at) → o ≢ Some tick
+        → NotAfter o release.tick → release.tick ≢ tick
+    late None release ahead other le same = le
+    late (Some at) release ahead other le same =
+        let lo = ahead at refl in other (ap (λ n. Some n) (omega (arith, lo, le, same)))
+
+    by : (o : Option Release) → next_at begun k ≡ o → is_due tick o ≡ false
+    by None e = refl
+    by (Some release) e =
+        ne_eqb release.tick tick (late first release ahead other
+        (subst (λ o. NotAfter o release.tick) (sym is) (not_after begun k release e)))

@@ -14,6 +14,7 @@ use Rattle.hls_scenario.specs.declared.scenario.Scenario.{Scenario}
 use Rattle.hls_report_text.specs.declared.report.Answer.{Answer}
 use Rattle.hls_report_text.specs.declared.report.Answered.{Answered}
 use Rattle.hls_report_text.specs.Content.{Content}
+use Rattle.hls_report_text.proofs.LineTexts.{horizon_fits}
 use Rattle.hls_report_text.proofs.NameLaws.{grown_any}
 use Rattle.hls_report_text.specs.WellFormed as formed
 use Rattle.hls_sched.specs.Seen.{Seen}

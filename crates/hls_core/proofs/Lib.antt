@@ -8,6 +8,7 @@ pub mod Paths
 pub mod Opened
 pub mod Items
 pub mod Going
+pub mod Rousing
 pub mod Elapsing
 pub mod Stretches
 pub mod Running

@@ -77,7 +77,13 @@ fn wake(
 }
 
 /// Makes a thread not ready, and ends the releases of its wake. Its stay is carried along.
-fn block(alloc: Global, tree: &mut Tree, bursts: &mut Bursts, stays: &mut Stays, name: &Name) -> Answer
+fn block(
+    alloc: Global,
+    tree: &mut Tree,
+    bursts: &mut Bursts,
+    stays: &mut Stays,
+    name: &Name,
+) -> Answer
     requires command { IsCommand 2 (Block name.now) }
     requires stands { Stands seen tree.old (MayCarry seen tree.old bursts.old stays.old) }
     ensures carried { (m : Moment) (commands : ℕ) → IsAt seen tree.old bursts.old m.hierarchy →

@@ -1,0 +1,1 @@
+use Rattle.hls_core.proofs.ticks.release.Goals as goal
