@@ -170,7 +170,8 @@ module _ {V : Type 0} {P : V → Type 0} (seen : (x : V) × P x → Seen) where
         (reached_listed m.hierarchy is.reached) of out.does out.can turns kept is.left;
   }
 
-  pub unmoved : (t : Tree V P) (bursts later : Bursts) (h : Hierarchy) → ((k : ℕ) → begun_in later k ≡ begun_in bursts k)
+  pub unmoved : (t : Tree V P) (bursts later : Bursts) (h : Hierarchy) → ((k : ℕ) → begun_in later k ≡ begun_in
+      bursts k)
       → IsAt seen t bursts h → IsAt seen t later h
   unmoved t bursts later h same is = record {
     tree = is.tree;

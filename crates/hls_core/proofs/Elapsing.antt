@@ -219,6 +219,14 @@ module _ {V : Type 0} {P : V → Type 0} (seen : (x : V) × P x → Seen) (choic
     is = known_may t bursts known stays j most same x.h x.is;
   }
 
+  pub ticks_fit : (t : Tree V P) (bursts : Bursts) (stays : Stays) (j : Journal) (most n now : ℕ) → n ≤ most
+      → ((h : Hierarchy) → IsTreeOf seen t h → now ≡ h.now) → Stands seen t (MayElapse seen t bursts stays j most)
+      → now + n < 2 ^ 32
+  ticks_fit t bursts stays j most n now le at_now x =
+      let here = at_now x.h x.tree in
+      let early = x.is.early in
+      let short = x.is.short in omega (arith, here, early, short, le)
+
   -- it comes later than now
   pub first_later : (t : Tree V P) (bursts : Bursts) (stays : Stays) (j : Journal) (most now : ℕ) (first : Option ℕ)
       → first ≡ first_of bursts.begun.items → ((h : Hierarchy) → IsTreeOf seen t h → now ≡ h.now)
@@ -366,6 +374,10 @@ module _ {V : Type 0} {P : V → Type 0} (seen : (x : V) × P x → Seen) (choic
 
       pub spent_next : (k : ℕ) → next_in spent k ≡ next_in bursts k
       spent_next k = ap next_by (serves.begun k) ∙ used_next (is_just thread k) n (begun_in bursts k)
+
+      pub spent_none : (tick : ℕ) {A : Type 0} → (A → (k : ℕ) → is_due tick (next_in bursts k) ≡ false) → A → (k : ℕ)
+          → is_due tick (next_in spent k) ≡ false
+      spent_none tick none other k = ap (is_due tick) (spent_next k) ∙ none other k
 
       -- what the ticks of stays ask
       may_count : (h : Hierarchy) (asking : ℕ → Bool) (masks : ℕ → ℕ) (path : Option steps.Path) → n ≤ most

@@ -26,7 +26,8 @@ use Rattle.hls_legal.specs.Moment.{new_name}
 use Rattle.hls_core_journal.specs.Kept.{named_by}
 use Rattle.hls_core_stays.specs.Turnovers.{IsTurnover}
 use Rattle.hls_core_stays.specs.declared.turnover.Turnover.{Turnover}
-use Rattle.hls_core_stays.specs.declared.turnover.Turnover.TheVariants.{Nothing, Begins, Ends, Reseats, Renews, Rouses}
+use Rattle.hls_core_stays.specs.declared.turnover.Turnover.TheVariants.{Nothing, Begins, Ends, Reseats, Renews}
+use Rattle.hls_core_stays.specs.declared.turnover.Turnover.TheVariants.{Rouses}
 use Rattle.hls_core.specs.Begun.{next_by}
 use Rattle.hls_core.specs.Left.{IsLeftOf, IsLeft}
 use Rattle.hls_core.specs.Inside.Outcomes.{IsOfSeats, ends}
@@ -63,7 +64,8 @@ module _ (h : Hierarchy) (k : ℕ) (node : Option Node) (below : ℕ → Bool) w
       → IsLeftOf (was_served h.past k) h.now (new k) node → IsLeft new (effect h k node below)
   effect_left begun new is others here = record {
     at = λ c.
-        renewed_left (was_served h.past c) h.now (new c) (below c) (cond (c == k) node (marked (events c) (h.nodes c)))
+        renewed_left (was_served h.past c) h.now (new c) (below c) (cond (c == k) node (marked (events c) (h.nodes
+        c)))
         (by c (cases_eq c k));
   }
     where
@@ -96,7 +98,8 @@ Reseats (Block k) = ⊥
 Reseats (Elapse asking masks path) = ⊥
 Reseats _ = Unit {0}
 
-does_reseat : (h : Hierarchy) (command : Command) (step : Step) → IsOfSeats command → Does h command step → Reseats step
+does_reseat : (h : Hierarchy) (command : Command) (step : Step) → IsOfSeats command → Does h command step → Reseats
+    step
 does_reseat h (said.Load name config perches) (Load k new set spare_ticks spare_marks seats) of does = tt
 does_reseat h (said.Load name config perches) _ of does = absurd does
 does_reseat h (said.Thread name perch) (Admit k new seat) of does = tt
@@ -169,8 +172,10 @@ module _ (begun new : ℕ → Option Begun) (h : Hierarchy) (listed : IsListed h
 
   does_forget : (command : Command) (step : Step) (turnover : Turnover) → IsOfSeats command → Does h command step
       → IsTurnover h command turnover → Kept begun new turnover (Done seats) → Forgets begun new step
-  does_forget (said.Load name config perches) (Load k new_name set spare_ticks spare_marks held) Nothing of does turns kept = kept
-  does_forget (said.Load name config perches) (Load k new_name set spare_ticks spare_marks held) _ of does turns kept = absurd turns
+  does_forget (said.Load name config perches) (Load k new_name set spare_ticks spare_marks held) Nothing of does
+      turns kept = kept
+  does_forget (said.Load name config perches) (Load k new_name set spare_ticks spare_marks held) _ of does turns kept
+      = absurd turns
   does_forget (said.Load name config perches) _ turnover of does turns kept = absurd does
   does_forget (said.Thread name perch) (Admit k new_name seat) Begins of does turns kept = kept
   does_forget (said.Thread name perch) (Admit k new_name seat) _ of does turns kept = absurd turns

@@ -67,7 +67,8 @@ fn wake(
 {
     match find_thread(tree, name) {
         Ok(id) => {
-            bursts.set(id, Begun::of(every, burst, tree.now()))?;
+            let begun = Begun::of(every, burst, tree.now());
+            bursts.set(id, begun)?;
             tree.set_ready(id, true);
             stays.follow(tree, Turnover::Rouses(id));
             Ok(done(alloc))

@@ -195,7 +195,7 @@ pub struct Leap {
     pub ticks: u32,
 }
 
-/// Lets ticks pass, as many as the grant stays for and none behind a release, but at most so many, and tells their path.
+/// Lets ticks pass, as many as the grant stays for up to the first release, but at most so many, and tells their path.
 pub fn elapse(
     tree: &mut Tree,
     bursts: &mut Bursts,
