@@ -225,6 +225,7 @@ pub fn elapse(
     advance(tree, ticks);
     serve(tree, bursts, &thread, ticks);
     stays.tick(tree, thread, ticks);
-    release(tree, bursts, stays, first, now + ticks);
+    let end = now + ticks;
+    release(tree, bursts, stays, first, end);
     Leap { path, ticks }
 }

@@ -116,8 +116,8 @@ tick-requires g c =
     c.first_release-first.new.self c.args.stays.now c.args.journal.now c.args.most c.first_release-first.ensures.same
     c.requires.stands)
 
-pub overflow_add-arg : goal.overflow_add-arg
-overflow_add-arg g c =
+pub overflow_add-end : goal.overflow_add-end
+overflow_add-end g c =
     ticks_fit _ (λ z. (goal.Scheduler-dyn g z).choice z.1) c.args.tree.now c.first_release-first.new.self
     c.args.stays.now c.args.journal.now c.args.most c.standing-ticks.result c.now-now.result (let free =
     c.up_to-free.ensures.most in let ticks = c.standing-ticks.ensures.most in omega (arith, free, ticks))
