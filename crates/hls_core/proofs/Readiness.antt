@@ -1,6 +1,5 @@
 -- Readiness and what is kept of bursts, as wakes, blocks, ticks and releases come.
-use Rattle.std.proofs.Common.{◌≡◌, ◌≢◌, ℕ, zero, suc, inl, inr, ◌+◌, ◌-◌, ◌<◌, ◌≤◌, ◌⊎◌, Bool, true, false, cond}
-use Rattle.std.proofs.Common.{◌==◌}
+use Rattle.std.proofs.Common.{◌≡◌, ◌≢◌, ℕ, zero, suc, inl, inr, ◌+◌, ◌-◌, ◌<◌, ◌≤◌, ◌⊎◌, Bool, true, false, cond, ◌==◌}
 use Rattle.std.proofs.Common.{refl, sym, ap, ◌∙◌, arith, subst}
 use Rattle.std.specs.Prelude.{Option, Some, None}
 use Rattle.std.proofs.lemmas.Bool.{cases_eq, eq-eqb, ne_eqb, lt-leb}
@@ -66,16 +65,16 @@ left_roused : (begun new : ℕ → Option Begun) (h : Hierarchy) (k : ℕ) (how 
     → IsLeft new (with_wake h k how)
 left_roused begun new h k how thread is here others = record { at = λ c. by c (cases_eq c k) }
   where
-    by : (c : ℕ) → (c ≡ k) ⊎ (c ≢ k) → IsLeftOf (was_served h.past c) h.now (new c) (cond (c == k) (roused how
-    (h.nodes c)) (h.nodes c))
+    by : (c : ℕ) → (c ≡ k) ⊎ (c ≢ k)
+        → IsLeftOf (was_served h.past c) h.now (new c) (cond (c == k) (roused how (h.nodes c)) (h.nodes c))
     by c (inl same) =
-        subst (λ b. IsLeftOf (was_served h.past c) h.now (new c) (cond b (roused how (h.nodes c)) (h.nodes c))) (sym
-        (eq-eqb c k same))
+        subst (λ b. IsLeftOf (was_served h.past c) h.now (new c) (cond b (roused how (h.nodes c)) (h.nodes c)))
+        (sym (eq-eqb c k same))
         (subst (λ n. IsLeftOf (was_served h.past n) h.now (new n) (roused how (h.nodes n))) (sym same)
         (subst (λ node. IsLeftOf (was_served h.past k) h.now (new k) (roused how node)) (sym thread.there) here))
     by c (inr other) =
-        subst (λ b. IsLeftOf (was_served h.past c) h.now (new c) (cond b (roused how (h.nodes c)) (h.nodes c))) (sym
-        (ne_eqb c k other))
+        subst (λ b. IsLeftOf (was_served h.past c) h.now (new c) (cond b (roused how (h.nodes c)) (h.nodes c)))
+        (sym (ne_eqb c k other))
         (subst (λ b. IsLeftOf (was_served h.past c) h.now b (h.nodes c)) (sym (others c other)) (is.at c))
 
 woken_kept : (serves : ℕ → Bool) (now : ℕ) (every burst : Option ℕ) → IsWaking 2 every burst
@@ -155,8 +154,7 @@ module _ (h : Hierarchy) (asking : ℕ → Bool) (masks : ℕ → ℕ) (path : O
       → GoesOn (was_served h.past k) (was_served after_ticks.past k) h.now after_ticks.now n
       (is_just (thread_of path) k) on.now (λ from le. on.served_more k from le) begun wake
   goes k begun wake kept ran ahead =
-      goes_on (was_served h.past k) (was_served after_ticks.past k) h.now after_ticks.now n (is_just (thread_of path)
-      k)
+      goes_on (was_served h.past k) (was_served after_ticks.past k) h.now after_ticks.now n (is_just (thread_of path) k)
       on.now (λ from le. on.served_more k from le) begun wake kept ran ahead
 
   none_next : (b : Bool) (begun : Option Begun) → next_by begun ≡ None

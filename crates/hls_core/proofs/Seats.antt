@@ -195,6 +195,38 @@ module _ (begun new : ℕ → Option Begun) (h : Hierarchy) (listed : IsListed h
   does_forget (said.Wake name every burst) step turnover of does turns kept = absurd of
   does_forget (said.Block name) step turnover of does turns kept = absurd of
 
+-- what is forgotten of a thread that was ended
+pub forgot_here : (begun new : ℕ → Option Begun) (turnover : Turnover) (answer : Answer) (id : ℕ) (seats : List Seated)
+    → turnover ≡ Ends id → answer ≡ Done seats → new id ≡ None → ((k : ℕ) → k ≢ id → new k ≡ begun k)
+    → Kept begun new turnover answer
+forgot_here begun new turnover answer id seats of done here others c =
+    by (cases_eq c id)
+    ∙ sym (ap (λ t. cond (ends t answer c) None (begun c)) of ∙ ap (λ a. cond (ends (Ends id) a c) None (begun c)) done)
+  where
+    by : (c ≡ id) ⊎ (c ≢ id) → new c ≡ cond (c == id) None (begun c)
+    by (inl same) = ap new same ∙ here ∙ sym (ap (λ b. cond b None (begun c)) (eq-eqb c id same))
+    by (inr other) = others c other ∙ sym (ap (λ b. cond b None (begun c)) (ne_eqb c id other))
+
+-- and nothing of others
+pub forgot_none : (begun : ℕ → Option Begun) (turnover : Turnover) (answer : Answer)
+    → ((id : ℕ) → turnover ≢ Ends id) → Kept begun begun turnover answer
+forgot_none begun Nothing answer other c = refl
+forgot_none begun Begins answer other c = refl
+forgot_none begun (Ends id) answer other c = absurd (other id refl)
+forgot_none begun (Reseats id) answer other c = refl
+forgot_none begun (Renews ids) answer other c = refl
+forgot_none begun (Rouses id) answer other c = refl
+
+pub forgot_refused : (begun : ℕ → Option Begun) (turnover : Turnover) (answer : Answer)
+    → ((seats : List Seated) → answer ≢ Done seats) → Kept begun begun turnover answer
+forgot_refused begun Nothing answer other c = refl
+forgot_refused begun Begins answer other c = refl
+forgot_refused begun (Ends id) (Done seats) other c = absurd (other seats refl)
+forgot_refused begun (Ends id) (Refused refusal) other c = refl
+forgot_refused begun (Reseats id) answer other c = refl
+forgot_refused begun (Renews ids) answer other c = refl
+forgot_refused begun (Rouses id) answer other c = refl
+
 refused_keeps : (begun new : ℕ → Option Begun) (turnover : Turnover) (refusal : Refusal)
     → Kept begun new turnover (Refused refusal) → (c : ℕ) → new c ≡ begun c
 refused_keeps begun new Nothing refusal kept = kept

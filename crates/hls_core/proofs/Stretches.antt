@@ -69,8 +69,7 @@ unserved Cpu b mask = refl
 unserved Fp b mask = refl
 unserved Edf b mask =
     let within = deadlines_within b mask 32 in
-    let least : to_deadlines b mask 32 ≡ min (to_deadlines b mask 32) always = omega (arith, within) in ap (max 1)
-    least
+    let least : to_deadlines b mask 32 ≡ min (to_deadlines b mask 32) always = omega (arith, within) in ap (max 1) least
 unserved (Sfq total most quantum) b mask = refl
 unserved (Rr quantum) b mask = refl
 unserved (Wheel frame) b mask = refl
@@ -179,8 +178,7 @@ module _ (s : ℕ → Option Shown) (choices : ℕ → Option ℕ) (tick horizon
   comes_change : n < always → (StandsJust s choices n ⊎ IsRest left thread n) ⊎ IsNext next (h.now + n)
       → Changes h slots path n
   comes_change less (inl (inl just)) =
-      let found = loaded_here (s just.node) (h.nodes just.node) (choices just.node) n (of.nodes just.node) just.is
-      less
+      let found = loaded_here (s just.node) (h.nodes just.node) (choices just.node) n (of.nodes just.node) just.is less
       in
       of_scheduler just.node found.0 found.1
       (stands_here (s just.node) (h.nodes just.node) (choices just.node) (slots just.node)
@@ -226,8 +224,8 @@ module _ (s : ℕ → Option Shown) (choices : ℕ → Option ℕ) (tick horizon
   }
 
 -- who stops the ticks: the grant, or the first release
-pub stopped : {A : Type 0} (begun : List (Option Begun)) (first : Option ℕ) (now free most n : ℕ) → first ≡ first_of
-    begun
+pub stopped : {A : Type 0} (begun : List (Option Begun)) (first : Option ℕ) (now free most n : ℕ)
+    → first ≡ first_of begun
     → (n < free → A) → n ≤ free → (free < most → first ≡ Some (now + free)) → n < most
     → A ⊎ IsNext (next_at begun) (now + n)
 stopped {A = A} begun first now free most n is attained le early less = elim (cases_lt n free) [
@@ -264,6 +262,5 @@ module _ {V : Type 0} {P : V → Type 0} (seen : (x : V) × P x → Seen) (choic
       stretch _ _ _ _ _ _ h p.0 p.1 p.2 (begun_in bursts) thread most n (tree h may.at_state.tree).of p.3
       may.at_state.left (granted p.2 passed.route thread p.3.route_is none some) few least within
       (λ k release next. (let lo = ahead k release next in omega (arith, here, lo)))
-      (subst (λ m. n < most → (StandsJust (shown_at (boxed seen) passed.nodes) (choice_at (boxed choice)
-      passed.nodes) n
+      (subst (λ m. n < most → (StandsJust (shown_at (boxed seen) passed.nodes) (choice_at (boxed choice) passed.nodes) n
       ⊎ IsRest (left_in bursts) thread n) ⊎ IsNext (next_in bursts) (m + n)) here attained)

@@ -1,20 +1,17 @@
 -- What is kept of one wake, as ticks elapse and its releases come.
-use Rattle.std.proofs.Common.{◌≡◌, ◌≢◌, ℕ, suc, inl, inr, ◌+◌, ◌-◌, ◌<◌, ◌≤◌, ◌⊎◌, Bool, true, false, cond, ◌==◌}
+use Rattle.std.proofs.Common.{◌≡◌, ◌≢◌, ℕ, inl, inr, ◌+◌, ◌-◌, ◌<◌, ◌≤◌, Bool, true, false, cond, ◌==◌}
 use Rattle.std.proofs.Common.{refl, sym, ap, ◌∙◌, arith, subst}
 use Rattle.std.specs.Prelude.{Option, Some, None, nat_lt, nat_le, option_map}
-use Rattle.std.proofs.lemmas.Bool.{cases_eq, cases_lt, eq-eqb, ne_eqb, eqb-true, ltb-true, lt-ltb, le-ltb, lt-leb}
-use Rattle.std.proofs.lemmas.Bool.{le-leb}
+use Rattle.std.proofs.lemmas.Bool.{cases_lt, eq-eqb, ne_eqb, lt-ltb, le-ltb, lt-leb, le-leb}
 use Rattle.hls_chron.specs.Ticks.{count}
 use Rattle.hls_chron.proofs.CountLaws.{count-none}
 use Rattle.hls_releases.specs.Releases.{last_release, next_release, is_unserved}
 use Rattle.hls_releases.proofs.Releases.{last_upto, last_before_next, last_at_next, last_of_wake, next_stays}
-use Rattle.hls_releases.proofs.Releases.{next_above}
-use Rattle.hls_releases.proofs.Releases.{unserved_at_last, unserved_at_wake}
-use Rattle.hls_scenario.specs.Grammar.{IsWaking, IsBurst}
+use Rattle.hls_releases.proofs.Releases.{next_above, unserved_at_last, unserved_at_wake}
+use Rattle.hls_scenario.specs.Grammar.{IsWaking}
 use Rattle.hls_machine.specs.Hierarchy.{Node, Thread, Loaded, Admitted, Wake, Asleep, Awake, Awake_for, is_ready}
 use Rattle.hls_core_stays.proofs.Ticked.{times}
-use Rattle.hls_core.specs.Begun.{left_by, next_by, used, released, released_by, released_next, is_due, ends_within}
-use Rattle.hls_core.specs.Begun.{begun_by}
+use Rattle.hls_core.specs.Begun.{left_by, next_by, used, released, released_next, is_due, ends_within, begun_by}
 use Rattle.hls_core.specs.Begun.{release_by}
 use Rattle.hls_core.specs.Left.{left_of, release_of, coming, IsFit, IsKept, IsLeftOf}
 use Rattle.hls_core.specs.declared.begun.Begun.{Begun}
@@ -82,9 +79,8 @@ module _ (was serves : ℕ → Bool) (now later n : ℕ) (on : Bool) (at : later
 
     ready_on : (from ticks : ℕ) → from ≤ now
         → nat_lt (count serves from (later - from)) ticks
-        ≡ cond on (cond (nat_le (ticks - count was from (now - from)) n) false (nat_lt (count was from (now - from))
-        ticks))
-        (nat_lt (count was from (now - from)) ticks)
+        ≡ cond on (cond (nat_le (ticks - count was from (now - from)) n) false
+        (nat_lt (count was from (now - from)) ticks)) (nat_lt (count was from (now - from)) ticks)
     ready_on from ticks le = by on (counted from le)
       where
         by : (b : Bool) → count serves from (later - from) ≡ count was from (now - from) + times b n
@@ -128,9 +124,8 @@ module _ (was serves : ℕ → Bool) (now later n : ℕ) (on : Bool) (at : later
         let le : from ≤ now = last_upto every since now kept.fits.0 in
         let same : released later (used_if on n begun) ≡ used_if on n begun =
         undue later (used_if on n begun) (ap (is_due later) (used_next on n begun) ∙ off) in
-        let ready : is_unserved serves every ticks since later ≡ cond on (cond (nat_le (ticks - count was from (now -
-        from)) n)
-        false (is_unserved was every ticks since now)) (is_unserved was every ticks since now) =
+        let ready : is_unserved serves every ticks since later
+        ≡ cond on (cond (nat_le (ticks - count was from (now - from)) n) false (is_unserved was every ticks since now)) (is_unserved was every ticks since now) =
         ap (λ u. nat_lt (count serves u (later - u)) ticks) last ∙ ready_on from ticks le in
         record {
           kept = record {
@@ -181,9 +176,8 @@ module _ (was serves : ℕ → Bool) (now later n : ℕ) (on : Bool) (at : later
           kept = record {
             left = λ ready.
                 ap left_by whole
-                ∙ ap (λ m. Some m) (sym (let none : later - last_release (Some period) since later ≡ 0 = omega
-                (arith, last)
-                in let zero = ap (count serves (last_release (Some period) since later)) none
+                ∙ ap (λ m. Some m) (sym (let none : later - last_release (Some period) since later ≡ 0 =
+                omega (arith, last) in let zero = ap (count serves (last_release (Some period) since later)) none
                 ∙ count-none serves (last_release (Some period) since later) in omega (arith, zero)));
             next =
                 ap next_by whole
@@ -274,8 +268,7 @@ wake_kept serves now every ticks waking = record {
   left = λ ready.
       ap (λ m. Some m) (sym (let last = last_of_wake every now in
       let none : now - last_release every now now ≡ 0 = omega (arith, last) in
-      let zero = ap (count serves (last_release every now now)) none ∙ count-none serves (last_release every now now)
-      in
+      let zero = ap (count serves (last_release every now now)) none ∙ count-none serves (last_release every now now) in
       omega (arith, zero)));
   next = by every;
   fits = (omega arith, waking);
@@ -297,8 +290,8 @@ wake_ready serves now every ticks waking = unserved_at_wake serves every ticks n
     some None is = let within = is.0 in omega (arith, within)
     some (Some period) is = let within = is.2.0 in omega (arith, within)
 
-pub coming_is : (now : ℕ) (wake : Wake) → option_map (λ (release : Release). release.tick) (release_of now wake) ≡
-    coming now wake
+pub coming_is : (now : ℕ) (wake : Wake)
+    → option_map (λ (release : Release). release.tick) (release_of now wake) ≡ coming now wake
 coming_is now Asleep = refl
 coming_is now Awake = refl
 coming_is now (Awake_for burst since) = by burst.every
