@@ -125,7 +125,8 @@ module _ (was serves : ℕ → Bool) (now later n : ℕ) (on : Bool) (at : later
         let same : released later (used_if on n begun) ≡ used_if on n begun =
         undue later (used_if on n begun) (ap (is_due later) (used_next on n begun) ∙ off) in
         let ready : is_unserved serves every ticks since later
-        ≡ cond on (cond (nat_le (ticks - count was from (now - from)) n) false (is_unserved was every ticks since now)) (is_unserved was every ticks since now) =
+        ≡ cond on (cond (nat_le (ticks - count was from (now - from)) n) false (is_unserved was every ticks since now))
+        (is_unserved was every ticks since now) =
         ap (λ u. nat_lt (count serves u (later - u)) ticks) last ∙ ready_on from ticks le in
         record {
           kept = record {
