@@ -37,9 +37,9 @@ was_there b (Some (Admitted was)) t e =
     let same : record was { wake = flag_wake b } ≡ t = cc in
     record { was = was; there = refl; wake = ap (λ (x : Thread). x.wake) (sym same) }
 
-pub was_ready : (serves : ℕ → Bool) (now : ℕ) (b : Bool) (wake : Wake) → wake ≡ flag_wake b
-    → is_ready serves now wake ≡ b
-was_ready serves now b wake is = ap (is_ready serves now) is ∙ flag_ready serves now b
+pub was_ready : (serves : ℕ → Bool) (now : ℕ) (b : Bool) (how : Wake) → how ≡ flag_wake b
+    → is_ready serves now how ≡ b
+was_ready serves now b how is = ap (is_ready serves now) is ∙ flag_ready serves now b
 
 thread_still : (b : Bool) (node : Option Node) → IsThread node → IsThread (roused (flag_wake b) node)
 thread_still b node x = record {
