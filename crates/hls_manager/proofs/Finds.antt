@@ -65,7 +65,7 @@ sort_sched (Some (Admitted t)) kind is = absurd is
 plain_of : (h : Hierarchy) (command : Command) (name : Text) → IsOfThread command name → IsPlain h command name
 plain_of h (said.End other) name e = subst (λ (n : Text). IsPlain h (said.End other) n) e (ends h other)
 plain_of h (said.Wake other every burst) name e =
-    subst (λ (n : Text). IsPlain h (said.Wake other every burst) n) e (wakes h other burst)
+    subst (λ (n : Text). IsPlain h (said.Wake other every burst) n) e (wakes h other every burst)
 plain_of h (said.Block other) name e = subst (λ (n : Text). IsPlain h (said.Block other) n) e (blocks h other)
 plain_of h _ name e = absurd e
 
