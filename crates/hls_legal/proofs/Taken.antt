@@ -274,7 +274,7 @@ old_known h listed (said.Unload own) (Unload k) name does f =
     known h listed k own name does (let e = f.old in cc) f.unknown
 old_known h listed (said.Move own perch) (Move k seat below) name does f =
     known h listed k own name does.0 (let e = f.old in cc) f.unknown
-old_known h listed (said.Wake own every burst) (Rouse k ticks) name does f =
+old_known h listed (said.Wake own every burst) (Rouse k how) name does f =
     known h listed k own name does.0 (let e = f.old in cc) f.unknown
 old_known h listed (said.Block own) (Block k) name does f =
     known h listed k own name does (let e = f.old in cc) f.unknown
@@ -311,7 +311,7 @@ sort_right h listed (said.Unload own) (Unload k) name does can f =
 sort_right h listed (said.Move own perch) (Move k seat below) name does can f =
     no_join h seat.place (h.nodes k) f.wrong.place.scheduler can.0.sort
     (sym (own_is h listed k own name does.0 f.old) ∙ f.wrong.place.there) f.wrong.kind
-sort_right h listed (said.Wake own every burst) (Rouse k ticks) name does can f =
+sort_right h listed (said.Wake own every burst) (Rouse k how) name does can f =
     thread_no_scheduler h listed k own name does.0 f.old can f.wrong
 sort_right h listed (said.Block own) (Block k) name does can f =
     thread_no_scheduler h listed k own name does f.old can f.wrong
