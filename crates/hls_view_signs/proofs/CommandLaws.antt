@@ -13,9 +13,9 @@ use Rattle.hls_legal.specs.Schedule.{is_served}
 use Rattle.hls_view_jobs.specs.declared.job.Sort.{Sort}
 use Rattle.hls_view_jobs.specs.declared.job.Sort.TheVariants.{Wakes, Blocks, Ends}
 use Rattle.hls_view_jobs.specs.declared.job.Word.{Word}
-use Rattle.hls_view_jobs.specs.Words.{sort_of, word_of, is_end, words_on}
+use Rattle.hls_view_jobs.specs.Words.{sort_of, word_of, is_end, words_on, first}
 use Rattle.hls_view_jobs.specs.declared.job.Release.{Release}
-use Rattle.hls_view_jobs.specs.Jobs.{first, release_of, releases, until}
+use Rattle.hls_view_jobs.specs.Jobs.{release_of, releases, until}
 use Rattle.hls_view_tale.specs.declared.label.Label.{Label}
 use Rattle.hls_view_tale.specs.declared.place.Place.{Place}
 use Rattle.hls_view_tale.specs.declared.standing.Standing.{Standing}

@@ -16,8 +16,8 @@ use Rattle.hls_view_jobs.specs.declared.job.Sort.{Sort}
 use Rattle.hls_view_jobs.specs.declared.job.Sort.TheVariants.{Wakes, Blocks, Ends}
 use Rattle.hls_view_jobs.specs.declared.job.Word.{Word}
 use Rattle.hls_view_jobs.specs.declared.job.Release.{Release}
-use Rattle.hls_view_jobs.specs.Words.{sort_of, word_of, is_end, words_on}
-use Rattle.hls_view_jobs.specs.Jobs.{first, release_of, releases}
+use Rattle.hls_view_jobs.specs.Words.{sort_of, word_of, is_end, words_on, first}
+use Rattle.hls_view_jobs.specs.Jobs.{release_of, releases}
 use Rattle.hls_view_jobs.proofs.WordLaws.{dropped_at}
 use Rattle.hls_view_signs.specs.Happenings.{is_dropped}
 use Rattle.hls_view_signs.specs.Inside.Words.{released, any_released, AreEarly, AreRising, last_of}
