@@ -4,7 +4,7 @@ use Rattle.hls_text.specs.Lines.{Text, may_stand}
 use Rattle.hls_scenario.specs.declared.scenario.Command.{Command}
 use Rattle.hls_scenario.specs.declared.scenario.Item.{Item}
 use Rattle.hls_lang.specs.declared.fault.Cause.{Cause}
-use Rattle.hls_lang.specs.Words.{◌>>=◌, Found, word_at, tick_at}
+use Rattle.hls_lang.specs.Words.{◌>>=◌, Found, no_more, word_at, number_at, tick_at}
 use Rattle.hls_lang.specs.Reading.{command_at}
 
 -- a byte that may stand in a line and begins no comment
@@ -17,6 +17,10 @@ are_plain line = fold (λ all b. all && is_plain b) true line
 -- the tick before a command
 abbrev pub stamp_at : (horizon last : ℕ) → List Text → Found ℕ
 stamp_at horizon last ts = word_at (codes "at") ts >>= λ r. tick_at horizon last r
+
+-- a number of ticks that ends the line
+abbrev pub last_ticks_at : List Text → Result ℕ Cause
+last_ticks_at ts = number_at 1 100000 ts >>= λ n. no_more n.1 >>= λ u. Ok n.0
 
 -- the items with one more
 abbrev pub with_command : List Item → ℕ → Command → Result (List Item) Cause
