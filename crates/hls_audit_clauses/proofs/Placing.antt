@@ -119,7 +119,7 @@ module _ (h : Hierarchy) (tree : List Member) (reached : IsReached h) (t : IsTre
   unknown_off (said.End name) (End k) does = known k name does
   unknown_off (said.Unload name) (Unload k) does = known k name does
   unknown_off (said.Move name perch) (Move k seat below) does = known k name does.0
-  unknown_off (said.Wake name every burst) (Rouse k ticks) does = known k name does.0
+  unknown_off (said.Wake name every burst) (Rouse k how) does = known k name does.0
   unknown_off (said.Block name) (Block k) does = known k name does
   unknown_off _ _ does = absurd does
 
@@ -137,7 +137,7 @@ module _ (h : Hierarchy) (tree : List Member) (reached : IsReached h) (t : IsTre
       ap is_thread_sort (sort_found k name does ∙ ap sort_at can.there)
   sort_off (said.Move name perch) (Move k seat below) does can =
       ap is_join_sort (sort_found k name does.0) ∙ no_join seat.place (h.nodes k) can.0.sort
-  sort_off (said.Wake name every burst) (Rouse k ticks) does can = thread_sort k name does.0 can
+  sort_off (said.Wake name every burst) (Rouse k how) does can = thread_sort k name does.0 can
   sort_off (said.Block name) (Block k) does can = thread_sort k name does can
   sort_off _ _ does can = absurd does
 

@@ -1,6 +1,6 @@
 -- The releases of the wakes of a report have jobs.
 use Rattle.std.proofs.Common.{◌≡◌, ◌≢◌, ℕ, suc, inl, inr, ◌+◌, ◌*◌, ◌-◌, ◌<◌, ◌≤◌, List, [], ◌∷◌, ◌==◌, ◌&&◌}
-use Rattle.std.proofs.Common.{Bool, true, false, cond, refl, sym, ap, ◌∙◌, arith}
+use Rattle.std.proofs.Common.{Bool, true, false, cond, refl, sym, ap, ◌∙◌, subst, arith}
 use Rattle.std.specs.Prelude.{Option, Some, None, find, reverse, nat_le, nat_lt}
 use Rattle.std.proofs.lemmas.Bool.{cases_Bool, cases_lt, eq-eqb, eqb-true}
 use Rattle.std.proofs.lemmas.Bool.Decides.{nat_tests}
@@ -360,8 +360,9 @@ module _ (c : Content) (name : Text) (r : Reservation) (first until : ℕ) (wide
         let by = turn.counted t (omega (arith, job.since, job.past)) to on in
         let at = same_job w t by.ticks by.by job on by.last by.burst by.since in
         let few = fewer_for c name t by.ticks by.by by.last by.burst on in
-        let here : count (is_served c.stretches name) w (t - w) < by.ticks = rw at at few in
-        let released = rw at at (released_at c name t by.ticks by.by by.last by.burst) in
+        let here = subst (λ u. count (is_served c.stretches name) u (t - u) < by.ticks) at few in
+        let released = subst (λ u. IsReleased c name u by.by by.ticks) at
+        (released_at c name t by.ticks by.by by.last by.burst) in
         let same = periods_of w by.ticks by.by released in
         let all = enough r by.ticks wide in
         rw same (omega arith);
