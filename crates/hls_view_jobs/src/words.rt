@@ -1,5 +1,6 @@
 // The words on a thread.
 ghost use Rattle.std.specs.Prelude.{◌≡◌, ◌+◌, ◌≤◌, ◌<◌, ◌++◌, ◌∷◌, [], Some, drop, IfOk, OnOk, length};
+ghost use Rattle.hls_chron.specs.Ticks.{one_if};
 ghost use Rattle.hls_legal.specs.Commands.{has_done, rouses};
 ghost use Rattle.hls_view_jobs.specs.Words.{sort_of, word_of, is_end, is_wake, words_on, wakes_on, end_in};
 ghost use Rattle.hls_view_jobs.specs.Words.{repeat_of, first, last_by, later};
@@ -62,6 +63,17 @@ impl Sort {
         match self {
             Sort::Wakes { .. } => true,
             Sort::Blocks | Sort::Ends => false,
+        }
+    }
+
+    /// How many wakes it is, one or none.
+    fn wakes(&self) -> usize
+        ensures is { result ≡ one_if (is_wake self.now) }
+        ensures few { result ≤ 1 }
+    {
+        match self {
+            Sort::Wakes { .. } => 1,
+            Sort::Blocks | Sort::Ends => 0,
         }
     }
 }
@@ -185,9 +197,7 @@ pub(crate) fn wakes_on(answered: &[Answered], place: usize, name: &Name) -> usiz
             if sort.is_end() {
                 return wakes;
             }
-            if sort.is_wake() {
-                wakes += 1;
-            }
+            wakes += sort.wakes();
         }
     }
     wakes
