@@ -137,8 +137,11 @@ fn put_again(
     Ok(())
 }
 
-/// Puts the later releases of a command, before those that come after it, behind all others.
-fn put_later(
+/// Puts the later releases of a command, before those commands that come after it, behind all others.
+///
+/// # Errors
+/// Returns `AllocError` for want of memory.
+pub fn put_later(
     words: &mut Vec<Word>,
     horizon: u32,
     a: &Answered,
