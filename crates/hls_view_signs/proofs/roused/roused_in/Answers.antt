@@ -2,11 +2,8 @@ use Rattle.std.proofs.Common.{get_or}
 use Rattle.std.specs.Prelude.{None}
 use Rattle.std.proofs.lemmas.Option.{slice_get-get_or}
 use Rattle.hls_view_signs.specs.declared.notes.Note.{Note}
-use Rattle.hls_view_signs.proofs.SceneLaws.{heard_before, heard_more, heard_on, heard_all}
+use Rattle.hls_view_signs.proofs.SceneLaws.{heard_more, heard_on, heard_all}
 use Rattle.hls_view_signs.proofs.roused.roused_in.Goals as goal
-
-pub loop-place-init : goal.loop-place-init
-loop-place-init c = ?
 
 pub returns-then-tick-note : goal.returns-then-tick-note
 returns-then-tick-note c =
