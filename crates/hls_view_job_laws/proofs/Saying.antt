@@ -27,7 +27,8 @@ use Rattle.hls_view_jobs.specs.declared.job.Sort.{Sort}
 use Rattle.hls_view_jobs.specs.declared.job.Sort.TheVariants.{Wakes}
 use Rattle.hls_view_jobs.specs.declared.job.Word.{Word}
 use Rattle.hls_view_jobs.specs.declared.words.Repeat.{Repeat}
-use Rattle.hls_view_jobs.specs.Words.{sort_of, word_of, is_end, first, repeat_of, again, last_by, later, said_by, words_on}
+use Rattle.hls_view_jobs.specs.Words.{sort_of, word_of, is_end, first, repeat_of, again, last_by, later, said_by}
+use Rattle.hls_view_jobs.specs.Words.{words_on}
 use Rattle.hls_view_jobs.proofs.AgainLaws.{fits_behind, last_since}
 use Rattle.hls_view_jobs.proofs.WordsSound.{words_sound, repeated_some}
 
@@ -107,8 +108,8 @@ lasts_once serves since t (Block name) once = refl
 
 -- a periodic wake is ready by its last release
 record LastsAnew (serves : ℕ → Bool) (since t : ℕ) (command : Command) (r : Repeat) : Type 0 where
-  lasts : lasts serves since t command ≡ is_unserved serves (Some r.period) r.ticks since t
-  sort : sort_of command ≡ Wakes (Some r.ticks)
+  on : lasts serves since t command ≡ is_unserved serves (Some r.period) r.ticks since t
+  said : sort_of command ≡ Wakes (Some r.ticks)
 
 lasts_anew : (serves : ℕ → Bool) (since t : ℕ) (command : Command) (r : Repeat) → repeat_of command ≡ Some r
     → LastsAnew serves since t command r
@@ -121,7 +122,7 @@ lasts_anew serves since t (Wake name None burst) r is = absurd cc
 lasts_anew serves since t (Wake name (Some period) None) r is = absurd cc
 lasts_anew serves since t (Wake name (Some period) (Some ticks)) r is =
     let same : record { period = period; ticks = ticks } ≡ r = cc in
-    subst (LastsAnew serves since t (Wake name (Some period) (Some ticks))) same (record { lasts = refl; sort = refl })
+    subst (LastsAnew serves since t (Wake name (Some period) (Some ticks))) same (record { on = refl; said = refl })
 lasts_anew serves since t (Block name) r is = absurd cc
 
 -- up to the next word a thread is ready by this one
@@ -220,24 +221,23 @@ said_of : (c : Content) (name : Text) (a : Answered) (words : List Word) → IsT
     → AreSaid c name (said_by c.horizon a words)
 said_of c name a words told is early rest = by (repeat_of a.command) refl
   where
-    f : ℕ → Bool
-    f = is_served c.stretches name
-
     by : (r : Option Repeat) → repeat_of a.command ≡ r → AreSaid c name (word_of a
         ∷ (later a.tick (last_by c.horizon (first words)) r ++ cond (is_end (sort_of a.command)) [] words))
     by None once =
         up_to_end c name (word_of a) words (is_end (sort_of a.command)) refl
-        (λ t from before. told t from before ∙ lasts_once f a.tick t a.command once) rest
+        (λ t from before. told t from before ∙ lasts_once (is_served c.stretches name) a.tick t a.command once) rest
     by (Some r) is_again =
         let some : 0 < r.period = repeated_some c.version a.command r is is_again in
-        let sort : sort_of a.command ≡ Wakes (Some r.ticks) = (lasts_anew f a.tick a.tick a.command r is_again).sort in
+        let sort : sort_of a.command ≡ Wakes (Some r.ticks) =
+        (lasts_anew (is_served c.stretches name) a.tick a.tick a.command r is_again).said in
         let last : ℕ = last_by c.horizon (first words) in
         let most = fits_behind a.tick last r.period early in
         let near : last - a.tick < (last - a.tick) / r.period * r.period + r.period =
-        lt-div-mul-add (last - a.tick) some in
+        lt-div-mul-add some in
         rw sort
         (again_said c name r.period r.ticks a.tick words some
-        (λ t from before. told t from before ∙ (lasts_anew f a.tick t a.command r is_again).lasts) rest
+        (λ t from before. told t from before
+        ∙ (lasts_anew (is_served c.stretches name) a.tick t a.command r is_again).on) rest
         ((last - a.tick) / r.period) a.tick (wake_is_release r.period a.tick) most (omega (arith, near, early)))
 
 pub words_said : (c : Content) (name : Text) (front after : List Answered) (last : ℕ) → c.answered ≡ front ++ after
