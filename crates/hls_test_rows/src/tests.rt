@@ -35,7 +35,8 @@ fn finds_where_windows_begin(rt: HostRuntime) -> Result<(), Fail> {
 }
 
 /// A thread with releases at 1, at 5, and at 9, where it is blocked.
-const PERIODIC: &[u8] = b"hls-report 2\nhorizon 10\ndepth 3\nat 0 load root fp on cpu as ALL\n= done\n\
+const PERIODIC: &[u8] =
+    b"hls-report 2\nhorizon 10\ndepth 3\nat 0 load root fp on cpu as ALL\n= done\n\
     at 0 thread a on root prio 0 as ALL\n= done\nat 1 wake a every 4 burst 2\n= done\n\
     at 9 block a\n= done\nschedule\n0..0 idle\n1..2 cpu/root/a\n3..4 idle\n5..6 cpu/root/a\n\
     7..9 idle\naccounts\na 0..9 ALL ready 4 served 4\nidle 6\nend\n";

@@ -54,7 +54,13 @@ fn words_of(alloc: Global, report: &Report, thread: &Admission) -> Result<Vec<Wo
     ensures sound { IfOk result (λ words. AreWords report.now.horizon 0 words.items) }
 {
     let answered = report.answered.items();
-    let words = words_on(alloc, report.horizon, answered, thread.place + 1, &thread.name)?;
+    let words = words_on(
+        alloc,
+        report.horizon,
+        answered,
+        thread.place + 1,
+        &thread.name,
+    )?;
     Ok(words)
 }
 

@@ -114,12 +114,7 @@ fn last_before(horizon: u32, after: &[Answered], name: &Name) -> u32
 }
 
 /// Puts the later releases of a wake in a tick, up to a last tick, behind all others.
-fn put_again(
-    words: &mut Vec<Word>,
-    tick: u32,
-    last: u32,
-    repeat: &Repeat,
-) -> Result<(), AllocError>
+fn put_again(words: &mut Vec<Word>, tick: u32, last: u32, repeat: &Repeat) -> Result<(), AllocError>
     ensures { OnOk result (words.new.items ≡ words.old.items ++ later tick last (Some repeat.now)) }
 {
     if repeat.period == 0 {

@@ -40,11 +40,7 @@ fn put_name(names: &mut Vec<Name>, name: Option<Name>) -> Result<(), AllocError>
 ///
 /// # Errors
 /// Returns `AllocError` for want of memory.
-pub(crate) fn roused_in(
-    alloc: Global,
-    notes: &[Note],
-    tick: u32,
-) -> Result<Vec<Name>, AllocError>
+pub(crate) fn roused_in(alloc: Global, notes: &[Note], tick: u32) -> Result<Vec<Name>, AllocError>
     requires { AreInOrder notes.now }
     ensures { IfOk result (λ names. told.AreNamed notes.now tick names.items) }
 {
