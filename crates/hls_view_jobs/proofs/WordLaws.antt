@@ -1,8 +1,9 @@
 -- The words on a thread, command by command.
 use Rattle.std.proofs.Common.{◌≡◌, ℕ, ◌+◌, ◌-◌, ◌*◌, ◌/◌, ◌<◌, ◌≤◌, List, [], ◌∷◌, ◌++◌, true, false, drop, length}
-use Rattle.std.proofs.Common.{get_or, suc, refl, sym, ap, ◌∙◌, drop-cons, add-one, append_assoc, append-nil}
+use Rattle.std.proofs.Common.{get_or, suc, refl, sym, ap, ◌∙◌, drop-cons, add-one, append_assoc, append-nil, take, length-drop}
+use Rattle.std.proofs.Common.{arith}
 use Rattle.std.specs.Prelude.{None, if◌then◌else◌}
-use Rattle.std.proofs.lemmas.List.{drop_all}
+use Rattle.std.proofs.lemmas.List.{drop_all, take_all}
 use Rattle.hls_text.specs.Lines.{Text}
 use Rattle.hls_chron.specs.Ticks.{one_if}
 use Rattle.hls_scenario.specs.declared.scenario.Command.{Command}
@@ -45,6 +46,11 @@ said_on horizon a words goes_on = rw goes_on refl
 pub dropped_at : {A : Type 0} (all : List A) (i : ℕ) (a : A) → i < length all → a ≡ get_or all i a
     → drop i all ≡ a ∷ drop (i + 1) all
 dropped_at all i a lt is = rw add-one (drop-cons all i a lt ∙ ap (λ x. x ∷ drop (suc i) all) (sym is))
+
+-- a slice to the end
+pub tail_at : {A : Type 0} (all : List A) (n : ℕ) → take (length all - n) (drop n all) ≡ drop n all
+tail_at all n =
+    let long = length-drop n all in take_all (drop n all) (length all - n) (omega (arith, long))
 
 -- the words from a command on that says something
 pub said_at : (horizon : ℕ) (name : Text) (all : List Answered) (i : ℕ) (a : Answered) → i < length all

@@ -31,9 +31,9 @@ loop-at-preserved c =
           sym (ap is_end sort) ∙ sym w.is_end.ensures ∙ w.if-is_end.false in
           let next = wakes_more c.args.name.now c.args.answered.now c.loop-at.at a c.loop-at-test.true
           c.index-answered-at.is roused more in
-          let one : w.wakes.result ≡ one_if (is_wake (sort_of a.command)) =
-          w.wakes.ensures.is ∙ ap (λ (s : Sort). one_if (is_wake s)) sort in
-          let most = w.wakes.ensures.few in
+          let one : w.wakes-wakes.result ≡ one_if (is_wake (sort_of a.command)) =
+          w.wakes-wakes.ensures.is ∙ ap (λ (s : Sort). one_if (is_wake s)) sort in
+          let most = w.wakes-wakes.ensures.few in
           let is = w.wakes-is in
           record { wakes = omega (arith, so_far, next, one, is); few = omega (arith, few, most, is) }
       | else-has_roused w ↦

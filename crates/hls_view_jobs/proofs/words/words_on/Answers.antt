@@ -1,9 +1,10 @@
 use Rattle.std.proofs.Common.{◌≡◌, ◌+◌, List, ◌∷◌, [], ◌++◌, true, false, ◌∙◌, sym, ap, drop}
+use Rattle.hls_report_text.specs.declared.report.Answered.{Answered}
 use Rattle.hls_legal.specs.Commands.{has_done, rouses}
 use Rattle.hls_view_jobs.specs.declared.job.Sort.{Sort}
 use Rattle.hls_view_jobs.specs.declared.job.Word.{Word}
 use Rattle.hls_view_jobs.specs.Words.{is_end, sort_of, word_of, first, repeat_of, last_by, later, words_on}
-use Rattle.hls_view_jobs.proofs.WordLaws.{words_end, words_more, words_less, words_none}
+use Rattle.hls_view_jobs.proofs.WordLaws.{tail_at, words_end, words_more, words_less, words_none}
 use Rattle.hls_view_jobs.proofs.words.words_on.Goals.{then-has_roused+in_ok-push+else-is_end+in_ok-put_later}
 use Rattle.hls_view_jobs.proofs.words.words_on.Goals.{else-has_roused}
 use Rattle.hls_view_jobs.proofs.words.words_on.Goals as goal
@@ -39,7 +40,11 @@ loop-at-preserved c =
           let one : w.push.new.self.items ≡ old ++ word_of a ∷ [] =
           w.in_ok-push.ensures.items ∙ ap (λ (s : Sort). old ++ (record { tick = a.tick; sort = s } ∷ [])) sort in
           let put : c.if-has_roused.words.items ≡ (old ++ word_of a ∷ []) ++ said =
-          ap (λ v. v.items) w.words-is ∙ w.in_ok-put_later.ensures ∙ ap (λ (l : List Word). l ++ said) one in
+          ap (λ v. v.items) w.words-is ∙ w.in_ok-put_later.ensures
+          ∙ ap (λ (l : List Answered). w.push.new.self.items
+          ++ later a.tick (last_by horizon (first (words_on horizon name l))) (repeat_of a.command))
+          (tail_at all (at + 1))
+          ∙ ap (λ (l : List Word). l ++ said) one in
           c.loop-at.invariant
           ∙ words_more horizon name all at a old c.loop-at-test.true c.index-answered-at.is roused more
           ∙ sym (ap (λ (l : List Word). l ++ words_on horizon name (drop (at + 1) all)) put)
