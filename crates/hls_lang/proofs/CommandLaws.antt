@@ -524,7 +524,7 @@ once_next version burst ts is once a =
 
 waking_next : (version : ℕ) (every burst : Option ℕ) (ts : List Text) → IsWaking version every burst
     → Front (waking_forms every burst) ts [] → waking_at version ts ≡ Ok (every, burst)
-unfolding waking_at
+unfolding waking_at w0
 waking_next version None None [] is a = once_next version None [] is refl a
 waking_next version None None (t ∷ ts) is a = absurd cc
 waking_next version None (Some ticks) ts is a =
@@ -533,7 +533,7 @@ waking_next version (Some period) None ts is a = absurd is
 waking_next version (Some period) (Some ticks) [] is a = absurd a
 waking_next version (Some period) (Some ticks) (t ∷ ts) is a =
     let test = and_both (not (version == 1)) _ (later_again version is.0) (bytes_same t (codes "every") a.0) in
-    ap (λ b. cond b (every_at ts) (burst_at (t ∷ ts) >>= λ q. Ok (None, q))) test
+    ap (λ b. cond b (every_at ts) (burst_at (t ∷ ts) >>= w0)) test
     ∙ every_next period ticks ts is.1 is.2 a.1
 
 wake_next : (version : ℕ) (name : Text) (every burst : Option ℕ) (ts : List Text) → IsName name
@@ -544,7 +544,8 @@ wake_next version name every burst ts named is a =
     let n = front_split (the name ∷ []) (waking_forms every burst) ts [] a in
     bind_again (name_at ts) (λ m. waking_at version m.1 >>= λ w. Ok (Wake m.0 w.0 w.1)) (name, n.0)
     (Wake name every burst) (name_next ts name n.0 named n.1)
-    (ap (λ r. r >>= λ w. Ok (Wake name w.0 w.1)) (waking_next version every burst n.0 is n.2))
+    (ap (λ (r : Result (Option ℕ × Option ℕ) Cause). r >>= λ (w : Option ℕ × Option ℕ). Ok (Wake name w.0 w.1))
+    (waking_next version every burst n.0 is n.2))
 
 command_next : (version : ℕ) (command : Command) (ts : List Text) → IsCommand version command
     → Front (command_forms version command) ts []
