@@ -1,9 +1,9 @@
 -- The words on a thread, command by command.
 use Rattle.std.proofs.Common.{◌≡◌, ℕ, ◌+◌, ◌-◌, ◌*◌, ◌/◌, ◌<◌, ◌≤◌, List, [], ◌∷◌, ◌++◌, true, false, drop, length}
-use Rattle.std.proofs.Common.{get_or, suc, refl, sym, ap, ◌∙◌, drop-cons, add-one, append_assoc, append-nil, take, length-drop}
+use Rattle.std.proofs.Common.{get_or, suc, refl, sym, ap, ◌∙◌, drop-cons, add-one, append_assoc, append-nil, take}
 use Rattle.std.proofs.Common.{arith}
 use Rattle.std.specs.Prelude.{None, if◌then◌else◌}
-use Rattle.std.proofs.lemmas.List.{drop_all, take_all}
+use Rattle.std.proofs.lemmas.List.{drop_all, take_all, length-drop}
 use Rattle.hls_text.specs.Lines.{Text}
 use Rattle.hls_chron.specs.Ticks.{one_if}
 use Rattle.hls_scenario.specs.declared.scenario.Command.{Command}
