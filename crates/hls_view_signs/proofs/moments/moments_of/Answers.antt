@@ -16,7 +16,7 @@ loop-at-init c =
     record {
       gathering = record { sources = c.in_ok-of.ensures; following = c.new.ensures.following content };
       moments = subst (AreMomentsOf content c.args.scale.now []) (sym c.new-2.ensures.items)
-          (moments_none content c.args.scale.now c.items-answered.result.now);
+          (moments_none content c.args.scale.now c.in_ok-notes.notes.items);
     }
 
 pub loop-at-preserved : goal.loop-at-preserved
