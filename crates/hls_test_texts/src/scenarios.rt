@@ -157,14 +157,22 @@ fn finds_the_faults_of_quanta(rt: HostRuntime) -> Result<(), Fail> {
 #[test]
 fn finds_the_faults_of_periods(rt: HostRuntime) -> Result<(), Fail> {
     let table = [
-        (1, b"at 0 wake a every 4 burst 2".as_slice(), Cause::Word),
+        (1u8, b"at 0 wake a every 4 burst 2".as_slice(), Cause::Word),
         (2, b"at 0 wake a every".as_slice(), Cause::Short),
         (2, b"at 0 wake a every 4".as_slice(), Cause::Short),
         (2, b"at 0 wake a every 4 burst".as_slice(), Cause::Short),
         (2, b"at 0 wake a every 0 burst 2".as_slice(), Cause::Number),
-        (2, b"at 0 wake a every 100001 burst 2".as_slice(), Cause::Number),
+        (
+            2,
+            b"at 0 wake a every 100001 burst 2".as_slice(),
+            Cause::Number,
+        ),
         (2, b"at 0 wake a every 4 burst 0".as_slice(), Cause::Number),
-        (2, b"at 0 wake a every 4 burst 100001".as_slice(), Cause::Number),
+        (
+            2,
+            b"at 0 wake a every 4 burst 100001".as_slice(),
+            Cause::Number,
+        ),
         (2, b"at 0 wake a every burst 2".as_slice(), Cause::Number),
         (2, b"at 0 wake a every 4 for 2".as_slice(), Cause::Word),
         (2, b"at 0 wake a evry 4 burst 2".as_slice(), Cause::Word),
