@@ -26,8 +26,7 @@ use Rattle.hls_legal.specs.Moment.{new_name}
 use Rattle.hls_core_journal.specs.Kept.{named_by}
 use Rattle.hls_core_stays.specs.Turnovers.{IsTurnover}
 use Rattle.hls_core_stays.specs.declared.turnover.Turnover.{Turnover}
-use Rattle.hls_core_stays.specs.declared.turnover.Turnover.TheVariants.{Nothing, Begins, Ends, Reseats, Renews}
-use Rattle.hls_core_stays.specs.declared.turnover.Turnover.TheVariants.{Rouses}
+use Rattle.hls_core_stays.specs.declared.turnover.Turnover.TheVariants as over
 use Rattle.hls_core.specs.Begun.{next_by}
 use Rattle.hls_core.specs.Left.{IsLeftOf, IsLeft}
 use Rattle.hls_core.specs.Inside.Outcomes.{IsOfSeats, ends}
@@ -162,8 +161,8 @@ abbrev Kept : (begun new : ℕ → Option Begun) → Turnover → Answer → Typ
 Kept begun new turnover answer = (c : ℕ) → new c ≡ cond (ends turnover answer c) None (begun c)
 
 module _ (begun new : ℕ → Option Begun) (h : Hierarchy) (listed : IsListed h) (seats : List Seated) where
-  forgot_one : (k id : ℕ) (name : Text) → HasName h k name → HasName h id name → Kept begun new (Ends id) (Done seats)
-      → Forgets begun new (End k)
+  forgot_one : (k id : ℕ) (name : Text) → HasName h k name → HasName h id name
+      → Kept begun new (over.Ends id) (Done seats) → Forgets begun new (End k)
   forgot_one k id name has other kept =
       let same : k ≡ id = listed.names k id name has other in (
         kept k ∙ ap (λ b. cond b None (begun k)) (eq-eqb k id same),
@@ -172,24 +171,22 @@ module _ (begun new : ℕ → Option Begun) (h : Hierarchy) (listed : IsListed h
 
   does_forget : (command : Command) (step : Step) (turnover : Turnover) → IsOfSeats command → Does h command step
       → IsTurnover h command turnover → Kept begun new turnover (Done seats) → Forgets begun new step
-  does_forget (said.Load name config perches) (Load k new_name set spare_ticks spare_marks held) Nothing of does
-      turns kept = kept
-  does_forget (said.Load name config perches) (Load k new_name set spare_ticks spare_marks held) _ of does turns kept
-      = absurd turns
+  does_forget (said.Load name config perches) (Load k own set ticks marks held) over.Nothing of does turns kept = kept
+  does_forget (said.Load name config perches) (Load k own set ticks marks held) _ of does turns kept = absurd turns
   does_forget (said.Load name config perches) _ turnover of does turns kept = absurd does
-  does_forget (said.Thread name perch) (Admit k new_name seat) Begins of does turns kept = kept
-  does_forget (said.Thread name perch) (Admit k new_name seat) _ of does turns kept = absurd turns
+  does_forget (said.Thread name perch) (Admit k own seat) over.Begins of does turns kept = kept
+  does_forget (said.Thread name perch) (Admit k own seat) _ of does turns kept = absurd turns
   does_forget (said.Thread name perch) _ turnover of does turns kept = absurd does
-  does_forget (said.End name) (End k) (Ends id) of does turns kept = forgot_one k id name does turns kept
-  does_forget (said.End name) (End k) Nothing of does turns kept = absurd (turns k does)
+  does_forget (said.End name) (End k) (over.Ends id) of does turns kept = forgot_one k id name does turns kept
+  does_forget (said.End name) (End k) over.Nothing of does turns kept = absurd (turns k does)
   does_forget (said.End name) (End k) _ of does turns kept = absurd turns
   does_forget (said.End name) _ turnover of does turns kept = absurd does
-  does_forget (said.Unload name) (Unload k) Nothing of does turns kept = kept
+  does_forget (said.Unload name) (Unload k) over.Nothing of does turns kept = kept
   does_forget (said.Unload name) (Unload k) _ of does turns kept = absurd turns
   does_forget (said.Unload name) _ turnover of does turns kept = absurd does
-  does_forget (said.Move name perch) (Move k seat below) Nothing of does turns kept = kept
-  does_forget (said.Move name perch) (Move k seat below) (Reseats id) of does turns kept = kept
-  does_forget (said.Move name perch) (Move k seat below) (Renews ids) of does turns kept = kept
+  does_forget (said.Move name perch) (Move k seat below) over.Nothing of does turns kept = kept
+  does_forget (said.Move name perch) (Move k seat below) (over.Reseats id) of does turns kept = kept
+  does_forget (said.Move name perch) (Move k seat below) (over.Renews ids) of does turns kept = kept
   does_forget (said.Move name perch) (Move k seat below) _ of does turns kept = absurd turns
   does_forget (said.Move name perch) _ turnover of does turns kept = absurd does
   does_forget (said.Wake name every burst) step turnover of does turns kept = absurd of
@@ -197,11 +194,12 @@ module _ (begun new : ℕ → Option Begun) (h : Hierarchy) (listed : IsListed h
 
 -- what is forgotten of a thread that was ended
 pub forgot_here : (begun new : ℕ → Option Begun) (turnover : Turnover) (answer : Answer) (id : ℕ) (seats : List Seated)
-    → turnover ≡ Ends id → answer ≡ Done seats → new id ≡ None → ((k : ℕ) → k ≢ id → new k ≡ begun k)
+    → turnover ≡ over.Ends id → answer ≡ Done seats → new id ≡ None → ((k : ℕ) → k ≢ id → new k ≡ begun k)
     → Kept begun new turnover answer
 forgot_here begun new turnover answer id seats of done here others c =
     by (cases_eq c id)
-    ∙ sym (ap (λ t. cond (ends t answer c) None (begun c)) of ∙ ap (λ a. cond (ends (Ends id) a c) None (begun c)) done)
+    ∙ sym (ap (λ t. cond (ends t answer c) None (begun c)) of
+    ∙ ap (λ a. cond (ends (over.Ends id) a c) None (begun c)) done)
   where
     by : (c ≡ id) ⊎ (c ≢ id) → new c ≡ cond (c == id) None (begun c)
     by (inl same) = ap new same ∙ here ∙ sym (ap (λ b. cond b None (begun c)) (eq-eqb c id same))
@@ -209,32 +207,32 @@ forgot_here begun new turnover answer id seats of done here others c =
 
 -- and nothing of others
 pub forgot_none : (begun : ℕ → Option Begun) (turnover : Turnover) (answer : Answer)
-    → ((id : ℕ) → turnover ≢ Ends id) → Kept begun begun turnover answer
-forgot_none begun Nothing answer other c = refl
-forgot_none begun Begins answer other c = refl
-forgot_none begun (Ends id) answer other c = absurd (other id refl)
-forgot_none begun (Reseats id) answer other c = refl
-forgot_none begun (Renews ids) answer other c = refl
-forgot_none begun (Rouses id) answer other c = refl
+    → ((id : ℕ) → turnover ≢ over.Ends id) → Kept begun begun turnover answer
+forgot_none begun over.Nothing answer other c = refl
+forgot_none begun over.Begins answer other c = refl
+forgot_none begun (over.Ends id) answer other c = absurd (other id refl)
+forgot_none begun (over.Reseats id) answer other c = refl
+forgot_none begun (over.Renews ids) answer other c = refl
+forgot_none begun (over.Rouses id) answer other c = refl
 
 pub forgot_refused : (begun : ℕ → Option Begun) (turnover : Turnover) (answer : Answer)
     → ((seats : List Seated) → answer ≢ Done seats) → Kept begun begun turnover answer
-forgot_refused begun Nothing answer other c = refl
-forgot_refused begun Begins answer other c = refl
-forgot_refused begun (Ends id) (Done seats) other c = absurd (other seats refl)
-forgot_refused begun (Ends id) (Refused refusal) other c = refl
-forgot_refused begun (Reseats id) answer other c = refl
-forgot_refused begun (Renews ids) answer other c = refl
-forgot_refused begun (Rouses id) answer other c = refl
+forgot_refused begun over.Nothing answer other c = refl
+forgot_refused begun over.Begins answer other c = refl
+forgot_refused begun (over.Ends id) (Done seats) other c = absurd (other seats refl)
+forgot_refused begun (over.Ends id) (Refused refusal) other c = refl
+forgot_refused begun (over.Reseats id) answer other c = refl
+forgot_refused begun (over.Renews ids) answer other c = refl
+forgot_refused begun (over.Rouses id) answer other c = refl
 
 refused_keeps : (begun new : ℕ → Option Begun) (turnover : Turnover) (refusal : Refusal)
     → Kept begun new turnover (Refused refusal) → (c : ℕ) → new c ≡ begun c
-refused_keeps begun new Nothing refusal kept = kept
-refused_keeps begun new Begins refusal kept = kept
-refused_keeps begun new (Ends id) refusal kept = kept
-refused_keeps begun new (Reseats id) refusal kept = kept
-refused_keeps begun new (Renews ids) refusal kept = kept
-refused_keeps begun new (Rouses id) refusal kept = kept
+refused_keeps begun new over.Nothing refusal kept = kept
+refused_keeps begun new over.Begins refusal kept = kept
+refused_keeps begun new (over.Ends id) refusal kept = kept
+refused_keeps begun new (over.Reseats id) refusal kept = kept
+refused_keeps begun new (over.Renews ids) refusal kept = kept
+refused_keeps begun new (over.Rouses id) refusal kept = kept
 
 answers_forget : (begun new : ℕ → Option Begun) (h : Hierarchy) (command : Command) (answer : Answer) (step : Step)
     (turnover : Turnover) → IsListed h → IsOfSeats command → Answers h command answer step

@@ -118,12 +118,13 @@ tick-requires g c =
 
 pub overflow_add-end : goal.overflow_add-end
 overflow_add-end g c =
-    ticks_fit _ (λ z. (goal.Scheduler-dyn g z).choice z.1) c.args.tree.now c.first_release-first.new.self
+    let fit = ticks_fit _ (λ z. (goal.Scheduler-dyn g z).choice z.1) c.args.tree.now c.first_release-first.new.self
     c.args.stays.now c.args.journal.now c.args.most c.standing-ticks.result c.now-now.result (let free =
     c.up_to-free.ensures.most in let ticks = c.standing-ticks.ensures.most in omega (arith, free, ticks))
     c.now-now.ensures (known_stands _ (λ z. (goal.Scheduler-dyn g z).choice z.1) c.args.tree.now c.args.bursts.now
     c.first_release-first.new.self c.args.stays.now c.args.journal.now c.args.most c.first_release-first.ensures.same
-    c.requires.stands)
+    c.requires.stands) in
+    omega (arith, fit)
 
 pub release-requires-clause-stands : goal.release-requires-clause-stands
 release-requires-clause-stands g c =

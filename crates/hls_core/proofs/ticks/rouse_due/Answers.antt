@@ -1,5 +1,3 @@
-use Rattle.std.proofs.Common.{◌∙◌, sym, ap, true, cond}
-use Rattle.hls_tree.specs.Trees.{ready_of}
 use Rattle.hls_core.proofs.Rousing.{thread_stands, may_release, one_follows}
 use Rattle.hls_core.proofs.ticks.rouse_due.Goals as goal
 
@@ -10,3 +8,8 @@ pub release-requires : goal.release-requires
 release-requires g c =
     may_release _ c.args.tree.now c.set_ready.new.self c.args.stays.now c.args.id c.requires c.set_ready.ensures.tree
     c.set_ready.ensures.others
+
+pub returns-then-is_due-clause-stays : goal.returns-then-is_due-clause-stays
+returns-then-is_due-clause-stays g c =
+    one_follows _ c.args.tree.now c.set_ready.new.self c.args.stays.now c.args.id c.release.new.self
+    c.set_ready.ensures.tree c.set_ready.ensures.others c.release.ensures
