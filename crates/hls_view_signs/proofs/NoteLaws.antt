@@ -86,7 +86,7 @@ words_noted_more s name words i w old mid new there one so_far = record {
 pub words_noted_all : (s : Scale) (name : Text) (words : List Word) (i : ℕ) (old new : List Note) → length words ≤ i
     → AreNoted s name (take i words) old new → AreNoted s name words old new
 words_noted_all s name words i old new end are =
-    subst (λ (l : List Word). AreNoted s name l old new) (take_all words i end) are
+    subst (λ (l : List Word). AreNoted s name l old new) (take_all i words end) are
 
 -- ---- a command
 

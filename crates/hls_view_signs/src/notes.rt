@@ -62,16 +62,16 @@ fn put_note(notes: &mut Vec<Note>, scale: &Scale, note: Note) -> Result<(), Allo
 fn put_words(
     notes: &mut Vec<Note>,
     scale: &Scale,
-    name: Name,
+    name: &Name,
     words: &[Word],
 ) -> Result<(), AllocError>
-    ensures { OnOk result (told.AreNoted scale.now name words.now notes.old.items notes.new.items) }
+    ensures { OnOk result (told.AreNoted scale.now name.now words.now notes.old.items notes.new.items) }
 {
     for at in 0..words.len() {
         let tick = words[at].tick;
         let note = Note {
             tick,
-            name: Some(name),
+            name: Some(*name),
         };
         put_note(notes, scale, note)?;
     }
@@ -93,14 +93,16 @@ fn put_command(
 {
     let answered = report.answered.items();
     let a = &answered[place];
-    let name = roused(a);
-    let tick = a.tick;
-    put_note(notes, scale, Note { tick, name })?;
-    if let Some(name) = name {
+    let note = Note {
+        tick: a.tick,
+        name: roused(a),
+    };
+    put_note(notes, scale, note)?;
+    if let Some(name) = roused(a) {
         let mut words = Vec::new(alloc);
         let after = &answered[place + 1..];
         put_later(&mut words, report.horizon, a, after, &name)?;
-        put_words(notes, scale, name, &words)?;
+        put_words(notes, scale, &name, &words)?;
     }
     Ok(())
 }
