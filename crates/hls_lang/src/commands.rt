@@ -6,7 +6,7 @@ ghost use Rattle.hls_lang.specs.Words.{Gives, Keeps};
 ghost use Rattle.hls_lang.specs.Reading.{join_at, one_perch_at, load_by, load_at, thread_at, move_at};
 ghost use Rattle.hls_lang.specs.Reading.{last_name_at};
 ghost use Rattle.hls_lang.specs.Reading.{every_at, waking_at, wake_at, command_by, command_at, item_at};
-ghost use Rattle.hls_lang.specs.Inside.Steps.{last_ticks_at, kept_at, stamp_at};
+ghost use Rattle.hls_lang.specs.Inside.Steps.{last_burst_at, kept_at, stamp_at};
 ghost use Rattle.hls_scenario.specs.declared.scenario.Command.TheVariants.{Wake};
 
 use crate::line_error::LineError;
@@ -133,13 +133,13 @@ fn last_name(line: &[u8]) -> Result<Name, Cause>
     }
 }
 
-/// A number of ticks that ends the line.
-fn last_ticks(line: &[u8]) -> Result<u32, Cause>
-    ensures { Gives (λ ticks. ticks) result (last_ticks_at (tokens_of line.now)) }
+/// A burst that ends the line.
+fn last_burst(line: &[u8]) -> Result<Option<u32>, Cause>
+    ensures { Gives (λ burst. burst) result (last_burst_at (tokens_of line.now)) }
 {
     let (ticks, rest) = number(line, 1, MOST_BURST)?;
     end(rest)?;
-    Ok(ticks)
+    Ok(Some(ticks))
 }
 
 /// A period, and behind it a burst that ends the line.
@@ -149,7 +149,8 @@ fn every(line: &[u8]) -> Result<(Option<u32>, Option<u32>), Cause>
 {
     let (period, rest) = number(line, 1, MOST_PERIOD)?;
     let rest = word(rest, b"burst")?;
-    let ticks = last_ticks(rest)?;
+    let (ticks, rest) = number(rest, 1, MOST_BURST)?;
+    end(rest)?;
     Ok((Some(period), Some(ticks)))
 }
 
@@ -164,8 +165,8 @@ fn waking(version: u8, line: &[u8]) -> Result<(Option<u32>, Option<u32>), Cause>
     if version != 1 && found == b"every".as_slice() {
         every(rest)
     } else if found == b"for".as_slice() {
-        let ticks = last_ticks(rest)?;
-        Ok((None, Some(ticks)))
+        let burst = last_burst(rest)?;
+        Ok((None, burst))
     } else {
         Err(Cause::Word)
     }

@@ -1,5 +1,5 @@
 -- What the reader's private functions do.
-use Rattle.std.specs.Prelude.{ℕ, ◌==◌, ◌&&◌, Bool, true, not, fold, List, [], ◌∷◌, ◌++◌, codes, Result, Ok}
+use Rattle.std.specs.Prelude.{ℕ, ◌==◌, ◌&&◌, Bool, true, not, fold, List, [], ◌∷◌, ◌++◌, codes, Option, Some, Result, Ok}
 use Rattle.hls_text.specs.Lines.{Text, may_stand}
 use Rattle.hls_scenario.specs.declared.scenario.Command.{Command}
 use Rattle.hls_scenario.specs.declared.scenario.Item.{Item}
@@ -18,9 +18,9 @@ are_plain line = fold (λ all b. all && is_plain b) true line
 abbrev pub stamp_at : (horizon last : ℕ) → List Text → Found ℕ
 stamp_at horizon last ts = word_at (codes "at") ts >>= λ r. tick_at horizon last r
 
--- a number of ticks that ends the line
-abbrev pub last_ticks_at : List Text → Result ℕ Cause
-last_ticks_at ts = number_at 1 100000 ts >>= λ n. no_more n.1 >>= λ u. Ok n.0
+-- a burst that ends the line
+abbrev pub last_burst_at : List Text → Result (Option ℕ) Cause
+last_burst_at ts = number_at 1 100000 ts >>= λ n. no_more n.1 >>= λ u. Ok (Some n.0)
 
 -- the items with one more
 abbrev pub with_command : List Item → ℕ → Command → Result (List Item) Cause
