@@ -17,9 +17,9 @@ loop-place-preserved c =
     let notes = c.args.notes.now in
     let place = c.loop-place.place in
     let note = c.index-notes-place.result in
-    heard_more notes c.args.tick place note c.loop-place.names.items c.put_name.new.names.items
+    heard_more notes c.args.tick place note c.loop-place.names.items c.push.new.self.items
     (slice_get_read notes (length notes) place note refl c.loop-place-test.true c.index-notes-place.is)
-    c.in_ok-put_name.ensures c.loop-place.invariant
+    c.in_ok-push.ensures.items c.loop-place.invariant
 
 pub returns : goal.returns
 returns c =
