@@ -80,14 +80,13 @@ fn put_releases(
 {
     let answered = report.answered.items();
     let a = &answered[place];
-    if !is_done(&a.answer) {
-        return Ok(());
+    if is_done(&a.answer) {
+        let name = name_in(&a.command);
+        let mut words = Vec::new(alloc);
+        put_later(&mut words, report.horizon, a, &answered[place + 1..], &name)?;
+        put_words(notes, scale, &name, &words)?;
     }
-    let name = name_in(&a.command);
-    let after = &answered[place + 1..];
-    let mut words = Vec::new(alloc);
-    put_later(&mut words, report.horizon, a, after, &name)?;
-    put_words(notes, scale, &name, &words)
+    Ok(())
 }
 
 fn is_done(answer: &Answer) -> bool
@@ -112,8 +111,10 @@ fn put_command(
     ensures noted { OnOk result (told.FirstIsNoted report.now.horizon scale.now notes.new.items
         (drop place report.now.answered)) }
 {
-    let a = &report.answered.items()[place];
-    put_note(notes, scale, a.tick, &name_in(&a.command))?;
+    let answered = report.answered.items();
+    let a = &answered[place];
+    let name = name_in(&a.command);
+    put_note(notes, scale, a.tick, &name)?;
     put_releases(alloc, notes, report, scale, place)?;
     Ok(())
 }
