@@ -174,7 +174,7 @@ every_one : (horizon : ℕ) (s : Scale) (all : List Answered) (i : ℕ) (notes :
 every_one horizon s all i notes end each k = elim (cases_lt k i) [
   | inl less ↦ each k less
   | inr more ↦
-      let none : drop k all ≡ [] = drop_all all k (omega (arith, more, end)) in
+      let none : drop k all ≡ [] = drop_all k all (omega (arith, more, end)) in
       subst (FirstIsNoted horizon s notes) (sym none) tt
 ]
 
@@ -238,11 +238,13 @@ module _ (horizon : ℕ) (s : Scale) (notes : List Note) (t : ℕ) (from : s.fro
 none_passes : (f : Note → Bool) (notes : List Note) → list_any f notes ≡ false
     → AllByRecursion (λ (n : Note). f n ≡ false) notes
 none_passes f [] off = tt
-none_passes f (n ∷ notes) off = by (f n) refl off
+none_passes f (n ∷ notes) off = by (f n) refl (none_passes f notes) off
   where
-    by : (b : Bool) → f n ≡ b → (b || list_any f notes) ≡ false → AllByRecursion (λ (m : Note). f m ≡ false) (n ∷ notes)
-    by true on off = absurd (let no : true ≡ false = off in cc)
-    by false here off = (here, none_passes f notes off)
+    by : (b : Bool) → f n ≡ b
+        → (list_any f notes ≡ false → AllByRecursion (λ (m : Note). f m ≡ false) notes)
+        → (b || list_any f notes) ≡ false → AllByRecursion (λ (m : Note). f m ≡ false) (n ∷ notes)
+    by true on rest off = absurd (let no : true ≡ false = off in cc)
+    by false here rest off = (here, rest off)
 
 passes_none : (f : Note → Bool) (notes : List Note) → AllByRecursion (λ (n : Note). f n ≡ false) notes
     → list_any f notes ≡ false
