@@ -50,7 +50,7 @@ dropped_at all i a lt is = rw add-one (drop-cons all i a lt ∙ ap (λ x. x ∷ 
 -- a slice to the end
 pub tail_at : {A : Type 0} (all : List A) (n : ℕ) → take (length all - n) (drop n all) ≡ drop n all
 tail_at all n =
-    let long = length-drop n all in take_all (drop n all) (length all - n) (omega (arith, long))
+    let long = length-drop n all in take_all (length all - n) (drop n all) (omega (arith, long))
 
 -- the words from a command on that says something
 pub said_at : (horizon : ℕ) (name : Text) (all : List Answered) (i : ℕ) (a : Answered) → i < length all

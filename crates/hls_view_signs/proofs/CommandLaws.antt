@@ -3,6 +3,7 @@ use Rattle.std.proofs.Common.{◌≡◌, ℕ, ◌+◌, ◌-◌, List, [], ◌∷
 use Rattle.std.proofs.Common.{◌&&◌, ◌≤◌, inl, inr, drop}
 use Rattle.std.specs.Prelude.{Option, Some, None, not, nat_lt, slice_get}
 use Rattle.std.specs.List.{list_any}
+use Rattle.std.specs.Str.{bytes_eq}
 use Rattle.std.proofs.lemmas.List.Folds.{list_any-append}
 use Rattle.hls_text.specs.Lines.{Text}
 use Rattle.hls_chron.specs.Ticks.{count}
@@ -28,7 +29,7 @@ use Rattle.hls_view_signs.specs.declared.event.Event.{Event}
 use Rattle.hls_view_signs.specs.declared.event.Event.TheVariants.{Begun, Woken, Dropped}
 use Rattle.hls_view_signs.specs.Happenings as told
 use Rattle.hls_view_signs.specs.declared.notes.Note.{Note}
-use Rattle.hls_view_signs.specs.Inside.Notes.{is_named, is_in, is_noted, word_in, comes_in, AreNotes}
+use Rattle.hls_view_signs.specs.Inside.Notes.{is_in, is_noted, word_in, comes_in, AreNotes}
 use Rattle.hls_view_signs.proofs.Tests.{either, or_left, or_right, first_of_two, second_of_two, any_gives, any_looser}
 use Rattle.hls_view_signs.proofs.Tests.{any_at}
 
@@ -97,7 +98,7 @@ module _ (c : Content) (scale : Scale) (notes : List Note) (are : AreNotes c sca
         → list_any (is_in t) notes ≡ true
     word_noted name k some =
         any_looser (is_noted t name) (is_in t) notes
-        (λ note on. first_of_two (is_in t note) (is_named name note.name) on) (are.words t name k from to some)
+        (λ note on. first_of_two (is_in t note) (bytes_eq note.name name) on) (are.words t name k from to some)
 
     node_noted : (event : Event) (label : Label) (s : Standing) → told.happens c t event label s ≡ true
         → list_any (is_in t) notes ≡ true

@@ -171,6 +171,6 @@ pub moments_all : (c : Content) (s : Scale) (notes : List Note) (i : ℕ) (all :
 moments_all c s notes i all end are of = record {
   are = of.are;
   each = λ t from to event row on. of.each t from to
-      (subst (λ (l : List Note). list_any (is_in t) l ≡ true) (sym (take_all notes i end))
+      (subst (λ (l : List Note). list_any (is_in t) l ≡ true) (sym (take_all i notes end))
       (happens_noted c s notes are t from to event row on));
 }

@@ -1,7 +1,7 @@
 -- Notes of ticks, one by one and all together.
 use Rattle.std.proofs.Common.{◌≡◌, ℕ, zero, suc, ◌+◌, ◌<◌, ◌≤◌, ◌==◌, List, [], ◌∷◌, ◌++◌, Bool, true, false, refl, sym}
 use Rattle.std.proofs.Common.{ap, ◌∙◌, ◌&&◌, ◌||◌, ◌⊎◌, inl, inr, cond, drop, take, length, get_or, subst, arith}
-use Rattle.std.specs.Prelude.{Option, Some, None, All, nat_le, slice_get}
+use Rattle.std.specs.Prelude.{Some, All, nat_le, slice_get}
 use Rattle.std.specs.List.{list_any, AllByRecursion}
 use Rattle.std.specs.List.Sorted.{IsPermutation, IsNonDecreasingBy}
 use Rattle.std.specs.Str.{bytes_eq}
@@ -15,32 +15,35 @@ use Rattle.std.proofs.lemmas.Slice.Eq.{bytes_eq-Decides}
 use Rattle.hls_text.specs.Lines.{Text}
 use Rattle.hls_report_text.specs.declared.report.Answered.{Answered}
 use Rattle.hls_report_text.specs.Content.{Content}
-use Rattle.hls_legal.specs.Commands.{has_done, rouses}
+use Rattle.hls_legal.specs.Commands.{is_done, has_done, rouses}
 use Rattle.hls_view_jobs.specs.declared.job.Word.{Word}
 use Rattle.hls_view_jobs.specs.Words.{sort_of, word_of, is_end, first, repeat_of, last_by, later, said_by, words_on}
 use Rattle.hls_view_jobs.proofs.WordLaws.{dropped_at}
 use Rattle.hls_view_scale.specs.declared.scale.Scale.{Scale}
 use Rattle.hls_view_signs.specs.declared.notes.Note.{Note}
-use Rattle.hls_view_signs.specs.Inside.Notes.{is_named, is_in, is_noted, word_in, comes_in, is_shown, IsGrown, IsNoted}
-use Rattle.hls_view_signs.specs.Inside.Notes.{AreNoted, words_by, FirstIsNoted, AreInOrder, AreNotes}
-use Rattle.hls_view_signs.proofs.Tests.{either, or_left, or_right, both_of_two}
+use Rattle.hls_view_signs.specs.Inside.Notes.{is_in, is_noted, word_in, comes_in, is_shown, IsGrown, IsNoted}
+use Rattle.hls_view_signs.specs.Inside.Notes.{AreNoted, AreReleasesNoted, FirstIsNoted, AreInOrder, AreNotes}
+use Rattle.hls_view_signs.proofs.Tests.{either, or_left, or_right, first_of_two, second_of_two, both_of_two}
 
 -- ---- one note
 
-pub noted_put : (s : Scale) (note : Note) (old new : List Note) → new ≡ old ++ note ∷ [] → IsNoted s note old new
-noted_put s note old new put = record {
-  grown = λ f on. ap (list_any f) put ∙ list_any-append f old (note ∷ [])
-      ∙ or_left (list_any f old) (f note || false) on;
-  there = λ from to f on. ap (list_any f) put ∙ list_any-append f old (note ∷ [])
-      ∙ or_right (list_any f old) (f note || false) (or_left (f note) false on);
-}
+pub noted_put : (s : Scale) (tick : ℕ) (name : Text) (old new : List Note)
+    → new ≡ old ++ record { tick = tick; name = name } ∷ [] → IsNoted s tick name old new
+noted_put s tick name old new put =
+    let note : Note = record { tick = tick; name = name } in
+    record {
+      grown = λ f on. ap (list_any f) put ∙ list_any-append f old (note ∷ [])
+          ∙ or_left (list_any f old) (f note || false) on;
+      there = λ from to f on. ap (list_any f) put ∙ list_any-append f old (note ∷ [])
+          ∙ or_right (list_any f old) (f note || false) (or_left (f note) false on);
+    }
 
-pub noted_not : (s : Scale) (note : Note) (old : List Note) → is_shown s note.tick ≡ false → IsNoted s note old old
-noted_not s note old off = record {
+pub noted_not : (s : Scale) (tick : ℕ) (name : Text) (old : List Note) → is_shown s tick ≡ false
+    → IsNoted s tick name old old
+noted_not s tick name old off = record {
   grown = λ f on. on;
-  there = λ from to f on. absurd (both_ways (is_shown s note.tick) off
-      (both_of_two (nat_le s.from note.tick) (nat_le note.tick s.to) (le-leb s.from note.tick from)
-      (le-leb note.tick s.to to)));
+  there = λ from to f on. absurd (both_ways (is_shown s tick) off
+      (both_of_two (nat_le s.from tick) (nat_le tick s.to) (le-leb s.from tick from) (le-leb tick s.to to)));
 }
 
 -- ---- words
@@ -53,10 +56,8 @@ words_noted_none s name words old =
 same_name : (name : Text) → bytes_eq name name ≡ true
 same_name name = (bytes_eq-Decides name name).1 refl
 
-note_of : (t : ℕ) (name : Text) (note : Note) → note.tick ≡ t → note.name ≡ Some name → is_noted t name note ≡ true
-note_of t name note now named =
-    both_of_two (note.tick == t) (is_named name note.name) (eq-eqb note.tick t now)
-    (ap (is_named name) named ∙ same_name name)
+note_of : (t tick : ℕ) (name : Text) → tick ≡ t → is_noted t name (record { tick = tick; name = name }) ≡ true
+note_of t tick name now = both_of_two (tick == t) (bytes_eq name name) (eq-eqb tick t now) (same_name name)
 
 taken : (words : List Word) (i : ℕ) (w : Word) → slice_get words i ≡ Some w → take (i + 1) words ≡ take i words ++ w ∷ []
 taken words i w there =
@@ -64,7 +65,7 @@ taken words i w there =
     ∙ ap (λ (x : Word). take i words ++ x ∷ []) (get_or_from_slice_get words i w w there)
 
 pub words_noted_more : (s : Scale) (name : Text) (words : List Word) (i : ℕ) (w : Word) (old mid new : List Note)
-    → slice_get words i ≡ Some w → IsNoted s (record { tick = w.tick; name = Some name }) mid new
+    → slice_get words i ≡ Some w → IsNoted s w.tick name mid new
     → AreNoted s name (take i words) old mid → AreNoted s name (take (i + 1) words) old new
 words_noted_more s name words i w old mid new there one so_far = record {
   grown = λ f on. one.grown f (so_far.grown f on);
@@ -77,7 +78,7 @@ words_noted_more s name words i w old mid new there one so_far = record {
           | inl at ↦
               let now : w.tick ≡ t = eqb-true w.tick t at in
               one.there (omega (arith, now, from)) (omega (arith, now, to)) (is_noted t name)
-              (note_of t name (record { tick = w.tick; name = Some name }) now refl)
+              (note_of t w.tick name now)
           | inr off ↦ absurd (let wrong : false ≡ true = off in cc)
         ]
       ];
@@ -86,45 +87,68 @@ words_noted_more s name words i w old mid new there one so_far = record {
 pub words_noted_all : (s : Scale) (name : Text) (words : List Word) (i : ℕ) (old new : List Note) → length words ≤ i
     → AreNoted s name (take i words) old new → AreNoted s name words old new
 words_noted_all s name words i old new end are =
-    subst (λ (l : List Word). AreNoted s name l old new) (take_all words i end) are
+    subst (λ (l : List Word). AreNoted s name l old new) (take_all i words end) are
 
 -- ---- a command
 
-pub first_noted : (horizon : ℕ) (s : Scale) (a : Answered) (after : List Answered) (other : Text) (words : List Word)
-    (old mid new : List Note) → ((name : Text) → has_done (rouses name) a ≡ is_named name (Some other))
-    → words ≡ later a.tick (last_by horizon (first (words_on horizon other after))) (repeat_of a.command)
-    → IsNoted s (record { tick = a.tick; name = Some other }) old mid → AreNoted s other words mid new
-    → FirstIsNoted horizon s new (a ∷ after)
-first_noted horizon s a after other words old mid new named are one more = (
-  λ from to. more.grown (is_in a.tick) (one.there from to (is_in a.tick) (eq-eqb a.tick a.tick refl)),
-  λ t name from to on some.
-      let same : other ≡ name = (bytes_eq-Decides other name).0 (sym (named name) ∙ on) in
-      subst (λ (n : Text). list_any (is_noted t n) new ≡ true) same
-      (said t from to
-      (subst (λ (n : Text). list_any (word_in t) (words_by horizon n a after) ≡ true) (sym same) some)),
-)
-  where
-    said : (t : ℕ) → s.from ≤ t → t ≤ s.to → list_any (word_in t) (words_by horizon other a after) ≡ true
-        → list_any (is_noted t other) new ≡ true
-    said t from to some =
-        let said_later : List Word =
-        later a.tick (last_by horizon (first (words_on horizon other after))) (repeat_of a.command) in
-        elim (either (word_in t (word_of a)) (list_any (word_in t) said_later) some) [
-          | inl here ↦
-              let now : a.tick ≡ t = eqb-true a.tick t here in
-              more.grown (is_noted t other)
-              (one.there (omega (arith, now, from)) (omega (arith, now, to)) (is_noted t other)
-              (note_of t other (record { tick = a.tick; name = Some other }) now refl))
-          | inr there ↦ more.there t from to (ap (list_any (word_in t)) are ∙ there)
-        ]
+pub releases_none : (horizon : ℕ) (s : Scale) (a : Answered) (after : List Answered) (all : List Answered)
+    (old : List Note) → all ≡ a ∷ after → is_done a.answer ≡ false → AreReleasesNoted horizon s old old all
+releases_none horizon s a after all old is off = record {
+  grown = λ f on. on;
+  there = λ b rest split t name from to on some.
+      let same : a ≡ b = (let e = sym is ∙ split in cc) in
+      let done : is_done a.answer ≡ true =
+      subst (λ (x : Answered). is_done x.answer ≡ true) (sym same)
+      (first_of_two (is_done b.answer) (rouses name b.command) on) in
+      absurd (both_ways (is_done a.answer) off done);
+}
 
-pub first_alone : (horizon : ℕ) (s : Scale) (a : Answered) (after : List Answered) (old new : List Note)
-    → ((name : Text) → has_done (rouses name) a ≡ is_named name None)
-    → IsNoted s (record { tick = a.tick; name = None }) old new → FirstIsNoted horizon s new (a ∷ after)
-first_alone horizon s a after old new named one = (
-  λ from to. one.there from to (is_in a.tick) (eq-eqb a.tick a.tick refl),
-  λ t name from to on some. absurd (both_ways (has_done (rouses name) a) (named name) on),
-)
+pub releases_put : (horizon : ℕ) (s : Scale) (a : Answered) (after : List Answered) (all : List Answered) (other : Text)
+    (words : List Word) (old new : List Note) → all ≡ a ∷ after
+    → ((name : Text) → rouses name a.command ≡ true → bytes_eq other name ≡ true)
+    → words ≡ later a.tick (last_by horizon (first (words_on horizon other after))) (repeat_of a.command)
+    → AreNoted s other words old new → AreReleasesNoted horizon s old new all
+releases_put horizon s a after all other words old new is named are more = record {
+  grown = more.grown;
+  there = λ b rest split t name from to on some.
+      let e : a ∷ after ≡ b ∷ rest = sym is ∙ split in
+      let same : a ≡ b = cc in
+      let behind : after ≡ rest = cc in
+      let rouse : rouses name a.command ≡ true =
+      subst (λ (x : Answered). rouses name x.command ≡ true) (sym same)
+      (second_of_two (is_done b.answer) (rouses name b.command) on) in
+      let who : other ≡ name = (bytes_eq-Decides other name).0 (named name rouse) in
+      let said : list_any (word_in t) (later a.tick (last_by horizon (first (words_on horizon other after)))
+      (repeat_of a.command)) ≡ true =
+      subst (λ (n : Text). list_any (word_in t) (later a.tick (last_by horizon (first (words_on horizon n after)))
+      (repeat_of a.command)) ≡ true) (sym who)
+      (subst (λ (l : List Answered). list_any (word_in t) (later a.tick
+      (last_by horizon (first (words_on horizon name l))) (repeat_of a.command)) ≡ true) (sym behind)
+      (subst (λ (x : Answered). list_any (word_in t) (later x.tick
+      (last_by horizon (first (words_on horizon name rest))) (repeat_of x.command)) ≡ true) (sym same) some)) in
+      subst (λ (n : Text). list_any (is_noted t n) new ≡ true) who
+      (more.there t from to (ap (list_any (word_in t)) are ∙ said));
+}
+
+pub first_noted : (horizon : ℕ) (s : Scale) (a : Answered) (after : List Answered) (all : List Answered) (other : Text)
+    (old mid new : List Note) → all ≡ a ∷ after
+    → ((name : Text) → rouses name a.command ≡ true → bytes_eq other name ≡ true)
+    → IsNoted s a.tick other old mid → AreReleasesNoted horizon s mid new all → FirstIsNoted horizon s new all
+first_noted horizon s a after all other old mid new is named one more =
+    subst (FirstIsNoted horizon s new) (sym is) (
+      λ from to. more.grown (is_in a.tick) (one.there from to (is_in a.tick) (eq-eqb a.tick a.tick refl)),
+      λ t name from to on some.
+          elim (either (word_in t (word_of a)) (list_any (word_in t) (later a.tick
+          (last_by horizon (first (words_on horizon name after))) (repeat_of a.command))) some) [
+            | inl here ↦
+                let now : a.tick ≡ t = eqb-true a.tick t here in
+                let rouse = second_of_two (is_done a.answer) (rouses name a.command) on in
+                more.grown (is_noted t name)
+                (one.there (omega (arith, now, from)) (omega (arith, now, to)) (is_noted t name)
+                (both_of_two (a.tick == t) (bytes_eq other name) here (named name rouse)))
+            | inr there ↦ more.there a after is t name from to on there
+          ],
+    )
 
 -- ---- command by command
 
@@ -150,7 +174,7 @@ every_one : (horizon : ℕ) (s : Scale) (all : List Answered) (i : ℕ) (notes :
 every_one horizon s all i notes end each k = elim (cases_lt k i) [
   | inl less ↦ each k less
   | inr more ↦
-      let none : drop k all ≡ [] = drop_all all k (omega (arith, more, end)) in
+      let none : drop k all ≡ [] = drop_all k all (omega (arith, more, end)) in
       subst (FirstIsNoted horizon s notes) (sym none) tt
 ]
 
@@ -214,11 +238,13 @@ module _ (horizon : ℕ) (s : Scale) (notes : List Note) (t : ℕ) (from : s.fro
 none_passes : (f : Note → Bool) (notes : List Note) → list_any f notes ≡ false
     → AllByRecursion (λ (n : Note). f n ≡ false) notes
 none_passes f [] off = tt
-none_passes f (n ∷ notes) off = by (f n) refl off
+none_passes f (n ∷ notes) off = by (f n) refl (none_passes f notes) off
   where
-    by : (b : Bool) → f n ≡ b → (b || list_any f notes) ≡ false → AllByRecursion (λ (m : Note). f m ≡ false) (n ∷ notes)
-    by true on off = absurd (let no : true ≡ false = off in cc)
-    by false here off = (here, none_passes f notes off)
+    by : (b : Bool) → f n ≡ b
+        → (list_any f notes ≡ false → AllByRecursion (λ (m : Note). f m ≡ false) notes)
+        → (b || list_any f notes) ≡ false → AllByRecursion (λ (m : Note). f m ≡ false) (n ∷ notes)
+    by true on rest off = absurd (let no : true ≡ false = off in cc)
+    by false here rest off = (here, rest off)
 
 passes_none : (f : Note → Bool) (notes : List Note) → AllByRecursion (λ (n : Note). f n ≡ false) notes
     → list_any f notes ≡ false

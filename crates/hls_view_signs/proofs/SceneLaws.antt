@@ -1,10 +1,11 @@
 -- Who is told something in a tick, and to whom something happens.
-use Rattle.std.proofs.Common.{◌≡◌, ℕ, suc, ◌+◌, ◌<◌, ◌≤◌, ◌==◌, List, [], ◌∷◌, Bool, true, false, refl, sym, ap}
+use Rattle.std.proofs.Common.{◌≡◌, ℕ, suc, ◌+◌, ◌<◌, ◌≤◌, ◌==◌, List, [], ◌∷◌, ◌++◌, Bool, true, false, refl, sym, ap}
 use Rattle.std.proofs.Common.{◌∙◌, ◌||◌, inl, inr, cond, drop, length, get_or, subst, arith}
 use Rattle.std.specs.Prelude.{Option, Some, None, slice_get}
 use Rattle.std.specs.List.{list_any}
 use Rattle.std.specs.Str.{bytes_eq}
 use Rattle.std.proofs.lemmas.Bool.{cases_eq, cases_lt, eqb-true}
+use Rattle.std.proofs.lemmas.List.Folds.{list_any-append}
 use Rattle.std.proofs.lemmas.Option.{slice_get_within}
 use Rattle.hls_text.specs.Lines.{Text}
 use Rattle.hls_report_text.specs.Content.{Content}
@@ -18,7 +19,7 @@ use Rattle.hls_view_signs.specs.declared.event.Event.TheVariants.{Begun, Woken, 
 use Rattle.hls_view_signs.specs.Happenings as told
 use Rattle.hls_view_signs.specs.Inside.Nodes.{happens_to_any}
 use Rattle.hls_view_signs.specs.Inside.Moments.{node_if, KnowsAll}
-use Rattle.hls_view_signs.specs.Inside.Notes.{is_named, is_noted, AreInOrder}
+use Rattle.hls_view_signs.specs.Inside.Notes.{is_noted, AreInOrder}
 use Rattle.hls_view_signs.specs.Inside.Scenes.{is_roused, AreBefore, AreHeard, AreNamed, AreSaid, AreRoused, any_begun}
 use Rattle.hls_view_signs.proofs.Tests.{either, or_left, or_right, first_of_two, second_of_two}
 use Rattle.hls_view_signs.proofs.CommandLaws.{woken_told, dropped_told}
@@ -31,25 +32,31 @@ pub heard_before : (all : List Note) (t came : ℕ) (names : List Text) → AreB
 heard_before all t came names before = record {
   heard = λ name k a lt there on.
       let early = before.early k a lt there in
-      let now : a.tick ≡ t = eqb-true a.tick t (first_of_two (a.tick == t) (is_named name a.name) on) in
+      let now : a.tick ≡ t = eqb-true a.tick t (first_of_two (a.tick == t) (bytes_eq a.name name) on) in
       absurd (omega (arith, early, now));
 }
 
 pub heard_more : (all : List Note) (t came : ℕ) (a : Note) (old new : List Text) → slice_get all came ≡ Some a
-    → ((name : Text) → is_roused new name ≡ (is_roused old name || is_named name a.name))
+    → new ≡ old ++ a.name ∷ []
     → AreHeard all t came old → AreHeard all t (came + 1) new
 heard_more all t came a old new is put was = record {
   heard = λ name k b less there some. elim (cases_eq k came) [
     | inl same ↦
         let one : Some a ≡ Some b = sym is ∙ ap (slice_get all) (sym same) ∙ there in
         let same_note : a ≡ b = cc in
-        put name ∙ or_right (is_roused old name) (is_named name a.name)
-        (ap (λ (n : Note). is_named name n.name) same_note ∙ second_of_two (b.tick == t) (is_named name b.name) some)
+        more name ∙ or_right (is_roused old name) (bytes_eq a.name name || false)
+        (or_left (bytes_eq a.name name) false
+        (ap (λ (n : Note). bytes_eq n.name name) same_note ∙ second_of_two (b.tick == t) (bytes_eq b.name name) some))
     | inr ne ↦
-        put name ∙ or_left (is_roused old name) (is_named name a.name)
+        more name ∙ or_left (is_roused old name) (bytes_eq a.name name || false)
         (was.heard name k b (omega arith) there some)
   ];
 }
+  where
+    more : (name : Text) → is_roused new name ≡ (is_roused old name || (bytes_eq a.name name || false))
+    more name =
+        ap (λ (l : List Text). is_roused l name) put
+        ∙ list_any-append (λ other. bytes_eq other name) old (a.name ∷ [])
 
 any_place : {A : Type 0} (p : A → Bool) (xs : List A) (Q : Type 0)
     → ((k : ℕ) (x : A) → slice_get xs k ≡ Some x → p x ≡ true → Q) → list_any p xs ≡ true → Q
@@ -75,7 +82,7 @@ heard_on all t came a names order at late heard name some =
       | inl less ↦ heard.heard name k b less there on
       | inr more ↦
           let behind : a.tick ≤ b.tick = order came k a b more at there in
-          let now : b.tick ≡ t = eqb-true b.tick t (first_of_two (b.tick == t) (is_named name b.name) on) in
+          let now : b.tick ≡ t = eqb-true b.tick t (first_of_two (b.tick == t) (bytes_eq b.name name) on) in
           absurd (omega (arith, late, behind, now))
     ]) some
 

@@ -1,44 +1,37 @@
 // When something may happen: a note for each command in a shown tick, and for each word on a thread.
-ghost use Rattle.std.specs.Prelude.{◌≡◌, ◌<◌, IfOk, OnOk, length, drop};
+ghost use Rattle.std.specs.Prelude.{◌≡◌, ◌<◌, IfOk, OnOk, length, drop, true};
+ghost use Rattle.std.specs.Str.{bytes_eq};
 ghost use Rattle.hls_text.specs.Lines.{Text};
-ghost use Rattle.hls_legal.specs.Commands.{has_done, rouses};
+ghost use Rattle.hls_legal.specs.Commands.{is_done, rouses};
 ghost use Rattle.hls_report_text.specs.Content.{content_of};
 ghost use Rattle.hls_view_signs.specs.Inside.Notes as told;
 
 use hls_chron::Name;
-use hls_report_text::{Answer, Answered, Report};
+use hls_report_text::{Answer, Report};
 use hls_scenario::Command;
 use hls_view_jobs::{Word, put_later};
 use hls_view_scale::Scale;
 use std::alloc::{AllocError, Global};
 
-/// A tick that has a command or a word on a thread, and which thread that is.
+/// A tick that has a command, or a word on a thread, and the name of its node.
 #[derive(Clone, Copy, Debug, PartialEq, Eq)]
 pub(crate) struct Note {
     pub(crate) tick: u32,
-    pub(crate) name: Option<Name>,
+    pub(crate) name: Name,
 }
 
-/// The thread that a command rouses.
-fn roused_by(command: &Command) -> Option<Name>
-    ensures { (name : Text) → rouses name command.now ≡ told.is_named name result }
+/// The name of the node that a command is about.
+fn name_in(command: &Command) -> Name
+    ensures { (name : Text) → rouses name command.now ≡ true → bytes_eq result name ≡ true }
 {
     match command {
-        Command::Thread { name, .. } => Some(*name),
-        Command::End { name } => Some(*name),
-        Command::Wake { name, .. } => Some(*name),
-        Command::Block { name } => Some(*name),
-        _ => None,
-    }
-}
-
-/// The thread that a command rouses, if it was carried out.
-fn roused(a: &Answered) -> Option<Name>
-    ensures { (name : Text) → has_done (rouses name) a.now ≡ told.is_named name result }
-{
-    match &a.answer {
-        Answer::Done(_) => roused_by(&a.command),
-        Answer::Refused(_) => None,
+        Command::Load { name, .. } => *name,
+        Command::Thread { name, .. } => *name,
+        Command::End { name } => *name,
+        Command::Unload { name } => *name,
+        Command::Move { name, .. } => *name,
+        Command::Wake { name, .. } => *name,
+        Command::Block { name } => *name,
     }
 }
 
@@ -49,11 +42,11 @@ fn is_shown(scale: &Scale, tick: u32) -> bool
 }
 
 /// Puts a note behind others, if its tick is shown.
-fn put_note(notes: &mut Vec<Note>, scale: &Scale, note: Note) -> Result<(), AllocError>
-    ensures { OnOk result (told.IsNoted scale.now note notes.old.items notes.new.items) }
+fn put_note(notes: &mut Vec<Note>, scale: &Scale, tick: u32, name: &Name) -> Result<(), AllocError>
+    ensures { OnOk result (told.IsNoted scale.now tick name.now notes.old.items notes.new.items) }
 {
-    if is_shown(scale, note.tick) {
-        notes.push(note)?;
+    if is_shown(scale, tick) {
+        notes.push(Note { tick, name: *name })?;
     }
     Ok(())
 }
@@ -62,23 +55,50 @@ fn put_note(notes: &mut Vec<Note>, scale: &Scale, note: Note) -> Result<(), Allo
 fn put_words(
     notes: &mut Vec<Note>,
     scale: &Scale,
-    name: Name,
+    name: &Name,
     words: &[Word],
 ) -> Result<(), AllocError>
-    ensures { OnOk result (told.AreNoted scale.now name words.now notes.old.items notes.new.items) }
+    ensures { OnOk result (told.AreNoted scale.now name.now words.now notes.old.items notes.new.items) }
 {
     for at in 0..words.len() {
-        let tick = words[at].tick;
-        let note = Note {
-            tick,
-            name: Some(name),
-        };
-        put_note(notes, scale, note)?;
+        put_note(notes, scale, words[at].tick, name)?;
     }
     Ok(())
 }
 
-/// Notes the command at a place, and what it says of a thread.
+/// Notes the later releases of a command, before those commands that come after it, if it was carried out.
+fn put_releases(
+    alloc: Global,
+    notes: &mut Vec<Note>,
+    report: &Report,
+    scale: &Scale,
+    place: usize,
+) -> Result<(), AllocError>
+    requires { place < length report.now.answered }
+    ensures { OnOk result (told.AreReleasesNoted report.now.horizon scale.now notes.old.items notes.new.items
+        (drop place report.now.answered)) }
+{
+    let answered = report.answered.items();
+    let a = &answered[place];
+    if is_done(&a.answer) {
+        let name = name_in(&a.command);
+        let mut words = Vec::new(alloc);
+        put_later(&mut words, report.horizon, a, &answered[place + 1..], &name)?;
+        put_words(notes, scale, &name, &words)?;
+    }
+    Ok(())
+}
+
+fn is_done(answer: &Answer) -> bool
+    ensures { result ≡ is_done answer.now }
+{
+    match answer {
+        Answer::Done(_) => true,
+        Answer::Refused(_) => false,
+    }
+}
+
+/// Notes the command at a place, and its later releases.
 fn put_command(
     alloc: Global,
     notes: &mut Vec<Note>,
@@ -93,15 +113,9 @@ fn put_command(
 {
     let answered = report.answered.items();
     let a = &answered[place];
-    let name = roused(a);
-    let tick = a.tick;
-    put_note(notes, scale, Note { tick, name })?;
-    if let Some(name) = name {
-        let mut words = Vec::new(alloc);
-        let after = &answered[place + 1..];
-        put_later(&mut words, report.horizon, a, after, &name)?;
-        put_words(notes, scale, name, &words)?;
-    }
+    let name = name_in(&a.command);
+    put_note(notes, scale, a.tick, &name)?;
+    put_releases(alloc, notes, report, scale, place)?;
     Ok(())
 }
 

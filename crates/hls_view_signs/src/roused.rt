@@ -1,7 +1,6 @@
 // Who is told something in a tick.
-ghost use Rattle.std.specs.Prelude.{◌≡◌, ◌||◌, IfOk, OnOk};
-ghost use Rattle.hls_text.specs.Lines.{Text};
-ghost use Rattle.hls_view_signs.specs.Inside.Notes.{is_named, AreInOrder};
+ghost use Rattle.std.specs.Prelude.{◌≡◌, IfOk};
+ghost use Rattle.hls_view_signs.specs.Inside.Notes.{AreInOrder};
 ghost use Rattle.hls_view_signs.specs.Inside.Scenes as told;
 
 use crate::notes::Note;
@@ -26,16 +25,6 @@ fn before(notes: &[Note], tick: u32) -> usize
     low
 }
 
-fn put_name(names: &mut Vec<Name>, name: Option<Name>) -> Result<(), AllocError>
-    ensures { OnOk result ((other : Text) →
-        told.is_roused names.new.items other ≡ (told.is_roused names.old.items other || is_named other name)) }
-{
-    if let Some(name) = name {
-        names.push(name)?;
-    }
-    Ok(())
-}
-
 /// Who is told something in a tick, by these notes.
 ///
 /// # Errors
@@ -50,7 +39,7 @@ pub(crate) fn roused_in(alloc: Global, notes: &[Note], tick: u32) -> Result<Vec<
         if tick < note.tick {
             return Ok(names);
         }
-        put_name(&mut names, note.name)?;
+        names.push(note.name)?;
     }
     Ok(names)
 }

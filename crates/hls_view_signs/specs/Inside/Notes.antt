@@ -1,5 +1,5 @@
 -- When something may happen: notes of ticks that have a command, or a word on a thread.
-use Rattle.std.specs.Prelude.{◌≡◌, ℕ, ◌≤◌, ◌==◌, ◌&&◌, List, [], ◌∷◌, Option, Some, None, Bool, true, false}
+use Rattle.std.specs.Prelude.{◌≡◌, ℕ, ◌≤◌, ◌==◌, ◌&&◌, List, [], ◌∷◌, Some, Bool, true}
 use Rattle.std.specs.Prelude.{drop, slice_get, nat_le}
 use Rattle.std.specs.List.{list_any}
 use Rattle.std.specs.Str.{bytes_eq}
@@ -12,16 +12,12 @@ use Rattle.hls_view_jobs.specs.Words.{word_of, first, repeat_of, last_by, later,
 use Rattle.hls_view_scale.specs.declared.scale.Scale.{Scale}
 use Rattle.hls_view_signs.specs.declared.notes.Note.{Note}
 
-abbrev pub is_named : (name : Text) → Option Text → Bool
-is_named name None = false
-is_named name (Some other) = bytes_eq other name
-
 -- a note of a tick, and one of a thread in it
 abbrev pub is_in : (t : ℕ) → Note → Bool
 is_in t note = note.tick == t
 
 abbrev pub is_noted : (t : ℕ) → (name : Text) → Note → Bool
-is_noted t name note = note.tick == t && is_named name note.name
+is_noted t name note = note.tick == t && bytes_eq note.name name
 
 -- a word and a command of a tick
 abbrev pub word_in : (t : ℕ) → Word → Bool
@@ -39,9 +35,10 @@ is_shown s t = nat_le s.from t && nat_le t s.to
 abbrev pub IsGrown : (old new : List Note) → Type 0
 IsGrown old new = (f : Note → Bool) → list_any f old ≡ true → list_any f new ≡ true
 
-pub record IsNoted (s : Scale) (note : Note) (old new : List Note) : Type 0 where
+pub record IsNoted (s : Scale) (tick : ℕ) (name : Text) (old new : List Note) : Type 0 where
   pub grown : IsGrown old new
-  pub there : s.from ≤ note.tick → note.tick ≤ s.to → (f : Note → Bool) → f note ≡ true → list_any f new ≡ true
+  pub there : s.from ≤ tick → tick ≤ s.to → (f : Note → Bool) → f (record { tick = tick; name = name }) ≡ true
+      → list_any f new ≡ true
 
 -- these words on the thread of a name are noted
 pub record AreNoted (s : Scale) (name : Text) (words : List Word) (old new : List Note) : Type 0 where
@@ -55,6 +52,15 @@ pub record AreNoted (s : Scale) (name : Text) (words : List Word) (old new : Lis
 abbrev pub words_by : (horizon : ℕ) → (name : Text) → Answered → (after : List Answered) → List Word
 words_by horizon name a after =
     word_of a ∷ later a.tick (last_by horizon (first (words_on horizon name after))) (repeat_of a.command)
+
+-- the later releases of the first of these commands are noted
+pub record AreReleasesNoted (horizon : ℕ) (s : Scale) (old new : List Note) (all : List Answered) : Type 0 where
+  pub grown : IsGrown old new
+  pub there : (a : Answered) (after : List Answered) → all ≡ a ∷ after → (t : ℕ) (name : Text) → s.from ≤ t → t ≤ s.to
+      → has_done (rouses name) a ≡ true
+      → list_any (word_in t) (later a.tick (last_by horizon (first (words_on horizon name after)))
+      (repeat_of a.command)) ≡ true
+      → list_any (is_noted t name) new ≡ true
 
 -- the first of these commands is noted, and so is what it says
 abbrev pub FirstIsNoted : (horizon : ℕ) → Scale → List Note → List Answered → Type 0

@@ -9,7 +9,7 @@ use Rattle.hls_view_signs.proofs.drops.is_woken.Goals as goal
 
 pub loop-at-init : goal.loop-at-init
 loop-at-init c =
-    woken_passed c.args.tick c.args.words.now c.words_before.result c.words_before.ensures.early
+    woken_passed c.args.tick c.args.words.now c.words_before-at.result c.words_before-at.ensures.early
 
 pub returns-then-tick-word : goal.returns-then-tick-word
 returns-then-tick-word c =
