@@ -1,5 +1,5 @@
 -- The threads of a report, admission by admission.
-use Rattle.std.proofs.Common.{◌≡◌, ℕ, ◌+◌, ◌<◌, ◌≤◌, List, [], ◌∷◌, ◌++◌, Bool, true, false, refl, sym, ap, ◌∙◌}
+use Rattle.std.proofs.Common.{◌≡◌, ℕ, ◌+◌, ◌<◌, ◌≤◌, List, [], ◌++◌, Bool, true, false, refl, sym, ap, ◌∙◌}
 use Rattle.std.proofs.Common.{drop, length, get_or, filter, map, append_assoc, append-nil}
 use Rattle.std.specs.Prelude.{Option, ◌&&◌, cond}
 use Rattle.std.proofs.lemmas.List.{drop_all, map-append}

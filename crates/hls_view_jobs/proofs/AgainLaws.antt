@@ -1,15 +1,14 @@
 -- The later releases of a periodic wake, one after the other.
 use Rattle.std.proofs.Common.{◌≡◌, ℕ, zero, suc, ◌+◌, ◌-◌, ◌*◌, ◌/◌, ◌<◌, ◌≤◌, List, [], ◌∷◌, ◌++◌, Bool, true, false, refl}
-use Rattle.std.proofs.Common.{sym, ap, ◌∙◌, subst, arith, append_assoc, append-nil, inl, inr}
+use Rattle.std.proofs.Common.{sym, ap, ◌∙◌, subst, arith, append_assoc, append-nil}
 use Rattle.std.specs.Prelude.{Option, Some, None, if◌then◌else◌}
 use Rattle.std.proofs.Math.Nat.{suc-mul, div-mul-le_self}
-use Rattle.std.proofs.lemmas.Bool.{cases_eq}
 use Rattle.hls_scenario.specs.Grammar.{IsBurst}
 use Rattle.hls_view_jobs.specs.declared.job.Sort.{Sort}
 use Rattle.hls_view_jobs.specs.declared.job.Sort.TheVariants.{Wakes}
 use Rattle.hls_view_jobs.specs.declared.job.Word.{Word}
 use Rattle.hls_view_jobs.specs.declared.words.Repeat.{Repeat}
-use Rattle.hls_view_jobs.specs.Words.{is_end, first, again, last_by, later, end_in}
+use Rattle.hls_view_jobs.specs.Words.{first, again, last_by, later, end_in}
 use Rattle.hls_view_jobs.specs.Inside.Sound.{HasBurst, AreWords}
 
 -- so many periods fit

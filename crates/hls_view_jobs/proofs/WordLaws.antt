@@ -1,5 +1,5 @@
 -- The words on a thread, command by command.
-use Rattle.std.proofs.Common.{◌≡◌, ℕ, ◌+◌, ◌-◌, ◌*◌, ◌/◌, ◌<◌, ◌≤◌, List, [], ◌∷◌, ◌++◌, true, false, drop, length}
+use Rattle.std.proofs.Common.{◌≡◌, ℕ, ◌+◌, ◌-◌, ◌<◌, ◌≤◌, List, [], ◌∷◌, ◌++◌, true, false, drop, length}
 use Rattle.std.proofs.Common.{get_or, suc, refl, sym, ap, ◌∙◌, drop-cons, add-one, append_assoc, append-nil, take}
 use Rattle.std.proofs.Common.{arith}
 use Rattle.std.specs.Prelude.{None, if◌then◌else◌}

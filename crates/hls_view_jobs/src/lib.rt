@@ -18,4 +18,4 @@ mod words;
 pub use job::{Fate, Job, Release, Sort, Word};
 pub use summary::{Number, Responses, Summary, ThreadJobs, Which};
 pub use threads::{jobs_of, thread_lines};
-pub use words::{put_later, words_on};
+pub use words::{Repeat, put_later, words_on};

@@ -13,9 +13,9 @@ use std::alloc::{AllocError, Global};
 
 /// A periodic wake is for so many ticks in every so many.
 #[derive(Clone, Copy, Debug, PartialEq, Eq)]
-pub(crate) struct Repeat {
-    pub(crate) period: u32,
-    pub(crate) ticks: u32,
+pub struct Repeat {
+    pub period: u32,
+    pub ticks: u32,
 }
 
 /// What a command says of the thread that it rouses.

@@ -1,8 +1,8 @@
-use Rattle.std.proofs.Common.{◌≡◌, ℕ, ◌+◌, true, false, ◌∙◌, sym, ap, arith, drop}
+use Rattle.std.proofs.Common.{◌≡◌, true, false, ◌∙◌, sym, ap, arith}
 use Rattle.hls_legal.specs.Commands.{has_done, rouses}
 use Rattle.hls_chron.specs.Ticks.{one_if}
 use Rattle.hls_view_jobs.specs.declared.job.Sort.{Sort}
-use Rattle.hls_view_jobs.specs.Words.{is_end, is_wake, sort_of, wakes_on}
+use Rattle.hls_view_jobs.specs.Words.{is_end, is_wake, sort_of}
 use Rattle.hls_view_jobs.proofs.WordLaws.{wakes_end, wakes_more, wakes_less, wakes_none}
 use Rattle.hls_view_jobs.proofs.words.wakes_on.Goals.{then-has_roused+else-is_end, else-has_roused}
 use Rattle.hls_view_jobs.proofs.words.wakes_on.Goals as goal
