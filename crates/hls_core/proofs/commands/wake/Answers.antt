@@ -5,9 +5,10 @@ use Rattle.hls_core.proofs.Following.{may_rouse, roused_stays, refused_stays}
 use Rattle.hls_core.proofs.commands.wake.Goals as goal
 
 pub of-begun-requires : goal.of-begun-requires
-of-begun-requires g c =
-    wake_fits _ c.args.tree.now c.args.bursts.now c.args.stays.now c.args.every c.args.burst c.now.result
-    c.requires.command.1 c.requires.stands c.now.ensures
+of-begun-requires g c = record {
+  fits = wake_fits _ c.args.tree.now c.args.bursts.now c.args.stays.now c.args.every c.args.burst c.now.result
+      c.requires.command.1 c.requires.stands c.now.ensures;
+}
 
 pub follow-requires-clause-may : goal.follow-requires-clause-may
 follow-requires-clause-may g c =
