@@ -1,17 +1,17 @@
 -- Readiness and what is kept of bursts, as wakes, blocks, ticks and releases come.
-use Rattle.std.proofs.Common.{◌≡◌, ◌≢◌, ℕ, zero, suc, inl, inr, ◌+◌, ◌-◌, ◌<◌, ◌≤◌, ◌⊎◌, Bool, true, false, cond, ◌==◌}
+use Rattle.std.proofs.Common.{◌≡◌, ◌≢◌, ℕ, zero, suc, inl, inr, ◌<◌, ◌≤◌, ◌⊎◌, Bool, true, false, cond, ◌==◌}
 use Rattle.std.proofs.Common.{refl, sym, ap, ◌∙◌, arith, subst}
 use Rattle.std.specs.Prelude.{Option, Some, None}
 use Rattle.std.proofs.lemmas.Bool.{cases_eq, eq-eqb, ne_eqb, lt-leb}
 use Rattle.hls_scenario.specs.Grammar.{IsWaking}
-use Rattle.hls_machine.specs.Hierarchy.{Hierarchy, Thread, Node, Loaded, Admitted, Wake, Asleep, Awake, Awake_for}
+use Rattle.hls_machine.specs.Hierarchy.{Hierarchy, Thread, Node, Loaded, Admitted, Wake, Asleep}
 use Rattle.hls_machine.specs.Hierarchy.{is_ready, was_served, is_just}
 use Rattle.hls_machine.specs.Steps.{Path, Hop, thread_of, roused, wake_by, with_wake, ticked, hop_at, hops_of}
 use Rattle.hls_machine.specs.Legal.{IsThread}
 use Rattle.hls_legal.specs.Tells.{burst_of}
 use Rattle.hls_tree_nodes.specs.Leapt.{later}
 use Rattle.hls_core_stays.proofs.Ticked.{IsOn, on_ticks}
-use Rattle.hls_core.specs.Begun.{begun_by, left_by, next_by, used, released, is_due, ends_within}
+use Rattle.hls_core.specs.Begun.{begun_by, left_by, next_by, released, is_due, ends_within}
 use Rattle.hls_core.specs.Left.{IsKept, IsLeftOf, IsLeft}
 use Rattle.hls_core.specs.declared.begun.Begun.{Begun}
 use Rattle.hls_core.specs.declared.begun.Release.{Release}

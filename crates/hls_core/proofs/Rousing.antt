@@ -1,7 +1,7 @@
 -- Threads are made ready, one after the other, whose wakes have a release in a tick.
 use Rattle.std.proofs.Common.{◌≡◌, ◌≢◌, ℕ, inl, inr, ◌⊎◌, ◌+◌, ◌<◌, ◌≤◌, length, Bool, true, false, cond}
 use Rattle.std.proofs.Common.{refl, sym, ap, ◌∙◌, subst, arith}
-use Rattle.std.specs.Prelude.{Option, Some, None, slice_get, Contains}
+use Rattle.std.specs.Prelude.{Option, Some, None, slice_get}
 use Rattle.std.proofs.lemmas.Bool.{cases_eq, cases_lt}
 use Rattle.std.proofs.lemmas.Option.{slice_get_within, slice_get-get_or, get_or_from_slice_get}
 use Rattle.hls_sched.specs.Seen.{Seen}
@@ -16,7 +16,6 @@ use Rattle.hls_core_stays.specs.Changes.{flagged, Releases, MayRelease}
 use Rattle.hls_core_stays.specs.declared.stays.Stays.{Stays}
 use Rattle.hls_core.specs.Begun.{is_due}
 use Rattle.hls_core.specs.Bursts.{next_in}
-use Rattle.hls_core.specs.declared.begun.Release.{Release}
 use Rattle.hls_core.specs.declared.bursts.Bursts.{Bursts}
 
 is_thread_by : (node : Option Node) → is_thread node ≡ true → IsThread node

@@ -1,5 +1,5 @@
 -- What is kept of one wake, as ticks elapse and its releases come.
-use Rattle.std.proofs.Common.{◌≡◌, ◌≢◌, ℕ, inl, inr, ◌+◌, ◌-◌, ◌<◌, ◌≤◌, Bool, true, false, cond, ◌==◌}
+use Rattle.std.proofs.Common.{◌≡◌, ℕ, inl, inr, ◌+◌, ◌-◌, ◌<◌, ◌≤◌, Bool, true, false, cond}
 use Rattle.std.proofs.Common.{refl, sym, ap, ◌∙◌, arith, subst}
 use Rattle.std.specs.Prelude.{Option, Some, None, nat_lt, nat_le, option_map}
 use Rattle.std.proofs.lemmas.Bool.{cases_lt, eq-eqb, ne_eqb, lt-ltb, le-ltb, lt-leb, le-leb}
@@ -13,7 +13,7 @@ use Rattle.hls_machine.specs.Hierarchy.{Node, Thread, Loaded, Admitted, Wake, As
 use Rattle.hls_core_stays.proofs.Ticked.{times}
 use Rattle.hls_core.specs.Begun.{left_by, next_by, used, released, released_next, is_due, ends_within, begun_by}
 use Rattle.hls_core.specs.Begun.{release_by}
-use Rattle.hls_core.specs.Left.{left_of, release_of, coming, IsFit, IsKept, IsLeftOf}
+use Rattle.hls_core.specs.Left.{release_of, coming, IsFit, IsKept, IsLeftOf}
 use Rattle.hls_core.specs.declared.begun.Begun.{Begun}
 use Rattle.hls_core.specs.declared.begun.Release.{Release}
 

@@ -1,4 +1,4 @@
-use Rattle.std.proofs.Common.{◌≤◌, ◌+◌, arith}
+use Rattle.std.proofs.Common.{◌+◌, arith}
 use Rattle.hls_core.proofs.Firsts.{none_sooner, none_due}
 use Rattle.hls_core.proofs.Elapsing.{passed_stands, passed_any, leap_stands, turned_stands, count_stands, elapses}
 use Rattle.hls_core.proofs.Elapsing.{known_may, known_stands, first_later, spent_none, release_stands, release_fits}

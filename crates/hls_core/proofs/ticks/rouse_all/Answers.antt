@@ -1,4 +1,4 @@
-use Rattle.std.proofs.Common.{refl, arith}
+use Rattle.std.proofs.Common.{arith}
 use Rattle.hls_core.proofs.Rousing.{roused_none, roused_more, roused_all, follow_more, any_stands, place_stands}
 use Rattle.hls_core.proofs.Rousing.{rouse_stands}
 use Rattle.hls_core.proofs.ticks.rouse_all.Goals as goal
