@@ -27,7 +27,7 @@ pub within_none : (f g : ℕ → Bool) (others : List Span) (end : ℕ) → Tell
     → IsWithin f g (slice_get others 0) end 0
 within_none f g others end tell = record { quiet = tell.first; none = λ t lt. absurd (omega (arith, lt)) }
 
-read : (others : List Span) (at : ℕ) (s : Span) → at < length others → s ≡ get_or others at s
+pub read : (others : List Span) (at : ℕ) (s : Span) → at < length others → s ≡ get_or others at s
     → slice_get others at ≡ Some s
 read others at s lt is = slice_get_read others (length others) at s refl lt is
 

@@ -4,3 +4,4 @@ pub mod SpanLaws
 pub mod Growing
 pub mod Answering
 pub mod Beyond
+pub mod Marks

@@ -1,18 +1,16 @@
 -- What spans tell of a tick.
-use Rattle.std.proofs.Common.{◌≡◌, ℕ, zero, suc, ◌+◌, ◌-◌, ◌<◌, ◌≤◌, List, [], ◌∷◌, ◌++◌, Bool, true, false}
+use Rattle.std.proofs.Common.{◌≡◌, ℕ, zero, suc, ◌+◌, ◌-◌, ◌<◌, ◌≤◌, List, Bool, true, false}
 use Rattle.std.proofs.Common.{length, get_or}
 use Rattle.std.proofs.Common.{refl, sym, ap, ◌∙◌, subst, arith, inl, inr}
 use Rattle.std.specs.Prelude.{Option, Some, None, slice_get, min, nat_lt}
 use Rattle.std.proofs.Math.Nat.{min-eq_left, min-eq_right}
 use Rattle.std.proofs.lemmas.Bool.{cases_lt, ltb-true, ltb-false}
-use Rattle.std.proofs.lemmas.Option.{slice_get_within, slice_get_cases, get_or_from_slice_get, slice_get_read}
+use Rattle.std.proofs.lemmas.Option.{slice_get_cases, get_or_from_slice_get, slice_get_read}
 use Rattle.std.proofs.lemmas.Option.{slice_get_past}
-use Rattle.std.proofs.lemmas.List.{get_or_append_left, length-append}
-use Rattle.std.proofs.Math.Seq.{get_or-append_seam}
 use Rattle.hls_chron.specs.Ticks.{count}
 use Rattle.hls_audit_spans.specs.declared.span.Span.{Span}
-use Rattle.hls_audit_spans.specs.Spans.{IsSpan, start, IsQuiet, Tell, AreTicks}
-use Rattle.hls_audit_spans.specs.Inside.Places.{IsBegun, IsNear, ends_behind, is_in}
+use Rattle.hls_audit_spans.specs.Spans.{IsSpan, start, IsQuiet, Tell}
+use Rattle.hls_audit_spans.specs.Inside.Places.{IsBegun, ends_behind, is_in}
 use Rattle.hls_audit_spans.proofs.Counts.{count_all, count_same, count_first}
 
 -- a tick in a span
@@ -145,59 +143,6 @@ in_is f spans end tick at tell begun lt false off =
     sym (out_between f spans end tick at tell begun off tick (omega arith)
     (ahead_lt (slice_get spans at) tick end begun.next lt))
 
--- ---- the next tick
-
-near_more : (f : ℕ → Bool) (spans : List Span) (end tick at : ℕ) (s : Span) → Tell f spans end → IsNear spans tick at
-    → slice_get spans at ≡ Some s → s.from ≤ tick → (n : Span) → slice_get spans (at + 1) ≡ Some n → tick < n.from
-near_more f spans end tick at s tell near there le n next =
-    let quiet = tell.rest at s there in
-    let order : s.until ≤ n.from = subst (λ (o : Option Span). s.until ≤ start o end) next quiet.order in
-    let some = (tell.each at s there).some in
-    let from = near.next s there in omega (arith, order, some, from)
-
-pub step_on : (f : ℕ → Bool) (spans : List Span) (end tick at : ℕ) (s : Span) → Tell f spans end
-    → IsNear spans tick at → slice_get spans at ≡ Some s → s.from ≤ tick → IsBegun spans tick (at + 1)
-step_on f spans end tick at s tell near there le = record {
-  within = let lt = slice_get_within spans at s there in omega (arith, lt);
-  last = λ k x e here.
-      let same : k ≡ at = omega (arith, e) in
-      let one : Some s ≡ Some x = sym there ∙ ap (slice_get spans) (sym same) ∙ here in
-      let is : s ≡ x = cc in subst (λ (y : Span). y.from ≤ tick) is le;
-  next = near_more f spans end tick at s tell near there le;
-}
-
-pub step_off : (spans : List Span) (tick at : ℕ) (s : Span) → IsNear spans tick at → slice_get spans at ≡ Some s
-    → tick < s.from → IsBegun spans tick at
-step_off spans tick at s near there lt = record {
-  within = near.within;
-  last = near.last;
-  next = λ x here.
-      let one : Some s ≡ Some x = sym there ∙ here in
-      let is : s ≡ x = cc in subst (λ (y : Span). tick < y.from) is lt;
-}
-
-pub step_none : (spans : List Span) (tick at : ℕ) → IsNear spans tick at → slice_get spans at ≡ None
-    → IsBegun spans tick at
-step_none spans tick at near none = record {
-  within = near.within;
-  last = near.last;
-  next = λ x here. absurd (let wrong : None ≡ Some x = sym none ∙ here in cc);
-}
-
-pub near_begun : (spans : List Span) (tick at : ℕ) → IsBegun spans tick at → IsNear spans tick at
-near_begun spans tick at begun = record {
-  within = begun.within;
-  last = begun.last;
-  next = λ s there. let lt = begun.next s there in omega (arith, lt);
-}
-
-pub near_next : (spans : List Span) (tick at : ℕ) → IsBegun spans tick at → IsNear spans (tick + 1) at
-near_next spans tick at begun = record {
-  within = begun.within;
-  last = λ k s e there. let le = begun.last k s e there in omega (arith, le);
-  next = λ s there. let lt = begun.next s there in omega (arith, lt);
-}
-
 -- a place that is read
 pub read_some : (spans items : List Span) (at : ℕ) (s : Span) → items ≡ spans → true ≡ nat_lt at (length items)
     → s ≡ get_or items at s → slice_get spans at ≡ Some s
@@ -208,27 +153,3 @@ read_some spans items at s same lt is =
 pub read_none : (spans items : List Span) (at : ℕ) → items ≡ spans → length items ≤ at → slice_get spans at ≡ None
 read_none spans items at same past =
     subst (λ (l : List Span). slice_get l at ≡ None) same (slice_get_past items at past)
-
--- ---- ticks in a row
-
-pub ticks_none : (f : ℕ → Bool) (from : ℕ) (list : List Bool) → list ≡ [] → AreTicks f from list
-ticks_none f from list e = record {
-  each = λ t lt.
-      let none : length list ≡ 0 = ap (λ (l : List Bool). length l) e in absurd (omega (arith, lt, none));
-}
-
-pub ticks_more : (f : ℕ → Bool) (from tick : ℕ) (list new : List Bool) (b : Bool) → from + length list ≡ tick
-    → new ≡ list ++ b ∷ [] → b ≡ f tick → AreTicks f from list → AreTicks f from new
-ticks_more f from tick list new b long made is ticks = record {
-  each = λ t lt. elim (cases_lt t (length list)) [
-    | inl old ↦
-        ap (λ (l : List Bool). get_or l t false) made ∙ get_or_append_left list (b ∷ []) false t old ∙ ticks.each t old
-    | inr past ↦
-        let grown : length new ≡ length list + 1 = ap (λ (l : List Bool). length l) made
-        ∙ length-append list (b ∷ []) in
-        let here : t ≡ length list = omega (arith, lt, past, grown) in
-        let there : tick ≡ t + from = omega (arith, here, long) in
-        ap (λ (l : List Bool). get_or l t false) made ∙ ap (λ n. get_or (list ++ b ∷ []) n false) here
-        ∙ get_or-append_seam list b [] false ∙ is ∙ ap f there
-  ];
-}

@@ -1,8 +1,9 @@
 // Ticks as spans in their order.
-ghost use Rattle.std.specs.Prelude.{◌≡◌, ◌+◌, ◌-◌, ◌<◌, ◌≤◌, ◌++◌, ◌∷◌, [], ℕ, Bool, true, IfOk, OnOk, length};
+ghost use Rattle.std.specs.Prelude.{◌≡◌, ◌+◌, ◌-◌, ◌<◌, ◌≤◌, ◌++◌, ◌∷◌, [], ℕ, Bool, true, false, IfOk};
+ghost use Rattle.std.specs.Prelude.{OnOk, length, get_or};
 ghost use Rattle.hls_chron.specs.Ticks.{count};
 ghost use Rattle.hls_audit_spans.specs.Spans.{Tell, IsNext, IsNth, IsReach, IsBeyond, AreTicks};
-ghost use Rattle.hls_audit_spans.specs.Inside.Places.{IsBegun, IsPassed, IsNear, is_in};
+ghost use Rattle.hls_audit_spans.specs.Inside.Places.{IsBegun, IsPassed, is_in};
 
 use crate::span::Span;
 use std::alloc::{AllocError, Global};
@@ -179,16 +180,23 @@ impl Spans {
         0 < at && tick < self.spans[at - 1].until
     }
 
-    /// How many spans begin at a tick or before it, from how many do before it.
-    fn step(&self, at: usize, tick: u32) -> usize
-        requires { at ≤ length self.now.spans.items }
-        ensures within { result ≤ length self.now.spans.items }
-        ensures begun { (f : ℕ → Bool) (end : ℕ) → Tell f self.now.spans.items end →
-            IsNear self.now.spans.items tick at → IsBegun self.now.spans.items tick result }
+    /// Marks which ticks from one on are of theirs, in a list that goes on to another.
+    fn mark(&self, list: &mut [bool], from: u32, until: u32)
+        requires long { from + length list.old ≡ until }
+        requires blank { (t : ℕ) → get_or list.old t false ≡ false }
+        ensures long { from + length list.new ≡ until }
+        ensures ticks { (f : ℕ → Bool) (end : ℕ) → Tell f self.now.spans.items end → until ≤ end →
+            AreTicks f from list.new }
     {
-        match self.spans.get(at) {
-            Some(span) => { if span.from <= tick { at + 1 } else { at } }
-            None => at,
+        let first = self.begun(from).saturating_sub(1);
+        for at in first..self.spans.len() {
+            let span = self.spans[at];
+            if until <= span.from {
+                return;
+            }
+            let begin = span.from.saturating_sub(from);
+            let end = span.until.min(until).saturating_sub(from);
+            turn_on(list, begin as usize, end as usize);
         }
     }
 
@@ -202,12 +210,21 @@ impl Spans {
         ensures ticks { IfOk result (λ list. (f : ℕ → Bool) (end : ℕ) → Tell f self.now.spans.items end →
             until ≤ end → AreTicks f from list.items) }
     {
-        let mut list = Vec::new(alloc);
-        let mut at = self.begun(from);
-        for tick in from..until {
-            at = self.step(at, tick);
-            list.push(self.is_in(at, tick))?;
-        }
+        let mut list = vec![in alloc; false; (until - from) as usize]?;
+        self.mark(&mut list, from, until);
         Ok(list)
+    }
+}
+
+/// Turns on the places from one on and before another.
+fn turn_on(list: &mut [bool], from: usize, until: usize)
+    requires { until ≤ length list.old }
+    ensures long { length list.new ≡ length list.old }
+    ensures on { (t : ℕ) → from ≤ t → t < until → get_or list.new t false ≡ true }
+    ensures before { (t : ℕ) → t < from → get_or list.new t false ≡ get_or list.old t false }
+    ensures behind { (t : ℕ) → until ≤ t → get_or list.new t false ≡ get_or list.old t false }
+{
+    for at in from..until {
+        list[at] = true;
     }
 }

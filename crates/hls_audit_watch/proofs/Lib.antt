@@ -5,3 +5,4 @@ pub mod Periods
 pub mod Carrying
 pub mod Watching
 pub mod Shorts
+pub mod Overs

@@ -6,11 +6,9 @@ use Rattle.std.proofs.lemmas.List.{get_or_past}
 use Rattle.hls_guarantee.specs.declared.Guarantee.{Guarantee}
 use Rattle.hls_guarantee.specs.Service.{schedule_of}
 use Rattle.hls_guarantee.specs.Satisfaction.{Satisfies, ListSatisfies}
-use Rattle.hls_guarantee.specs.Cap.{KeepsCap, ListKeepsCap}
-use Rattle.hls_guarantee.proofs.Windows.{IsWindow, window-satisfies, satisfies-window, window-keeps_cap}
-use Rattle.hls_guarantee.proofs.Windows.{keeps_cap-window}
+use Rattle.hls_guarantee.proofs.Windows.{IsWindow, window-satisfies, satisfies-window}
 use Rattle.hls_audit_watch.specs.First.{IsFirstAt}
-use Rattle.hls_audit_watch.specs.Shortages.{IsShort, IsOver}
+use Rattle.hls_audit_watch.specs.Shortages.{IsShort}
 use Rattle.hls_audit_watch.specs.Watched.{Watched}
 use Rattle.hls_audit_watch.proofs.Endings.{length-more, old-at, new-at}
 
@@ -125,55 +123,6 @@ lacks_short g ready served list i b on is told lost =
           (subst (λ k. Satisfies g (schedule_of served) told.from k) (sym ends_more) s));
     }
 
--- the list is that of the first ticks
-pub record IsStart (served list : List Bool) (i : ℕ) : Type 0 where
-  pub ends : length list ≡ i
-  pub window : IsWindow list (schedule_of served) 0
-
-pub start_none : (served list : List Bool) → list ≡ [] → IsStart served list 0
-start_none served list none =
-    let z : length list ≡ 0 = ap (λ (l : List Bool). length l) none in
-    record { ends = z; window = record { same = λ t lt. absurd (omega arith) } }
-
-pub start_more : (served list : List Bool) (i : ℕ) (b : Bool) → b ≡ schedule_of served i → IsStart served list i →
-    IsStart served (list ++ b ∷ []) (i + 1)
-start_more served list i b is start =
-    let long = length-more list b in
-    let ends = start.ends in
-    record {
-      ends = omega arith;
-      window = record {
-        same = λ t lt. elim (cases_lt t (length list)) [
-          | inl old ↦ old-at list b t old ∙ start.window.same t old
-          | inr new ↦
-              let here : t ≡ length list = omega arith in
-              let there : i ≡ t + 0 = omega arith in
-              ap (λ (k : ℕ). schedule_of (list ++ b ∷ []) k) here ∙
-              (new-at list b ∙ (is ∙ ap (λ (k : ℕ). schedule_of served k) there))
-        ];
-      };
-    }
-
-pub over_exceeds : (g : Guarantee) (served list : List Bool) (i : ℕ) → IsStart served list (i + 1) →
-    IsOver g served i → ListKeepsCap g list → ⊥
-over_exceeds g served list i start over capped =
-    let ends = start.ends in
-    let end : 0 + length list ≡ i + 1 = omega arith in
-    over.over (subst (λ k. KeepsCap g (schedule_of served) 0 k) end
-    (keeps_cap-window g list (schedule_of served) 0 start.window capped))
-
-pub exceeds_over : (g : Guarantee) (served list : List Bool) (i : ℕ) → IsStart served list (i + 1) →
-    schedule_of served i ≡ true → (ListKeepsCap g list → ⊥) → IsOver g served i
-exceeds_over g served list i start on lost =
-    let ends = start.ends in
-    let end : i + 1 ≡ 0 + length list = omega arith in
-    record {
-      now = on;
-      over = λ c. lost
-          (window-keeps_cap g list (schedule_of served) 0 start.window
-          (subst (λ k. KeepsCap g (schedule_of served) 0 k) end c));
-    }
-
 -- the watch is told the window, and no tick before is short
 pub record IsShortless (g : Guarantee) (ready served : List Bool) (w : Watched) (i : ℕ) : Type 0 where
   pub same : w.guarantee ≡ g
@@ -245,61 +194,4 @@ short_nowhere g ready served w i long s k short = elim (cases_lt k i) [
   | inr past ↦
       let off = get_or_past ready k false (omega arith) in
       absurd (let no : false ≡ true = sym off ∙ short.now in cc)
-]
-
--- the watch is told all ticks, and none before is over
-pub record IsOverless (g : Guarantee) (served : List Bool) (w : Watched) (i : ℕ) : Type 0 where
-  pub same : w.guarantee ≡ g
-  pub room : w.ticks ≡ length served
-  pub start : IsStart served w.list i
-  pub none : (k : ℕ) → k < i → IsOver g served k → ⊥
-
-pub overless_none : (g : Guarantee) (served : List Bool) (w : Watched) → w.guarantee ≡ g →
-    w.ticks ≡ length served → w.list ≡ [] → IsOverless g served w 0
-overless_none g served w same room none = record {
-  same = same;
-  room = room;
-  start = start_none served w.list none;
-  none = λ k lt s. absurd (omega arith);
-}
-
-started : (served : List Bool) (old now : Watched) (i : ℕ) (b : Bool) →
-    now ≡ record old { list = old.list ++ b ∷ [] } → b ≡ schedule_of served i → IsStart served old.list i →
-    IsStart served now.list (i + 1)
-started served old now i b is at start =
-    let list : now.list ≡ old.list ++ b ∷ [] = ap (λ (w : Watched). w.list) is in
-    subst (λ l. IsStart served l (i + 1)) (sym list) (start_more served old.list i b at start)
-
-pub overless_more : (g : Guarantee) (served : List Bool) (old now : Watched) (i : ℕ) (b : Bool) →
-    now ≡ record old { list = old.list ++ b ∷ [] } → b ≡ schedule_of served i →
-    (b ≡ true → ListKeepsCap now.guarantee now.list) → IsOverless g served old i → IsOverless g served now (i + 1)
-overless_more g served old now i b is at capped s =
-    let same : now.guarantee ≡ g = ap (λ (w : Watched). w.guarantee) is ∙ s.same in
-    record {
-      same = same;
-      room = ap (λ (w : Watched). w.ticks) is ∙ s.room;
-      start = started served old now i b is at s.start;
-      none = none-more (IsOver g served) i s.none
-          (λ over. over_exceeds g served now.list i (started served old now i b is at s.start) over
-          (subst (λ h. ListKeepsCap h now.list) same (capped (at ∙ over.now))));
-    }
-
-pub over_found : (g : Guarantee) (served : List Bool) (old now : Watched) (i : ℕ) (b : Bool) →
-    now ≡ record old { list = old.list ++ b ∷ [] } → b ≡ schedule_of served i → b ≡ true →
-    (ListKeepsCap now.guarantee now.list → ⊥) → IsOverless g served old i → IsFirstAt (IsOver g served) i
-over_found g served old now i b is at on lost s =
-    let same : now.guarantee ≡ g = ap (λ (w : Watched). w.guarantee) is ∙ s.same in
-    record {
-      here = exceeds_over g served now.list i (started served old now i b is at s.start) (sym at ∙ on)
-          (λ kept. lost (subst (λ h. ListKeepsCap h now.list) (sym same) kept));
-      earliest = s.none;
-    }
-
-pub over_nowhere : (g : Guarantee) (served : List Bool) (w : Watched) (i : ℕ) → length served ≤ i →
-    IsOverless g served w i → (k : ℕ) → IsOver g served k → ⊥
-over_nowhere g served w i long s k over = elim (cases_lt k i) [
-  | inl old ↦ s.none k old over
-  | inr past ↦
-      let off = get_or_past served k false (omega arith) in
-      absurd (let no : false ≡ true = sym off ∙ over.now in cc)
 ]

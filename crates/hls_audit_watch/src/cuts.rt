@@ -1,5 +1,5 @@
 // The pieces of a list at each offset.
-ghost use Rattle.std.specs.Prelude.{◌≡◌, ℕ, ◌+◌, ◌<◌, ◌≤◌, ◌↔◌, IsTrue, Bool, true, false, [], ◌∷◌, ◌++◌};
+ghost use Rattle.std.specs.Prelude.{◌≡◌, ℕ, ◌+◌, ◌%◌, ◌<◌, ◌≤◌, ◌↔◌, IsTrue, Bool, true, false, [], ◌∷◌, ◌++◌};
 ghost use Rattle.std.specs.Prelude.{length, slice_index_or};
 ghost use Rattle.hls_guarantee.specs.declared.Guarantee.TheVariants.{Resb};
 ghost use Rattle.hls_guarantee.specs.Limits.{IsReservation};
@@ -7,14 +7,15 @@ ghost use Rattle.hls_guarantee.specs.Satisfaction.{ListSatisfies};
 ghost use Rattle.hls_audit_watch.specs.Inside.Cuts.{IsReservedSince, AreCuts, AreCutting};
 ghost use Rattle.hls_audit_watch.specs.Inside.Periods.{IsPeriod};
 
-use crate::recent::{Recent, service};
+use crate::recent::{Recent, next_place, service};
 use crate::reservation::Reservation;
 
 /// At which offsets some piece of the list is broken. Of the pieces that end with the list, those that begin before
-/// `from` are; each offset before `free` is broken.
+/// `from` are; each offset before `free` is broken. `place` is that of `from`.
 #[derive(Drop)]
 pub(crate) struct Cuts {
     pub(crate) from: u32,
+    pub(crate) place: u32,
     pub(crate) broken: Vec<bool>,
     pub(crate) free: u32,
 }
@@ -24,17 +25,21 @@ impl Cuts {
     fn begin(&mut self, reservation: &Reservation, recent: &Recent)
         requires range { IsReservation reservation.now.x reservation.now.y }
         requires room { length self.old.broken.items ≡ recent.now.period }
+        requires placed { self.old.place ≡ self.old.from % recent.now.period }
         requires cuts { AreCuts reservation.now.hard reservation.now.x reservation.now.y recent.now.period
             self.old.from self.old.broken.items self.old.free recent.now.list }
+        ensures placed { self.new.place ≡ self.new.from % recent.now.period }
         ensures cutting { (b : Bool) →
             AreCutting reservation.now.hard reservation.now.x reservation.now.y recent.now.period
             self.new.from self.new.broken.items self.new.free recent.now.list b }
         ensures room { length self.new.broken.items ≡ recent.now.period }
     {
         let at = recent.len();
-        if at < recent.period() {
+        let period = recent.period();
+        if at < period {
             self.broken[at as usize] = 0 < self.from;
-        } else if self.from + recent.period() <= at {
+        } else if self.from + period <= at {
+            self.place = next_place(self.place, period);
             self.from += 1;
         }
     }
@@ -44,8 +49,10 @@ impl Cuts {
         requires range { IsReservation reservation.now.x reservation.now.y }
         requires room { length self.old.broken.items ≡ recent.now.period }
         requires period { recent.now.period ≤ reservation.now.y }
+        requires placed { self.old.place ≡ self.old.from % recent.now.period }
         requires cutting { AreCutting reservation.now.hard reservation.now.x reservation.now.y recent.now.period
             self.old.from self.old.broken.items self.old.free recent.now.list served }
+        ensures placed { self.new.place ≡ self.new.from % recent.now.period }
         ensures cutting { AreCutting reservation.now.hard reservation.now.x reservation.now.y recent.now.period
             self.new.from self.new.broken.items self.new.free recent.now.list served }
         ensures since { self.new.from ≤ length recent.now.list →
@@ -54,12 +61,14 @@ impl Cuts {
         ensures room { length self.new.broken.items ≡ recent.now.period }
     {
         let at = recent.len();
+        let period = recent.period();
         while self.from <= at {
-            let got = recent.since(self.from) + service(served);
+            let got = recent.since(self.from, self.place) + service(served);
             if reservation.is_met(at + 1 - self.from, got) {
                 return;
             }
-            self.broken[(self.from % recent.period()) as usize] = true;
+            self.broken[self.place as usize] = true;
+            self.place = next_place(self.place, period);
             self.from += 1;
         }
     }
@@ -84,12 +93,14 @@ impl Cuts {
         requires range { IsReservation reservation.now.x reservation.now.y }
         requires room { length self.old.broken.items ≡ recent.now.period }
         requires period { IsPeriod reservation.now.y recent.now.period (length recent.now.list + 1) }
+        requires placed { self.old.place ≡ self.old.from % recent.now.period }
         requires cuts { AreCuts reservation.now.hard reservation.now.x reservation.now.y recent.now.period
             self.old.from self.old.broken.items self.old.free recent.now.list }
         ensures kept { IsTrue result ↔
             ListSatisfies (Resb reservation.now.hard reservation.now.x reservation.now.y)
             (recent.now.list ++ served ∷ []) }
         ensures room { length self.new.broken.items ≡ recent.now.period }
+        ensures placed { self.new.place ≡ self.new.from % recent.now.period }
         ensures cuts { AreCuts reservation.now.hard reservation.now.x reservation.now.y recent.now.period
             self.new.from self.new.broken.items self.new.free (recent.now.list ++ served ∷ []) }
     {

@@ -1,30 +1,35 @@
-// What one tick more makes of a guarantee that is kept so far, and of its cap.
-ghost use Rattle.std.specs.Prelude.{◌≡◌, ◌+◌, ◌-◌, ◌*◌, ◌^◌, ◌≤◌, ◌↔◌, IsTrue, [], ◌∷◌, ◌++◌, length, min};
-ghost use Rattle.hls_chron.specs.Parts.{all_parts, parts as parts_of};
+// What one tick more makes of a guarantee that is kept so far.
+ghost use Rattle.std.specs.Prelude.{◌≡◌, ◌+◌, ◌-◌, ◌*◌, ◌%◌, ◌^◌, ◌≤◌, ◌↔◌, IsTrue, [], ◌∷◌, ◌++◌, length, min};
 ghost use Rattle.hls_chron.specs.Ticks.{one_if};
-ghost use Rattle.hls_guarantee.specs.Cap.{ListKeepsCap};
-ghost use Rattle.hls_guarantee.specs.Limits.{IsReservation, IsShare, IsValid};
+ghost use Rattle.hls_guarantee.specs.Limits.{IsShare, IsValid};
 ghost use Rattle.hls_guarantee.specs.Satisfaction.{ListSatisfies};
 ghost use Rattle.hls_guarantee.specs.Service.{schedule_of, service_before};
-ghost use Rattle.hls_audit_watch.specs.Inside.Carried.{HasPlaces, IsCarried, IsCapCarried};
+ghost use Rattle.hls_audit_watch.specs.Inside.Carried.{HasPlaces, IsCarried};
 ghost use Rattle.hls_audit_watch.specs.Inside.Periods.{IsPeriod, IsPeriodOf};
 
 use crate::cuts::Cuts;
 use crate::recent::{Recent, service};
 use crate::reservation::Reservation;
-use hls_chron::{ALL_PARTS, parts};
 use hls_frac::Frac;
 use hls_guarantee::Guarantee;
 
 /// The last ticks, and the service in them.
 #[derive(Drop)]
-struct Window {
-    ticks: u32,
-    got: u32,
+pub(crate) struct Window {
+    pub(crate) ticks: u32,
+    pub(crate) got: u32,
+}
+
+/// The place of the first tick of a window that ends with the tick that comes next.
+fn first_place(recent: &Recent, start: u32) -> u32
+    requires { start ≡ length recent.now.list + 1 - recent.now.period }
+    ensures { result ≡ start % recent.now.period }
+{
+    if start == 0 { 0 } else { recent.next_place() }
 }
 
 /// The last `y` ticks, or as many as there are, the one that comes next among them.
-fn last_window(y: u32, recent: &Recent, served: bool) -> Window
+pub(crate) fn last_window(y: u32, recent: &Recent, served: bool) -> Window
     requires { IsPeriod y recent.now.period (length recent.now.list + 1) }
     ensures ticks { result.ticks ≡ min y (length recent.now.list + 1) }
     ensures got { result.got ≡
@@ -32,9 +37,10 @@ fn last_window(y: u32, recent: &Recent, served: bool) -> Window
 {
     let end = recent.len() + 1;
     let start = end.saturating_sub(recent.period());
+    let place = first_place(recent, start);
     Window {
         ticks: end - start,
-        got: recent.since(start) + service(served),
+        got: recent.since(start, place) + service(served),
     }
 }
 
@@ -52,21 +58,6 @@ fn owes(s: &Frac, d: &Frac, debt: &mut u128, served: bool) -> bool
     *debt <= d.num * s.den
 }
 
-/// Whether the excess stays within what is allowed, after a tick.
-fn exceeds(x: u32, y: u32, excess: &mut u128, served: bool) -> bool
-    requires range { IsReservation x y }
-    requires small { excess.old ≤ 2 * x * all_parts }
-    ensures excess { excess.new ≡ excess.old + all_parts * one_if served - parts_of x y }
-    ensures within { IsTrue result ↔ (excess.new ≤ 2 * x * all_parts) }
-{
-    let whole = u128::from(ALL_PARTS);
-    if served {
-        *excess += whole;
-    }
-    *excess = excess.saturating_sub(parts(x, y));
-    *excess <= 2 * u128::from(x) * whole
-}
-
 /// Whether a guarantee that is kept so far is kept with one tick more.
 fn stays_kept(
     g: &Guarantee,
@@ -78,10 +69,12 @@ fn stays_kept(
     requires valid { IsValid g.now }
     requires period { IsPeriodOf g.now recent.now.period (length recent.now.list + 1) }
     requires room { HasPlaces g.now recent.now.period (length cuts.old.broken.items) }
+    requires placed { cuts.old.place ≡ cuts.old.from % recent.now.period }
     requires kept { ListSatisfies g.now recent.now.list }
     requires carried { IsCarried g.now recent.now.period debt.old cuts.old recent.now.list }
     ensures kept { IsTrue result ↔ ListSatisfies g.now (recent.now.list ++ served ∷ []) }
     ensures room { HasPlaces g.now recent.now.period (length cuts.new.broken.items) }
+    ensures placed { cuts.new.place ≡ cuts.new.from % recent.now.period }
     ensures carried { IsTrue result →
         IsCarried g.now recent.now.period debt.new cuts.new (recent.now.list ++ served ∷ []) }
 {
@@ -97,22 +90,6 @@ fn stays_kept(
     }
 }
 
-/// Whether a cap that is kept so far is kept with one tick more.
-fn stays_capped(g: &Guarantee, recent: &Recent, excess: &mut u128, served: bool) -> bool
-    requires valid { IsValid g.now }
-    requires period { IsPeriodOf g.now recent.now.period (length recent.now.list + 1) }
-    requires capped { ListKeepsCap g.now recent.now.list }
-    requires carried { IsCapCarried g.now excess.old recent.now.list }
-    ensures capped { IsTrue result ↔ ListKeepsCap g.now (recent.now.list ++ served ∷ []) }
-    ensures carried { IsTrue result → IsCapCarried g.now excess.new (recent.now.list ++ served ∷ []) }
-{
-    match *g {
-        Guarantee::Resb { hard: true, x, y } => exceeds(x, y, excess, served),
-        Guarantee::Resc { hard: true, x, y } => last_window(y, recent, served).got <= x,
-        _ => true,
-    }
-}
-
 /// Whether a guarantee is kept with one tick more, from whether it is kept so far.
 pub(crate) fn is_kept(
     was: bool,
@@ -125,30 +102,14 @@ pub(crate) fn is_kept(
     requires valid { IsValid g.now }
     requires period { IsPeriodOf g.now recent.now.period (length recent.now.list + 1) }
     requires room { HasPlaces g.now recent.now.period (length cuts.old.broken.items) }
+    requires placed { cuts.old.place ≡ cuts.old.from % recent.now.period }
     requires kept { IsTrue was ↔ ListSatisfies g.now recent.now.list }
     requires carried { IsTrue was → IsCarried g.now recent.now.period debt.old cuts.old recent.now.list }
     ensures kept { IsTrue result ↔ ListSatisfies g.now (recent.now.list ++ served ∷ []) }
     ensures room { HasPlaces g.now recent.now.period (length cuts.new.broken.items) }
+    ensures placed { cuts.new.place ≡ cuts.new.from % recent.now.period }
     ensures carried { IsTrue result →
         IsCarried g.now recent.now.period debt.new cuts.new (recent.now.list ++ served ∷ []) }
 {
     was && stays_kept(g, recent, debt, cuts, served)
-}
-
-/// Whether a cap is kept with one tick more, from whether it is kept so far.
-pub(crate) fn is_capped(
-    was: bool,
-    g: &Guarantee,
-    recent: &Recent,
-    excess: &mut u128,
-    served: bool,
-) -> bool
-    requires valid { IsValid g.now }
-    requires period { IsPeriodOf g.now recent.now.period (length recent.now.list + 1) }
-    requires capped { IsTrue was ↔ ListKeepsCap g.now recent.now.list }
-    requires carried { IsTrue was → IsCapCarried g.now excess.old recent.now.list }
-    ensures capped { IsTrue result ↔ ListKeepsCap g.now (recent.now.list ++ served ∷ []) }
-    ensures carried { IsTrue result → IsCapCarried g.now excess.new (recent.now.list ++ served ∷ []) }
-{
-    was && stays_capped(g, recent, excess, served)
 }

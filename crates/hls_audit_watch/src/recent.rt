@@ -1,5 +1,5 @@
 // The service of the last ticks.
-ghost use Rattle.std.specs.Prelude.{◌≡◌, ◌+◌, ◌-◌, ◌<◌, ◌≤◌, [], ◌∷◌, ◌++◌, length, OnOk, IfOk};
+ghost use Rattle.std.specs.Prelude.{◌≡◌, ℕ, ◌+◌, ◌-◌, ◌%◌, ◌<◌, ◌≤◌, [], ◌∷◌, ◌++◌, length, OnOk, IfOk};
 ghost use Rattle.hls_chron.specs.Ticks.{one_if, count};
 ghost use Rattle.hls_guarantee.specs.Service.{schedule_of};
 
@@ -14,12 +14,21 @@ pub(crate) fn service(served: bool) -> u32
     u32::from(served)
 }
 
+/// The place in a ring behind one.
+pub(crate) fn next_place(place: u32, period: u32) -> u32
+    requires { place < period }
+    ensures { (tick : ℕ) → place ≡ tick % period → result ≡ (tick + 1) % period }
+{
+    if place + 1 < period { place + 1 } else { 0 }
+}
+
 /// The ticks so far, of which the service is known from each of the last ones on. The counts stand in a ring.
 #[derive(Drop)]
 pub(crate) struct Recent {
     past: Past,
     period: u32,
     pushed: u32,
+    place: u32,
     total: u32,
     before: Vec<u32>,
 }
@@ -32,7 +41,7 @@ impl Model for Recent {
 
     ghost view = { λ r. record { period = r.period; list = r.past.list } };
 
-    ghost invariant = { λ r. AreCounts r.period r.pushed r.total r.before.items r.past.list };
+    ghost invariant = { λ r. AreCounts r.period r.pushed r.place r.total r.before.items r.past.list };
 }
 
 impl Recent {
@@ -46,6 +55,7 @@ impl Recent {
             past: Past::none(),
             period,
             pushed: 0,
+            place: 0,
             total: 0,
             before,
         })
@@ -67,13 +77,21 @@ impl Recent {
         self.period
     }
 
-    /// The service from a tick on, which is one of the last, or the next.
-    pub(crate) fn since(&self, start: u32) -> u32
-        requires start { start ≤ length self.now.list }
-        requires late { length self.now.list < start + self.now.period }
-        ensures { result ≡ count (schedule_of self.now.list) start (length self.now.list - start) }
+    /// The place of the tick behind the one that comes next.
+    pub(crate) fn next_place(&self) -> u32
+        ensures { result ≡ (length self.now.list + 1) % self.now.period }
     {
-        self.total - self.before[(start % self.period) as usize]
+        next_place(self.place, self.period)
+    }
+
+    /// The service from a tick on, which is one of the last, or the next. Its place is known.
+    pub(crate) fn since(&self, _start: u32, place: u32) -> u32
+        requires start { _start ≤ length self.now.list }
+        requires late { length self.now.list < _start + self.now.period }
+        requires place { place ≡ _start % self.now.period }
+        ensures { result ≡ count (schedule_of self.now.list) _start (length self.now.list - _start) }
+    {
+        self.total - self.before[place as usize]
     }
 
     /// One tick more.
@@ -83,7 +101,8 @@ impl Recent {
     {
         self.total += service(served);
         self.pushed += 1;
-        self.before[(self.pushed % self.period) as usize] = self.total;
+        self.place = next_place(self.place, self.period);
+        self.before[self.place as usize] = self.total;
         self.past = self.past.and(&served);
     }
 
@@ -94,6 +113,7 @@ impl Recent {
         self.past = Past::none();
         self.total = 0;
         self.pushed = 0;
+        self.place = 0;
         self.before[0] = 0;
     }
 }

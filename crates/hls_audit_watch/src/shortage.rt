@@ -4,7 +4,8 @@ ghost use Rattle.hls_guarantee.specs.Limits.{IsValid};
 ghost use Rattle.hls_audit_watch.specs.First.{FirstAt};
 ghost use Rattle.hls_audit_watch.specs.Shortages.{IsShort, IsOver};
 
-use crate::Watch;
+use crate::kept::KeptWatch;
+use crate::over::{find_over_blocks, find_over_windows};
 use hls_guarantee::Guarantee;
 use std::alloc::{AllocError, Global};
 
@@ -24,12 +25,12 @@ pub fn first_short(
     requires few { length served.now ≤ 1000000 }
     ensures { IfOk result (FirstAt (IsShort kept.now ready.now served.now)) }
 {
-    let mut watch = Watch::new(alloc, kept, served.len() as u32)?;
+    let mut watch = KeptWatch::new(alloc, kept, served.len() as u32)?;
     Ok(find_short(&mut watch, ready, served))
 }
 
 /// The first tick that is short, with a watch to which nothing is told yet.
-fn find_short(watch: &mut Watch, ready: &[bool], served: &[bool]) -> Option<usize>
+fn find_short(watch: &mut KeptWatch, ready: &[bool], served: &[bool]) -> Option<usize>
     requires none { watch.old.list ≡ [] }
     requires room { watch.old.ticks ≡ length served.now }
     requires same { length ready.now ≡ length served.now }
@@ -48,10 +49,11 @@ fn find_short(watch: &mut Watch, ready: &[bool], served: &[bool]) -> Option<usiz
     None
 }
 
-/// The first tick of a list in which a thread is served, and the ticks up to it exceed the cap of a guarantee.
+/// The first tick of a list in which a thread is served, and the ticks up to it exceed the cap of a guarantee. Takes
+/// no memory.
 ///
 /// # Errors
-/// Returns `AllocError` where there is no memory for the watch.
+/// Returns none.
 pub fn first_over(
     alloc: Global,
     kept: &Guarantee,
@@ -61,21 +63,17 @@ pub fn first_over(
     requires few { length served.now ≤ 1000000 }
     ensures { IfOk result (FirstAt (IsOver kept.now served.now)) }
 {
-    let mut watch = Watch::new(alloc, kept, served.len() as u32)?;
-    Ok(find_over(&mut watch, served))
+    Ok(find_over(kept, served))
 }
 
-/// The first tick that is over, with a watch to which nothing is told yet.
-fn find_over(watch: &mut Watch, served: &[bool]) -> Option<usize>
-    requires none { watch.old.list ≡ [] }
-    requires room { watch.old.ticks ≡ length served.now }
-    ensures { FirstAt (IsOver watch.old.guarantee served.now) result }
+/// The first tick that is over.
+fn find_over(kept: &Guarantee, served: &[bool]) -> Option<usize>
+    requires valid { IsValid kept.now }
+    ensures { FirstAt (IsOver kept.now served.now) result }
 {
-    for at in 0..served.len() {
-        watch.push(served[at]);
-        if served[at] && !watch.capped() {
-            return Some(at);
-        }
+    match *kept {
+        Guarantee::Resb { hard: true, x, y } => find_over_blocks(x, y, served),
+        Guarantee::Resc { hard: true, x, y } => find_over_windows(x, y, served),
+        _ => None,
     }
-    None
 }

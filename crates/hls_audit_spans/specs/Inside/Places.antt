@@ -9,12 +9,6 @@ pub record IsBegun (spans : List Span) (tick at : ℕ) : Type 0 where
   pub last : (k : ℕ) (s : Span) → k + 1 ≡ at → slice_get spans k ≡ Some s → s.from ≤ tick
   pub next : (s : Span) → slice_get spans at ≡ Some s → tick < s.from
 
--- the next one may begin at the tick as well
-pub record IsNear (spans : List Span) (tick at : ℕ) : Type 0 where
-  pub within : at ≤ length spans
-  pub last : (k : ℕ) (s : Span) → k + 1 ≡ at → slice_get spans k ≡ Some s → s.from ≤ tick
-  pub next : (s : Span) → slice_get spans at ≡ Some s → tick ≤ s.from
-
 -- before how many spans there are at most so many ticks
 pub record IsPassed (spans : List Span) (ticks at : ℕ) : Type 0 where
   pub within : at ≤ length spans

@@ -21,6 +21,11 @@ IsCarried (Psbe s d) w debt cuts list =
     Debt (s.num * d.den) (d.den * s.den) (d.num * s.den) (schedule_of list) (length list) debt
 IsCarried _ w debt cuts list = Unit {0}
 
+-- by blocks what each tick pays
+abbrev pub HasRate : Guarantee → (rate : ℕ) → Type 0
+HasRate (Resb hard x y) rate = rate ≡ parts x y
+HasRate _ rate = Unit {0}
+
 -- by hard blocks the greatest excess
 abbrev pub IsCapCarried : Guarantee → (excess : ℕ) → List Bool → Type 0
 IsCapCarried (Resb true x y) excess list =

@@ -13,3 +13,8 @@ abbrev pub IsPeriodOf : Guarantee → (w ticks : ℕ) → Type 0
 IsPeriodOf (Resb hard x y) w ticks = IsPeriod y w ticks
 IsPeriodOf (Resc hard x y) w ticks = IsPeriod y w ticks
 IsPeriodOf _ w ticks = Unit {0}
+
+-- the same for caps
+abbrev pub IsCapPeriodOf : Guarantee → (w ticks : ℕ) → Type 0
+IsCapPeriodOf (Resc hard x y) w ticks = IsPeriod y w ticks
+IsCapPeriodOf _ w ticks = Unit {0}

@@ -1,4 +1,4 @@
-use Rattle.std.proofs.Common.{◌≡◌, ◌+◌, ◌-◌, ◌≤◌, length, length-set, ◌∙◌, arith, true, false, sym}
+use Rattle.std.proofs.Common.{◌≡◌, ℕ, ◌+◌, ◌-◌, ◌%◌, ◌≤◌, length, length-set, ◌∙◌, arith, true, false, sym, ap}
 use Rattle.hls_chron.specs.Ticks.{one_if, count}
 use Rattle.hls_chron.proofs.CountLaws.{count-le, one_if-le}
 use Rattle.hls_guarantee.specs.Service.{schedule_of}
@@ -45,10 +45,16 @@ loop-self-preserved c =
     count (schedule_of c.args.recent.now.list) c.loop-self.self.from
     (length c.args.recent.now.list - c.loop-self.self.from) + one_if c.args.served =
     omega (arith, c.since.ensures, c.service.ensures) in
-    let some : 1 ≤ c.args.recent.now.period = omega (arith, c.period.ensures.number, c.period.ensures.some) in
+    let some : 1 ≤ c.args.recent.now.period =
+    omega (arith, c.period-period.ensures.number, c.period-period.ensures.some) in
     record {
       room = length-set c.loop-self.self.broken.items _ true ∙ c.loop-self.invariant.room;
-      cutting = rw c.period.ensures.number
+      placed =
+          c.next_place-self.ensures c.loop-self.self.from
+          (c.loop-self.invariant.placed
+          ∙ ap (λ (n : ℕ). c.loop-self.self.from % n) (sym c.period-period.ensures.number))
+          ∙ ap (λ (n : ℕ). (c.loop-self.self.from + 1) % n) c.period-period.ensures.number;
+      cutting = rw c.loop-self.invariant.placed
           (mark_one c.args.reservation.now.hard c.args.reservation.now.x c.args.reservation.now.y
           c.args.recent.now.period c.loop-self.self.from c.loop-self.self.broken.items c.loop-self.self.free
           c.args.recent.now.list c.args.served some c.loop-self.invariant.room on

@@ -16,5 +16,6 @@ invariant_of-self c =
     let few : length c.self.inside.past.list < 1000000 =
     omega (arith, c.requires, ap (λ (r : Lately). length r.list) c.self.view_is) in
     rw (c.and-self-inside.ensures, c.service.ensures)
-    (counts_more c.self.inside.period c.self.inside.pushed c.self.inside.total c.self.inside.before.items
-    c.self.inside.past.list c.args.served c.self.invariant few)
+    (counts_more c.self.inside.period c.self.inside.pushed c.self.inside.place c.next_place-self-inside.result
+    c.self.inside.total c.self.inside.before.items c.self.inside.past.list c.args.served c.self.invariant few
+    (c.next_place-self-inside.ensures (length c.self.inside.past.list) c.self.invariant.place_is))

@@ -1,6 +1,6 @@
 use Rattle.std.proofs.Common.{◌≡◌, true, false, sym, ◌∙◌}
 use Rattle.hls_audit_watch.proofs.Carrying.{capped_before}
-use Rattle.hls_audit_watch.proofs.keeping.is_capped.Goals as goal
+use Rattle.hls_audit_watch.proofs.capping.is_capped.Goals as goal
 
 pub returns-else-was-clause-capped : goal.returns-else-was-clause-capped
 returns-else-was-clause-capped c = (

@@ -2,8 +2,8 @@ use Rattle.std.proofs.Common.{◌≡◌, ℕ, ◌≤◌, length, ap, sym, subst,
 use Rattle.hls_audit_watch.specs.Inside.Lately.{Lately}
 use Rattle.hls_audit_watch.specs.Inside.Carried.{HasPlaces}
 use Rattle.hls_audit_watch.specs.Inside.Periods.{IsPeriodOf}
-use Rattle.hls_audit_watch.proofs.Watching.{watching_none}
-use Rattle.hls_audit_watch.proofs.watch.Watch.new.Goals as goal
+use Rattle.hls_audit_watch.proofs.Watching.{keeping_none}
+use Rattle.hls_audit_watch.proofs.kept.KeptWatch.new.Goals as goal
 
 pub invariant_of-result : goal.invariant_of-result
 invariant_of-result c =
@@ -17,6 +17,8 @@ invariant_of-result c =
     let room : HasPlaces c.args.guarantee.now c.in_ok-recent.recent.period (length c.in_ok-broken.broken.items) =
     subst (λ w. HasPlaces c.args.guarantee.now w (length c.in_ok-broken.broken.items)) (sym width)
     (subst (λ n. HasPlaces c.args.guarantee.now c.period_of-period.result n) (sym long) c.places_of-places.ensures) in
-    watching_none c.args.guarantee.now c.args.ticks c.in_ok-recent.recent.period
-    (record { from = 0; broken = c.in_ok-broken.broken; free = 0 }) c.in_ok-recent.recent.list c.requires.valid
-    c.requires.few period room refl refl (ap (λ (r : Lately). r.list) c.in_ok-recent.ensures)
+    let some : 1 ≤ c.in_ok-recent.recent.period = subst (λ w. 1 ≤ w) (sym width) c.period_of-period.ensures.some in
+    keeping_none c.args.guarantee.now c.args.ticks c.in_ok-recent.recent.period
+    (record { from = 0; place = 0; broken = c.in_ok-broken.broken; free = 0 }) c.in_ok-recent.recent.list
+    c.requires.valid c.requires.few period room some refl refl refl
+    (ap (λ (r : Lately). r.list) c.in_ok-recent.ensures)
