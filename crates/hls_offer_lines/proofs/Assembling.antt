@@ -7,7 +7,8 @@ use Rattle.hls_guarantee.specs.declared.Guarantee.TheVariants.{All}
 use Rattle.hls_offer_best.specs.declared.seat.Seat.{Seat}
 use Rattle.hls_offer_best.specs.declared.windows.Form.TheVariants.{Blocks, Windows}
 use Rattle.hls_offer_best.specs.Best.{IsLeastIfAny, Offers, Waits}
-use Rattle.hls_offer_lines.specs.Lines.{AreOffers, AreSpans, AreTopShares, CoverAll, HasNarrowShares, IsHardOf, ListsEach}
+use Rattle.hls_offer_lines.specs.Lines.{AreOffers, AreSpans, AreTopShares, CoverAll}
+use Rattle.hls_offer_lines.specs.Lines.{HasNarrowShares, IsHardOf, ListsEach}
 use Rattle.hls_offer_lines.specs.Lines.{or_nothing, wait_line}
 
 pub record Parts (seat : Seat) (list : Option (List ℕ)) (lines : List Guarantee) : Type 0 where

@@ -1,7 +1,9 @@
 -- Shares that cover others: each covers itself, and what it covers it covers on.
-use Rattle.std.proofs.Common.{◌≡◌, ℕ, ◌+◌, ◌≤◌, ◌<◌, ◌⊎◌, inl, inr, Bool, List, ◌∷◌, [], ◌++◌, length, get_or, refl, sym, subst}
+use Rattle.std.proofs.Common.{◌≡◌, ℕ, ◌+◌, ◌≤◌, ◌<◌, ◌⊎◌, inl, inr, Bool, List, ◌∷◌}
+use Rattle.std.proofs.Common.{[], ◌++◌, length, get_or, refl, sym, subst}
 use Rattle.std.proofs.Common.{below_more, arith}
-use Rattle.std.specs.Prelude.{Option, Some, None, Contains, slice_get, option_to_list, ◌↔◌, IfSome, IsNone, All as Each, AllPairs}
+use Rattle.std.specs.Prelude.{Option, Some, None, Contains, slice_get}
+use Rattle.std.specs.Prelude.{option_to_list, ◌↔◌, IfSome, IsNone, All as Each, AllPairs}
 use Rattle.std.proofs.lemmas.Option.{slice_get_within, get_or_from_slice_get}
 use Rattle.hls_frac.specs.declared.Frac.{Frac}
 use Rattle.hls_guarantee.specs.declared.Guarantee.{Guarantee}

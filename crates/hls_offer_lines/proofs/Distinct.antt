@@ -10,7 +10,8 @@ use Rattle.hls_guarantee.specs.declared.Guarantee.TheVariants.{All, Null, Resb, 
 use Rattle.hls_offer_laws.specs.Candidates.{HasPeriod}
 use Rattle.hls_offer_best.specs.declared.seat.Seat.{Seat}
 use Rattle.hls_offer_best.specs.declared.windows.Form.TheVariants.{Blocks, Windows}
-use Rattle.hls_offer_lines.specs.Lines.{AreOffers, AreOfPeriod, AreOfPeriods, ArePeriodsOf, AreTopShares, Covers, IsHardOf, IsRising}
+use Rattle.hls_offer_lines.specs.Lines.{AreOffers, AreOfPeriod, AreOfPeriods, ArePeriodsOf}
+use Rattle.hls_offer_lines.specs.Lines.{AreTopShares, Covers, IsHardOf, IsRising}
 use Rattle.hls_offer_lines.specs.Lines.{block_line, is_wait, or_nothing, wait_line, window_line}
 use Rattle.hls_offer_lines.specs.Inside.Listing.{IsValidShare}
 use Rattle.hls_offer_lines.proofs.Pushes.{none-in, in-option, no-pairs, each-of}

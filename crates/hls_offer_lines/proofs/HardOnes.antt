@@ -1,5 +1,6 @@
 -- All that is lent, and the hard reservations that may be offered then.
-use Rattle.std.proofs.Common.{◌≡◌, ℕ, ◌+◌, ◌≤◌, ◌<◌, ◌⊎◌, inl, inr, true, false, List, [], ◌∷◌, ◌++◌, length, refl, sym, subst}
+use Rattle.std.proofs.Common.{◌≡◌, ℕ, ◌+◌, ◌≤◌, ◌<◌, ◌⊎◌, inl, inr, true, false}
+use Rattle.std.proofs.Common.{List, [], ◌∷◌, ◌++◌, length, refl, sym, subst}
 use Rattle.std.proofs.Common.{below_more, arith}
 use Rattle.std.specs.Prelude.{Option, Some, Contains, slice_get, option_to_list, ◌↔◌, AllPairs}
 use Rattle.std.proofs.lemmas.Option.{slice_get_within}

@@ -1,5 +1,6 @@
 -- The periods of what is lent, one after the other, and the lines of periods.
-use Rattle.std.proofs.Common.{◌≡◌, ℕ, ◌+◌, ◌≤◌, ◌<◌, ◌⊎◌, inl, inr, List, [], ◌∷◌, ◌++◌, length, refl, ap, sym, ◌∙◌, subst}
+use Rattle.std.proofs.Common.{◌≡◌, ℕ, ◌+◌, ◌≤◌, ◌<◌, ◌⊎◌, inl, inr, List, [], ◌∷◌}
+use Rattle.std.proofs.Common.{◌++◌, length, refl, ap, sym, ◌∙◌, subst}
 use Rattle.std.proofs.Common.{append_assoc, below_more, arith}
 use Rattle.std.specs.Prelude.{Option, Some, None, Contains, slice_get, IfSome, ◌↔◌, AllPairs, All as Each}
 use Rattle.std.proofs.lemmas.List.{append-nil}
@@ -13,7 +14,8 @@ use Rattle.hls_offer_best.specs.Best.{IsLeastIfAny}
 use Rattle.hls_offer_best.specs.Inside.Trying.{IsFrom}
 use Rattle.hls_offer_lines.specs.Lines.{AreOfPeriod, AreOfPeriods, AreOwnPeriods}
 use Rattle.hls_offer_lines.specs.Inside.Listing.{AreLent, IsPeriodAbove}
-use Rattle.hls_offer_lines.proofs.Pushes.{pushed-cases, pushed-kept, pushed-there, pushed-pairs, place-of, of-each, each-of}
+use Rattle.hls_offer_lines.proofs.Pushes.{pushed-cases, pushed-kept, pushed-there}
+use Rattle.hls_offer_lines.proofs.Pushes.{pushed-pairs, place-of, of-each, each-of}
 
 -- ---- the next period
 

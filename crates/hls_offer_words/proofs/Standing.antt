@@ -1,5 +1,6 @@
 -- How the words of the table stand: plain words, and the options behind them.
-use Rattle.std.proofs.Common.{◌≡◌, ◌≤◌, ◌<◌, ◌^◌, ◌+◌, ℕ, true, false, List, [], ◌∷◌, ◌++◌, refl, sym, ap, ap₂, ◌∙◌, arith}
+use Rattle.std.proofs.Common.{◌≡◌, ◌≤◌, ◌<◌, ◌^◌, ◌+◌, ℕ, true, false, List, []}
+use Rattle.std.proofs.Common.{◌∷◌, ◌++◌, refl, sym, ap, ap₂, ◌∙◌, arith}
 use Rattle.std.proofs.Common.{codes, subst, inl, inr, length}
 use Rattle.std.specs.Prelude.{Option, Some, None, decimal, map, option_map, nat_le, ◌==◌, not}
 use Rattle.std.specs.List.{AllByRecursion}
@@ -19,7 +20,8 @@ use Rattle.hls_scenario.specs.Forms.{Form, the, fraction, terms_forms, guarantee
 use Rattle.hls_scenario.specs.Grammar.{IsToken, IsLine, IsTerms}
 use Rattle.hls_lang.proofs.Fronts.{Front, front_split, front_of_line, line_of_front}
 use Rattle.hls_offer_words.specs.Table.{IsAsked, IsAtMost, IsPlace, IsQuestion, Rise, ArePeriods, most_period}
-use Rattle.hls_offer_words.specs.Table.{asked_forms, place_forms, question_forms, over_words, option_words, moment_words}
+use Rattle.hls_offer_words.specs.Table.{asked_forms, place_forms, question_forms}
+use Rattle.hls_offer_words.specs.Table.{over_words, option_words, moment_words}
 use Rattle.hls_offer_words.specs.Inside.Shapes.{IsPlain, IsPlainIfAny, IsAsking, stated_words, options_words}
 use Rattle.hls_offer_words.specs.Inside.Shapes.{AreOptions, HasShape, timeless}
 use Rattle.hls_offer_words.specs.declared.asked.Question.{Question}

@@ -1,5 +1,6 @@
 -- The words behind a question.
-use Rattle.std.proofs.Common.{◌≡◌, ℕ, ◌≤◌, List, [], ◌∷◌, ◌++◌, refl, sym, ap, ◌∙◌, arith, codes, subst, length, Bool, true, false}
+use Rattle.std.proofs.Common.{◌≡◌, ℕ, ◌≤◌, List, [], ◌∷◌, ◌++◌, refl, sym, ap, ◌∙◌}
+use Rattle.std.proofs.Common.{arith, codes, subst, length, Bool, true, false}
 use Rattle.std.specs.Prelude.{Option, Some, None, decimal, map, ◌==◌}
 use Rattle.hls_text.specs.Lines.{Text}
 use Rattle.hls_scenario.specs.Forms.{the}

@@ -7,7 +7,8 @@ use Rattle.std.proofs.lemmas.List.{append-nil, append_assoc}
 use Rattle.clap.specs.Lexer.{long_of, long_of_rest, short_of, short_of_rest, strip_byte}
 use Rattle.clap.specs.Words.{Row, Rule, Text, is_simple}
 use Rattle.clap.specs.Simple.{built, entered, filled, filled_from, names_of, subcommand_of, with_index}
-use Rattle.clap.specs.Walk.{Names, rows_after, with_default, Held, Step, Waiting, Walk, after_step, finished, idle, nothing_held, option}
+use Rattle.clap.specs.Walk.{Names, rows_after, with_default, Held, Step, Waiting, Walk}
+use Rattle.clap.specs.Walk.{after_step, finished, idle, nothing_held, option}
 use Rattle.clap.specs.Walk.{plain_word, positional, reading_by, used, walk_from, walked}
 use Rattle.clap.specs.Walk.{word_met, subcommand_met}
 use Rattle.clap.specs.declared.parser.matches.ValueSource.TheVariants.{CommandLine}

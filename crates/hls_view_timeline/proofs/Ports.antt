@@ -1,5 +1,6 @@
 -- Ways in the order of ports.
-use Rattle.std.proofs.Common.{◌≡◌, ◌∙◌, ℕ, ◌+◌, ◌<◌, List, [], ◌∷◌, ◌++◌, ap, sym, map, length, get_or, take, refl, arith}
+use Rattle.std.proofs.Common.{◌≡◌, ◌∙◌, ℕ, ◌+◌, ◌<◌, List, [], ◌∷◌, ◌++◌, ap}
+use Rattle.std.proofs.Common.{sym, map, length, get_or, take, refl, arith}
 use Rattle.std.specs.Prelude.{true, false, cond, filter, fold, nat_lt, ◌==◌, ◌&&◌, ◌||◌, reverse}
 use Rattle.std.proofs.lemmas.List.{map-append, reverse-append, take_more}
 use Rattle.std.proofs.lemmas.List.Elements.{filter-append}

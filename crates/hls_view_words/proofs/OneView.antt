@@ -4,7 +4,8 @@ use Rattle.std.proofs.Common.{inl, inr, get_or, arith}
 use Rattle.std.specs.Prelude.{decimal, Option, Some, None}
 use Rattle.std.proofs.lemmas.Fmt.{decimal_injective}
 use Rattle.hls_text.specs.Lines.{Text}
-use Rattle.hls_view_words.specs.Table.{Heads, StatesTick, HasTick, MayTick, StatesName, MayName, MaySpan, MayLast, IsView}
+use Rattle.hls_view_words.specs.Table.{Heads, StatesTick, HasTick, MayTick}
+use Rattle.hls_view_words.specs.Table.{StatesName, MayName, MaySpan, MayLast, IsView}
 use Rattle.hls_view_words.specs.declared.views.View.{View}
 use Rattle.hls_view_words.specs.declared.views.View.TheVariants.{Svg, Trace, Margins, Tree, Jobs}
 use Rattle.hls_view_words.proofs.Heading.{no_head, same_head, same_span}

@@ -1,0 +1,258 @@
+// Deadlines, budgets and the room in use of small books, against what the definitions say.
+use crate::reservations::claim_at;
+use crate::room::{occupant, room_used};
+use crate::tests::{HALF, LATE, LONG, SHORT, in_range, pass, push_marks, seat};
+use hls_chron::{Book, Config, Event, Terms};
+use hls_kinds::Claim;
+use std::alloc::AllocError;
+use std::process::Abort;
+use std::test::Fail;
+
+/// Fills a book with these marks and masks, each tick served as the discipline says.
+fn fill(
+    rt: &impl Abort,
+    book: &mut Book,
+    config: &Config,
+    marks: &[(u32, Event)],
+    masks: &[u8],
+) -> Result<(), AllocError> {
+    for asking in masks {
+        push_marks(book, marks)?;
+        pass(rt, book, config, *asking, true)?;
+    }
+    push_marks(book, marks)
+}
+
+#[test]
+fn tells_deadlines_and_budgets(rt: HostRuntime) -> Result<(), Fail> {
+    let mut book = Book::new(rt.alloc(), 0);
+    let seats = [(0, seat(0, HALF)), (0, seat(1, LATE))];
+    fill(&rt, &mut book, &Config::Edf, &seats, b"00000")?;
+    assert!(rt; book.now() < 1000);
+    assert_eq!(rt;
+        claim_at(&book, 3, 0),
+        Some(Claim {
+            deadline: 15,
+            budget: 5
+        })
+    );
+    assert_eq!(rt;
+        claim_at(&book, 3, 1),
+        Some(Claim {
+            deadline: 21,
+            budget: 8
+        })
+    );
+    assert_eq!(rt;
+        claim_at(&book, 0, 1),
+        Some(Claim {
+            deadline: 0,
+            budget: 8
+        })
+    );
+    assert_eq!(rt; claim_at(&book, 3, 2), None);
+    let cases: [(&[u8], u64, u32); 5] = [
+        (b"1", 4, 1),
+        (b"11", 4, 0),
+        (b"10", 4, 1),
+        (b"100", 7, 2),
+        (b"1111", 8, 2),
+    ];
+    for (masks, deadline, budget) in cases {
+        let mut book = Book::new(rt.alloc(), 0);
+        fill(&rt, &mut book, &Config::Edf, &[(0, seat(0, SHORT))], masks)?;
+        assert!(rt; book.now() < 1000);
+        assert_eq!(rt; claim_at(&book, 1, 0), Some(Claim { deadline, budget }));
+    }
+    Ok(())
+}
+
+const WHOLE: u128 = 133573286426580000;
+
+#[test]
+fn tells_what_is_held_and_used(rt: HostRuntime) -> Result<(), Fail> {
+    let cases: [(Config, &[(u32, Event)], &[u8], u128, bool); 9] = [
+        (
+            Config::Edf,
+            &[
+                (
+                    0,
+                    Event::Seat {
+                        slot: 0,
+                        terms: HALF,
+                    },
+                ),
+                (
+                    0,
+                    Event::Seat {
+                        slot: 1,
+                        terms: LONG,
+                    },
+                ),
+            ],
+            b"33333",
+            WHOLE,
+            true,
+        ),
+        (
+            Config::Edf,
+            &[
+                (
+                    0,
+                    Event::Seat {
+                        slot: 0,
+                        terms: HALF,
+                    },
+                ),
+                (
+                    0,
+                    Event::Seat {
+                        slot: 1,
+                        terms: LONG,
+                    },
+                ),
+                (5, Event::Leave { slot: 0 }),
+            ],
+            b"33333",
+            WHOLE,
+            true,
+        ),
+        (
+            Config::Edf,
+            &[
+                (
+                    0,
+                    Event::Seat {
+                        slot: 0,
+                        terms: HALF,
+                    },
+                ),
+                (
+                    0,
+                    Event::Seat {
+                        slot: 1,
+                        terms: LONG,
+                    },
+                ),
+                (5, Event::Leave { slot: 0 }),
+            ],
+            b"3333322222",
+            WHOLE / 2,
+            false,
+        ),
+        (
+            Config::Edf,
+            &[
+                (
+                    0,
+                    Event::Seat {
+                        slot: 0,
+                        terms: HALF,
+                    },
+                ),
+                (0, Event::Leave { slot: 0 }),
+            ],
+            b"",
+            0,
+            false,
+        ),
+        (
+            Config::Edf,
+            &[
+                (
+                    0,
+                    Event::Seat {
+                        slot: 0,
+                        terms: HALF,
+                    },
+                ),
+                (2, Event::Settle),
+                (2, Event::Leave { slot: 0 }),
+            ],
+            b"11",
+            0,
+            false,
+        ),
+        (
+            Config::Edf,
+            &[
+                (
+                    0,
+                    Event::Seat {
+                        slot: 0,
+                        terms: HALF,
+                    },
+                ),
+                (2, Event::Leave { slot: 0 }),
+                (2, Event::Settle),
+            ],
+            b"11",
+            0,
+            false,
+        ),
+        (
+            Config::Edf,
+            &[
+                (
+                    0,
+                    Event::Seat {
+                        slot: 0,
+                        terms: HALF,
+                    },
+                ),
+                (2, Event::Leave { slot: 0 }),
+            ],
+            b"00",
+            0,
+            false,
+        ),
+        (
+            Config::Sfq {
+                total: 4,
+                most: 3,
+                quantum: 1,
+            },
+            &[(
+                0,
+                Event::Seat {
+                    slot: 0,
+                    terms: Terms::Weight(3),
+                },
+            )],
+            b"1",
+            3,
+            true,
+        ),
+        (
+            Config::Wheel { frame: 5 },
+            &[
+                (
+                    0,
+                    Event::Seat {
+                        slot: 0,
+                        terms: Terms::Slots(2),
+                    },
+                ),
+                (
+                    0,
+                    Event::Seat {
+                        slot: 1,
+                        terms: Terms::Slots(3),
+                    },
+                ),
+                (1, Event::Leave { slot: 0 }),
+            ],
+            b"1",
+            3,
+            false,
+        ),
+    ];
+    for (config, marks, masks, used, taken) in cases {
+        let mut book = Book::new(rt.alloc(), 0);
+        fill(&rt, &mut book, &config, marks, masks)?;
+        assert!(rt; in_range(&config));
+        assert_eq!(rt; room_used(&book, &config), used);
+        assert_eq!(rt; occupant(&book, &config, 0).is_some(), taken);
+    }
+    Ok(())
+}
