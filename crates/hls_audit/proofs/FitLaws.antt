@@ -253,7 +253,7 @@ dues_fit tree (said.Move name perch) fit is at =
     )
 dues_fit tree (said.End name) fit is at = tt
 dues_fit tree (said.Unload name) fit is at = tt
-dues_fit tree (said.Wake name burst) fit is at = tt
+dues_fit tree (said.Wake name every burst) fit is at = tt
 dues_fit tree (said.Block name) fit is at = tt
 
 -- ---- what a command leaves
@@ -305,7 +305,7 @@ after_fit tree (said.Move name perch) fit is at =
     (placed tree (said.Move name perch) at).0
 after_fit tree (said.End name) fit is at = without_fit (λ m. not (has_name name m)) tree fit
 after_fit tree (said.Unload name) fit is at = without_fit (λ m. not (has_name name m)) tree fit
-after_fit tree (said.Wake name burst) fit is at = fit
+after_fit tree (said.Wake name every burst) fit is at = fit
 after_fit tree (said.Block name) fit is at = fit
 
 either_fits : (b : Bool) (tree other : List Member) → (b ≡ true → AllByRecursion IsFit tree)

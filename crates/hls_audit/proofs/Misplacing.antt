@@ -82,9 +82,9 @@ told (Some m) = by m.sort
 pub end_misplaced : (tree : List Member) (name : Text) → not (is_thread tree name) ≡ is_misplaced tree (End name)
 end_misplaced tree name = told (member_of tree name)
 
-pub wake_misplaced : (tree : List Member) (name : Text) (burst : Option ℕ)
-    → not (is_thread tree name) ≡ is_misplaced tree (Wake name burst)
-wake_misplaced tree name burst = told (member_of tree name)
+pub wake_misplaced : (tree : List Member) (name : Text) (every burst : Option ℕ)
+    → not (is_thread tree name) ≡ is_misplaced tree (Wake name every burst)
+wake_misplaced tree name every burst = told (member_of tree name)
 
 pub block_misplaced : (tree : List Member) (name : Text) → not (is_thread tree name) ≡ is_misplaced tree (Block name)
 block_misplaced tree name = told (member_of tree name)

@@ -164,7 +164,7 @@ cpu_first version (said.Thread name perch) is port e = one_first perch port e
 cpu_first version (said.End name) is port e = absurd (cc)
 cpu_first version (said.Unload name) is port e = absurd (cc)
 cpu_first version (said.Move name perch) is port e = one_first perch port e
-cpu_first version (said.Wake name burst) is port e = absurd (cc)
+cpu_first version (said.Wake name every burst) is port e = absurd (cc)
 cpu_first version (said.Block name) is port e = absurd (cc)
 
 -- ---- an unload
@@ -388,7 +388,7 @@ module _ (m : Moment) (tree : List Member) (reached : IsReached m.hierarchy) (t 
       (λ on. none (refusals.WrongSort (Some name)) tt (inl (record { old = refl; wrong = thread_named name on })))
   sort_free (said.Move name perch) none = false_from_ne_true (is_join tree name)
       (λ on. none (refusals.WrongSort (Some name)) tt (inl (record { old = refl; wrong = join_named name on })))
-  sort_free (said.Wake name burst) none = false_from_ne_true (is_scheduler tree name)
+  sort_free (said.Wake name every burst) none = false_from_ne_true (is_scheduler tree name)
       (λ on. none (refusals.WrongSort (Some name)) tt (inl (record { old = refl; wrong = scheduler_named name on })))
   sort_free (said.Block name) none = false_from_ne_true (is_scheduler tree name)
       (λ on. none (refusals.WrongSort (Some name)) tt (inl (record { old = refl; wrong = scheduler_named name on })))
@@ -401,7 +401,7 @@ module _ (m : Moment) (tree : List Member) (reached : IsReached m.hierarchy) (t 
       let may = unloads m reach name (λ r f. none r (unload_names m name r f) f) in
       occupied_off h tree reached t (said.Unload name) may.step may.does may.can
   occupied_free reach (said.Move name perch) none = refl
-  occupied_free reach (said.Wake name burst) none = refl
+  occupied_free reach (said.Wake name every burst) none = refl
   occupied_free reach (said.Block name) none = refl
 
   cycle_spot : (name : Text) (perch : Perch) → IsFree (said.Move name perch) → (spot : Spot) → perch.spot ≡ spot
@@ -436,7 +436,7 @@ module _ (m : Moment) (tree : List Member) (reached : IsReached m.hierarchy) (t 
   cycle_free (said.Move name perch) none =
       false_from_ne_true (is_scheduler tree name && is_on (is_under tree name) perch.spot)
       (cycle_spot name perch none perch.spot refl)
-  cycle_free (said.Wake name burst) none = refl
+  cycle_free (said.Wake name every burst) none = refl
   cycle_free (said.Block name) none = refl
 
   -- ---- places
@@ -447,7 +447,7 @@ module _ (m : Moment) (tree : List Member) (reached : IsReached m.hierarchy) (t 
   thread_there (said.End name) on = absurd (cc)
   thread_there (said.Unload name) on = absurd (cc)
   thread_there (said.Move name perch) on = thread_named name on
-  thread_there (said.Wake name burst) on = absurd (cc)
+  thread_there (said.Wake name every burst) on = absurd (cc)
   thread_there (said.Block name) on = absurd (cc)
 
   root_some : list_any sits_at_cpu tree ≡ true → is_some h.root ≡ true

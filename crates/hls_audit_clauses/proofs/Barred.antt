@@ -160,7 +160,7 @@ module _ (m : Moment) (tree : List Member) (reached : IsReached m.hierarchy) (t 
       ap (λ (n : Text). is_join_sort (sort_of (member_of tree n))) same
       ∙ ap is_join_sort (sort_named name (Loaded f.wrong.place.scheduler) f.wrong.place.there)
       ∙ join_if_kind f.wrong.place.scheduler.config f.wrong.kind
-  sort_wrong (said.Wake own burst) name f =
+  sort_wrong (said.Wake own every burst) name f =
       let same : own ≡ name = (let e = f.old in cc) in
       ap (is_scheduler tree) same
       ∙ ap is_scheduler_sort (sort_named name (Loaded f.wrong.scheduler) f.wrong.there)
@@ -290,7 +290,7 @@ module _ (m : Moment) (tree : List Member) (reached : IsReached m.hierarchy) (t 
   thread_placed (said.Load name config perches) f = absurd f
   thread_placed (said.End name) f = absurd f
   thread_placed (said.Unload name) f = absurd f
-  thread_placed (said.Wake name burst) f = absurd f
+  thread_placed (said.Wake name every burst) f = absurd f
   thread_placed (said.Block name) f = absurd f
 
   no_scheduler : (name : Text) → node_of h name ≡ None → is_scheduler tree name ≡ false

@@ -106,7 +106,7 @@ module _ (h : Hierarchy) (tree : List Member) (reached : IsReached h) (t : IsTre
   taken_off (said.End name) step does can = refl
   taken_off (said.Unload name) step does can = refl
   taken_off (said.Move name perch) step does can = refl
-  taken_off (said.Wake name burst) step does can = refl
+  taken_off (said.Wake name every burst) step does can = refl
   taken_off (said.Block name) step does can = refl
   taken_off _ _ does can = absurd does
 
@@ -119,7 +119,7 @@ module _ (h : Hierarchy) (tree : List Member) (reached : IsReached h) (t : IsTre
   unknown_off (said.End name) (End k) does = known k name does
   unknown_off (said.Unload name) (Unload k) does = known k name does
   unknown_off (said.Move name perch) (Move k seat below) does = known k name does.0
-  unknown_off (said.Wake name burst) (Rouse k ticks) does = known k name does.0
+  unknown_off (said.Wake name every burst) (Rouse k how) does = known k name does.0
   unknown_off (said.Block name) (Block k) does = known k name does
   unknown_off _ _ does = absurd does
 
@@ -137,7 +137,7 @@ module _ (h : Hierarchy) (tree : List Member) (reached : IsReached h) (t : IsTre
       ap is_thread_sort (sort_found k name does ∙ ap sort_at can.there)
   sort_off (said.Move name perch) (Move k seat below) does can =
       ap is_join_sort (sort_found k name does.0) ∙ no_join seat.place (h.nodes k) can.0.sort
-  sort_off (said.Wake name burst) (Rouse k ticks) does can = thread_sort k name does.0 can
+  sort_off (said.Wake name every burst) (Rouse k how) does can = thread_sort k name does.0 can
   sort_off (said.Block name) (Block k) does can = thread_sort k name does can
   sort_off _ _ does can = absurd does
 
@@ -166,7 +166,7 @@ module _ (h : Hierarchy) (tree : List Member) (reached : IsReached h) (t : IsTre
     | inr off ↦ off
   ]
   occupied_off (said.Move name perch) step does can = refl
-  occupied_off (said.Wake name burst) step does can = refl
+  occupied_off (said.Wake name every burst) step does can = refl
   occupied_off (said.Block name) step does can = refl
   occupied_off _ _ does can = absurd does
 
@@ -223,7 +223,7 @@ module _ (h : Hierarchy) (tree : List Member) (reached : IsReached h) (t : IsTre
   cycle_off (said.Move name perch) (Move k seat below) does can =
       and_right (is_scheduler tree name) (is_on (is_under tree name) perch.spot)
       (spot_off k name does.0 below can.0.under seat.place perch.spot does.1.place can.0.acyclic)
-  cycle_off (said.Wake name burst) step does can = refl
+  cycle_off (said.Wake name every burst) step does can = refl
   cycle_off (said.Block name) step does can = refl
   cycle_off _ _ does can = absurd does
 
@@ -288,7 +288,7 @@ module _ (h : Hierarchy) (tree : List Member) (reached : IsReached h) (t : IsTre
       can.0.take.free
       (λ at. ap is_thread_sort (sort_found k name does.0)
       ∙ no_thread (h.nodes k) (subst (λ (p : Place). MayMoveTo p (h.nodes k)) at can.0.sort)))
-  spots_off (said.Wake name burst) step does can = refl
+  spots_off (said.Wake name every burst) step does can = refl
   spots_off (said.Block name) step does can = refl
   spots_off _ _ does can = absurd does
 

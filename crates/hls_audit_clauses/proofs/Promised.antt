@@ -42,7 +42,7 @@ narrow_in version (said.Thread name perch) is = is.1.want
 narrow_in version (said.End name) is = tt
 narrow_in version (said.Unload name) is = tt
 narrow_in version (said.Move name perch) is = is.1.want
-narrow_in version (said.Wake name burst) is = tt
+narrow_in version (said.Wake name every burst) is = tt
 narrow_in version (said.Block name) is = tt
 
 found_keeps : {X : Type 0} (Q : Option X → Type 0) (test : X → Bool) (xs : List X) → Q None

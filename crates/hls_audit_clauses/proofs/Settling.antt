@@ -255,7 +255,7 @@ module _ (h : Hierarchy) (tree : List Member) (reached : IsReached h) (t : IsTre
   same_dues (said.Move name perch) =
       ap (λ d. d ∷ dues_on tree name perch.want) (same_at name 0 perch)
       ∙ ap (λ l. run.due_at h name 0 perch ∷ l) (on_by name perch.want (number_of h name) refl)
-  same_dues (said.Wake name burst) = refl
+  same_dues (said.Wake name every burst) = refl
   same_dues (said.Block name) = refl
 
 settled : (m : Moment) (command : Command) (answer : Answer) → is_done answer ≡ true → IsAnswer m command answer

@@ -158,7 +158,7 @@ now_same h command (Done by) (Admit k new seat) does = refl
 now_same h command (Done by) (End k) does = refl
 now_same h command (Done by) (Unload k) does = refl
 now_same h command (Done by) (Move k seat below) does = refl
-now_same h command (Done by) (Rouse k ticks) does = refl
+now_same h command (Done by) (Rouse k how) does = refl
 now_same h command (Done by) (Block k) does = refl
 now_same h command (Done by) (Elapse asking masks path) does = absurd (no_elapse h command asking masks path does)
 

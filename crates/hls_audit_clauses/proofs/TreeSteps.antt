@@ -336,7 +336,7 @@ step_tree h tree tick (said.Unload name) (Done by) (Unload k) reached can does t
     gone_tree h tree name k t (lists_of h reached).names (unload_stay h reached k can) does
 step_tree h tree tick (said.Move name perch) (Done by) (Move k seat below) reached can does t =
     move_tree h tree name perch k seat below t (lists_of h reached).names can.0 does.0 does.1
-step_tree h tree tick (said.Wake name burst) (Done by) (Rouse k ticks) reached can does t =
-    wake_tree h tree k (wake_by ticks h.now) t
+step_tree h tree tick (said.Wake name every burst) (Done by) (Rouse k how) reached can does t =
+    wake_tree h tree k (wake_by how h.now) t
 step_tree h tree tick (said.Block name) (Done by) (Block k) reached can does t = wake_tree h tree k Asleep t
 step_tree h tree tick _ (Done by) _ reached can does t = absurd does

@@ -25,7 +25,7 @@ is_unknown tree (Some name) = not (is_there tree name)
 -- end, wake or block of a scheduler, unload of a thread, move of a join
 abbrev pub is_of_wrong_sort : List Member → Command → Bool
 is_of_wrong_sort tree (End name) = is_scheduler tree name
-is_of_wrong_sort tree (Wake name burst) = is_scheduler tree name
+is_of_wrong_sort tree (Wake name every burst) = is_scheduler tree name
 is_of_wrong_sort tree (Block name) = is_scheduler tree name
 is_of_wrong_sort tree (Unload name) = is_thread tree name
 is_of_wrong_sort tree (Move name perch) = is_join tree name

@@ -58,7 +58,7 @@ seats_same places test other agree (Thread name perch) known = on_same places te
 seats_same places test other agree (End name) known = refl
 seats_same places test other agree (Unload name) known = refl
 seats_same places test other agree (Move name perch) known = on_same places test other agree perch.spot known
-seats_same places test other agree (Wake name burst) known = refl
+seats_same places test other agree (Wake name every burst) known = refl
 seats_same places test other agree (Block name) known = refl
 
 sits_same : (places : Places) (test other : Text → Bool) → Agree places test other → (found : Option Answered)
@@ -181,7 +181,7 @@ sits_none (Some a) = seats_none a.command
     seats_none (End name) = refl
     seats_none (Unload name) = refl
     seats_none (Move name perch) = on_none perch.spot
-    seats_none (Wake name burst) = refl
+    seats_none (Wake name every burst) = refl
     seats_none (Block name) = refl
 
 mark_none : (place : Option ℕ) → mark_at [] place ≡ false

@@ -131,7 +131,7 @@ seats_one one other (Thread name perch) e ne = bytes_apart name other (λ is. ne
 seats_one one other (End name) e ne = refl
 seats_one one other (Unload name) e ne = refl
 seats_one one other (Move name perch) e ne = bytes_apart name other (λ is. ne (sym is ∙ bytes_same name one e))
-seats_one one other (Wake name burst) e ne = refl
+seats_one one other (Wake name every burst) e ne = refl
 seats_one one other (Block name) e ne = refl
 
 and_false : (p q : Bool) → q ≡ false → (p && q) ≡ false
@@ -146,7 +146,7 @@ more_known old new (Thread name perch) learns known = known_on old new learns pe
 more_known old new (End name) learns known = record {}
 more_known old new (Unload name) learns known = record {}
 more_known old new (Move name perch) learns known = known_on old new learns perch.spot known
-more_known old new (Wake name burst) learns known = record {}
+more_known old new (Wake name every burst) learns known = record {}
 more_known old new (Block name) learns known = record {}
 
 sits_more : (old new : Seats) (found : Option Answered) → Learns old new → SitsOnKnown old.places found

@@ -7,6 +7,7 @@ pub mod Least
 pub mod EachStay
 pub mod OneStay
 pub mod LineLaws
+pub mod ReleaseLaws
 pub mod Linked
 pub mod EachName
 pub mod MeetingLaws

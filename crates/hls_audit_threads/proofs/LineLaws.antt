@@ -12,6 +12,7 @@ use Rattle.hls_chron.specs.Ticks.{count}
 use Rattle.hls_audit_spans.specs.declared.span.Span.{Span}
 use Rattle.hls_audit_spans.specs.Spans.{Tell, IsReach}
 use Rattle.hls_audit_spans.proofs.Growing.{tell_none, tell_wider}
+use Rattle.hls_releases.specs.Releases.{is_unserved}
 use Rattle.hls_scenario.specs.declared.scenario.Command.{Command}
 use Rattle.hls_scenario.specs.declared.scenario.Command.TheVariants.{Load, Thread, End, Unload, Move, Wake, Block}
 use Rattle.hls_report_text.specs.declared.report.Answered.{Answered}
@@ -20,11 +21,12 @@ use Rattle.hls_legal.specs.Ready.{lasts, is_awake}
 use Rattle.hls_legal.proofs.Rousings.{rousing, find-snoc_hit, find-snoc_miss}
 use Rattle.hls_audit_threads.specs.declared.lines.Readiness.{Readiness}
 use Rattle.hls_audit_threads.specs.declared.lines.Readiness.TheVariants.{Asleep, Burst}
+use Rattle.hls_audit_threads.specs.declared.lines.Periodic.{Periodic}
 use Rattle.hls_audit_threads.specs.declared.chains.Chains.{Chains}
 use Rattle.hls_audit_threads.specs.Inside.Chains.{Keys, HasKey, IsNextAt, IsNext, AreChains, next_of}
 use Rattle.hls_audit_threads.specs.Inside.Lookups.{AreKeys, Rouses}
 use Rattle.hls_audit_threads.specs.Inside.Order.{AreInOrder}
-use Rattle.hls_audit_threads.specs.Inside.Lines.{readiness_of, is_on, IsOn}
+use Rattle.hls_audit_threads.specs.Inside.Lines.{readiness_of, is_on, IsOn, IsOnce, IsPeriodicBy}
 
 -- ---- the last word on a thread at a tick
 
@@ -91,14 +93,14 @@ last_word name t xs i early late =
 -- ---- ready
 
 lasts_so : (serves : ℕ → Bool) (since t : ℕ) (command : Command)
-    → lasts serves since t command ≡ is_on (readiness_of command) (count serves since (t - since))
+    → lasts serves since t command ≡ is_on serves (readiness_of command) since t
 lasts_so serves since t (Load name config perches) = refl
 lasts_so serves since t (Thread name perch) = refl
 lasts_so serves since t (End name) = refl
 lasts_so serves since t (Unload name) = refl
 lasts_so serves since t (Move name perch) = refl
-lasts_so serves since t (Wake name None) = refl
-lasts_so serves since t (Wake name (Some ticks)) = refl
+lasts_so serves since t (Wake name every None) = refl
+lasts_so serves since t (Wake name every (Some ticks)) = refl
 lasts_so serves since t (Block name) = refl
 
 -- in which ticks it is ready, by the ticks in which it is served
@@ -110,7 +112,7 @@ pub record IsReadyTo (xs : List Answered) (name : Text) (f : ℕ → Bool) (end 
   pub within : since ≤ end
   pub tell : Tell (awake xs name f) ready since
   pub word : (t : ℕ) → since ≤ t
-      → is_awake f t (rousing name (take i xs)) ≡ is_on r (count f since (t - since))
+      → is_awake f t (rousing name (take i xs)) ≡ is_on f r since t
   pub past : (k : ℕ) (a : Answered) → k < i → slice_get xs k ≡ Some a → has_done (rouses name) a ≡ true
       → a.tick ≤ since
   pub ahead : (k : ℕ) (a : Answered) → i ≤ k → slice_get xs k ≡ Some a → since ≤ a.tick
@@ -156,7 +158,7 @@ ready_same xs name f end i since ready r a lt e off so_far = record {
 word_here : (xs : List Answered) (name : Text) (f : ℕ → Bool) (end i since : ℕ) (ready : List Span) (r : Readiness)
     (until : ℕ) → ((k : ℕ) (b : Answered) → i ≤ k → slice_get xs k ≡ Some b → until ≤ b.tick)
     → IsReadyTo xs name f end i since ready r
-    → (t : ℕ) → since ≤ t → t < until → awake xs name f t ≡ is_on r (count f since (t - since))
+    → (t : ℕ) → since ≤ t → t < until → awake xs name f t ≡ is_on f r since t
 word_here xs name f end i since ready r until late so_far t lo hi =
     let word = last_word name t xs i
     (λ k a less there on. let past = so_far.past k a less there on in omega (arith, past, lo))
@@ -166,7 +168,7 @@ word_here xs name f end i since ready r until late so_far t lo hi =
 -- the spans grow as far as the ticks go
 abbrev pub Fills : (f : ℕ → Bool) (end since until : ℕ) → Readiness → (old new : List Span) → Type 0
 Fills f end since until r old new = (g : ℕ → Bool) → Tell g old since
-    → ((t : ℕ) → since ≤ t → t < until → g t ≡ is_on r (count f since (t - since))) → Tell g new until
+    → ((t : ℕ) → since ≤ t → t < until → g t ≡ is_on f r since t) → Tell g new until
 
 pub ready_more : (xs : List Answered) (name : Text) (f : ℕ → Bool) (end i since : ℕ) (ready new : List Span)
     (r : Readiness) (a : Answered) → AreInOrder xs → i < length xs → a ≡ get_or xs i a
@@ -302,16 +304,19 @@ filling_next xs keys chains name f end since ready r at linked going =
 
 -- ---- the spans grow
 
-pub fills_some : (f g : ℕ → Bool) (since until reach : ℕ) (r : Readiness) (new : List Span) → IsOn f r since until reach
-    → ((t : ℕ) → since ≤ t → t < until → g t ≡ is_on r (count f since (t - since))) → Tell g new reach
+pub fills_some : (f g : ℕ → Bool) (since until reach : ℕ) (r : Readiness) (new : List Span) → IsOnce r since
+    → IsOn f r since until reach → ((t : ℕ) → since ≤ t → t < until → g t ≡ is_on f r since t) → Tell g new reach
     → Tell g new until
-fills_some f g since until reach r new is same tell =
+fills_some f g since until reach r new once is same tell =
     tell_wider g new reach until is.ends
-    (λ t lo hi. let begins = is.begins in same t (omega (arith, lo, begins)) hi ∙ is.off t lo hi) tell
+    (λ t lo hi.
+    let begins = is.begins in
+    let from : since ≤ t = omega (arith, lo, begins) in
+    same t from hi ∙ once f t from ∙ is.off t lo hi) tell
 
-pub burst_on : (f : ℕ → Bool) (r : Readiness) (since ticks until reach : ℕ) → r ≡ Burst ticks
-    → IsReach f since ticks until reach → IsOn f r since until reach
-burst_on f r since ticks until reach is so =
+pub burst_on : (f : ℕ → Bool) (r : Readiness) (since ticks : ℕ) (every : Option ℕ) (until reach : ℕ)
+    → r ≡ Burst ticks every → IsReach f since ticks until reach → IsOn f r since until reach
+burst_on f r since ticks every until reach is so =
     subst (λ (x : Readiness). IsOn f x since until reach) (sym is) (record {
       begins = so.begins;
       ends = so.ends;
@@ -319,16 +324,24 @@ burst_on f r since ticks until reach is so =
       off = λ t lo hi. le-ltb (count f since (t - since)) ticks (so.all t lo hi);
     })
 
-pub on_ticks : (f g : ℕ → Bool) (since until reach : ℕ) (r : Readiness) → IsOn f r since until reach
-    → ((t : ℕ) → since ≤ t → t < until → g t ≡ is_on r (count f since (t - since)))
-    → (t : ℕ) → since ≤ t → t < reach → g t ≡ true
-on_ticks f g since until reach r is same t lo hi =
-    let ends = is.ends in same t lo (omega (arith, hi, ends)) ∙ is.on t lo hi
+pub on_ticks : (f g : ℕ → Bool) (since until reach : ℕ) (r : Readiness) → IsOnce r since → IsOn f r since until reach
+    → ((t : ℕ) → since ≤ t → t < until → g t ≡ is_on f r since t) → (t : ℕ) → since ≤ t → t < reach → g t ≡ true
+on_ticks f g since until reach r once is same t lo hi =
+    let ends = is.ends in same t lo (omega (arith, hi, ends)) ∙ once f t lo ∙ is.on t lo hi
 
-pub fills_none : (f g : ℕ → Bool) (since until reach : ℕ) (r : Readiness) (old : List Span) → IsOn f r since until reach
-    → reach ≤ since → ((t : ℕ) → since ≤ t → t < until → g t ≡ is_on r (count f since (t - since)))
-    → Tell g old since → Tell g old until
-fills_none f g since until reach r old is none same tell =
+pub fills_none : (f g : ℕ → Bool) (since until reach : ℕ) (r : Readiness) (old : List Span) → IsOnce r since
+    → IsOn f r since until reach → reach ≤ since
+    → ((t : ℕ) → since ≤ t → t < until → g t ≡ is_on f r since t) → Tell g old since → Tell g old until
+fills_none f g since until reach r old once is none same tell =
     let begins = is.begins in
     let here : since ≡ reach = omega (arith, none, begins) in
-    fills_some f g since until reach r old is same (subst (Tell g old) here tell)
+    fills_some f g since until reach r old once is same (subst (Tell g old) here tell)
+
+-- the ticks of a periodic wake, as ticks of a readiness
+pub periodic_on : (f g : ℕ → Bool) (since until : ℕ) (r : Readiness) (p : Periodic) → IsPeriodicBy r since p
+    → ((t : ℕ) → since ≤ t → t < until → g t ≡ is_on f r since t) → (t : ℕ) → p.since ≤ t → t < until
+    → g t ≡ is_unserved f (Some p.period) p.ticks p.since t
+periodic_on f g since until r p is same t lo hi =
+    let begins = is.begins in
+    same t (omega (arith, begins, lo)) hi ∙ ap (λ (x : Readiness). is_on f x since t) is.is
+    ∙ ap (λ (n : ℕ). is_unserved f (Some p.period) p.ticks n t) (sym begins)

@@ -4,7 +4,7 @@
 ghost use Rattle.std.specs.Prelude.{◌≡◌, ◌+◌, ◌<◌, drop, option_copied};
 ghost use Rattle.hls_clock.specs.Agenda.{due_command, first_tick_after};
 
-use hls_scenario::{Command, Scenario};
+use hls_scenario::{Command, Item, Scenario};
 use std::marker::Model;
 
 /// How many commands of a scenario have their answers. It borrows nothing of the scenario, and no
@@ -20,6 +20,17 @@ impl Model for Agenda {
     ghost Value = { ℕ };
 
     ghost view = { λ agenda. agenda.place };
+}
+
+/// The items from a place on. To pass over those before it one by one would cost what there are.
+fn items_from(items: &[Item], place: usize) -> &[Item]
+    ensures { result.now ≡ drop place items.now }
+{
+    if place < items.len() {
+        &items[place..]
+    } else {
+        &[]
+    }
 }
 
 impl Agenda {
@@ -64,11 +75,8 @@ impl Agenda {
     pub fn next_after(&self, scenario: &Scenario, now: u32) -> Option<u32>
         ensures { result ≡ first_tick_after now (drop self.now scenario.now.items) }
     {
-        scenario
-            .items
-            .items()
+        items_from(scenario.items.items(), self.place as usize)
             .iter()
-            .skip(self.place as usize)
             .map(|item| item.tick)
             .find(|tick| *tick > now)
     }

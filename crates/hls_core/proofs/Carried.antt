@@ -1,13 +1,13 @@
 -- What commands leave of a tree and of bursts.
 use Rattle.std.proofs.lemmas.Bool.{cases_eq}
 use Rattle.std.proofs.Common.{◌≡◌, ◌≢◌, ℕ, inl, inr, ◌⊎◌, [], Option, Bool, true}
-use Rattle.std.proofs.Common.{false, refl, sym, ap, ◌∙◌, subst, length}
+use Rattle.std.proofs.Common.{false, cond, Some, None, ◌+◌, ◌<◌, ◌≤◌, ◌^◌, refl, sym, ap, ◌∙◌, subst, arith, length}
 use Rattle.std.specs.Prelude.{Result, Ok, Err, IfOk, OnErr, slice_index}
 use Rattle.std.proofs.lemmas.List.{length-map}
 use Rattle.hls_text.specs.Lines.{Text}
 use Rattle.hls_scenario.specs.declared.scenario.Command.{Command}
 use Rattle.hls_scenario.specs.declared.scenario.Command.TheVariants as said
-use Rattle.hls_scenario.specs.Grammar.{IsBurst}
+use Rattle.hls_scenario.specs.Grammar.{IsWaking}
 use Rattle.hls_report_text.specs.declared.refusal.Refusal.{Refusal}
 use Rattle.hls_report_text.specs.declared.report.Answer.{Answer}
 use Rattle.hls_report_text.specs.declared.report.Answer.TheVariants.{Done, Refused}
@@ -21,42 +21,39 @@ use Rattle.hls_machine.specs.Steps.{Refuse, Rouse, with_wake, wake_by}
 use Rattle.hls_machine.specs.Steps as steps
 use Rattle.hls_machine.specs.Legal.{IsThread, IsReached}
 use Rattle.hls_machine.specs.Lists.{IsListed}
-use Rattle.hls_legal.specs.Tells.{HasName}
+use Rattle.hls_legal.specs.Tells.{HasName, burst_of}
 use Rattle.hls_legal.specs.Moment.{Boxes, Moment}
 use Rattle.hls_legal.specs.Answers.{IsAnswer}
 use Rattle.hls_tree.specs.Kits.{IsSameKit}
-use Rattle.hls_tree.specs.Trees.{IsTreeOf, IsAsBefore, ready_of}
+use Rattle.hls_tree.specs.Trees.{IsTreeOf, IsAsBefore, Stands, ready_of}
 use Rattle.hls_tree.specs.declared.tree.Tree.{Tree}
 use Rattle.hls_chron.specs.declared.plain.Kind.{Kind}
-use Rattle.hls_core.specs.Bursts.{left_in}
+use Rattle.hls_core_stays.specs.Turnovers.{IsTurnover}
+use Rattle.hls_core_stays.specs.declared.stays.Stays.{Stays}
+use Rattle.hls_core_stays.specs.declared.turnover.Turnover.{Turnover}
+use Rattle.hls_core.specs.Begun.{begun_by}
+use Rattle.hls_core.specs.Bursts.{begun_in}
+use Rattle.hls_core.specs.declared.begun.Begun.{Begun}
 use Rattle.hls_core.specs.declared.bursts.Bursts.{Bursts}
-use Rattle.hls_core.specs.Left.{IsLeft}
 use Rattle.hls_manager.specs.Outcomes as manager
 use Rattle.hls_manager.specs.Outcomes.{boxes_in, moment}
 use Rattle.hls_manager.specs.Finds.{IsOfThread}
 use Rattle.hls_manager.proofs.Outcomes.{reached_listed}
 use Rattle.hls_core.specs.Standing.{IsAt}
-use Rattle.hls_core.specs.Inside.Outcomes.{IsOfSeats, CarriesOut}
+use Rattle.hls_core.specs.Inside.Outcomes.{IsOfSeats, CarriesOut, MayCarry, ends}
 use Rattle.hls_core.proofs.Seats.{seats_left}
-use Rattle.hls_core.proofs.Readiness.{left_woken, ready_woken, left_blocked, ready_blocked}
-
-pub same_left : (left new : ℕ → Option ℕ) (h : Hierarchy) → ((k : ℕ) → new k ≡ left k) → IsLeft left h
-    → IsLeft new h
-same_left left new h same is = record {
-  kept = λ k t there ready. same k ∙ is.kept k t there ready;
-  since = is.since;
-}
+use Rattle.hls_core.proofs.Readiness.{same_left, left_woken, ready_woken, left_blocked, ready_blocked}
 
 pub on_err : {A E : Type 0} (r : Result A E) (F : Type 0) → F → OnErr r F
 on_err (Ok x) F f = tt
 on_err (Err e) F f = f
 
-pub all_left : (left new : ℕ → Option ℕ) (id : ℕ) → new id ≡ left id → ((k : ℕ) → k ≢ id → new k ≡ left k)
-    → (k : ℕ) → new k ≡ left k
-all_left left new id here others k = by (cases_eq k id)
+pub all_left : (begun new : ℕ → Option Begun) (id : ℕ) → new id ≡ begun id → ((k : ℕ) → k ≢ id → new k ≡ begun k)
+    → (k : ℕ) → new k ≡ begun k
+all_left begun new id here others k = by (cases_eq k id)
   where
-    by : (k ≡ id) ⊎ (k ≢ id) → new k ≡ left k
-    by (inl same) = ap new same ∙ here ∙ sym (ap left same)
+    by : (k ≡ id) ⊎ (k ≢ id) → new k ≡ begun k
+    by (inl same) = ap new same ∙ here ∙ sym (ap begun same)
     by (inr other) = others k other
 
 -- a done answer without seats is well formed
@@ -66,6 +63,14 @@ formed_none command answer done = subst (λ (a : Answer). formed.MayAnswer comma
 pub same_boxes : (one other : Boxes) → ((kind : Kind) → one.left kind ≡ other.left kind)
     → ((kind : Kind) → one.used kind ≡ other.used kind) → one ≡ other
 same_boxes one other left used = λ i. record { left = λ kind. left kind i; used = λ kind. used kind i }
+
+period_few : (every burst : Option ℕ) → IsWaking 2 every burst → (period : ℕ) → every ≡ Some period → period ≤ 100000
+period_few None burst waking period e = absurd (cc)
+period_few (Some one) None waking period e = absurd waking
+period_few (Some one) (Some ticks) waking period e =
+    let within = waking.1 in
+    let few = within.1 in
+    let same : one ≡ period = cc in omega (arith, few, same)
 
 -- V and P are what the checker knows a box by
 module _ {V : Type 0} {P : V → Type 0} (seen : (x : V) × P x → Seen) where
@@ -97,33 +102,48 @@ module _ {V : Type 0} {P : V → Type 0} (seen : (x : V) × P x → Seen) where
     pub set : ready_of seen new id ≡ ready
     pub others : (k : ℕ) → k ≢ id → ready_of seen new k ≡ ready_of seen old k
 
-  pub woken : (old new : Tree V P) (bursts later : Bursts) (id : ℕ) (name : Text) (burst : Option ℕ) → IsBurst burst
-      → IsFlagged old new id name true → left_in later id ≡ burst
-      → ((k : ℕ) → k ≢ id → left_in later k ≡ left_in bursts k) → (answer : Answer) → answer ≡ Done []
+  pub woken : (old new : Tree V P) (bursts later : Bursts) (id : ℕ) (name : Text) (every burst : Option ℕ) (now : ℕ)
+      → IsWaking 2 every burst → IsFlagged old new id name true
+      → ((h : Hierarchy) → IsTreeOf seen old h → now ≡ h.now) → begun_in later id ≡ begun_by every burst now
+      → ((k : ℕ) → k ≢ id → begun_in later k ≡ begun_in bursts k) → (answer : Answer) → answer ≡ Done []
       → (m : Moment) (commands : ℕ) → IsAt seen old bursts m.hierarchy
-      → CarriesOut seen old new later m commands (said.Wake name burst) answer
-  woken old new bursts later id name burst some flagged left rest answer done m commands is =
+      → CarriesOut seen old new later m commands (said.Wake name every burst) answer
+  woken old new bursts later id name every burst now waking flagged at_now begun rest answer done m commands is =
       let found = flagged.found m.hierarchy is.tree in
-      subst (CarriesOut seen old new later m commands (said.Wake name burst)) (sym done) (record {
+      subst (CarriesOut seen old new later m commands (said.Wake name every burst)) (sym done) (record {
         out = record {
-          answers = flagged.done m (said.Wake name burst) is.tree (reached_listed m.hierarchy is.reached) refl;
-          step = Rouse id burst;
+          answers = flagged.done m (said.Wake name every burst) is.tree (reached_listed m.hierarchy is.reached) refl;
+          step = Rouse id (burst_of every burst);
           does = (found.0, refl);
           can = found.1;
           roomy = tt;
-          tree = flagged.woken m.hierarchy (wake_by burst m.hierarchy.now) is.tree;
-          ready = λ ready. ready_woken (ready_of seen old) (ready_of seen new) m.hierarchy id burst some ready
+          tree = flagged.woken m.hierarchy (wake_by (burst_of every burst) m.hierarchy.now) is.tree;
+          ready = λ ready. ready_woken (ready_of seen old) (ready_of seen new) m.hierarchy id every burst waking ready
               flagged.set flagged.others;
         };
-        left = left_woken (left_in bursts) (left_in later) m.hierarchy id burst is.left left rest;
+        left = left_woken (begun_in bursts) (begun_in later) m.hierarchy id every burst waking found.1 is.left
+            (begun ∙ ap (begun_by every burst) (at_now m.hierarchy is.tree)) rest;
       })
 
-  pub blocked : (old new : Tree V P) (bursts : Bursts) (id : ℕ) (name : Text) → IsFlagged old new id name false
+  -- the first release behind a wake has a number of 32 bits
+  pub wake_fits : (t : Tree V P) (bursts : Bursts) (stays : Stays) (every burst : Option ℕ) (now : ℕ)
+      → IsWaking 2 every burst → Stands seen t (MayCarry seen t bursts stays)
+      → ((h : Hierarchy) → IsTreeOf seen t h → now ≡ h.now)
+      → (period : ℕ) → every ≡ Some period → now + period < 2 ^ 32
+  wake_fits t bursts stays every burst now waking x at_now period e =
+      let here = at_now x.h x.tree in
+      let tick = x.tree.of.now in
+      let within = x.tree.of.within in
+      let short = x.is.short in
+      let few = period_few every burst waking period e in omega (arith, here, tick, within, short, few)
+
+  pub blocked : (old new : Tree V P) (bursts later : Bursts) (id : ℕ) (name : Text) → IsFlagged old new id name false
+      → begun_in later id ≡ None → ((k : ℕ) → k ≢ id → begun_in later k ≡ begun_in bursts k)
       → (answer : Answer) → answer ≡ Done [] → (m : Moment) (commands : ℕ) → IsAt seen old bursts m.hierarchy
-      → CarriesOut seen old new bursts m commands (said.Block name) answer
-  blocked old new bursts id name flagged answer done m commands is =
+      → CarriesOut seen old new later m commands (said.Block name) answer
+  blocked old new bursts later id name flagged none rest answer done m commands is =
       let found = flagged.found m.hierarchy is.tree in
-      subst (CarriesOut seen old new bursts m commands (said.Block name)) (sym done) (record {
+      subst (CarriesOut seen old new later m commands (said.Block name)) (sym done) (record {
         out = record {
           answers = flagged.done m (said.Block name) is.tree (reached_listed m.hierarchy is.reached) refl;
           step = steps.Block id;
@@ -134,25 +154,29 @@ module _ {V : Type 0} {P : V → Type 0} (seen : (x : V) × P x → Seen) where
           ready = λ ready. ready_blocked (ready_of seen old) (ready_of seen new) m.hierarchy id ready flagged.set
               flagged.others;
         };
-        left = left_blocked (left_in bursts) m.hierarchy id is.left;
+        left = left_blocked (begun_in bursts) (begun_in later) m.hierarchy id found.1 is.left none rest;
       })
 
-  -- what the manager carries out keeps what is left of bursts
-  pub managed : (old new : Tree V P) (bursts : Bursts) (m : Moment) (commands : ℕ) (command : Command) (answer : Answer)
-      → IsOfSeats command → IsAt seen old bursts m.hierarchy
+  -- what the manager carries out keeps what is left of bursts, but for that of a thread that was ended
+  pub managed : (old new : Tree V P) (bursts later : Bursts) (m : Moment) (commands : ℕ) (command : Command)
+      (answer : Answer) (turnover : Turnover) → IsOfSeats command → IsAt seen old bursts m.hierarchy
+      → IsTurnover m.hierarchy command turnover
+      → ((k : ℕ) → begun_in later k ≡ cond (ends turnover answer k) None (begun_in bursts k))
       → manager.CarriesOut seen old new m commands command answer
-      → CarriesOut seen old new bursts m commands command answer
-  managed old new bursts m commands command answer of is out = record {
+      → CarriesOut seen old new later m commands command answer
+  managed old new bursts later m commands command answer turnover of is turns kept out = record {
     out = out;
-    left = seats_left (left_in bursts) m.hierarchy command answer out.step of out.does is.left;
+    left = seats_left (begun_in bursts) (begun_in later) m.hierarchy command answer out.step turnover
+        (reached_listed m.hierarchy is.reached) of out.does out.can turns kept is.left;
   }
 
-  pub unmoved : (t : Tree V P) (bursts later : Bursts) (h : Hierarchy) → ((k : ℕ) → left_in later k ≡ left_in bursts k)
+  pub unmoved : (t : Tree V P) (bursts later : Bursts) (h : Hierarchy) → ((k : ℕ) → begun_in later k ≡ begun_in
+      bursts k)
       → IsAt seen t bursts h → IsAt seen t later h
   unmoved t bursts later h same is = record {
     tree = is.tree;
     ready = is.ready;
-    left = same_left (left_in bursts) (left_in later) h same is.left;
+    left = same_left (begun_in bursts) (begun_in later) h same is.left;
     reached = is.reached;
   }
 

@@ -41,7 +41,7 @@ use Rattle.hls_core.specs.declared.cores.Core.{Core}
 use Rattle.hls_core.proofs.Items.{ahead_next, none_left, all_told}
 use Rattle.hls_core.proofs.Running.{runs_on}
 use Rattle.hls_core.specs.Left.{IsLeft}
-use Rattle.hls_core.specs.Bursts.{left_in}
+use Rattle.hls_core.specs.Bursts.{begun_in}
 use Rattle.hls_core.proofs.Standings.{run_standing}
 
 -- where a run leads it is the present tick
@@ -99,7 +99,7 @@ module _ {V W : Type 0} {P : V → Type 0} {Q : W → Type 0}
           standing = run_standing (told s.version s.items c.depth c.journal) is.steps is.run.legal is.run.tells;
           noted = is.noted;
           early = omega (arith, now, own, horizon, le);
-          small = let few = short s is.within in omega (arith, now, own, le, few);
+          short = let few = short s is.within in omega (arith, horizon, few);
         };
       }
 
@@ -231,7 +231,7 @@ module _ {V W : Type 0} {P : V → Type 0} {Q : W → Type 0}
         at_state = record {
           tree = subst (IsTreeOf seen new.tree) (sym ran.leads) e.is.tree;
           ready = subst (IsReadyOf seen new.tree) (sym ran.leads) e.ready;
-          left = subst (IsLeft (left_in new.bursts)) (sym ran.leads) e.left;
+          left = subst (IsLeft (begun_in new.bursts)) (sym ran.leads) e.left;
           reached = record { past = ran.past; legal = ran.run.legal; leads = refl };
         };
         stays = subst (AreStays new.stays) (sym ran.leads) e.stays;

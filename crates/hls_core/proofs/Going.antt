@@ -14,6 +14,7 @@ use Rattle.hls_scenario.specs.declared.scenario.Scenario.{Scenario}
 use Rattle.hls_report_text.specs.declared.report.Answer.{Answer}
 use Rattle.hls_report_text.specs.declared.report.Answered.{Answered}
 use Rattle.hls_report_text.specs.Content.{Content}
+use Rattle.hls_report_text.proofs.LineTexts.{horizon_fits}
 use Rattle.hls_report_text.proofs.NameLaws.{grown_any}
 use Rattle.hls_report_text.specs.WellFormed as formed
 use Rattle.hls_sched.specs.Seen.{Seen}
@@ -40,7 +41,7 @@ use Rattle.hls_core_journal.specs.declared.journal.Journal.{Journal}
 use Rattle.hls_core_journal.specs.Told.{answered_as, answered_by, told}
 use Rattle.hls_core_journal.specs.Kept.{IsNoted, MayNote, has_name, named_by}
 use Rattle.hls_core_journal.proofs.Keeps.{kept_note, told_note, noted_grows, may_note, answered_push}
-use Rattle.hls_core.specs.Bursts.{left_in}
+use Rattle.hls_core.specs.Bursts.{begun_in}
 use Rattle.hls_core.specs.declared.bursts.Bursts.{Bursts}
 use Rattle.hls_manager.specs.Outcomes.{boxes_in, moment}
 use Rattle.hls_manager.proofs.Versions.{of_either}
@@ -79,14 +80,14 @@ module _ {V : Type 0} {P : V → Type 0} (seen : (x : V) × P x → Seen) where
   pub at_next : (t : Tree V P) (bursts : Bursts) (steps : List Step) (step : Step) → IsLegal start steps
       → Can (state start steps) step → IsTreeOf seen t (after (state start steps) step)
       → IsReadyOf seen t (after (state start steps) step)
-      → Rattle.hls_core.specs.Left.IsLeft (left_in bursts) (after (state start steps) step)
+      → Rattle.hls_core.specs.Left.IsLeft (begun_in bursts) (after (state start steps) step)
       → IsAt seen t bursts (state start (steps ++ step ∷ []))
   at_next t bursts steps step legal can tree ready left =
       let goes = state_goes steps start step in
       record {
         tree = subst (IsTreeOf seen t) (sym goes) tree;
         ready = subst (IsReadyOf seen t) (sym goes) ready;
-        left = subst (Rattle.hls_core.specs.Left.IsLeft (left_in bursts)) (sym goes) left;
+        left = subst (Rattle.hls_core.specs.Left.IsLeft (begun_in bursts)) (sym goes) left;
         reached = record { past = steps ++ step ∷ []; legal = legal_goes steps start step legal can; leads = refl };
       }
 
@@ -103,6 +104,9 @@ module _ {V W : Type 0} {P : V → Type 0} {Q : W → Type 0}
         (let lt = slice_get_within s.items c.agenda due.item due.there in omega (arith, lt)) is.marks;
     stays = is.stays;
     standing = run_standing (told s.version s.items c.depth c.journal) is.steps is.run.legal is.run.tells;
+    short =
+        (let horizon = is.horizon in
+        let few = horizon_fits s.version s.horizon is.within.horizon in omega (arith, horizon, few));
   }
 
   pub core_stands : (c : Core V W P Q X) (s : Scenario) (given : ℕ) (boxes : Boxes) (command : Command)

@@ -1,4 +1,6 @@
 pub mod Rooms
+pub mod Firsts
+pub mod Wakes
 pub mod Readiness
 pub mod Seats
 pub mod Carried
@@ -6,6 +8,7 @@ pub mod Paths
 pub mod Opened
 pub mod Items
 pub mod Going
+pub mod Rousing
 pub mod Elapsing
 pub mod Stretches
 pub mod Running

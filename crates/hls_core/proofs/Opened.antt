@@ -23,7 +23,9 @@ use Rattle.hls_core_journal.specs.Told.{answered_by, told}
 use Rattle.hls_core_journal.specs.Kept.{IsNew}
 use Rattle.hls_core_journal.proofs.Keeps.{kept_new}
 use Rattle.hls_core_stays.specs.Tallies.{AreStays}
-use Rattle.hls_core.specs.Bursts.{left_in}
+use Rattle.hls_core.specs.Begun.{next_by}
+use Rattle.hls_core.specs.Bursts.{begun_in}
+use Rattle.hls_core.specs.declared.begun.Begun.{Begun}
 use Rattle.hls_core.specs.Left.{IsLeft}
 use Rattle.hls_manager.specs.Outcomes.{boxes_in}
 use Rattle.hls_core.specs.Cores.{IsCoreOf}
@@ -37,11 +39,8 @@ depth_few : (given : ℕ) (own : Option ℕ) → given ≤ 6 → IsDepth own →
 depth_few given None few is = few
 depth_few given (Some depth) few is = is
 
-left_none : (left : ℕ → Option ℕ) → IsLeft left start
-left_none left = record {
-  kept = λ k t e ready. absurd (cc);
-  since = λ k t ticks since e wake. absurd (cc);
-}
+left_none : (begun : ℕ → Option Begun) → ((k : ℕ) → begun k ≡ None) → IsLeft begun start
+left_none begun none = record { at = λ k. ap next_by (none k) }
 
 run_none : (depth : ℕ) (boxes : Boxes) (c : Content) → c.answered ≡ [] → c.horizon ≡ 0 → IsRun depth boxes c []
 run_none depth boxes c none idle = record {
@@ -57,7 +56,7 @@ module _ {V W : Type 0} {P : V → Type 0} {Q : W → Type 0}
   pub opened : (c : Core V W P Q X) (s : Scenario) (given : ℕ) → c.scenario ≡ s → IsScenario s
       → c.depth ≡ depth_in_force given s.depth → given ≤ 6 → c.agenda ≡ 0
       → IsNew s.items s.horizon c.journal → IsGood (boxed seen) c.kit → IsTreeOf seen c.tree start
-      → IsReadyOf seen c.tree start → ((k : ℕ) → left_in c.bursts k ≡ None) → c.tree.horizon ≡ s.horizon
+      → IsReadyOf seen c.tree start → ((k : ℕ) → begun_in c.bursts k ≡ None) → c.tree.horizon ≡ s.horizon
       → AreStays c.stays start
       → IsCoreOf seen c s given (boxes_in c.kit)
   opened c s given same is depth few place new good tree ready none horizon stays =
@@ -78,7 +77,7 @@ module _ {V W : Type 0} {P : V → Type 0} {Q : W → Type 0}
         at_state = record {
           tree = tree;
           ready = ready;
-          left = left_none (left_in c.bursts);
+          left = left_none (begun_in c.bursts) none;
           reached = record { past = []; legal = tt; leads = refl };
         };
         stays = stays;

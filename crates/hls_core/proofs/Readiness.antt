@@ -1,24 +1,37 @@
--- Readiness and what is left of bursts, as wakes, blocks and ticks come.
-use Rattle.std.proofs.Common.{◌≡◌, ◌≢◌, ℕ, inl, inr, ◌+◌, ◌-◌, ◌<◌, ◌≤◌, ◌⊎◌, Bool, true, false, cond, ◌==◌}
-use Rattle.std.proofs.Common.{refl, sym, ap, ◌∙◌, arith}
-use Rattle.std.specs.Prelude.{Option, Some, None, nat_lt, nat_le, option_map}
-use Rattle.std.proofs.lemmas.Bool.{cases_eq, cases_lt, eq-eqb, ne_eqb, ltb-true, lt-ltb, le-ltb}
-use Rattle.std.proofs.lemmas.Bool.{lt-leb, le-leb}
-use Rattle.hls_chron.specs.Ticks.{count}
-use Rattle.hls_chron.proofs.CountLaws.{count-none}
-use Rattle.hls_scenario.specs.Grammar.{IsBurst}
-use Rattle.hls_machine.specs.Hierarchy.{Hierarchy, Thread, Node, Loaded, Admitted, Wake, Asleep, Awake, Awake_for}
+-- Readiness and what is kept of bursts, as wakes, blocks, ticks and releases come.
+use Rattle.std.proofs.Common.{◌≡◌, ◌≢◌, ℕ, zero, suc, inl, inr, ◌<◌, ◌≤◌, ◌⊎◌, Bool, true, false, cond, ◌==◌}
+use Rattle.std.proofs.Common.{refl, sym, ap, ◌∙◌, arith, subst}
+use Rattle.std.specs.Prelude.{Option, Some, None}
+use Rattle.std.proofs.lemmas.Bool.{cases_eq, eq-eqb, ne_eqb, lt-leb}
+use Rattle.hls_scenario.specs.Grammar.{IsWaking}
+use Rattle.hls_machine.specs.Hierarchy.{Hierarchy, Thread, Node, Loaded, Admitted, Wake, Asleep}
 use Rattle.hls_machine.specs.Hierarchy.{is_ready, was_served, is_just}
-use Rattle.hls_machine.specs.Steps.{Path, thread_of, roused, wake_by, with_wake}
+use Rattle.hls_machine.specs.Steps.{Path, Hop, thread_of, roused, wake_by, with_wake, ticked, hop_at, hops_of}
+use Rattle.hls_machine.specs.Legal.{IsThread}
+use Rattle.hls_legal.specs.Tells.{burst_of}
 use Rattle.hls_tree_nodes.specs.Leapt.{later}
-use Rattle.hls_core_stays.proofs.Ticked.{IsOn, on_ticks, times}
-use Rattle.hls_core.specs.Bursts.{ends_within}
-use Rattle.hls_core.specs.Left.{left_of, IsLeft}
+use Rattle.hls_core_stays.proofs.Ticked.{IsOn, on_ticks}
+use Rattle.hls_core.specs.Begun.{begun_by, left_by, next_by, released, is_due, ends_within}
+use Rattle.hls_core.specs.Left.{IsKept, IsLeftOf, IsLeft}
+use Rattle.hls_core.specs.declared.begun.Begun.{Begun}
+use Rattle.hls_core.specs.declared.begun.Release.{Release}
+use Rattle.hls_core.proofs.Wakes.{GoesOn, goes_on, used_if, used_next, wake_kept, wake_ready, undue}
 
 -- flags say who is ready
 abbrev pub SaysReady : (flag : ℕ → Bool) → Hierarchy → Type 0
 SaysReady flag h = (k : ℕ) (t : Thread) → h.nodes k ≡ Some (Admitted t)
     → is_ready (was_served h.past k) h.now t.wake ≡ flag k
+
+-- what is kept of the wake of a thread
+pub kept_at : (begun : ℕ → Option Begun) (h : Hierarchy) (k : ℕ) (t : Thread) → IsLeft begun h
+    → h.nodes k ≡ Some (Admitted t) → IsKept (was_served h.past k) h.now (begun k) t.wake
+kept_at begun h k t is there = subst (IsLeftOf (was_served h.past k) h.now (begun k)) there (is.at k)
+
+pub same_left : (begun new : ℕ → Option Begun) (h : Hierarchy) → ((k : ℕ) → new k ≡ begun k) → IsLeft begun h
+    → IsLeft new h
+same_left begun new h same is = record {
+  at = λ k. subst (λ b. IsLeftOf (was_served h.past k) h.now b (h.nodes k)) (sym (same k)) (is.at k);
+}
 
 -- ---- a wake or a block
 
@@ -46,78 +59,60 @@ here_or_not h k c how t e = by (cases_eq c k)
         let test : (c == k) ≡ false = ne_eqb c k other in
         inr (other, ap (λ b. cond b (roused how (h.nodes c)) (h.nodes c)) (sym test) ∙ e)
 
-none_yet : (serves : ℕ → Bool) (now : ℕ) → count serves now (now - now) ≡ 0
-none_yet serves now =
-    let zero : now - now ≡ 0 = omega arith in
-    ap (count serves now) zero ∙ count-none serves now
-
-woken_left : (serves : ℕ → Bool) (now : ℕ) (burst : Option ℕ) → left_of serves now (wake_by burst now) ≡ burst
-woken_left serves now None = refl
-woken_left serves now (Some ticks) =
-    let none = none_yet serves now in
-    let all : ticks - count serves now (now - now) ≡ ticks = omega (arith, none) in ap (λ n. Some n) all
-
-woken_ready : (serves : ℕ → Bool) (now : ℕ) (burst : Option ℕ) → IsBurst burst
-    → is_ready serves now (wake_by burst now) ≡ true
-woken_ready serves now None is = refl
-woken_ready serves now (Some ticks) is =
-    let none = none_yet serves now in
-    let some = is.0 in lt-ltb (count serves now (now - now)) ticks (omega (arith, none, some))
-
-pub left_woken : (left new : ℕ → Option ℕ) (h : Hierarchy) (k : ℕ) (burst : Option ℕ) → IsLeft left h
-    → new k ≡ burst → ((c : ℕ) → c ≢ k → new c ≡ left c) → IsLeft new (with_wake h k (wake_by burst h.now))
-left_woken left new h k burst is here others = record {
-  kept = λ c t e ready. kept c t ready (here_or_not h k c (wake_by burst h.now) t e);
-  since = λ c t ticks since e wake. early burst c t ticks since wake (here_or_not h k c (wake_by burst h.now) t e);
-}
+-- what is kept where a thread has another wake
+left_roused : (begun new : ℕ → Option Begun) (h : Hierarchy) (k : ℕ) (how : Wake) → IsThread (h.nodes k)
+    → IsLeft begun h → IsKept (was_served h.past k) h.now (new k) how → ((c : ℕ) → c ≢ k → new c ≡ begun c)
+    → IsLeft new (with_wake h k how)
+left_roused begun new h k how thread is here others = record { at = λ c. by c (cases_eq c k) }
   where
-    kept : (c : ℕ) (t : Thread) → is_ready (was_served h.past c) h.now t.wake ≡ true
-        → ((c ≡ k) × (t.wake ≡ wake_by burst h.now)) ⊎ ((c ≢ k) × (h.nodes c ≡ Some (Admitted t)))
-        → new c ≡ left_of (was_served h.past c) h.now t.wake
-    kept c t ready (inl p) =
-        ap new p.0 ∙ here ∙ sym (woken_left (was_served h.past c) h.now burst)
-        ∙ ap (left_of (was_served h.past c) h.now) (sym p.1)
-    kept c t ready (inr p) = others c p.0 ∙ is.kept c t p.1 ready
+    by : (c : ℕ) → (c ≡ k) ⊎ (c ≢ k)
+        → IsLeftOf (was_served h.past c) h.now (new c) (cond (c == k) (roused how (h.nodes c)) (h.nodes c))
+    by c (inl same) =
+        subst (λ b. IsLeftOf (was_served h.past c) h.now (new c) (cond b (roused how (h.nodes c)) (h.nodes c)))
+        (sym (eq-eqb c k same))
+        (subst (λ n. IsLeftOf (was_served h.past n) h.now (new n) (roused how (h.nodes n))) (sym same)
+        (subst (λ node. IsLeftOf (was_served h.past k) h.now (new k) (roused how node)) (sym thread.there) here))
+    by c (inr other) =
+        subst (λ b. IsLeftOf (was_served h.past c) h.now (new c) (cond b (roused how (h.nodes c)) (h.nodes c)))
+        (sym (ne_eqb c k other))
+        (subst (λ b. IsLeftOf (was_served h.past c) h.now b (h.nodes c)) (sym (others c other)) (is.at c))
 
-    early : (burst : Option ℕ) (c : ℕ) (t : Thread) (ticks since : ℕ) → t.wake ≡ Awake_for ticks since
-        → ((c ≡ k) × (t.wake ≡ wake_by burst h.now)) ⊎ ((c ≢ k) × (h.nodes c ≡ Some (Admitted t)))
-        → since ≤ h.now
-    early None c t ticks since wake (inl p) = absurd (cc)
-    early (Some n) c t ticks since wake (inl p) =
-        let same : h.now ≡ since = cc in omega (arith, same)
-    early any c t ticks since wake (inr p) = is.since c t ticks since p.1 wake
+woken_kept : (serves : ℕ → Bool) (now : ℕ) (every burst : Option ℕ) → IsWaking 2 every burst
+    → IsKept serves now (begun_by every burst now) (wake_by (burst_of every burst) now)
+woken_kept serves now every None waking = record { left = λ ready. refl; next = refl; fits = tt }
+woken_kept serves now every (Some ticks) waking = wake_kept serves now every ticks waking
 
-pub ready_woken : (flag new : ℕ → Bool) (h : Hierarchy) (k : ℕ) (burst : Option ℕ) → IsBurst burst
+woken_ready : (serves : ℕ → Bool) (now : ℕ) (every burst : Option ℕ) → IsWaking 2 every burst
+    → is_ready serves now (wake_by (burst_of every burst) now) ≡ true
+woken_ready serves now every None waking = refl
+woken_ready serves now every (Some ticks) waking = wake_ready serves now every ticks waking
+
+pub left_woken : (begun new : ℕ → Option Begun) (h : Hierarchy) (k : ℕ) (every burst : Option ℕ)
+    → IsWaking 2 every burst → IsThread (h.nodes k) → IsLeft begun h → new k ≡ begun_by every burst h.now
+    → ((c : ℕ) → c ≢ k → new c ≡ begun c) → IsLeft new (with_wake h k (wake_by (burst_of every burst) h.now))
+left_woken begun new h k every burst waking thread is here others =
+    left_roused begun new h k (wake_by (burst_of every burst) h.now) thread is
+    (subst (λ b. IsKept (was_served h.past k) h.now b (wake_by (burst_of every burst) h.now)) (sym here)
+    (woken_kept (was_served h.past k) h.now every burst waking)) others
+
+pub ready_woken : (flag new : ℕ → Bool) (h : Hierarchy) (k : ℕ) (every burst : Option ℕ) → IsWaking 2 every burst
     → SaysReady flag h → new k ≡ true → ((c : ℕ) → c ≢ k → new c ≡ flag c)
-    → SaysReady new (with_wake h k (wake_by burst h.now))
-ready_woken flag new h k burst some says here others c t e = by (here_or_not h k c (wake_by burst h.now) t e)
+    → SaysReady new (with_wake h k (wake_by (burst_of every burst) h.now))
+ready_woken flag new h k every burst waking says here others c t e =
+    by (here_or_not h k c (wake_by (burst_of every burst) h.now) t e)
   where
-    by : ((c ≡ k) × (t.wake ≡ wake_by burst h.now)) ⊎ ((c ≢ k) × (h.nodes c ≡ Some (Admitted t)))
+    by : ((c ≡ k) × (t.wake ≡ wake_by (burst_of every burst) h.now)) ⊎ ((c ≢ k) × (h.nodes c ≡ Some (Admitted t)))
         → is_ready (was_served h.past c) h.now t.wake ≡ new c
     by (inl p) =
-        ap (is_ready (was_served h.past c) h.now) p.1 ∙ woken_ready (was_served h.past c) h.now burst some
+        ap (is_ready (was_served h.past c) h.now) p.1 ∙ woken_ready (was_served h.past c) h.now every burst waking
         ∙ sym here ∙ ap new (sym p.0)
     by (inr p) = says c t p.1 ∙ sym (others c p.0)
 
-pub left_blocked : (left : ℕ → Option ℕ) (h : Hierarchy) (k : ℕ) → IsLeft left h
-    → IsLeft left (with_wake h k Asleep)
-left_blocked left h k is = record {
-  kept = λ c t e ready. kept c t ready (here_or_not h k c Asleep t e);
-  since = λ c t ticks since e wake. early c t ticks since wake (here_or_not h k c Asleep t e);
-}
-  where
-    kept : (c : ℕ) (t : Thread) → is_ready (was_served h.past c) h.now t.wake ≡ true
-        → ((c ≡ k) × (t.wake ≡ Asleep)) ⊎ ((c ≢ k) × (h.nodes c ≡ Some (Admitted t)))
-        → left c ≡ left_of (was_served h.past c) h.now t.wake
-    kept c t ready (inl p) =
-        let not : is_ready (was_served h.past c) h.now t.wake ≡ false =
-        ap (is_ready (was_served h.past c) h.now) p.1 in absurd (cc)
-    kept c t ready (inr p) = is.kept c t p.1 ready
-
-    early : (c : ℕ) (t : Thread) (ticks since : ℕ) → t.wake ≡ Awake_for ticks since
-        → ((c ≡ k) × (t.wake ≡ Asleep)) ⊎ ((c ≢ k) × (h.nodes c ≡ Some (Admitted t))) → since ≤ h.now
-    early c t ticks since wake (inl p) = absurd (cc)
-    early c t ticks since wake (inr p) = is.since c t ticks since p.1 wake
+pub left_blocked : (begun new : ℕ → Option Begun) (h : Hierarchy) (k : ℕ) → IsThread (h.nodes k) → IsLeft begun h
+    → new k ≡ None → ((c : ℕ) → c ≢ k → new c ≡ begun c) → IsLeft new (with_wake h k Asleep)
+left_blocked begun new h k thread is here others =
+    left_roused begun new h k Asleep thread is
+    (record { left = λ ready. absurd (cc); next = ap next_by here; fits = tt }) others
 
 pub ready_blocked : (flag new : ℕ → Bool) (h : Hierarchy) (k : ℕ) → SaysReady flag h → new k ≡ false
     → ((c : ℕ) → c ≢ k → new c ≡ flag c) → SaysReady new (with_wake h k Asleep)
@@ -131,6 +126,20 @@ ready_blocked flag new h k says here others c t e = by (here_or_not h k c Asleep
 
 -- ---- ticks
 
+ticked_left : (serves : ℕ → Bool) (now : ℕ) (begun : Option Begun) (mask : ℕ) (hop : Option Hop) (node : Option Node)
+    → IsLeftOf serves now begun node → IsLeftOf serves now begun (ticked mask hop node)
+ticked_left serves now begun mask hop None is = is
+ticked_left serves now begun mask hop (Some (Loaded s)) is = is
+ticked_left serves now begun mask hop (Some (Admitted t)) is = is
+
+module _ (h : Hierarchy) (asking : ℕ → Bool) (masks : ℕ → ℕ) (path : Option Path) where
+  later_left : (m k : ℕ) (serves : ℕ → Bool) (now : ℕ) (begun : Option Begun) → IsLeftOf serves now begun (h.nodes k)
+      → IsLeftOf serves now begun ((later h asking masks path m).nodes k)
+  later_left zero k serves now begun is = is
+  later_left (suc m) k serves now begun is =
+      ticked_left serves now begun (masks k) (hop_at (hops_of path) k) ((later h asking masks path m).nodes k)
+      (later_left m k serves now begun is)
+
 module _ (h : Hierarchy) (asking : ℕ → Bool) (masks : ℕ → ℕ) (path : Option Path) (n : ℕ) where
   abbrev after_ticks : Hierarchy
   after_ticks = later h asking masks path n
@@ -138,140 +147,85 @@ module _ (h : Hierarchy) (asking : ℕ → Bool) (masks : ℕ → ℕ) (path : O
   abbrev on : IsOn h after_ticks asking (thread_of path) n
   on = on_ticks h asking masks path n
 
-  -- one who was not served is as ready as before, and has as much left
-  unserved_ready : (k : ℕ) (wake : Wake) → ((ticks since : ℕ) → wake ≡ Awake_for ticks since → since ≤ h.now)
-      → is_just (thread_of path) k ≡ false
-      → is_ready (was_served after_ticks.past k) after_ticks.now wake ≡ is_ready (was_served h.past k) h.now wake
-  unserved_ready k Asleep early off = refl
-  unserved_ready k Awake early off = refl
-  unserved_ready k (Awake_for ticks since) early off =
-      let zero : times (is_just (thread_of path) k) n ≡ 0 = ap (λ b. times b n) off in
-      let counted = on.served_more k since (early ticks since refl) in
-      let same : count (was_served after_ticks.past k) since (after_ticks.now - since)
-      ≡ count (was_served h.past k) since (h.now - since) = omega (arith, zero, counted) in
-      ap (λ m. nat_lt m ticks) same
+  -- a wake after the ticks, and the releases in the last of them
+  goes : (k : ℕ) (begun : Option Begun) (wake : Wake) → IsKept (was_served h.past k) h.now begun wake
+      → (is_just (thread_of path) k ≡ true → is_ready (was_served h.past k) h.now wake ≡ true)
+      → ((release : Release) → next_by begun ≡ Some release → after_ticks.now ≤ release.tick)
+      → GoesOn (was_served h.past k) (was_served after_ticks.past k) h.now after_ticks.now n
+      (is_just (thread_of path) k) on.now (λ from le. on.served_more k from le) begun wake
+  goes k begun wake kept ran ahead =
+      goes_on (was_served h.past k) (was_served after_ticks.past k) h.now after_ticks.now n (is_just (thread_of path) k)
+      on.now (λ from le. on.served_more k from le) begun wake kept ran ahead
 
-  unserved_left : (k : ℕ) (wake : Wake) → ((ticks since : ℕ) → wake ≡ Awake_for ticks since → since ≤ h.now)
-      → is_just (thread_of path) k ≡ false
-      → left_of (was_served after_ticks.past k) after_ticks.now wake ≡ left_of (was_served h.past k) h.now wake
-  unserved_left k Asleep early off = refl
-  unserved_left k Awake early off = refl
-  unserved_left k (Awake_for ticks since) early off =
-      let zero : times (is_just (thread_of path) k) n ≡ 0 = ap (λ b. times b n) off in
-      let counted = on.served_more k since (early ticks since refl) in
-      let same : count (was_served after_ticks.past k) since (after_ticks.now - since)
-      ≡ count (was_served h.past k) since (h.now - since) = omega (arith, zero, counted) in
-      ap (λ m. Some (ticks - m)) same
+  none_next : (b : Bool) (begun : Option Begun) → next_by begun ≡ None
+      → next_by (released after_ticks.now (used_if b n begun)) ≡ None
+  none_next b begun none =
+      ap next_by (undue after_ticks.now (used_if b n begun)
+      (ap (is_due after_ticks.now) (used_next b n begun ∙ none))) ∙ used_next b n begun ∙ none
 
-  -- one who was served has so many ticks less left, and is ready unless they were the last
-  served_left : (k : ℕ) (wake : Wake) → ((ticks since : ℕ) → wake ≡ Awake_for ticks since → since ≤ h.now)
-      → is_just (thread_of path) k ≡ true
-      → left_of (was_served after_ticks.past k) after_ticks.now wake
-      ≡ option_map (λ left. left - n) (left_of (was_served h.past k) h.now wake)
-  served_left k Asleep early on_path = refl
-  served_left k Awake early on_path = refl
-  served_left k (Awake_for ticks since) early on_path =
-      let all : times (is_just (thread_of path) k) n ≡ n = ap (λ b. times b n) on_path in
-      let counted = on.served_more k since (early ticks since refl) in
-      let less : ticks - count (was_served after_ticks.past k) since (after_ticks.now - since)
-      ≡ (ticks - count (was_served h.past k) since (h.now - since)) - n = omega (arith, all, counted) in
-      ap (λ m. Some m) less
+  node_left : (k : ℕ) (begun : Option Begun) (node : Option Node)
+      → IsLeftOf (was_served h.past k) h.now begun node
+      → ((t : Thread) → node ≡ Some (Admitted t) → is_just (thread_of path) k ≡ true
+      → is_ready (was_served h.past k) h.now t.wake ≡ true)
+      → ((release : Release) → next_by begun ≡ Some release → after_ticks.now ≤ release.tick)
+      → IsLeftOf (was_served after_ticks.past k) after_ticks.now
+      (released after_ticks.now (used_if (is_just (thread_of path) k) n begun)) node
+  node_left k begun None is ran ahead = none_next (is_just (thread_of path) k) begun is
+  node_left k begun (Some (Loaded s)) is ran ahead = none_next (is_just (thread_of path) k) begun is
+  node_left k begun (Some (Admitted t)) is ran ahead = (goes k begun t.wake is (λ on. ran t refl on) ahead).kept
 
-  served_ready : (k : ℕ) (wake : Wake) → ((ticks since : ℕ) → wake ≡ Awake_for ticks since → since ≤ h.now)
-      → is_just (thread_of path) k ≡ true → is_ready (was_served h.past k) h.now wake ≡ true
-      → is_ready (was_served after_ticks.past k) after_ticks.now wake
-      ≡ cond (ends_within n (left_of (was_served h.past k) h.now wake)) false true
-  served_ready k Asleep early on_path ready = absurd (cc)
-  served_ready k Awake early on_path ready = refl
-  served_ready k (Awake_for ticks since) early on_path ready =
-      let all : times (is_just (thread_of path) k) n ≡ n = ap (λ b. times b n) on_path in
-      let counted = on.served_more k since (early ticks since refl) in
-      let before = ltb-true (count (was_served h.past k) since (h.now - since)) ticks ready in
-      by_last (count (was_served h.past k) since (h.now - since))
-      (count (was_served after_ticks.past k) since (after_ticks.now - since)) ticks before (omega (arith, all, counted))
-    where
-      by_last : (before now ticks : ℕ) → before < ticks → now ≡ before + n
-          → nat_lt now ticks ≡ cond (nat_le (ticks - before) n) false true
-      by_last before now ticks lt next = elim (cases_lt now ticks) [
-        | inl less ↦ lt-ltb now ticks less ∙ sym (ap (λ b. cond b false true) (lt-leb (ticks - before) n
-            (omega (arith, less, next))))
-        | inr more ↦ le-ltb now ticks more ∙ sym (ap (λ b. cond b false true) (le-leb (ticks - before) n
-            (omega (arith, more, next))))
-      ]
+  -- what is kept after the ticks, where releases come in none but the last of them
+  pub left_ticked : (begun new : ℕ → Option Begun) → IsLeft begun h
+      → ((k : ℕ) → new k ≡ released after_ticks.now (used_if (is_just (thread_of path) k) n (begun k)))
+      → ((k : ℕ) (t : Thread) → h.nodes k ≡ Some (Admitted t) → is_just (thread_of path) k ≡ true
+      → is_ready (was_served h.past k) h.now t.wake ≡ true)
+      → ((k : ℕ) (release : Release) → next_by (begun k) ≡ Some release → after_ticks.now ≤ release.tick)
+      → IsLeft new after_ticks
+  left_ticked begun new is whole ran ahead = record {
+    at = λ k.
+        later_left h asking masks path n k (was_served after_ticks.past k) after_ticks.now (new k)
+        (subst (λ b. IsLeftOf (was_served after_ticks.past k) after_ticks.now b (h.nodes k)) (sym (whole k))
+        (node_left k (begun k) (h.nodes k) (is.at k) (ran k) (ahead k)));
+  }
+
+  pub ready_ticked : (begun : ℕ → Option Begun) (flag new : ℕ → Bool) → IsLeft begun h → SaysReady flag h
+      → ((k : ℕ) (t : Thread) → after_ticks.nodes k ≡ Some (Admitted t) → new k
+      ≡ cond (is_due after_ticks.now (next_by (begun k))) true (cond (is_just (thread_of path) k)
+      (cond (ends_within n (left_by (begun k))) false (flag k)) (flag k)))
+      → ((k : ℕ) (t : Thread) → h.nodes k ≡ Some (Admitted t) → is_just (thread_of path) k ≡ true
+      → is_ready (was_served h.past k) h.now t.wake ≡ true)
+      → ((k : ℕ) (release : Release) → next_by (begun k) ≡ Some release → after_ticks.now ≤ release.tick)
+      → SaysReady new after_ticks
+  ready_ticked begun flag new is says whole ran ahead k t e =
+      let there : h.nodes k ≡ Some (Admitted t) = on.was k t e in
+      (goes k (begun k) t.wake (kept_at begun h k t is there) (ran k t there) (ahead k)).ready
+      ∙ ap (λ b. cond (is_due after_ticks.now (next_by (begun k))) true (cond (is_just (thread_of path) k)
+      (cond (ends_within n (left_by (begun k))) false b) b)) (says k t there)
+      ∙ sym (whole k t e)
 
   -- one with more left than that is as ready as before
-  lasting_still : (left : Option ℕ) → ((rest : ℕ) → left ≡ Some rest → n < rest) → ends_within n left ≡ false
-  lasting_still None more = refl
-  lasting_still (Some rest) more = lt-leb rest n (more rest refl)
+  lasting_still : (b flag : Bool) (left : Option ℕ) → (b ≡ true → (rest : ℕ) → left ≡ Some rest → n < rest)
+      → cond b (cond (ends_within n left) false flag) flag ≡ flag
+  lasting_still true flag None more = refl
+  lasting_still true flag (Some rest) more = ap (λ b. cond b false flag) (lt-leb rest n (more refl rest refl))
+  lasting_still false flag left more = refl
 
-  pub still_ready : (left : ℕ → Option ℕ) → IsLeft left h → (k : ℕ) (t : Thread) → h.nodes k ≡ Some (Admitted t)
+  not_due : (next : Option Release) → ((release : Release) → next ≡ Some release → after_ticks.now < release.tick)
+      → is_due after_ticks.now next ≡ false
+  not_due None ahead = refl
+  not_due (Some release) ahead =
+      let lt = ahead release refl in ne_eqb release.tick after_ticks.now (λ same. omega (arith, same, lt))
+
+  pub still_ready : (begun : ℕ → Option Begun) → IsLeft begun h → (k : ℕ) (t : Thread) → h.nodes k ≡ Some (Admitted t)
       → (is_just (thread_of path) k ≡ true → is_ready (was_served h.past k) h.now t.wake ≡ true)
-      → ((rest : ℕ) → is_just (thread_of path) k ≡ true → left k ≡ Some rest → n < rest)
+      → ((rest : ℕ) → is_just (thread_of path) k ≡ true → left_by (begun k) ≡ Some rest → n < rest)
+      → ((release : Release) → next_by (begun k) ≡ Some release → after_ticks.now < release.tick)
       → is_ready (was_served after_ticks.past k) after_ticks.now t.wake ≡ is_ready (was_served h.past k) h.now t.wake
-  still_ready left is k t there ran more = by (is_just (thread_of path) k) refl
-    where
-      by : (b : Bool) → is_just (thread_of path) k ≡ b
-          → is_ready (was_served after_ticks.past k) after_ticks.now t.wake
-          ≡ is_ready (was_served h.past k) h.now t.wake
-      by true on_path =
-          let early = λ (ticks since : ℕ) (w : t.wake ≡ Awake_for ticks since). is.since k t ticks since there w in
-          let ready = ran on_path in
-          let rest = is.kept k t there ready in
-          served_ready k t.wake early on_path ready
-          ∙ ap (λ b. cond b false true)
-          (lasting_still (left_of (was_served h.past k) h.now t.wake) (λ m some. more m on_path (rest ∙ some)))
-          ∙ sym ready
-      by false off =
-          unserved_ready k t.wake
-          (λ (ticks since : ℕ) (w : t.wake ≡ Awake_for ticks since). is.since k t ticks since there w) off
-
-  thread_before : (k : ℕ) (t : Thread) → after_ticks.nodes k ≡ Some (Admitted t) → h.nodes k ≡ Some (Admitted t)
-  thread_before k t e = on.was k t e
-
-  -- what is left where the thread that was served used so many ticks up
-  pub left_ticked : (left new : ℕ → Option ℕ) → IsLeft left h
-      → ((k : ℕ) → is_just (thread_of path) k ≡ true → new k ≡ option_map (λ left. left - n) (left k))
-      → ((k : ℕ) → is_just (thread_of path) k ≡ false → new k ≡ left k)
-      → ((k : ℕ) (t : Thread) → h.nodes k ≡ Some (Admitted t) → is_just (thread_of path) k ≡ true
-      → is_ready (was_served h.past k) h.now t.wake ≡ true)
-      → IsLeft new after_ticks
-  left_ticked left new is served others ran = record {
-    kept = λ k t e ready. kept k t (thread_before k t e) ready (is_just (thread_of path) k) refl;
-    since = λ k t ticks since e wake.
-        (let le = is.since k t ticks since (thread_before k t e) wake in
-        let at = on.now in omega (arith, le, at));
-  }
-    where
-      kept : (k : ℕ) (t : Thread) → h.nodes k ≡ Some (Admitted t)
-          → is_ready (was_served after_ticks.past k) after_ticks.now t.wake ≡ true
-          → (b : Bool) → is_just (thread_of path) k ≡ b
-          → new k ≡ left_of (was_served after_ticks.past k) after_ticks.now t.wake
-      kept k t there ready true on_path =
-          served k on_path ∙ ap (option_map (λ left. left - n)) (is.kept k t there (ran k t there on_path))
-          ∙ sym (served_left k t.wake (λ ticks since w. is.since k t ticks since there w) on_path)
-      kept k t there ready false off =
-          let early = λ (ticks since : ℕ) (w : t.wake ≡ Awake_for ticks since). is.since k t ticks since there w in
-          others k off
-          ∙ is.kept k t there (sym (unserved_ready k t.wake early off) ∙ ready)
-          ∙ sym (unserved_left k t.wake early off)
-
-  pub ready_ticked : (left : ℕ → Option ℕ) (flag new : ℕ → Bool) → IsLeft left h → SaysReady flag h
-      → ((k : ℕ) → is_just (thread_of path) k ≡ true → new k ≡ cond (ends_within n (left k)) false (flag k))
-      → ((k : ℕ) → is_just (thread_of path) k ≡ false → new k ≡ flag k)
-      → ((k : ℕ) (t : Thread) → h.nodes k ≡ Some (Admitted t) → is_just (thread_of path) k ≡ true
-      → is_ready (was_served h.past k) h.now t.wake ≡ true)
-      → SaysReady new after_ticks
-  ready_ticked left flag new is says served others ran k t e =
-      by (thread_before k t e) (is_just (thread_of path) k) refl
-    where
-      by : h.nodes k ≡ Some (Admitted t) → (b : Bool) → is_just (thread_of path) k ≡ b
-          → is_ready (was_served after_ticks.past k) after_ticks.now t.wake ≡ new k
-      by there true on_path =
-          let ready = ran k t there on_path in
-          let early = λ (ticks since : ℕ) (w : t.wake ≡ Awake_for ticks since). is.since k t ticks since there w in
-          served_ready k t.wake early on_path ready
-          ∙ ap (λ o. cond (ends_within n o) false true) (sym (is.kept k t there ready))
-          ∙ ap (λ b. cond (ends_within n (left k)) false b) (sym ready ∙ says k t there) ∙ sym (served k on_path)
-      by there false off =
-          let early = λ (ticks since : ℕ) (w : t.wake ≡ Awake_for ticks since). is.since k t ticks since there w in
-          unserved_ready k t.wake early off ∙ says k t there ∙ sym (others k off)
+  still_ready begun is k t there ran more ahead =
+      let flag : Bool = is_ready (was_served h.past k) h.now t.wake in
+      (goes k (begun k) t.wake (kept_at begun h k t is there) ran
+      (λ release e. (let lt = ahead release e in omega (arith, lt)))).ready
+      ∙ ap (λ b. cond b true (cond (is_just (thread_of path) k) (cond (ends_within n (left_by (begun k))) false flag)
+      flag))
+      (not_due (next_by (begun k)) ahead)
+      ∙ lasting_still (is_just (thread_of path) k) flag (left_by (begun k)) (λ on rest is. more rest on is)

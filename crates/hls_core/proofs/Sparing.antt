@@ -103,7 +103,7 @@ module _ {V : Type 0} {P : V → Type 0} (seen : (x : V) × P x → Seen) where
     standing = may.standing;
     noted = may.noted;
     early = may.early;
-    small = may.small;
+    short = may.short;
   }
 
   elapse_spared : (t : Tree V P) (bursts : Bursts) (tallies : Stays) (j : Journal) (v : Vec Answer) (most : ℕ)
@@ -115,7 +115,7 @@ module _ {V : Type 0} {P : V → Type 0} (seen : (x : V) × P x → Seen) where
     standing = may.standing;
     noted = may.noted;
     early = may.early;
-    small = may.small;
+    short = may.short;
   }
 
   pub stands_spared : (t : Tree V P) (bursts : Bursts) (tallies : Stays) (j : Journal) (v : Vec Answer)

@@ -1,8 +1,8 @@
 -- For how many ticks a grant stands, in the terms of the hierarchy.
-use Rattle.std.proofs.Common.{◌≡◌, ℕ, zero, suc, ◌-◌, ◌<◌, ◌≤◌, ◌⊎◌, inl, inr, Bool, true, false, cond, List}
-use Rattle.std.proofs.Common.{refl, sym, ap, ◌∙◌, ◌∷◌, [], ◌++◌, arith}
+use Rattle.std.proofs.Common.{◌≡◌, ℕ, zero, suc, ◌+◌, ◌-◌, ◌<◌, ◌≤◌, ◌⊎◌, inl, inr, Bool, true, false, cond, List}
+use Rattle.std.proofs.Common.{refl, sym, ap, ◌∙◌, ◌∷◌, [], ◌++◌, arith, subst}
 use Rattle.std.specs.Prelude.{Option, Some, None, is_some, option_map, min, max}
-use Rattle.std.proofs.lemmas.Bool.{eq-eqb, ltb-true}
+use Rattle.std.proofs.lemmas.Bool.{cases_lt, eq-eqb, ltb-true}
 use Rattle.hls_chron.specs.declared.book.TickRow.{TickRow}
 use Rattle.hls_chron.specs.declared.plain.Config.{Config}
 use Rattle.hls_chron.specs.declared.plain.Config.TheVariants.{Cpu, Fp, Edf, Sfq, Rr, Wheel, Join}
@@ -11,6 +11,7 @@ use Rattle.hls_chron.specs.Ticks.{count}
 use Rattle.hls_kinds.specs.Asks.{slot_asks}
 use Rattle.hls_kinds.specs.Reservations.{deadline_at}
 use Rattle.hls_kinds.specs.Stands.{always, stands_of, to_deadlines}
+use Rattle.hls_releases.specs.Releases.{last_release}
 use Rattle.hls_sched.specs.Seen.{config_of, tick_row, Seen}
 use Rattle.hls_machine.specs.Hierarchy.{Hierarchy, Node, Loaded, Admitted, Wake, Asleep, Awake, Awake_for}
 use Rattle.hls_machine.specs.Hierarchy.{Scheduler as LoadedScheduler, is_ready, was_served, is_just}
@@ -21,8 +22,9 @@ use Rattle.hls_tree_nodes.specs.Shown.{mask_in, grant_in}
 use Rattle.hls_tree_nodes.specs.Shown as shown
 use Rattle.hls_tree_nodes.specs.Leapt.{StandsJust, stands_in}
 use Rattle.hls_tree_nodes.specs.TreeOf.{IsOf, IsPassing}
+use Rattle.hls_core.specs.Begun.{left_by, next_by, first_of}
 use Rattle.hls_core.specs.Left.{IsLeft, left_of}
-use Rattle.hls_core.specs.Leaps.{Changes, of_scheduler, of_burst, stands_by}
+use Rattle.hls_core.specs.Leaps.{Changes, of_scheduler, of_burst, of_release, stands_by}
 use Rattle.hls_core.specs.Inside.Elapses.{IsWithin, IsRest, IsStretch, MayElapse}
 use Rattle.hls_sched.specs.Boxed.{boxed}
 use Rattle.hls_tree_nodes.specs.Views.{shown_at, choice_at}
@@ -30,8 +32,13 @@ use Rattle.hls_tree.specs.Trees.{IsTreeOf, IsReadyOf, Stands, Passes}
 use Rattle.hls_tree.specs.declared.tree.Tree.{Tree}
 use Rattle.hls_core_stays.specs.declared.stays.Stays.{Stays}
 use Rattle.hls_core_journal.specs.declared.journal.Journal.{Journal}
-use Rattle.hls_core.specs.Bursts.{left_in}
+use Rattle.hls_core.specs.Bursts.{begun_in, left_in, next_in}
+use Rattle.hls_core.specs.declared.begun.Begun.{Begun}
+use Rattle.hls_core.specs.declared.begun.Release.{Release}
 use Rattle.hls_core.specs.declared.bursts.Bursts.{Bursts}
+use Rattle.hls_core.proofs.Firsts.{IsNext, is_next, next_at}
+use Rattle.hls_core.proofs.Wakes.{next_coming, coming_next}
+use Rattle.hls_core.proofs.Readiness.{kept_at}
 use Rattle.hls_core.proofs.Elapsing.{runs_thread, ran, granted}
 
 -- ---- the number does not go by a choice that is not used
@@ -138,63 +145,96 @@ some_left : (serves : ℕ → Bool) (now rest : ℕ) (wake : Wake) → is_ready 
     → left_of serves now wake ≡ Some rest → 1 ≤ rest
 some_left serves now rest Asleep ready left = absurd cc
 some_left serves now rest Awake ready left = absurd cc
-some_left serves now rest (Awake_for ticks since) ready left =
-    let before = ltb-true (count serves since (now - since)) ticks ready in
-    let same : ticks - count serves since (now - since) ≡ rest = cc in omega (arith, before, same)
+some_left serves now rest (Awake_for burst since) ready left =
+    let from : ℕ = last_release burst.every since now in
+    let before = ltb-true (count serves from (now - from)) burst.ticks ready in
+    let same : burst.ticks - count serves from (now - from) ≡ rest = cc in omega (arith, before, same)
 
 on_path : (path : Option Path) (k : ℕ) → thread_of path ≡ Some k → is_just (thread_of path) k ≡ true
 on_path path k served = ap (λ o. is_just o k) served ∙ eq-eqb k k refl
 
 -- who is served is ready, and so has some of its burst left
-pub lasts : (h : Hierarchy) (asking : ℕ → Bool) (masks : ℕ → ℕ) (path : Option Path) (left : ℕ → Option ℕ)
-    (thread : Option ℕ) → IsLeft left h → MayRun h asking masks path → thread ≡ thread_of path
-    → IsWithin left thread 1
-lasts h asking masks path left thread is may served k rest on has =
+pub lasts : (h : Hierarchy) (asking : ℕ → Bool) (masks : ℕ → ℕ) (path : Option Path) (begun : ℕ → Option Begun)
+    (thread : Option ℕ) → IsLeft begun h → MayRun h asking masks path → thread ≡ thread_of path
+    → IsWithin (λ k. left_by (begun k)) thread 1
+lasts h asking masks path begun thread is may served k rest on has =
     let comes = runs_thread h asking masks path k may (on_path path k (sym served ∙ on)) in
     some_left (was_served h.past k) h.now rest comes.thread.wake comes.ready
-    (sym (is.kept k comes.thread comes.there comes.ready) ∙ has)
+    (sym ((kept_at begun h k comes.thread is comes.there).left comes.ready) ∙ has)
 
 -- ---- the stretch
 
 module _ (s : ℕ → Option Shown) (choices : ℕ → Option ℕ) (tick horizon : ℕ) (root : Option ℕ)
     (route : Option (List ℕ)) (h : Hierarchy) (asking : ℕ → Bool) (slots : ℕ → ℕ) (path : Option Path)
-    (left : ℕ → Option ℕ) (thread : Option ℕ) (most n : ℕ) (of : IsOf s tick horizon root h)
-    (passing : IsPassing s choices route h asking slots path) (is_left : IsLeft left h)
+    (begun : ℕ → Option Begun) (thread : Option ℕ) (most n : ℕ) (of : IsOf s tick horizon root h)
+    (passing : IsPassing s choices route h asking slots path) (is_left : IsLeft begun h)
     (served : thread ≡ thread_of path) where
-  comes_change : n < always → StandsJust s choices n ⊎ IsRest left thread n → Changes h slots path n
-  comes_change less (inl just) =
+  abbrev left : ℕ → Option ℕ
+  left k = left_by (begun k)
+
+  abbrev next : ℕ → Option Release
+  next k = next_by (begun k)
+
+  comes_change : n < always → (StandsJust s choices n ⊎ IsRest left thread n) ⊎ IsNext next (h.now + n)
+      → Changes h slots path n
+  comes_change less (inl (inl just)) =
       let found = loaded_here (s just.node) (h.nodes just.node) (choices just.node) n (of.nodes just.node) just.is less
       in
       of_scheduler just.node found.0 found.1
       (stands_here (s just.node) (h.nodes just.node) (choices just.node) (slots just.node)
       (hop_at (hops_of path) just.node) found.0 (of.nodes just.node) found.1 (passing.rows just.node) ∙ just.is)
-  comes_change less (inr rest) =
+  comes_change less (inl (inr rest)) =
       let on = sym served ∙ rest.served in
       let comes = runs_thread h asking slots path rest.node passing.can.1 (on_path path rest.node on) in
       of_burst rest.node comes.thread on comes.there
-      (sym (is_left.kept rest.node comes.thread comes.there comes.ready) ∙ rest.rest)
+      (sym ((kept_at begun h rest.node comes.thread is_left comes.there).left comes.ready) ∙ rest.rest)
+  comes_change less (inr due) =
+      let comes = next_coming (was_served h.past due.node) h.now (begun due.node) (h.nodes due.node) due.release
+      (is_left.at due.node) due.next_is in
+      of_release due.node comes.thread comes.there (comes.comes ∙ ap (λ m. Some m) due.tick_is)
 
-  none_sooner : ((k : ℕ) → n ≤ stands_in (choices k) (s k)) → IsWithin left thread n → (sooner : ℕ)
+  none_sooner : ((k : ℕ) → n ≤ stands_in (choices k) (s k)) → IsWithin left thread n
+      → ((k : ℕ) (release : Release) → next k ≡ Some release → h.now + n ≤ release.tick) → (sooner : ℕ)
       → Changes h slots path sooner → n ≤ sooner
-  none_sooner least within sooner (of_scheduler k x there at) =
+  none_sooner least within ahead sooner (of_scheduler k x there at) =
       let all = least k in
       let same = stands_here (s k) (h.nodes k) (choices k) (slots k) (hop_at (hops_of path) k) x (of.nodes k) there
       (passing.rows k) in
       omega (arith, all, same, at)
-  none_sooner least within sooner (of_burst k t on there at) =
+  none_sooner least within ahead sooner (of_burst k t on there at) =
       within k sooner (served ∙ on)
-      (is_left.kept k t there (ran h asking slots path passing.can.1 k t there (on_path path k on)) ∙ at)
+      ((kept_at begun h k t is_left there).left
+      (ran h asking slots path passing.can.1 k t there (on_path path k on)) ∙ at)
+  none_sooner least within ahead sooner (of_release k t there comes) =
+      let due = coming_next (was_served h.past k) h.now (begun k) t.wake (h.now + sooner)
+      (kept_at begun h k t is_left there) comes in
+      let lo = ahead k due.release due.next in
+      let at = due.tick_is in omega (arith, lo, at)
 
   pub stretch : most ≤ always → ((k : ℕ) → n ≤ stands_in (choices k) (s k)) → IsWithin left thread n
-      → (n < most → StandsJust s choices n ⊎ IsRest left thread n) → IsStretch h most n
-  stretch few least within attained = record {
+      → ((k : ℕ) (release : Release) → next k ≡ Some release → h.now + n ≤ release.tick)
+      → (n < most → (StandsJust s choices n ⊎ IsRest left thread n) ⊎ IsNext next (h.now + n)) → IsStretch h most n
+  stretch few least within ahead attained = record {
     asking = asking;
     masks = slots;
     path = path;
     can = passing.can;
     change = λ less. comes_change (omega (arith, few, less)) (attained less);
-    first = none_sooner least within;
+    first = none_sooner least within ahead;
   }
+
+-- who stops the ticks: the grant, or the first release
+pub stopped : {A : Type 0} (begun : List (Option Begun)) (first : Option ℕ) (now free most n : ℕ)
+    → first ≡ first_of begun
+    → (n < free → A) → n ≤ free → (free < most → first ≡ Some (now + free)) → n < most
+    → A ⊎ IsNext (next_at begun) (now + n)
+stopped {A = A} begun first now free most n is attained le early less = elim (cases_lt n free) [
+  | inl sooner ↦ inl (attained sooner)
+  | inr whole ↦
+      let same : free ≡ n = omega (arith, whole, le) in
+      inr (subst (λ m. IsNext (next_at begun) (now + m)) same
+      (is_next begun (now + free) (sym is ∙ early (omega (arith, same, less)))))
+]
 
 -- V and P are what the checker knows a box by
 module _ {V : Type 0} {P : V → Type 0} (seen : (x : V) × P x → Seen) (choice : (x : V) × P x → Option ℕ)
@@ -206,16 +246,21 @@ module _ {V : Type 0} {P : V → Type 0} (seen : (x : V) × P x → Seen) (choic
   pub passed_lasts : Stands seen old (MayElapse seen old bursts stays j most) → IsWithin (left_in bursts) thread 1
   passed_lasts x =
       let p = passes x.h x.tree x.is.at_state.ready in
-      lasts x.h p.0 p.1 p.2 (left_in bursts) thread x.is.at_state.left p.3.can.1
+      lasts x.h p.0 p.1 p.2 (begun_in bursts) thread x.is.at_state.left p.3.can.1
       (granted p.2 passed.route thread p.3.route_is none some)
 
-  pub tree_stretch : (n : ℕ) → most ≤ always
+  pub tree_stretch : (n now : ℕ) → most ≤ always → ((h : Hierarchy) → IsTreeOf seen old h → now ≡ h.now)
       → ((k : ℕ) → n ≤ stands_in (choice_at (boxed choice) passed.nodes k) (shown_at (boxed seen) passed.nodes k))
       → IsWithin (left_in bursts) thread n
-      → (n < most → StandsJust (shown_at (boxed seen) passed.nodes) (choice_at (boxed choice) passed.nodes) n
-      ⊎ IsRest (left_in bursts) thread n)
+      → ((k : ℕ) (release : Release) → next_in bursts k ≡ Some release → now + n ≤ release.tick)
+      → (n < most → (StandsJust (shown_at (boxed seen) passed.nodes) (choice_at (boxed choice) passed.nodes) n
+      ⊎ IsRest (left_in bursts) thread n) ⊎ IsNext (next_in bursts) (now + n))
       → (h : Hierarchy) → MayElapse seen old bursts stays j most h → IsStretch h most n
-  tree_stretch n few least within attained h may =
+  tree_stretch n now few at_now least within ahead attained h may =
       let p = passes h may.at_state.tree may.at_state.ready in
-      stretch _ _ _ _ _ _ h p.0 p.1 p.2 (left_in bursts) thread most n (tree h may.at_state.tree).of p.3
-      may.at_state.left (granted p.2 passed.route thread p.3.route_is none some) few least within attained
+      let here = at_now h may.at_state.tree in
+      stretch _ _ _ _ _ _ h p.0 p.1 p.2 (begun_in bursts) thread most n (tree h may.at_state.tree).of p.3
+      may.at_state.left (granted p.2 passed.route thread p.3.route_is none some) few least within
+      (λ k release next. (let lo = ahead k release next in omega (arith, here, lo)))
+      (subst (λ m. n < most → (StandsJust (shown_at (boxed seen) passed.nodes) (choice_at (boxed choice) passed.nodes) n
+      ⊎ IsRest (left_in bursts) thread n) ⊎ IsNext (next_in bursts) (m + n)) here attained)

@@ -1,3 +1,4 @@
+pub mod Begun
 pub mod Bursts
 pub mod Left
 pub mod Leaps

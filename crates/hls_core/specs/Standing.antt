@@ -5,7 +5,7 @@ use Rattle.hls_tree.specs.Trees.{IsTreeOf, IsReadyOf}
 use Rattle.hls_tree.specs.declared.tree.Tree.{Tree}
 use Rattle.hls_machine.specs.Legal.{IsReached}
 use Rattle.hls_core.specs.Left.{IsLeft}
-use Rattle.hls_core.specs.Bursts.{left_in}
+use Rattle.hls_core.specs.Bursts.{begun_in}
 use Rattle.hls_core.specs.declared.bursts.Bursts.{Bursts}
 
 -- V and P are what the checker knows a box by
@@ -14,5 +14,5 @@ module _ {V : Type 0} {P : V → Type 0} where
   pub record IsAt (seen : (x : V) × P x → Seen) (t : Tree V P) (bursts : Bursts) (h : Hierarchy) : Type 0 where
     pub tree : IsTreeOf seen t h
     pub ready : IsReadyOf seen t h
-    pub left : IsLeft (left_in bursts) h
+    pub left : IsLeft (begun_in bursts) h
     pub reached : IsReached h

@@ -1,5 +1,5 @@
 // Commands.
-ghost use Rattle.std.specs.Prelude.{◌≡◌, ◌≤◌, ℕ, [], IfOk, OnErr};
+ghost use Rattle.std.specs.Prelude.{◌≡◌, ◌≤◌, ℕ, [], None, if◌then◌else◌, IfOk, OnErr};
 ghost use Rattle.hls_scenario.specs.Grammar.{IsCommand};
 ghost use Rattle.hls_scenario.specs.declared.scenario.Command.{Command as CommandSeen};
 ghost use Rattle.hls_scenario.specs.declared.scenario.Command.TheVariants.{Wake, Block};
@@ -20,8 +20,11 @@ ghost use Rattle.hls_core_stays.specs.Turnovers.{stays_begun};
 ghost use Rattle.hls_manager.specs.Outcomes as manager;
 ghost use Rattle.hls_manager.specs.Outcomes.{HasMarkRoom, boxes_in, moment};
 ghost use Rattle.hls_core.specs.Standing.{IsAt};
+ghost use Rattle.hls_core.specs.Bursts.{begun_in};
 ghost use Rattle.hls_core.specs.Inside.Outcomes.{IsOfSeats, CarriesOut, CarriesStays, MayCarry, Follows, MayFollow};
+ghost use Rattle.hls_core.specs.Inside.Outcomes.{ends};
 
+use crate::begun::Begun;
 use crate::bursts::Bursts;
 use hls_chron::{List, Name};
 use hls_core_stays::{Stays, Turnover};
@@ -40,22 +43,23 @@ fn done(alloc: Global) -> Answer
     Answer::Done(List::of(Vec::new(alloc)))
 }
 
-/// Makes a thread ready, for a burst or until it is blocked. Its stay is carried along.
+/// Makes a thread ready, for a burst, for one from each release on, or until it is blocked. Its stay is carried along.
 fn wake(
     alloc: Global,
     tree: &mut Tree,
     bursts: &mut Bursts,
     stays: &mut Stays,
     name: &Name,
+    every: Option<u32>,
     burst: Option<u32>,
 ) -> Result<Answer, AllocError>
     requires stands { Stands seen tree.old (MayCarry seen tree.old bursts.old stays.old) }
-    requires command { IsCommand 2 (Wake name.now burst) }
+    requires command { IsCommand 2 (Wake name.now every burst) }
     ensures carried { IfOk result (λ answer. (m : Moment) (commands : ℕ) → IsAt seen tree.old bursts.old m.hierarchy →
-        CarriesOut seen tree.old tree.new bursts.new m commands (Wake name.now burst) answer) }
+        CarriesOut seen tree.old tree.new bursts.new m commands (Wake name.now every burst) answer) }
     ensures stays { IfOk result (λ answer.
-        CarriesStays seen tree.old tree.new bursts.old stays.old stays.new (Wake name.now burst) answer) }
-    ensures formed { IfOk result (λ answer. IsWellFormed (Wake name.now burst) answer) }
+        CarriesStays seen tree.old tree.new bursts.old stays.old stays.new (Wake name.now every burst) answer) }
+    ensures formed { IfOk result (λ answer. IsWellFormed (Wake name.now every burst) answer) }
     ensures unchanged { OnErr result ((h : Hierarchy) → IsAt seen tree.old bursts.old h →
         IsAt seen tree.new bursts.new h) }
     ensures kept_stays { OnErr result (stays.new ≡ stays.old) }
@@ -63,7 +67,8 @@ fn wake(
 {
     match find_thread(tree, name) {
         Ok(id) => {
-            bursts.set(id, burst)?;
+            let begun = Begun::of(every, burst, tree.now());
+            bursts.set(id, begun)?;
             tree.set_ready(id, true);
             stays.follow(tree, Turnover::Rouses(id));
             Ok(done(alloc))
@@ -72,18 +77,25 @@ fn wake(
     }
 }
 
-/// Makes a thread not ready. Its stay is carried along.
-fn block(alloc: Global, tree: &mut Tree, bursts: &Bursts, stays: &mut Stays, name: &Name) -> Answer
+/// Makes a thread not ready, and ends the releases of its wake. Its stay is carried along.
+fn block(
+    alloc: Global,
+    tree: &mut Tree,
+    bursts: &mut Bursts,
+    stays: &mut Stays,
+    name: &Name,
+) -> Answer
     requires command { IsCommand 2 (Block name.now) }
-    requires stands { Stands seen tree.old (MayCarry seen tree.old bursts.now stays.old) }
-    ensures carried { (m : Moment) (commands : ℕ) → IsAt seen tree.old bursts.now m.hierarchy →
-        CarriesOut seen tree.old tree.new bursts.now m commands (Block name.now) result }
-    ensures stays { CarriesStays seen tree.old tree.new bursts.now stays.old stays.new (Block name.now) result }
+    requires stands { Stands seen tree.old (MayCarry seen tree.old bursts.old stays.old) }
+    ensures carried { (m : Moment) (commands : ℕ) → IsAt seen tree.old bursts.old m.hierarchy →
+        CarriesOut seen tree.old tree.new bursts.new m commands (Block name.now) result }
+    ensures stays { CarriesStays seen tree.old tree.new bursts.old stays.old stays.new (Block name.now) result }
     ensures formed { IsWellFormed (Block name.now) result }
     ensures horizon { tree.new.horizon ≡ tree.old.horizon }
 {
     match find_thread(tree, name) {
         Ok(id) => {
+            bursts.forget(id);
             tree.set_ready(id, false);
             stays.follow(tree, Turnover::Rouses(id));
             done(alloc)
@@ -123,6 +135,18 @@ fn carry_out(
         }
         Command::Move { .. } => shift(alloc, tree, rules, depth, command),
         _ => Ok(withdraw(alloc, tree, command)),
+    }
+}
+
+/// Forgets the burst of a thread that was ended, and ends the releases of its wake.
+fn forget(bursts: &mut Bursts, turnover: &Turnover, answer: &Answer)
+    ensures { (k : ℕ) → begun_in bursts.new k ≡ (if ends turnover.now answer.now k then None else
+        begun_in bursts.old k) }
+{
+    if let Turnover::Ends(id) = turnover {
+        if let Answer::Done(_) = answer {
+            bursts.forget(*id);
+        }
     }
 }
 
@@ -175,12 +199,15 @@ pub fn carry_along(
     ensures horizon { tree.new.horizon ≡ tree.old.horizon }
 {
     match command {
-        Command::Wake { name, burst } => wake(alloc, tree, bursts, stays, name, *burst),
+        Command::Wake { name, every, burst } => {
+            wake(alloc, tree, bursts, stays, name, *every, *burst)
+        }
         Command::Block { name } => Ok(block(alloc, tree, bursts, stays, name)),
         _ => {
             let turnover = Turnover::of(alloc, tree, command)?;
             stays.reserve(&turnover)?;
             let answer = carry_out(alloc, tree, kit, rules, depth, commands, command)?;
+            forget(bursts, &turnover, &answer);
             follow(tree, stays, turnover, &answer);
             Ok(answer)
         }

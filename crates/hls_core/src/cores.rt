@@ -139,8 +139,8 @@ impl Core {
     }
 
     /// Lets ticks pass, once the commands of the present tick have their answers: as many as nothing happens in, up to
-    /// the next command, the horizon, the end of the burst of who is served, or the first tick in which a scheduler may
-    /// ask otherwise or serve another. Tells how many they are: one or more.
+    /// the next command, the horizon, the end of the burst of who is served, the first release of any thread's wake, or
+    /// the first tick in which a scheduler may ask otherwise or serve another. Tells how many they are: one or more.
     pub fn leap(&mut self) -> u32
         requires runs { Runs seen self.old }
         requires none_due { NoneDue (scenario_of self.old).items (next_of self.old) (now_of self.old) }

@@ -2,6 +2,7 @@
 #![tactic(auto)]
 
 mod asking;
+mod begun;
 mod bursts;
 mod commands;
 mod cores;

@@ -92,9 +92,9 @@ impl Core {
         ticks
     }
 
-    /// Lets ticks pass, once the commands of the present tick have their answers: many at once where the last two had
-    /// one path, since schedulers are asked only then for how long they stand. Tells how many they are.
-    pub(crate) fn pass_steadily(&mut self) -> u32
+    /// Lets ticks pass, once the commands of the present tick have their answers: as many as nothing happens in. Tells
+    /// how many they are.
+    pub(crate) fn pass_along(&mut self) -> u32
         requires may { MayGoOn seen self.old }
         requires none_due { NoneDue self.old.scenario.items self.old.agenda self.old.journal.ticks }
         requires early { self.old.journal.ticks < self.old.scenario.horizon }
@@ -105,12 +105,8 @@ impl Core {
         ensures scenario { self.new.scenario ≡ self.old.scenario }
         ensures agenda { self.new.agenda ≡ self.old.agenda }
     {
-        if self.journal.is_steady() {
-            let horizon = self.scenario.horizon;
-            let most = self.ticks_ahead(horizon);
-            self.pass_ticks(most)
-        } else {
-            self.pass_ticks(1)
-        }
+        let horizon = self.scenario.horizon;
+        let most = self.ticks_ahead(horizon);
+        self.pass_ticks(most)
     }
 }

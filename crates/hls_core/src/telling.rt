@@ -72,7 +72,7 @@ fn tell_all(core: &mut Core, text: &mut Vec<u8>) -> Result<(), AllocError>
     let horizon = core.scenario.horizon;
     while core.now() < horizon {
         tell_due(core, text)?;
-        core.pass_steadily();
+        core.pass_along();
     }
     Ok(())
 }

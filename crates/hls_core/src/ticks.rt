@@ -1,14 +1,20 @@
 // Ticks.
-ghost use Rattle.std.specs.Prelude.{◌≡◌, ◌≤◌, ◌<◌, ◌+◌, ℕ, ◌-◌, ◌⊎◌, Bool, Option, true, false, length};
-ghost use Rattle.std.specs.Prelude.{option_map, if◌then◌else◌};
+ghost use Rattle.std.specs.Prelude.{◌≡◌, ◌≢◌, ◌≤◌, ◌<◌, ◌+◌, ◌^◌, ℕ, ◌⊎◌, Bool, Option, Some, true, false, length};
+ghost use Rattle.std.specs.Prelude.{if◌then◌else◌};
 ghost use Rattle.hls_kinds.specs.Stands.{always};
-ghost use Rattle.hls_machine.specs.Hierarchy.{Hierarchy, is_just};
+ghost use Rattle.hls_machine.specs.Hierarchy.{Hierarchy, Thread, Admitted, is_just};
+ghost use Rattle.hls_machine.specs.Legal.{IsThread};
+ghost use Rattle.hls_machine.specs.Lists.{IsListed};
 ghost use Rattle.hls_machine.specs.Steps.{Path as Way};
 ghost use Rattle.hls_tree_nodes.specs.Leapt.{StandsIn, StandsJust, stands_in, later, MayLeap};
 ghost use Rattle.hls_sched.specs.Boxed.{boxed};
 ghost use Rattle.hls_tree_nodes.specs.Views.{shown_at, choice_at};
 ghost use Rattle.hls_tree.specs.Trees.{IsTreeOf, Any, HasPassed, PassesBy, Stands, ready_of};
-ghost use Rattle.hls_core.specs.Bursts.{left_in, ends_within};
+ghost use Rattle.hls_core_stays.specs.Tallies.{AreStays};
+ghost use Rattle.hls_core_stays.specs.Changes.{flagged};
+ghost use Rattle.hls_core.specs.declared.begun.Release.{Release};
+ghost use Rattle.hls_core.specs.Begun.{ends_within, used, released, is_due};
+ghost use Rattle.hls_core.specs.Bursts.{begun_in, left_in, next_in};
 ghost use Rattle.hls_core.specs.Inside.Elapses.{IsThreadOrNone, IsWithin, IsRest, IsAfter};
 ghost use Rattle.hls_core.specs.Inside.Elapses.{MayElapse, Elapses, IsStretch};
 
@@ -31,6 +37,21 @@ fn rest_of(bursts: &Bursts, thread: &Option<NodeId>, most: u32) -> u32
     };
     match bursts.left(*id) {
         Some(left) => left.min(most),
+        None => most,
+    }
+}
+
+/// At most so many ticks from now on, and none behind the first release.
+fn up_to(first: Option<u32>, now: u32, most: u32) -> u32
+    requires ahead { (tick : ℕ) → first ≡ Some tick → now < tick }
+    requires some { 0 < most }
+    ensures some { 0 < result }
+    ensures most { result ≤ most }
+    ensures ahead { (tick : ℕ) → first ≡ Some tick → now + result ≤ tick }
+    ensures attained { result < most → first ≡ Some (now + result) }
+{
+    match first {
+        Some(tick) => (tick - now).min(most),
         None => most,
     }
 }
@@ -86,8 +107,8 @@ fn serve(tree: &mut Tree, bursts: &mut Bursts, thread: &Option<NodeId>, ticks: u
     ensures flags { (k : ℕ) → ready_of seen tree.new k ≡ (if is_just thread.now k then
         (if ends_within ticks (left_in bursts.old k) then false else ready_of seen tree.old k)
         else ready_of seen tree.old k) }
-    ensures left { (k : ℕ) → left_in bursts.new k ≡ (if is_just thread.now k then
-        option_map (λ left. left - ticks) (left_in bursts.old k) else left_in bursts.old k) }
+    ensures begun { (k : ℕ) → begun_in bursts.new k ≡ (if is_just thread.now k then
+        used ticks (begun_in bursts.old k) else begun_in bursts.old k) }
     ensures horizon { tree.new.horizon ≡ tree.old.horizon }
 {
     if let Some(id) = thread {
@@ -97,13 +118,84 @@ fn serve(tree: &mut Tree, bursts: &mut Bursts, thread: &Option<NodeId>, ticks: u
     }
 }
 
+/// Whether the first release comes in a tick.
+fn comes_in(first: Option<u32>, now: u32) -> bool
+    ensures { result ≡ false → first ≢ Some now }
+{
+    match first {
+        Some(tick) => tick == now,
+        None => false,
+    }
+}
+
+/// Makes a thread ready whose wake has a release in the present tick. Its stay is carried along.
+fn rouse_due(tree: &mut Tree, bursts: &Bursts, stays: &mut Stays, id: NodeId, now: u32)
+    requires { Stands seen tree.old (λ h. IsThread (h.nodes id) ×
+        AreStays stays.old (flagged (ready_of seen tree.old) h)) }
+    ensures tree { (h : Hierarchy) → IsTreeOf seen tree.old h → IsTreeOf seen tree.new h }
+    ensures here { ready_of seen tree.new id ≡ (if is_due now (next_in bursts.now id) then true else
+        ready_of seen tree.old id) }
+    ensures others { (k : ℕ) → k ≢ id → ready_of seen tree.new k ≡ ready_of seen tree.old k }
+    ensures stays { (h : Hierarchy) → IsTreeOf seen tree.old h → IsListed h → IsThread (h.nodes id) →
+        AreStays stays.old (flagged (ready_of seen tree.old) h) →
+        AreStays stays.new (flagged (ready_of seen tree.new) h) }
+    ensures horizon { tree.new.horizon ≡ tree.old.horizon }
+{
+    if bursts.is_due(id, now) {
+        tree.set_ready(id, true);
+        stays.release(tree, id);
+    }
+}
+
+/// Makes all threads ready whose wakes have a release in the present tick. Their stays are carried along.
+fn rouse_all(tree: &mut Tree, bursts: &Bursts, stays: &mut Stays, now: u32)
+    requires { Stands seen tree.old (λ h. AreStays stays.old (flagged (ready_of seen tree.old) h)) }
+    ensures tree { (h : Hierarchy) → IsTreeOf seen tree.old h → IsTreeOf seen tree.new h }
+    ensures flags { (h : Hierarchy) → IsTreeOf seen tree.old h → IsListed h → (k : ℕ) (t : Thread) →
+        h.nodes k ≡ Some (Admitted t) → ready_of seen tree.new k ≡ (if is_due now (next_in bursts.now k) then true
+        else ready_of seen tree.old k) }
+    ensures stays { (h : Hierarchy) → IsTreeOf seen tree.old h → IsListed h →
+        AreStays stays.old (flagged (ready_of seen tree.old) h) →
+        AreStays stays.new (flagged (ready_of seen tree.new) h) }
+    ensures horizon { tree.new.horizon ≡ tree.old.horizon }
+{
+    for at in 0..tree.threads() {
+        let id = tree.thread(at);
+        rouse_due(tree, bursts, stays, id, now);
+    }
+}
+
+/// Makes threads ready whose wakes have a release in the present tick, and their bursts whole, where the first release
+/// of all comes in it. Their stays are carried along.
+fn release(tree: &mut Tree, bursts: &mut Bursts, stays: &mut Stays, first: Option<u32>, now: u32)
+    requires stands { Stands seen tree.old (λ h. AreStays stays.old (flagged (ready_of seen tree.old) h)) }
+    requires none { first ≢ Some now → (k : ℕ) → is_due now (next_in bursts.old k) ≡ false }
+    requires fits { (k : ℕ) (release : Release) → next_in bursts.old k ≡ Some release → release.tick ≡ now →
+        release.tick + release.every < 2 ^ 32 }
+    ensures tree { (h : Hierarchy) → IsTreeOf seen tree.old h → IsTreeOf seen tree.new h }
+    ensures flags { (h : Hierarchy) → IsTreeOf seen tree.old h → IsListed h → (k : ℕ) (t : Thread) →
+        h.nodes k ≡ Some (Admitted t) → ready_of seen tree.new k ≡ (if is_due now (next_in bursts.old k) then true
+        else ready_of seen tree.old k) }
+    ensures begun { (k : ℕ) → begun_in bursts.new k ≡ released now (begun_in bursts.old k) }
+    ensures stays { (h : Hierarchy) → IsTreeOf seen tree.old h → IsListed h →
+        AreStays stays.old (flagged (ready_of seen tree.old) h) →
+        AreStays stays.new (flagged (ready_of seen tree.new) h) }
+    ensures horizon { tree.new.horizon ≡ tree.old.horizon }
+{
+    if !comes_in(first, now) {
+        return;
+    }
+    rouse_all(tree, bursts, stays, now);
+    bursts.release(now);
+}
+
 /// Ticks that passed with one path, or idly.
 pub struct Leap {
     pub path: Option<Path>,
     pub ticks: u32,
 }
 
-/// Lets ticks pass, as many as the grant stays for but at most so many, and tells its path.
+/// Lets ticks pass, as many as the grant stays for up to the first release, but at most so many, and tells their path.
 pub fn elapse(
     tree: &mut Tree,
     bursts: &mut Bursts,
@@ -123,12 +215,17 @@ pub fn elapse(
     ensures most { result.ticks ≤ most }
     ensures horizon { tree.new.horizon ≡ tree.old.horizon }
 {
+    let first = bursts.first_release();
+    let now = tree.now();
     tree.pass();
     let path = way_of(tree, journal);
     let thread = tree.current();
-    let ticks = standing(tree, bursts, &thread, most);
+    let free = up_to(first, now, most);
+    let ticks = standing(tree, bursts, &thread, free);
     advance(tree, ticks);
     serve(tree, bursts, &thread, ticks);
     stays.tick(tree, thread, ticks);
+    let end = now + ticks;
+    release(tree, bursts, stays, first, end);
     Leap { path, ticks }
 }

@@ -89,7 +89,7 @@ command_named version (said.Thread name perch) is n e = let same : name ≡ n = 
 command_named version (said.End name) is n e = absurd (cc)
 command_named version (said.Unload name) is n e = absurd (cc)
 command_named version (said.Move name perch) is n e = absurd (cc)
-command_named version (said.Wake name burst) is n e = absurd (cc)
+command_named version (said.Wake name every burst) is n e = absurd (cc)
 command_named version (said.Block name) is n e = absurd (cc)
 
 -- ---- paths

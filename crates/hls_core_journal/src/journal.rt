@@ -162,11 +162,6 @@ impl Journal {
         }
     }
 
-    /// Whether the last two ticks had one path. Only how many ticks are tried at once rests on it.
-    pub fn is_steady(&self) -> bool {
-        self.runs.is_last_long()
-    }
-
     /// Notes that so many ticks pass, one or more, with one path, or idle.
     pub fn leap(&mut self, path: Option<Path>, ticks: u32)
         requires may { MayTick self.old }

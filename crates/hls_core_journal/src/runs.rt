@@ -143,14 +143,6 @@ impl Runs {
         }
     }
 
-    /// Whether the last run has more than one tick.
-    pub(crate) fn is_last_long(&self) -> bool {
-        match self.rows.last() {
-            Some(row) => row.from < row.to,
-            None => false,
-        }
-    }
-
     /// Lets the last run last up to a tick.
     pub(crate) fn lengthen(&mut self, tick: u32)
         ensures last { (front : List Run) (run : Run) → self.old.items ≡ front ++ run ∷ [] →

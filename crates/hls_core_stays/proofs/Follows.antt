@@ -146,8 +146,8 @@ follow_nothing s h (said.Unload name) (Unload k) of does can standing lists are 
 follow_nothing s h (said.Unload name) _ of does can standing lists are = absurd does
 follow_nothing s h (said.Move name perch) (Move k seat below) of does can standing lists are = absurd (of k does.0)
 follow_nothing s h (said.Move name perch) _ of does can standing lists are = absurd does
-follow_nothing s h (said.Wake name burst) (Rouse k ticks) of does can standing lists are = absurd (of k does.0)
-follow_nothing s h (said.Wake name burst) _ of does can standing lists are = absurd does
+follow_nothing s h (said.Wake name every burst) (Rouse k ticks) of does can standing lists are = absurd (of k does.0)
+follow_nothing s h (said.Wake name every burst) _ of does can standing lists are = absurd does
 follow_nothing s h (said.Block name) (Block k) of does can standing lists are = absurd (of k does)
 follow_nothing s h (said.Block name) _ of does can standing lists are = absurd does
 
@@ -218,9 +218,9 @@ roused_here h step id k name how lists named has thread leads =
 
 pub follow_rouses : (h : Hierarchy) (id : ℕ) (command : Command) (step : Step) → IsTurnover h command (Rouses id)
     → Does h command step → Can h step → IsListed h → HasRoused h step id
-follow_rouses h id (said.Wake name burst) (Rouse k ticks) of does can lists =
+follow_rouses h id (said.Wake name every burst) (Rouse k ticks) of does can lists =
     roused_here h (Rouse k ticks) id k name (wake_by ticks h.now) lists of does.0 can refl
-follow_rouses h id (said.Wake name burst) _ of does can lists = absurd does
+follow_rouses h id (said.Wake name every burst) _ of does can lists = absurd does
 follow_rouses h id (said.Block name) (Block k) of does can lists =
     roused_here h (Block k) id k name Asleep lists of does can refl
 follow_rouses h id (said.Block name) _ of does can lists = absurd does

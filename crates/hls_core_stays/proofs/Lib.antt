@@ -9,6 +9,7 @@ mod Fresh
 mod Noted
 mod Follows
 mod Moves
+pub mod Flags
 pub mod Ticked
 mod Turned
 mod Begins

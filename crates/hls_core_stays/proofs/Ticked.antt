@@ -13,11 +13,13 @@ use Rattle.hls_machine.proofs.Kept.{at_same, at_other}
 use Rattle.hls_legal.specs.Agrees.{idle_in}
 use Rattle.hls_tree_nodes.specs.Leapt as leapt
 use Rattle.hls_core_stays.specs.Tallies.{AreTallies, IsTally, IsNoted, waited}
+use Rattle.hls_core_stays.specs.Changes.{flagged}
 use Rattle.hls_core_stays.specs.Inside.Steps.{HasOpen, noted_tally, served_tally}
 use Rattle.hls_core_stays.specs.declared.stays.Stays.{Stays}
 use Rattle.hls_core_stays.specs.declared.tally.Tally.{Tally}
 use Rattle.hls_core_stays.proofs.Lists.{inner, of_set, IsSet, Here, There}
 use Rattle.hls_core_stays.proofs.Ends.{Finds, HasTally, tally_found, place_is}
+use Rattle.hls_core_stays.proofs.Flags.{was_there, was_ready}
 use Rattle.hls_core_stays.proofs.Noted.{noted_rest, noted_total, noted_flag, noted_early}
 
 -- a thread after a tick was the same before
@@ -164,10 +166,15 @@ module _ (h : Hierarchy) (asking : ℕ → Bool) (masks : ℕ → ℕ) (path : O
         idle = push_times (is_none (thread_of path)) n _ _ _ on.idle (idle_more mid asking masks path);
       }
 
-module _ (h later : Hierarchy) (asking : ℕ → Bool) (to : Option ℕ) (n : ℕ) (on : IsOn h later asking to n) where
+module _ (h later : Hierarchy) (asking : ℕ → Bool) (to : Option ℕ) (n : ℕ) (on : IsOn h later asking to n)
+    (flag : ℕ → Bool) where
+  -- the hierarchy after the ticks, in which threads are ready as flags say
+  abbrev told : Hierarchy
+  told = flagged flag later
+
   -- a stay that has ended
   shut_by : (stay : Stay) (tally : Tally) (until : Option ℕ) → stay.until ≡ until → (until ≡ None → ⊥)
-      → IsTally h stay tally → IsTally later stay tally
+      → IsTally h stay tally → IsTally told stay tally
   shut_by stay tally None e some is = absurd (some refl)
   shut_by stay tally (Some t) e some is =
       let k = stay.thread in
@@ -204,7 +211,7 @@ module _ (h later : Hierarchy) (asking : ℕ → Bool) (to : Option ℕ) (n : �
       → new.kept ≡ tally.kept → new.since ≡ tally.since → new.until ≡ tally.until
       → new.ready + waited later.now new.ready_since ≡ tally.ready + waited later.now tally.ready_since
       → new.served ≡ tally.served + times (is_just to stay.thread) n
-      → IsNoted later stay.thread new.ready_since → IsTally later stay new
+      → IsNoted told stay.thread new.ready_since → IsTally told stay new
   open_by stay tally new is none asks thread name kept since until total served noted =
       let k = stay.thread in
       let le = is.early in
@@ -240,43 +247,44 @@ module _ (h later : Hierarchy) (asking : ℕ → Bool) (to : Option ℕ) (n : �
             let same : later.now ≤ later.now = omega arith in subst (λ m. m ≤ later.now) (sym end) same);
       }
 
-  -- what is known of the thread of an open stay, by the flags after the tick
-  pub record Goes (flag : ℕ → Bool) (stay : Stay) : Type 0 where
+  -- what is known of the thread of an open stay
+  pub record Goes (stay : Stay) : Type 0 where
     pub asks : (since : Option ℕ) → IsNoted h stay.thread since → asking stay.thread ≡ is_some since
-    pub ready : (t : Thread) → later.nodes stay.thread ≡ Some (Admitted t)
-        → is_ready (was_served later.past stay.thread) later.now t.wake ≡ flag stay.thread
     pub others : (t : Thread) → is_just to stay.thread ≡ false
         → h.nodes stay.thread ≡ Some (Admitted t)
         → is_ready (was_served h.past stay.thread) h.now t.wake ≡ flag stay.thread
 
   -- a stay whose thread was not served
-  pub unserved : (flag : ℕ → Bool) (stay : Stay) (tally : Tally) → IsTally h stay tally
-      → (stay.until ≡ None → is_just to stay.thread ≡ false) → (stay.until ≡ None → Goes flag stay)
-      → IsTally later stay tally
-  unserved flag stay tally is off goes = by stay.until refl
+  pub unserved : (stay : Stay) (tally : Tally) → IsTally h stay tally
+      → (stay.until ≡ None → is_just to stay.thread ≡ false) → (stay.until ≡ None → Goes stay)
+      → IsTally told stay tally
+  unserved stay tally is off goes = by stay.until refl
     where
-      open_still : stay.until ≡ None → IsTally later stay tally
+      open_still : stay.until ≡ None → IsTally told stay tally
       open_still none =
           open_by stay tally tally is none ((goes none).asks tally.ready_since (is.noted none)) refl refl refl refl
           refl refl (let no : times (is_just to stay.thread) n ≡ 0 = ap (λ b. times b n) (off none) in
           omega (arith, no)) (record {
             is = λ t there.
-                (let was = on.was stay.thread t there in
-                (is.noted none).is t was ∙ (goes none).others t (off none) was ∙ sym ((goes none).ready t there));
+                (let k = stay.thread in
+                let x = was_there (flag k) (later.nodes k) t there in
+                let was = on.was k x.was x.there in
+                (is.noted none).is x.was was ∙ (goes none).others x.was (off none) was
+                ∙ sym (was_ready (was_served later.past k) later.now (flag k) t.wake x.wake));
             early = λ tick e.
                 (let le = (is.noted none).early tick e in
                 let at = on.now in let more : tick ≤ later.now = omega (arith, le, at) in more);
           })
 
-      by : (until : Option ℕ) → stay.until ≡ until → IsTally later stay tally
+      by : (until : Option ℕ) → stay.until ≡ until → IsTally told stay tally
       by None e = open_still e
       by (Some t) e = shut_by stay tally (Some t) e (λ no. (absurd (cc))) is
 
   -- the stay of the thread that was served
-  pub served_one : (flag : ℕ → Bool) (stay : Stay) (tally : Tally) (k now : ℕ) → IsTally h stay tally
-      → stay.until ≡ None → stay.thread ≡ k → to ≡ Some k → now ≡ later.now → Goes flag stay
-      → IsTally later stay (noted_tally (flag k) now (served_tally n tally))
-  served_one flag stay tally k now is none same to_k at_now goes =
+  pub served_one : (stay : Stay) (tally : Tally) (k now : ℕ) → IsTally h stay tally
+      → stay.until ≡ None → stay.thread ≡ k → to ≡ Some k → now ≡ later.now → Goes stay
+      → IsTally told stay (noted_tally (flag k) now (served_tally n tally))
+  served_one stay tally k now is none same to_k at_now goes =
       let rest = noted_rest (flag k) now (served_tally n tally) in
       open_by stay tally (noted_tally (flag k) now (served_tally n tally)) is none
       (goes.asks tally.ready_since (is.noted none)) rest.thread rest.name rest.kept rest.since rest.until
@@ -285,7 +293,9 @@ module _ (h later : Hierarchy) (asking : ℕ → Bool) (to : Option ℕ) (n : �
       ≡ tally.ready + waited m tally.ready_since) at_now (noted_total (flag k) now (served_tally n tally)))
       (rest.served ∙ ap (λ b. tally.served + times b n) (sym here)) (record {
         is = λ t there.
-            noted_flag (flag k) now (served_tally n tally) ∙ ap flag (sym same) ∙ sym (goes.ready t there);
+            (let x = was_there (flag stay.thread) (later.nodes stay.thread) t there in
+            noted_flag (flag k) now (served_tally n tally) ∙ ap flag (sym same)
+            ∙ sym (was_ready (was_served later.past stay.thread) later.now (flag stay.thread) t.wake x.wake));
         early = λ tick e.
             subst (λ m. tick ≤ m) at_now (noted_early (flag k) now (served_tally n tally)
             (λ since was. (let le = (is.noted none).early since was in let at = on.now in
@@ -295,14 +305,14 @@ module _ (h later : Hierarchy) (asking : ℕ → Bool) (to : Option ℕ) (n : �
       here : is_just to stay.thread ≡ true
       here = ap (λ o. is_just o stay.thread) to_k ∙ Rattle.std.proofs.lemmas.Bool.eq-eqb k stay.thread (sym same)
 
-  pub served_tallies : (s new : Stays) (stays : List Stay) (flag : ℕ → Bool) (k place now : ℕ) → AreTallies s h stays
+  pub served_tallies : (s new : Stays) (stays : List Stay) (k place now : ℕ) → AreTallies s h stays
       → HasOpen stays k → Finds s k place → now ≡ later.now → to ≡ Some k
-      → ((i : ℕ) (stay : Stay) → slice_get stays i ≡ Some stay → stay.until ≡ None → Goes flag stay)
+      → ((i : ℕ) (stay : Stay) → slice_get stays i ≡ Some stay → stay.until ≡ None → Goes stay)
       → ((tally : Tally) → slice_get s.tallies.items place ≡ Some tally
       → new.tallies.items ≡ slice_set s.tallies.items place (noted_tally (flag k) now (served_tally n tally)))
       → (i : ℕ) (stay : Stay) (tally : Tally) → slice_get stays i ≡ Some stay
-      → slice_get new.tallies.items i ≡ Some tally → IsTally later stay tally
-  served_tallies s new stays flag k place now are has finds at_now to_k goes set i stay tally e f =
+      → slice_get new.tallies.items i ≡ Some tally → IsTally told stay tally
+  served_tallies s new stays k place now are has finds at_now to_k goes set i stay tally e f =
       of (of_set s.tallies.items place counted i tally (ap (λ l. slice_get l i) (sym (set t.tally t.there)) ∙ f))
     where
       at_place : place ≡ has.at
@@ -314,16 +324,16 @@ module _ (h later : Hierarchy) (asking : ℕ → Bool) (to : Option ℕ) (n : �
       counted : Tally
       counted = noted_tally (flag k) now (served_tally n t.tally)
 
-      of : IsSet s.tallies.items place counted i tally → IsTally later stay tally
+      of : IsSet s.tallies.items place counted i tally → IsTally told stay tally
       of (Here at same) =
           let this : has.stay ≡ stay =
           inner has.stay stay (sym has.there ∙ ap (slice_get stays) (sym at_place ∙ sym at) ∙ e) in
-          subst (λ (y : Tally). IsTally later stay y) same
-          (subst (λ (y : Stay). IsTally later y counted) this
-          (served_one flag has.stay t.tally k now t.is has.is_open has.thread to_k at_now
+          subst (λ (y : Tally). IsTally told stay y) same
+          (subst (λ (y : Stay). IsTally told y counted) this
+          (served_one has.stay t.tally k now t.is has.is_open has.thread to_k at_now
           (goes has.at has.stay has.there has.is_open)))
       of (There ne g) =
-          unserved flag stay tally (are.each i stay tally e g)
+          unserved stay tally (are.each i stay tally e g)
           (λ none. ap (λ o. is_just o stay.thread) to_k ∙ ne_eqb k stay.thread (λ same. ne
           (are.single i has.at stay has.stay e has.there none has.is_open (sym same ∙ sym has.thread)
           ∙ sym at_place))) (goes i stay e)

@@ -15,7 +15,7 @@ use Rattle.hls_legal.specs.Agrees.{idle_in}
 use Rattle.hls_tree.specs.Trees.{IsTreeOf, IsReadyOf, Stands, ready_of}
 use Rattle.hls_tree.specs.declared.tree.Tree.{Tree}
 use Rattle.hls_core_stays.specs.Tallies.{AreStays, IsTally, IsNoted, waited, lasting}
-use Rattle.hls_core_stays.specs.Changes.{Turns, MayTurn, Ticks, MayTick}
+use Rattle.hls_core_stays.specs.Changes.{Turns, MayTurn, Ticks, MayTick, flagged}
 use Rattle.hls_core_stays.specs.Inside.Steps.{HasOpen, MayClose, noted_tally, served_tally}
 use Rattle.hls_core_stays.specs.Inside.Renewals.{AreRenewable, IsRousing, MayNote}
 use Rattle.hls_core_stays.specs.declared.stays.Stays.{Stays}
@@ -224,7 +224,6 @@ module _ {V : Type 0} {P : V → Type 0} (seen : (x : V) × P x → Seen) (s : S
           (let at = open_in x.stays.kept h.stays i stay x.stays.all e none in
           asks_as_noted h asking stay.thread (masks stay.thread) since (x.standing.there at.0 stay at.1 none)
           (x.can.0.nodes stay.thread) noted);
-      ready = λ y there. x.ready stay.thread y there;
       others = λ y off there. x.others stay.thread y (ap (λ o. is_just o stay.thread) (sym x.to) ∙ off) there;
     }
 
@@ -232,7 +231,7 @@ module _ {V : Type 0} {P : V → Type 0} (seen : (x : V) × P x → Seen) (s : S
     served_has k is = has_now h k x.stays (has_open h k x.listed (x.comes k is))
 
     pub tick_idle : (new : Stays) → thread ≡ None → new.tallies.items ≡ s.tallies.items → new.idle ≡ s.idle + n
-        → AreStays new (later h asking masks path n)
+        → AreStays new (flagged (ready_of seen t) (later h asking masks path n))
     tick_idle new none same idle = record {
       kept = x.stays.kept;
       are = record {
@@ -253,7 +252,7 @@ module _ {V : Type 0} {P : V → Type 0} (seen : (x : V) × P x → Seen) (s : S
         → ((h : Hierarchy) → IsTreeOf seen t h → now ≡ h.now) → ready ≡ ready_of seen t k
         → ((tally : Tally) → slice_get s.tallies.items place ≡ Some tally
         → new.tallies.items ≡ slice_set s.tallies.items place (noted_tally ready now (served_tally n tally)))
-        → new.idle ≡ s.idle → AreStays new (later h asking masks path n)
+        → new.idle ≡ s.idle → AreStays new (flagged (ready_of seen t) (later h asking masks path n))
     tick_served new k place now ready is finds at_now flag set idle =
         let has = served_has k is in
         let y = tally_found s h x.stays.kept k place x.stays.are has finds in
@@ -267,8 +266,8 @@ module _ {V : Type 0} {P : V → Type 0} (seen : (x : V) × P x → Seen) (s : S
           are = record {
             many = ap length (set y.tally y.there)
                 ∙ length-set s.tallies.items place (noted_tally ready now (served_tally n y.tally)) ∙ x.stays.are.many;
-            each = served_tallies h (later h asking masks path n) asking (thread_of path) n on s new x.stays.kept
-                (ready_of seen t) k place now x.stays.are has
+            each = served_tallies h (later h asking masks path n) asking (thread_of path) n on (ready_of seen t) s new
+                x.stays.kept k place now x.stays.are has
                 finds (at_now (later h asking masks path n) x.tree) (x.to ∙ is) goes set_by;
             single = x.stays.are.single;
             idle = idle ∙ x.stays.are.idle ∙ (let no : idle_in h ≡ idle_in h + 0 = omega arith in no)
@@ -343,7 +342,6 @@ module _ {V : Type 0} {P : V → Type 0} (seen : (x : V) × P x → Seen) (s : S
     to = x.to;
     comes = x.comes;
     tree = x.tree;
-    ready = x.ready;
     others = x.others;
     early = x.early;
   }

@@ -54,9 +54,10 @@ pub under_all : (h : Hierarchy) (below : ℕ → Bool) (at : ℕ) (kept : List �
     → kept ≡ filter below (take at h.threads) → kept ≡ filter below h.threads
 under_all h below at kept le are = are ∙ ap (filter below) (take_all h.threads at le)
 
-pub roused_wake : (h : Hierarchy) (command : Command) (name : Text) (burst : Option ℕ) (turnover : Turnover)
-    → command ≡ said.Wake name burst → IsRoused h name turnover → IsTurnover h command turnover
-roused_wake h command name burst turnover is of = subst (λ k. IsTurnover h k turnover) (sym is) of
+pub roused_wake : (h : Hierarchy) (command : Command) (name : Text) (every burst : Option ℕ)
+    (turnover : Turnover) → command ≡ said.Wake name every burst → IsRoused h name turnover
+    → IsTurnover h command turnover
+roused_wake h command name every burst turnover is of = subst (λ k. IsTurnover h k turnover) (sym is) of
 
 pub roused_block : (h : Hierarchy) (command : Command) (name : Text) (turnover : Turnover)
     → command ≡ said.Block name → IsRoused h name turnover → IsTurnover h command turnover

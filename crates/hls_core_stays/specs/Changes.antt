@@ -1,9 +1,9 @@
 -- What a command and a tick do to stays.
-use Rattle.std.specs.Prelude.{◌≡◌, ℕ, ◌<◌, ◌+◌, ◌^◌, Option, Some, Bool, false}
+use Rattle.std.specs.Prelude.{◌≡◌, ◌≢◌, ℕ, ◌<◌, ◌+◌, ◌^◌, Option, Some, Bool, true, false}
 use Rattle.hls_scenario.specs.declared.scenario.Command.{Command}
 use Rattle.hls_sched.specs.Seen.{Seen}
-use Rattle.hls_machine.specs.Hierarchy.{Hierarchy, Thread, Admitted, is_just, is_ready, was_served}
-use Rattle.hls_machine.specs.Steps.{Step, Path, Elapse, after, thread_of}
+use Rattle.hls_machine.specs.Hierarchy.{Hierarchy, Thread, Admitted, Wake, Asleep, Awake, is_just, is_ready, was_served}
+use Rattle.hls_machine.specs.Steps.{Step, Path, Elapse, after, thread_of, roused}
 use Rattle.hls_machine.specs.Legal.{Can, IsThread}
 use Rattle.hls_machine.specs.Lists.{IsListed}
 use Rattle.hls_machine.specs.Seated.{IsSeated}
@@ -16,6 +16,14 @@ use Rattle.hls_core_stays.specs.Turnovers.{IsTurnover, TellsBelow}
 use Rattle.hls_core_stays.specs.declared.stays.Stays.{Stays}
 use Rattle.hls_core_stays.specs.declared.turnover.Turnover.{Turnover}
 use Rattle.hls_machine.specs.Legal.{IsBelow}
+
+-- a hierarchy in which threads are ready as flags say, whatever their wakes
+abbrev pub flag_wake : Bool → Wake
+flag_wake true = Awake
+flag_wake false = Asleep
+
+abbrev pub flagged : (flag : ℕ → Bool) → Hierarchy → Hierarchy
+flagged flag h = record h { nodes = λ k. roused (flag_wake (flag k)) (h.nodes k) }
 
 -- V and P are what the checker knows a box by
 module _ {V : Type 0} {P : V → Type 0} where
@@ -42,7 +50,7 @@ module _ {V : Type 0} {P : V → Type 0} where
     pub listed : IsListed (after h step)
 
   -- So many ticks have elapsed by a path that leads to this thread, or idly, after which the tree is. Before them the
-  -- stays were those of the hierarchy. Who was not served is ready as before.
+  -- stays were those of the hierarchy. The tree tells of no release yet: who was not served is ready as before.
   pub record Ticks (seen : (x : V) × P x → Seen) (s : Stays) (t : Tree V P) (thread : Option ℕ) (ticks : ℕ)
       (h : Hierarchy) (asking : ℕ → Bool) (masks : ℕ → ℕ) (path : Option Path) : Type 0 where
     pub stays : AreStays s h
@@ -52,7 +60,6 @@ module _ {V : Type 0} {P : V → Type 0} where
     pub to : thread_of path ≡ thread
     pub comes : (k : ℕ) → thread ≡ Some k → IsThread (h.nodes k)
     pub tree : IsTreeOf seen t (later h asking masks path ticks)
-    pub ready : IsReadyOf seen t (later h asking masks path ticks)
     pub others : (k : ℕ) (x : Thread) → is_just thread k ≡ false → h.nodes k ≡ Some (Admitted x)
         → is_ready (was_served h.past k) h.now x.wake ≡ ready_of seen t k
     pub early : h.now + ticks < 2 ^ 32
@@ -64,3 +71,18 @@ module _ {V : Type 0} {P : V → Type 0} where
     pub masks : ℕ → ℕ
     pub path : Option Path
     pub elapsed : Ticks seen s t thread ticks h asking masks path
+
+  -- A thread has a release in the present tick, of which the tree tells. The stays are those of the hierarchy, but
+  -- that threads are ready as these flags say, and of the others the tree says the same.
+  pub record Releases (seen : (x : V) × P x → Seen) (s : Stays) (t : Tree V P) (k : ℕ) (h : Hierarchy)
+      (flag : ℕ → Bool) : Type 0 where
+    pub stays : AreStays s (flagged flag h)
+    pub listed : IsListed h
+    pub thread : IsThread (h.nodes k)
+    pub tree : IsTreeOf seen t h
+    pub others : (c : ℕ) → c ≢ k → ready_of seen t c ≡ flag c
+
+  pub record MayRelease (seen : (x : V) × P x → Seen) (s : Stays) (t : Tree V P) (k : ℕ) : Type 0 where
+    pub h : Hierarchy
+    pub flag : ℕ → Bool
+    pub releases : Releases seen s t k h flag

@@ -43,7 +43,7 @@ IsTurnover h (said.End name) Nothing = IsNameless h name
 IsTurnover h (said.End name) (Ends k) = HasName h k name
 IsTurnover h (said.Unload name) Nothing = Unit {0}
 IsTurnover h (said.Move name perch) turnover = IsMoved h name turnover
-IsTurnover h (said.Wake name burst) turnover = IsRoused h name turnover
+IsTurnover h (said.Wake name every burst) turnover = IsRoused h name turnover
 IsTurnover h (said.Block name) turnover = IsRoused h name turnover
 IsTurnover h _ _ = ⊥
 

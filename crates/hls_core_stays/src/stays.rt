@@ -6,10 +6,10 @@ ghost use Rattle.hls_machine.specs.Legal.{IsThread};
 ghost use Rattle.hls_machine.specs.Steps.{Step, Path, after, stay_of, with_wake};
 ghost use Rattle.hls_scenario.specs.declared.scenario.Command.{Command};
 ghost use Rattle.hls_tree_nodes.specs.Leapt.{later};
-ghost use Rattle.hls_tree.specs.Trees.{IsTreeOf, IsReadyOf, Stands};
+ghost use Rattle.hls_tree.specs.Trees.{IsTreeOf, IsReadyOf, Stands, ready_of};
 ghost use Rattle.hls_core_stays.specs.Tallies.{AreStays, AreTallies, HasSpare, IsNoted, waited, opened_at};
 ghost use Rattle.hls_core_stays.specs.Turnovers.{stays_begun};
-ghost use Rattle.hls_core_stays.specs.Changes.{Turns, MayTurn, Ticks, MayTick};
+ghost use Rattle.hls_core_stays.specs.Changes.{Turns, MayTurn, Ticks, MayTick, Releases, MayRelease, flagged};
 ghost use Rattle.hls_core_stays.specs.Inside.Steps.{HasOpen, HasNone, MayClose, without};
 ghost use Rattle.hls_core_stays.specs.Inside.Renewals.{AreRenewable, renewed_one, renewed_all, IsLike};
 ghost use Rattle.hls_core_stays.specs.Inside.Renewals.{IsRousing, MayNote};
@@ -256,7 +256,7 @@ impl Stays {
         self.open(tree, id, like);
     }
 
-    /// Notes whether a thread that was woken or blocked is ready from now on.
+    /// Notes whether a thread that was woken or blocked, or whose wake has a release, is ready from now on.
     fn note(&mut self, tree: &Tree, id: NodeId)
         requires { MayNote seen self.old tree.now id }
         ensures { (h : Hierarchy) (how : Wake) → IsRousing seen self.old tree.now h id how →
@@ -290,24 +290,34 @@ impl Stays {
         requires { MayTick seen self.old tree.now (Some id) ticks }
         ensures { (h : Hierarchy) (asking : ℕ → Bool) (masks : ℕ → ℕ) (path : Option Path) →
             Ticks seen self.old tree.now (Some id) ticks h asking masks path →
-            AreStays self.new (later h asking masks path ticks) }
+            AreStays self.new (flagged (ready_of seen tree.now) (later h asking masks path ticks)) }
     {
         let place = self.place(id);
         self.tallies
             .serve_at(place, ticks, tree.is_ready(id), tree.now());
     }
 
-    /// Counts so many ticks that have elapsed, in which this thread was served, or none.
+    /// Counts so many ticks that have elapsed, in which this thread was served, or none. Releases in the
+    /// present tick come after it.
     pub fn tick(&mut self, tree: &Tree, thread: Option<NodeId>, ticks: u32)
         requires { MayTick seen self.old tree.now thread ticks }
         ensures { (h : Hierarchy) (asking : ℕ → Bool) (masks : ℕ → ℕ) (path : Option Path) →
             Ticks seen self.old tree.now thread ticks h asking masks path →
-            AreStays self.new (later h asking masks path ticks) }
+            AreStays self.new (flagged (ready_of seen tree.now) (later h asking masks path ticks)) }
     {
         self.settle();
         match thread {
             Some(id) => self.serve(tree, id, ticks),
             None => self.idle += ticks,
         }
+    }
+
+    /// Notes that a thread whose wake has a release in the present tick is ready from now on.
+    pub fn release(&mut self, tree: &Tree, id: NodeId)
+        requires { MayRelease seen self.old tree.now id }
+        ensures { (h : Hierarchy) (flag : ℕ → Bool) → Releases seen self.old tree.now id h flag →
+            AreStays self.new (flagged (ready_of seen tree.now) h) }
+    {
+        self.note(tree, id);
     }
 }

@@ -1,7 +1,7 @@
 -- What is generated is within the grammar.
 use Rattle.std.proofs.Common.{◌≡◌, ℕ, zero, suc, ◌+◌, ◌*◌, ◌%◌, ◌==◌, ◌<◌, ◌≤◌, refl, arith}
 use Rattle.std.proofs.Common.{List, [], ◌∷◌, ◌++◌, length, lit≤}
-use Rattle.std.proofs.Common.{Bool, true, false, if◌then◌else◌, Some, subst, codes, slice_index_or, sym, ◌/◌}
+use Rattle.std.proofs.Common.{Bool, true, false, if◌then◌else◌, Some, None, subst, codes, slice_index_or, sym, ◌/◌}
 use Rattle.std.proofs.Math.Nat.{mod-lt}
 use Rattle.hls_text.specs.Lines.{Text}
 use Rattle.hls_chron.specs.Name.{IsName}
@@ -130,7 +130,7 @@ module _ (tick count : ℕ) (made : Made) (before : ℕ) (from : before ≤ tick
           with_command tick (said.Block (thread_name (drawn (next_state made.state) 9)))
           (next_state (next_state made.state)) made
           else with_command tick
-          (said.Wake (thread_name (drawn (next_state made.state) 9))
+          (said.Wake (thread_name (drawn (next_state made.state) 9)) None
           (Some (1 + drawn (next_state (next_state (next_state made.state))) 20)))
           (next_state (next_state (next_state made.state))) made)
       by true ticks = put before tick count _ _ made (name_at _) from below has

@@ -1,6 +1,6 @@
 -- The scenario of a number: a hierarchy of five kinds of threads, whose wakes and blocks are drawn every ten ticks,
 -- and in which one reservation is exchanged, and a move is refused, every two thousand.
-use Rattle.std.specs.Prelude.{ℕ, zero, suc, ◌+◌, ◌*◌, ◌%◌, ◌==◌, List, [], ◌∷◌, ◌++◌, Some}
+use Rattle.std.specs.Prelude.{ℕ, zero, suc, ◌+◌, ◌*◌, ◌%◌, ◌==◌, List, [], ◌∷◌, ◌++◌, Some, None}
 use Rattle.std.specs.Prelude.{true, codes, if◌then◌else◌, slice_index_or}
 use Rattle.std.proofs.Math.Nat.{zero-lt-suc}
 use Rattle.hls_text.specs.Lines.{Text}
@@ -94,7 +94,7 @@ with_wake tick made =
     let third = next_state second in
     let name = thread_name (drawn first 9) in
     if drawn second 3 == 0 then with_command tick (Block name) second made
-    else with_command tick (Wake name (Some (1 + drawn third 20))) third made
+    else with_command tick (Wake name None (Some (1 + drawn third 20))) third made
 
 -- the first reservation ends and another comes for it, and the move is tried
 unfoldable pub with_exchange : (tick : ℕ) → Made → Made

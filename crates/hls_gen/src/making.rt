@@ -129,6 +129,11 @@ impl Making {
             return self.put(tick, Command::Block { name });
         }
         let burst = Some(1 + self.draws.draw(20));
-        self.put(tick, Command::Wake { name, burst })
+        let wake = Command::Wake {
+            name,
+            every: None,
+            burst,
+        };
+        self.put(tick, wake)
     }
 }

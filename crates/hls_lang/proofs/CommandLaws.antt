@@ -1,9 +1,10 @@
 -- Commands and items that are read are those of their lines, and those of a line are read.
-use Rattle.std.proofs.Common.{◌≡◌, ℕ, ◌^◌, ◌<◌, ◌≤◌, cond, List, [], ◌∷◌, ◌++◌}
+use Rattle.std.proofs.Common.{◌≡◌, ℕ, ◌^◌, ◌<◌, ◌≤◌, Bool, true, false, cond, List, [], ◌∷◌, ◌++◌}
 use Rattle.std.proofs.Common.{inl, inr, length, append-nil}
 use Rattle.std.proofs.Common.{refl, sym, ap, ◌∙◌, subst, lit<}
-use Rattle.std.specs.Prelude.{codes, Result, Ok, Option, Some, None}
+use Rattle.std.specs.Prelude.{◌==◌, ◌&&◌, not, codes, drop, Result, Ok, Option, Some, None}
 use Rattle.std.specs.Str.{bytes_eq}
+use Rattle.std.proofs.lemmas.Bool.{not-true, eqb-false, ne_eqb}
 use Rattle.hls_text.specs.Lines.{Text}
 use Rattle.hls_chron.specs.Name.{IsName}
 use Rattle.hls_chron.specs.Ranges.{IsWithin}
@@ -16,12 +17,14 @@ use Rattle.hls_scenario.specs.declared.scenario.Command.TheVariants.{Load, Threa
 use Rattle.hls_scenario.specs.declared.scenario.Item.{Item}
 use Rattle.hls_lang.specs.Words.{◌>>=◌, token_at, no_more, word_at, name_at, number_at, tick_at}
 use Rattle.hls_lang.specs.Reading.{config_by, last_perch_at, ports_at, join_at, one_perch_at, load_by}
-use Rattle.hls_lang.specs.Reading.{load_at, thread_at, move_at, last_name_at, burst_at, wake_at}
+use Rattle.hls_lang.specs.Reading.{load_at, thread_at, move_at, last_name_at, burst_at, every_at}
+use Rattle.hls_lang.specs.Reading.{is_periodic, waking_at, wake_at}
 use Rattle.hls_lang.specs.Reading.{command_by, command_at, item_at}
 use Rattle.hls_scenario.specs.Forms.{Form, the, number, config_forms, perch_forms, perches_forms, burst_forms}
-use Rattle.hls_scenario.specs.Forms.{command_forms, item_forms}
-use Rattle.hls_scenario.specs.Grammar.{IsPerch, IsLoad, IsBurst, IsCommand, IsLine}
+use Rattle.hls_scenario.specs.Forms.{waking_forms, command_forms, item_forms}
+use Rattle.hls_scenario.specs.Grammar.{IsPerch, IsLoad, IsBurst, IsWaking, IsCommand, IsLine}
 use Rattle.hls_lang.proofs.Binds.{bind_ok, bind_again, carried, ok_is, choice, same_bytes, bytes_same}
+use Rattle.hls_lang.proofs.Binds.{and_left, and_right, and_both}
 use Rattle.hls_lang.proofs.Fronts.{Front, front_join, front_split, line_of_front, front_of_line}
 use Rattle.hls_lang.proofs.WordLaws.{none_left, word_is, word_next, name_front, name_next}
 use Rattle.hls_lang.proofs.WordLaws.{number_front, number_next, tick_front, tick_next}
@@ -221,18 +224,80 @@ burst_front (t ∷ ts) burst e =
           (word_is (codes "for") (t ∷ ts) a.0 a.1) ends,
     )
 
+-- a version that has a word for periods
+later_version : (version : ℕ) → not (version == 1) ≡ true → version ≡ 1 → ⊥
+later_version version e = eqb-false version 1 (not-true (version == 1) e)
+
+abbrev WakingFront : (version : ℕ) → List Text → Option ℕ × Option ℕ → Type 0
+WakingFront version ts w = IsWaking version w.0 w.1 × Front (waking_forms w.0 w.1) ts []
+
+e3 : (period ticks : ℕ) → Unit {0} → Result (Option ℕ × Option ℕ) Cause
+e3 period ticks u = Ok (Some period, Some ticks)
+
+e2 : (period : ℕ) → ℕ × List Text → Result (Option ℕ × Option ℕ) Cause
+e2 period n = no_more n.1 >>= e3 period n.0
+
+e1 : (period : ℕ) → List Text → Result (Option ℕ × Option ℕ) Cause
+e1 period r = number_at 1 100000 r >>= e2 period
+
+e0 : ℕ × List Text → Result (Option ℕ × Option ℕ) Cause
+e0 p = word_at (codes "burst") p.1 >>= e1 p.0
+
+every_front : (version : ℕ) (t : Text) (ts : List Text) (w : Option ℕ × Option ℕ) → (version ≡ 1 → ⊥)
+    → t ≡ codes "every" → every_at ts ≡ Ok w → WakingFront version (t ∷ ts) w
+unfolding every_at e0 e1 e2 e3
+every_front version t ts w later is e =
+    let a = bind_ok (number_at 1 100000 ts) e0 w e in
+    let b = bind_ok (word_at (codes "burst") a.0.1) (e1 a.0.0) w a.2 in
+    let d = bind_ok (number_at 1 100000 b.0) (e2 a.0.0) w b.2 in
+    let f = bind_ok (no_more d.0.1) (e3 a.0.0 d.0.0) w d.2 in
+    let period = number_front 1 100000 ts a.0 (lit< tt) a.1 in
+    let ticks = number_front 1 100000 b.0 d.0 (lit< tt) d.1 in
+    let ends = subst (λ (r : List Text). Front (number d.0.0 ∷ []) b.0 r) (none_left d.0.1 f.0 f.1) ticks.2 in
+    let burst = front_join (the (codes "burst") ∷ []) (number d.0.0 ∷ []) a.0.1 b.0 []
+    (word_is (codes "burst") a.0.1 b.0 b.1) ends in
+    carried (WakingFront version (t ∷ ts)) (Some a.0.0, Some d.0.0) w f.2 (
+      (later, (period.0, period.1), (ticks.0, ticks.1)),
+      (
+        is,
+        front_join (number a.0.0 ∷ []) (the (codes "burst") ∷ number d.0.0 ∷ []) ts a.0.1 [] period.2 burst,
+      ),
+    )
+
+w0 : Option ℕ → Result (Option ℕ × Option ℕ) Cause
+w0 burst = Ok (None, burst)
+
+once_front : (version : ℕ) (ts : List Text) (w : Option ℕ × Option ℕ) → (burst_at ts >>= w0) ≡ Ok w
+    → WakingFront version ts w
+unfolding w0
+once_front version ts w e =
+    let a = bind_ok (burst_at ts) w0 w e in
+    carried (WakingFront version ts) (None, a.0) w a.2 (burst_front ts a.0 a.1)
+
+waking_front : (version : ℕ) (ts : List Text) (w : Option ℕ × Option ℕ) → waking_at version ts ≡ Ok w
+    → WakingFront version ts w
+unfolding waking_at w0
+waking_front version [] w e = once_front version [] w e
+waking_front version (t ∷ ts) w e =
+    let later : Bool = not (version == 1) in
+    elim (choice (later && bytes_eq t (codes "every")) (every_at ts) (burst_at (t ∷ ts) >>= w0) w e) [
+      | inl h ↦ every_front version t ts w (later_version version (and_left later _ h.0))
+          (same_bytes t (codes "every") (and_right later _ h.0)) h.1
+      | inr once ↦ once_front version (t ∷ ts) w once
+    ]
+
 wake_front : (version : ℕ) (l : Text) (ts : List Text) (command : Command) → l ≡ codes "wake"
-    → wake_at ts ≡ Ok command
+    → wake_at version ts ≡ Ok command
     → Whole version (l ∷ ts) command
 unfolding wake_at
 wake_front version l ts command is e =
-    let a = bind_ok (name_at ts) (λ n. burst_at n.1 >>= λ b. Ok (Wake n.0 b)) command e in
-    let b = bind_ok (burst_at a.0.1) (λ b. Ok (Wake a.0.0 b)) command a.2 in
+    let a = bind_ok (name_at ts) (λ n. waking_at version n.1 >>= λ w. Ok (Wake n.0 w.0 w.1)) command e in
+    let b = bind_ok (waking_at version a.0.1) (λ w. Ok (Wake a.0.0 w.0 w.1)) command a.2 in
     let name = name_front ts a.0 a.1 in
-    let h = burst_front a.0.1 b.0 b.1 in
-    carried (Whole version (l ∷ ts)) (Wake a.0.0 b.0) command b.2 (
+    let h = waking_front version a.0.1 b.0 b.1 in
+    carried (Whole version (l ∷ ts)) (Wake a.0.0 b.0.0 b.0.1) command b.2 (
       (name.0, h.0),
-      (is, front_join (the a.0.0 ∷ []) (burst_forms b.0) ts a.0.1 [] name.1 h.1),
+      (is, front_join (the a.0.0 ∷ []) (waking_forms b.0.0 b.0.1) ts a.0.1 [] name.1 h.1),
     )
 
 command_by_front : (version : ℕ) (l : Text) (ts : List Text) (command : Command)
@@ -422,14 +487,65 @@ burst_next (Some ticks) (t ∷ ts) is a =
     (bind_again (number_at 1 100000 ts) (λ n. no_more n.1 >>= λ u. Ok (Some n.0)) (ticks, []) (Some ticks)
     (number_next 1 100000 ts ticks [] (lit< tt) is.0 is.1 a.1) refl)
 
-wake_next : (name : Text) (burst : Option ℕ) (ts : List Text) → IsName name → IsBurst burst
-    → Front (the name ∷ burst_forms burst) ts [] → wake_at ts ≡ Ok (Wake name burst)
+every_next : (period ticks : ℕ) (ts : List Text) → IsWithin 1 100000 period → IsWithin 1 100000 ticks
+    → Front (number period ∷ the (codes "burst") ∷ number ticks ∷ []) ts []
+    → every_at ts ≡ Ok (Some period, Some ticks)
+unfolding every_at e0 e1 e2 e3
+every_next period ticks ts often fits a =
+    let p = front_split (number period ∷ []) (the (codes "burst") ∷ number ticks ∷ []) ts [] a in
+    let b = front_split (the (codes "burst") ∷ []) (number ticks ∷ []) p.0 [] p.2 in
+    bind_again (number_at 1 100000 ts) e0 (period, p.0) (Some period, Some ticks)
+    (number_next 1 100000 ts period p.0 (lit< tt) often.0 often.1 p.1)
+    (bind_again (word_at (codes "burst") p.0) (e1 period) b.0 (Some period, Some ticks)
+    (word_next (codes "burst") p.0 b.0 b.1)
+    (bind_again (number_at 1 100000 b.0) (e2 period) (ticks, []) (Some period, Some ticks)
+    (number_next 1 100000 b.0 ticks [] (lit< tt) fits.0 fits.1 b.2) refl))
+
+later_again : (version : ℕ) → (version ≡ 1 → ⊥) → not (version == 1) ≡ true
+later_again version later = ap not (ne_eqb version 1 later)
+
+and_none : (b : Bool) → (b && false) ≡ false
+and_none true = refl
+and_none false = refl
+
+-- a burst begins with another word
+not_every : (version : ℕ) (ticks : ℕ) (ts : List Text) → Front (burst_forms (Some ticks)) ts []
+    → is_periodic version ts ≡ false
+not_every version ticks [] a = absurd a
+not_every version ticks (t ∷ ts) a =
+    ap (λ (x : Text). not (version == 1) && bytes_eq x (codes "every")) a.0 ∙ and_none (not (version == 1))
+
+once_next : (version : ℕ) (burst : Option ℕ) (ts : List Text) → IsBurst burst → is_periodic version ts ≡ false
+    → Front (burst_forms burst) ts [] → waking_at version ts ≡ Ok (None, burst)
+unfolding waking_at w0
+once_next version burst ts is once a =
+    ap (λ b. cond b (every_at (drop 1 ts)) (burst_at ts >>= w0)) once
+    ∙ ap (λ r. r >>= w0) (burst_next burst ts is a)
+
+waking_next : (version : ℕ) (every burst : Option ℕ) (ts : List Text) → IsWaking version every burst
+    → Front (waking_forms every burst) ts [] → waking_at version ts ≡ Ok (every, burst)
+unfolding waking_at w0
+waking_next version None None [] is a = once_next version None [] is refl a
+waking_next version None None (t ∷ ts) is a = absurd cc
+waking_next version None (Some ticks) ts is a =
+    once_next version (Some ticks) ts is (not_every version ticks ts a) a
+waking_next version (Some period) None ts is a = absurd is
+waking_next version (Some period) (Some ticks) [] is a = absurd a
+waking_next version (Some period) (Some ticks) (t ∷ ts) is a =
+    let test = and_both (not (version == 1)) _ (later_again version is.0) (bytes_same t (codes "every") a.0) in
+    ap (λ b. cond b (every_at ts) (burst_at (t ∷ ts) >>= w0)) test
+    ∙ every_next period ticks ts is.1 is.2 a.1
+
+wake_next : (version : ℕ) (name : Text) (every burst : Option ℕ) (ts : List Text) → IsName name
+    → IsWaking version every burst → Front (the name ∷ waking_forms every burst) ts []
+    → wake_at version ts ≡ Ok (Wake name every burst)
 unfolding wake_at
-wake_next name burst ts named is a =
-    let n = front_split (the name ∷ []) (burst_forms burst) ts [] a in
-    bind_again (name_at ts) (λ m. burst_at m.1 >>= λ b. Ok (Wake m.0 b)) (name, n.0) (Wake name burst)
-    (name_next ts name n.0 named n.1)
-    (ap (λ r. r >>= λ b. Ok (Wake name b)) (burst_next burst n.0 is n.2))
+wake_next version name every burst ts named is a =
+    let n = front_split (the name ∷ []) (waking_forms every burst) ts [] a in
+    bind_again (name_at ts) (λ m. waking_at version m.1 >>= λ w. Ok (Wake m.0 w.0 w.1)) (name, n.0)
+    (Wake name every burst) (name_next ts name n.0 named n.1)
+    (ap (λ (r : Result (Option ℕ × Option ℕ) Cause). r >>= λ (w : Option ℕ × Option ℕ). Ok (Wake name w.0 w.1))
+    (waking_next version every burst n.0 is n.2))
 
 command_next : (version : ℕ) (command : Command) (ts : List Text) → IsCommand version command
     → Front (command_forms version command) ts []
@@ -453,9 +569,9 @@ command_next version (Unload name) (l ∷ ts) is a =
 command_next version (Block name) [] is a = absurd a
 command_next version (Block name) (l ∷ ts) is a =
     ap (λ w. command_by version w ts) a.0 ∙ ap (λ r. r >>= λ n. Ok (Block n)) (last_name_next name ts is a.1)
-command_next version (Wake name burst) [] is a = absurd a
-command_next version (Wake name burst) (l ∷ ts) is a =
-    ap (λ w. command_by version w ts) a.0 ∙ wake_next name burst ts is.0 is.1 a.1
+command_next version (Wake name every burst) [] is a = absurd a
+command_next version (Wake name every burst) (l ∷ ts) is a =
+    ap (λ w. command_by version w ts) a.0 ∙ wake_next version name every burst ts is.0 is.1 a.1
 
 -- ---- items
 

@@ -1,6 +1,6 @@
 -- Reading an item from the left.
 use Rattle.std.specs.Prelude.{ℕ, Bool, true, false, List, [], ◌∷◌, ◌++◌, length, codes, Option, Some}
-use Rattle.std.specs.Prelude.{None, Result, Ok, Err, ◌==◌, if◌then◌else◌}
+use Rattle.std.specs.Prelude.{None, Result, Ok, Err, ◌==◌, ◌&&◌, not, drop, if◌then◌else◌}
 use Rattle.std.specs.List.{list_any}
 use Rattle.std.specs.Str.{bytes_eq}
 use Rattle.hls_text.specs.Lines.{Text}
@@ -190,8 +190,22 @@ burst_at [] = Ok None
 burst_at (t ∷ ts) = word_at (codes "for") (t ∷ ts) >>= λ r. number_at 1 100000 r >>= λ n.
     no_more n.1 >>= λ u. Ok (Some n.0)
 
-unfoldable pub wake_at : List Text → Result Command Cause
-wake_at ts = name_at ts >>= λ n. burst_at n.1 >>= λ b. Ok (Wake n.0 b)
+-- a period, and behind it a burst that ends the line
+unfoldable pub every_at : List Text → Result (Option ℕ × Option ℕ) Cause
+every_at ts = number_at 1 100000 ts >>= λ p. word_at (codes "burst") p.1 >>= λ r. number_at 1 100000 r >>= λ n.
+    no_more n.1 >>= λ u. Ok (Some p.0, Some n.0)
+
+-- how a wake wakes: version 1 has no word for a period
+abbrev pub is_periodic : (version : ℕ) → List Text → Bool
+is_periodic version [] = false
+is_periodic version (t ∷ ts) = not (version == 1) && bytes_eq t (codes "every")
+
+unfoldable pub waking_at : (version : ℕ) → List Text → Result (Option ℕ × Option ℕ) Cause
+waking_at version ts = if is_periodic version ts then every_at (drop 1 ts)
+    else (burst_at ts >>= λ b. Ok (None, b))
+
+unfoldable pub wake_at : (version : ℕ) → List Text → Result Command Cause
+wake_at version ts = name_at ts >>= λ n. waking_at version n.1 >>= λ w. Ok (Wake n.0 w.0 w.1)
 
 unfoldable pub command_by : (version : ℕ) → Text → List Text → Result Command Cause
 command_by version word ts =
@@ -200,7 +214,7 @@ command_by version word ts =
     else (if bytes_eq word (codes "end") then (last_name_at ts >>= λ n. Ok (End n))
     else (if bytes_eq word (codes "unload") then (last_name_at ts >>= λ n. Ok (Unload n))
     else (if bytes_eq word (codes "move") then move_at ts
-    else (if bytes_eq word (codes "wake") then wake_at ts
+    else (if bytes_eq word (codes "wake") then wake_at version ts
     else (if bytes_eq word (codes "block") then (last_name_at ts >>= λ n. Ok (Block n))
     else Err causes.Word))))))
 

@@ -5,8 +5,8 @@ ghost use Rattle.hls_text.specs.Tokens.{tokens_of};
 ghost use Rattle.hls_lang.specs.Words.{Gives, Keeps};
 ghost use Rattle.hls_lang.specs.Reading.{join_at, one_perch_at, load_by, load_at, thread_at, move_at};
 ghost use Rattle.hls_lang.specs.Reading.{last_name_at};
-ghost use Rattle.hls_lang.specs.Reading.{burst_at, wake_at, command_by, command_at, item_at};
-ghost use Rattle.hls_lang.specs.Inside.Steps.{kept_at, stamp_at};
+ghost use Rattle.hls_lang.specs.Reading.{every_at, waking_at, wake_at, command_by, command_at, item_at};
+ghost use Rattle.hls_lang.specs.Inside.Steps.{last_burst_at, kept_at, stamp_at};
 ghost use Rattle.hls_scenario.specs.declared.scenario.Command.TheVariants.{Wake};
 
 use crate::line_error::LineError;
@@ -20,6 +20,9 @@ use std::alloc::{AllocError, Global};
 
 /// The longest burst, in ticks.
 const MOST_BURST: u32 = 100_000;
+
+/// The longest period of a wake, in ticks.
+const MOST_PERIOD: u32 = 100_000;
 
 #[tactic(auto, unfolding(crate::specs::Reading::join_at))]
 fn join(alloc: Global, name: Name, line: &[u8]) -> Result<Command, LineError>
@@ -130,27 +133,53 @@ fn last_name(line: &[u8]) -> Result<Name, Cause>
     }
 }
 
-#[tactic(auto, unfolding(crate::specs::Reading::burst_at))]
-fn burst(line: &[u8]) -> Result<Option<u32>, Cause>
-    ensures { Gives (λ burst. burst) result (burst_at (tokens_of line.now)) }
+/// A burst that ends the line.
+fn last_burst(line: &[u8]) -> Result<Option<u32>, Cause>
+    ensures { Gives (λ burst. burst) result (last_burst_at (tokens_of line.now)) }
 {
-    if next_token(line).is_none() {
-        return Ok(None);
-    }
-    let rest = word(line, b"for")?;
-    let (ticks, rest) = number(rest, 1, MOST_BURST)?;
+    let (ticks, rest) = number(line, 1, MOST_BURST)?;
     end(rest)?;
     Ok(Some(ticks))
 }
 
+/// A period, and behind it a burst that ends the line.
+#[tactic(auto, unfolding(crate::specs::Reading::every_at))]
+fn every(line: &[u8]) -> Result<(Option<u32>, Option<u32>), Cause>
+    ensures { Gives (λ p. p) result (every_at (tokens_of line.now)) }
+{
+    let (period, rest) = number(line, 1, MOST_PERIOD)?;
+    let rest = word(rest, b"burst")?;
+    let (ticks, rest) = number(rest, 1, MOST_BURST)?;
+    end(rest)?;
+    Ok((Some(period), Some(ticks)))
+}
+
+/// The period and the burst of a wake: version 1 has no word for a period.
+#[tactic(auto, unfolding(crate::specs::Reading::waking_at, crate::specs::Reading::burst_at))]
+fn waking(version: u8, line: &[u8]) -> Result<(Option<u32>, Option<u32>), Cause>
+    ensures { Gives (λ p. p) result (waking_at version (tokens_of line.now)) }
+{
+    let Some((found, rest)) = next_token(line) else {
+        return Ok((None, None));
+    };
+    if version != 1 && found == b"every".as_slice() {
+        every(rest)
+    } else if found == b"for".as_slice() {
+        let burst = last_burst(rest)?;
+        Ok((None, burst))
+    } else {
+        Err(Cause::Word)
+    }
+}
+
 #[tactic(auto, unfolding(crate::specs::Reading::wake_at))]
-fn wake(line: &[u8]) -> Result<(Name, Option<u32>), Cause>
-    ensures { Gives (λ p. Wake p.0 p.1) result (wake_at (tokens_of line.now)) }
+fn wake(version: u8, line: &[u8]) -> Result<(Name, Option<u32>, Option<u32>), Cause>
+    ensures { Gives (λ p. Wake p.0 p.1 p.2) result (wake_at version (tokens_of line.now)) }
 {
     match name(line) {
         Ok((name, rest)) => {
-            let burst = burst(rest)?;
-            Ok((name, burst))
+            let (every, burst) = waking(version, rest)?;
+            Ok((name, every, burst))
         }
         Err(cause) => Err(cause),
     }
@@ -175,8 +204,8 @@ fn command_after(alloc: Global, version: u8, word: &[u8], line: &[u8]) -> Result
     } else if word == b"move".as_slice() {
         Ok(moving(line)?)
     } else if word == b"wake".as_slice() {
-        let (name, burst) = wake(line)?;
-        Ok(Command::Wake { name, burst })
+        let (name, every, burst) = wake(version, line)?;
+        Ok(Command::Wake { name, every, burst })
     } else if word == b"block".as_slice() {
         Ok(Command::Block {
             name: last_name(line)?,
@@ -217,8 +246,8 @@ pub fn keep_command(
 {
     let (found, rest) = token(line)?;
     if found == b"wake".as_slice() {
-        let (name, burst) = wake(rest)?;
-        let command = Command::Wake { name, burst };
+        let (name, every, burst) = wake(version, rest)?;
+        let command = Command::Wake { name, every, burst };
         keep_item(items, Item { tick, command })
     } else if found == b"block".as_slice() {
         let command = Command::Block {

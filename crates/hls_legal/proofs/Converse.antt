@@ -18,5 +18,6 @@ may_do m is_reached version (Thread name perch) is none are = admits m is_reache
 may_do m is_reached version (End name) is none are = ends m is_reached name none
 may_do m is_reached version (Unload name) is none are = unloads m is_reached name none
 may_do m is_reached version (Move name perch) is none are = moves m is_reached version name perch is none are
-may_do m is_reached version (Wake name burst) is none are = wakes m is_reached name burst none
+may_do m is_reached version (Wake name every burst) is none are =
+    wakes m is_reached name every burst none
 may_do m is_reached version (Block name) is none are = blocks m is_reached name none

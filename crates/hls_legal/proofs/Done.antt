@@ -28,7 +28,7 @@ use Rattle.hls_machine.proofs.Lists.{run_listed}
 use Rattle.hls_book.proofs.Books.{range_made, admission_made}
 use Rattle.hls_machine.proofs.Books.{made_at}
 use Rattle.hls_machine.proofs.Solutions.{CanGo, run_goes, start_goes}
-use Rattle.hls_legal.specs.Tells.{HasName, IsSpot}
+use Rattle.hls_legal.specs.Tells.{HasName, IsSpot, burst_of}
 use Rattle.hls_legal.specs.Moment.{Moment, number_of, node_of}
 use Rattle.hls_legal.specs.Levels.{LeadsTo, HasNewChain}
 use Rattle.hls_legal.specs.Dues.{due_at}
@@ -125,16 +125,16 @@ module _ (m : Moment) (is_reached : IsReached m.hierarchy) where
       by (Admitted t) f =
           record { step = Block f.number; does = f.has; can = record { thread = t; there = f.there } }
 
-  pub wakes : (name : Text) (burst : Option ℕ) → ((r : Refusal) → ¬ Applies m (said.Wake name burst) r)
-      → MayDo h (said.Wake name burst)
-  wakes name burst none =
-      by (whom (said.Wake name burst) none name refl).0 (whom (said.Wake name burst) none name refl).1
+  pub wakes : (name : Text) (every burst : Option ℕ)
+      → ((r : Refusal) → ¬ Applies m (said.Wake name every burst) r) → MayDo h (said.Wake name every burst)
+  wakes name every burst none =
+      by (whom (said.Wake name every burst) none name refl).0 (whom (said.Wake name every burst) none name refl).1
     where
-      by : (node : Node) → IsFound h name node → MayDo h (said.Wake name burst)
-      by (Loaded s) f = absurd (no_command m (said.Wake name burst) none (refusals.WrongSort (Some name))
+      by : (node : Node) → IsFound h name node → MayDo h (said.Wake name every burst)
+      by (Loaded s) f = absurd (no_command m (said.Wake name every burst) none (refusals.WrongSort (Some name))
           (record { old = refl; wrong = record { scheduler = s; there = found_is name (Loaded s) f } }))
       by (Admitted t) f = record {
-        step = Rouse f.number burst;
+        step = Rouse f.number (burst_of every burst);
         does = (f.has, refl);
         can = record { thread = t; there = f.there };
       }

@@ -51,7 +51,7 @@ admits_named version (Load name config perches) after is = All-nil IsName
 admits_named version (End name) after is = All-nil IsName
 admits_named version (Unload name) after is = All-nil IsName
 admits_named version (Move name perch) after is = All-nil IsName
-admits_named version (Wake name burst) after is = All-nil IsName
+admits_named version (Wake name every burst) after is = All-nil IsName
 admits_named version (Block name) after is = All-nil IsName
 
 if_named : (b : Bool) (names : List Text) → All IsName names → All IsName (cond b names [])
@@ -75,7 +75,7 @@ opens_named version horizon before (Move name perch) all is =
 opens_named version horizon before (Load name config perches) all is = All-nil IsName
 opens_named version horizon before (End name) all is = All-nil IsName
 opens_named version horizon before (Unload name) all is = All-nil IsName
-opens_named version horizon before (Wake name burst) all is = All-nil IsName
+opens_named version horizon before (Wake name every burst) all is = All-nil IsName
 opens_named version horizon before (Block name) all is = All-nil IsName
 
 -- ---- what is kept
@@ -101,7 +101,7 @@ want_valid version (Move name perch) is = valid_narrow perch.want is.1.want
 want_valid version (Load name config perches) is = tt
 want_valid version (End name) is = tt
 want_valid version (Unload name) is = tt
-want_valid version (Wake name burst) is = tt
+want_valid version (Wake name every burst) is = tt
 want_valid version (Block name) is = tt
 
 -- what holds of each holds of the one that is found

@@ -72,7 +72,7 @@ does_no_tick h (said.Thread name perch) (Elapse asking masks path) does is = doe
 does_no_tick h (said.End name) (Elapse asking masks path) does is = does
 does_no_tick h (said.Unload name) (Elapse asking masks path) does is = does
 does_no_tick h (said.Move name perch) (Elapse asking masks path) does is = does
-does_no_tick h (said.Wake name burst) (Elapse asking masks path) does is = does
+does_no_tick h (said.Wake name every burst) (Elapse asking masks path) does is = does
 does_no_tick h (said.Block name) (Elapse asking masks path) does is = does
 does_no_tick h command _ does is = is
 

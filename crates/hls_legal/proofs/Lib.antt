@@ -1,5 +1,6 @@
 pub mod UnderLaws
 pub mod StayLaws
+pub mod Served
 pub mod Rousings
 pub mod Alike
 pub mod Told

@@ -106,7 +106,7 @@ boxes_alike boxes (said.Thread name perch) one two alike = refl
 boxes_alike boxes (said.End name) one two alike = refl
 boxes_alike boxes (said.Unload name) one two alike = refl
 boxes_alike boxes (said.Move name perch) one two alike = refl
-boxes_alike boxes (said.Wake name burst) one two alike = refl
+boxes_alike boxes (said.Wake name every burst) one two alike = refl
 boxes_alike boxes (said.Block name) one two alike = refl
 
 next_twins : (r : Renaming) (h g : Hierarchy) → Twin r h g → CanGo h → IsListed h → IsListed g → (c : Command)

@@ -424,10 +424,10 @@ step_ordered c h before tick (said.Unload name) (Done by) (Unload k) reached can
 step_ordered c h before tick (said.Move name perch) (Done by) (Move k seat below) reached can does at told
     ord =
     move_ordered c h before reached told ord tick at name perch by k seat below can.0 does.0 does.1
-step_ordered c h before tick (said.Wake name burst) (Done by) (Rouse k ticks) reached can does at told ord =
-    let a : Answered = record { tick = tick; command = said.Wake name burst; answer = Done by } in
-    idle_ordered (with_wake h k (wake_by ticks h.now)) before a
-    (wake_ordered c h before reached told ord k (wake_by ticks h.now)) (λ n. refl) (λ n. refl) refl
+step_ordered c h before tick (said.Wake name every burst) (Done by) (Rouse k how) reached can does at told ord =
+    let a : Answered = record { tick = tick; command = said.Wake name every burst; answer = Done by } in
+    idle_ordered (with_wake h k (wake_by how h.now)) before a
+    (wake_ordered c h before reached told ord k (wake_by how h.now)) (λ n. refl) (λ n. refl) refl
     (λ n. refl) refl
 step_ordered c h before tick (said.Block name) (Done by) (Block k) reached can does at told ord =
     let a : Answered = record { tick = tick; command = said.Block name; answer = Done by } in
@@ -443,7 +443,7 @@ no_elapse h (said.Thread name perch) asking masks path does = does
 no_elapse h (said.End name) asking masks path does = does
 no_elapse h (said.Unload name) asking masks path does = does
 no_elapse h (said.Move name perch) asking masks path does = does
-no_elapse h (said.Wake name burst) asking masks path does = does
+no_elapse h (said.Wake name every burst) asking masks path does = does
 no_elapse h (said.Block name) asking masks path does = does
 
 step_past : (c : Content) (h : Hierarchy) (command : Command) (answer : Answer) (step : Step)
@@ -456,7 +456,7 @@ step_past c h command (Done by) (Admit k new seat) does past = past
 step_past c h command (Done by) (End k) does past = past
 step_past c h command (Done by) (Unload k) does past = past
 step_past c h command (Done by) (Move k seat below) does past = past
-step_past c h command (Done by) (Rouse k ticks) does past = past
+step_past c h command (Done by) (Rouse k how) does past = past
 step_past c h command (Done by) (Block k) does past = past
 step_past c h command (Done by) (Elapse asking masks path) does past = absurd
     (no_elapse h command asking masks path does)

@@ -36,7 +36,7 @@ seats_other name (said.Thread other perch) ne = names_differ name other ne
 seats_other name (said.End other) ne = refl
 seats_other name (said.Unload other) ne = refl
 seats_other name (said.Move other perch) ne = names_differ name other ne
-seats_other name (said.Wake other burst) ne = refl
+seats_other name (said.Wake other every burst) ne = refl
 seats_other name (said.Block other) ne = refl
 
 -- the node of a name, by its name

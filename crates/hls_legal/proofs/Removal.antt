@@ -45,7 +45,7 @@ refused_boxes boxes (said.Thread name perch) r = refl
 refused_boxes boxes (said.End name) r = refl
 refused_boxes boxes (said.Unload name) r = refl
 refused_boxes boxes (said.Move name perch) r = refl
-refused_boxes boxes (said.Wake name burst) r = refl
+refused_boxes boxes (said.Wake name every burst) r = refl
 refused_boxes boxes (said.Block name) r = refl
 
 step_refused : (h : Hierarchy) (command : Command) (answer : Answer) (r : Refusal) (step : Step) → answer ≡ Refused r

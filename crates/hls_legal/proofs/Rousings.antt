@@ -1,7 +1,7 @@
 -- The last command that rouses a thread, as commands come.
-use Rattle.std.proofs.Common.{◌≡◌, ◌≢◌, ℕ, ◌-◌, ◌<◌, ◌≤◌, List, [], ◌∷◌, ◌++◌, Bool, true, false, ◌&&◌}
+use Rattle.std.proofs.Common.{◌≡◌, ◌≢◌, ℕ, ◌<◌, ◌≤◌, List, [], ◌∷◌, ◌++◌, Bool, true, false, ◌&&◌}
 use Rattle.std.proofs.Common.{cond, refl, sym, ap, ◌∙◌, arith}
-use Rattle.std.specs.Prelude.{Option, Some, None, find, reverse, nat_le, nat_lt}
+use Rattle.std.specs.Prelude.{Option, Some, None, find, reverse, nat_le}
 use Rattle.std.specs.Option.{option_or}
 use Rattle.std.specs.List.{AllByRecursion}
 use Rattle.std.specs.Str.{bytes_eq}
@@ -10,13 +10,13 @@ use Rattle.std.proofs.lemmas.List.Folds.{find-append}
 use Rattle.std.proofs.lemmas.Slice.Eq.{bytes_eq-Decides}
 use Rattle.std.proofs.lemmas.Bool.{le-leb, lt-leb}
 use Rattle.hls_text.specs.Lines.{Text}
-use Rattle.hls_chron.proofs.CountLaws.{count-agree}
 use Rattle.hls_scenario.specs.declared.scenario.Command.{Command}
 use Rattle.hls_scenario.specs.declared.scenario.Command.TheVariants.{Load, Thread, End, Unload, Move, Wake, Block}
 use Rattle.hls_report_text.specs.declared.report.Answered.{Answered}
 use Rattle.hls_machine.specs.Hierarchy as legal
 use Rattle.hls_legal.specs.Commands.{is_done, has_done, rouses, last_rousing}
 use Rattle.hls_legal.specs.Ready.{lasts, is_awake}
+use Rattle.hls_legal.proofs.Served.{unserved_agree}
 
 -- the last command, of these, that rouses the thread of a name
 abbrev pub rousing : (name : Text) → List Answered → Option Answered
@@ -100,7 +100,7 @@ name_in (Thread name perch) = name
 name_in (End name) = name
 name_in (Unload name) = name
 name_in (Move name perch) = name
-name_in (Wake name burst) = name
+name_in (Wake name every burst) = name
 name_in (Block name) = name
 
 pub names_differ : (name other : Text) → other ≢ name → bytes_eq other name ≡ false
@@ -117,7 +117,7 @@ rouses_other name (Thread other perch) ne = names_differ name other ne
 rouses_other name (End other) ne = names_differ name other ne
 rouses_other name (Unload other) ne = refl
 rouses_other name (Move other perch) ne = refl
-rouses_other name (Wake other burst) ne = names_differ name other ne
+rouses_other name (Wake other every burst) ne = names_differ name other ne
 rouses_other name (Block other) ne = names_differ name other ne
 
 and_false : (a b : Bool) → b ≡ false → (a && b) ≡ false
@@ -134,8 +134,8 @@ not_meant name a ne = missed (rouses name) a (rouses_other name a.command ne)
 
 -- what stands of wakes and blocks after such a command
 abbrev wake_in : (tick : ℕ) → Command → legal.Wake
-wake_in tick (Wake name None) = legal.Awake
-wake_in tick (Wake name (Some ticks)) = legal.Awake_for ticks tick
+wake_in tick (Wake name every None) = legal.Awake
+wake_in tick (Wake name every (Some ticks)) = legal.Awake_for (record { ticks = ticks; every = every }) tick
 wake_in tick _ = legal.Asleep
 
 abbrev pub wake_from : Option Answered → legal.Wake
@@ -146,7 +146,7 @@ wake_from (Some a) = wake_in a.tick a.command
 abbrev pub wake_since : (now : ℕ) → legal.Wake → ℕ
 wake_since now legal.Asleep = now
 wake_since now legal.Awake = now
-wake_since now (legal.Awake_for ticks since) = since
+wake_since now (legal.Awake_for burst since) = since
 
 lasts_same : (serves other : ℕ → Bool) (now tick : ℕ) (command : Command)
     → ((x : ℕ) → wake_since now (wake_in tick command) ≤ x → x < now → serves x ≡ other x)
@@ -156,10 +156,9 @@ lasts_same serves other now tick (Thread name perch) same = refl
 lasts_same serves other now tick (End name) same = refl
 lasts_same serves other now tick (Unload name) same = refl
 lasts_same serves other now tick (Move name perch) same = refl
-lasts_same serves other now tick (Wake name None) same = refl
-lasts_same serves other now tick (Wake name (Some ticks)) same =
-    ap (λ n. nat_lt n ticks)
-    (count-agree serves other tick (now - tick) (λ t lo hi. same t lo (omega arith)))
+lasts_same serves other now tick (Wake name every None) same = refl
+lasts_same serves other now tick (Wake name every (Some ticks)) same =
+    unserved_agree serves other every ticks tick now same
 lasts_same serves other now tick (Block name) same = refl
 
 pub awake_same : (serves other : ℕ → Bool) (now : ℕ) (found : Option Answered)

@@ -74,7 +74,7 @@ seats_any test (Thread name perch) = or_none (is_on test perch.spot)
 seats_any test (End name) = refl
 seats_any test (Unload name) = refl
 seats_any test (Move name perch) = or_none (is_on test perch.spot)
-seats_any test (Wake name burst) = refl
+seats_any test (Wake name every burst) = refl
 seats_any test (Block name) = refl
 
 sits_any : (test : Text → Bool) (found : Option Answered)

@@ -50,7 +50,7 @@ admits_snoc (Thread name perch) after a =
 admits_snoc (End name) after a = refl
 admits_snoc (Unload name) after a = refl
 admits_snoc (Move name perch) after a = refl
-admits_snoc (Wake name burst) after a = refl
+admits_snoc (Wake name every burst) after a = refl
 admits_snoc (Block name) after a = refl
 
 stands_snoc : (b a : Answered) (after : List Answered)

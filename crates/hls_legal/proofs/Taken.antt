@@ -198,7 +198,7 @@ spots_taken h (said.Move name perch) (Move k seat below) does can port spot e =
     take_spot h (seats_of (h.nodes k)) seat perch spot does.1 (lone_spot perch.spot spot port e) can.0.take
 spots_taken h (said.End name) step does can port spot e = absurd (cc)
 spots_taken h (said.Unload name) step does can port spot e = absurd (cc)
-spots_taken h (said.Wake name burst) step does can port spot e = absurd (cc)
+spots_taken h (said.Wake name every burst) step does can port spot e = absurd (cc)
 spots_taken h (said.Block name) step does can port spot e = absurd (cc)
 spots_taken h _ _ does can port spot e = absurd does
 
@@ -226,7 +226,7 @@ no_thread_there h listed (said.Move name perch) (Move k seat below) does can por
     (off_processor h seat.place perch.spot does.1.place (lone_spot perch.spot Cpu port e))
 no_thread_there h listed (said.End name) step does can port e places = places
 no_thread_there h listed (said.Unload name) step does can port e places = places
-no_thread_there h listed (said.Wake name burst) step does can port e places = places
+no_thread_there h listed (said.Wake name every burst) step does can port e places = places
 no_thread_there h listed (said.Block name) step does can port e places = places
 no_thread_there h listed _ _ does can port e places = does
 
@@ -253,7 +253,7 @@ new_free h (said.Thread new perch) (Admit k made seat) name does can f =
 new_free h (said.End own) step name does can f = (let e = f.new in cc)
 new_free h (said.Unload own) step name does can f = (let e = f.new in cc)
 new_free h (said.Move own perch) step name does can f = (let e = f.new in cc)
-new_free h (said.Wake own burst) step name does can f = (let e = f.new in cc)
+new_free h (said.Wake own every burst) step name does can f = (let e = f.new in cc)
 new_free h (said.Block own) step name does can f = (let e = f.new in cc)
 new_free h _ _ name does can f = does
 
@@ -274,7 +274,7 @@ old_known h listed (said.Unload own) (Unload k) name does f =
     known h listed k own name does (let e = f.old in cc) f.unknown
 old_known h listed (said.Move own perch) (Move k seat below) name does f =
     known h listed k own name does.0 (let e = f.old in cc) f.unknown
-old_known h listed (said.Wake own burst) (Rouse k ticks) name does f =
+old_known h listed (said.Wake own every burst) (Rouse k how) name does f =
     known h listed k own name does.0 (let e = f.old in cc) f.unknown
 old_known h listed (said.Block own) (Block k) name does f =
     known h listed k own name does (let e = f.old in cc) f.unknown
@@ -311,7 +311,7 @@ sort_right h listed (said.Unload own) (Unload k) name does can f =
 sort_right h listed (said.Move own perch) (Move k seat below) name does can f =
     no_join h seat.place (h.nodes k) f.wrong.place.scheduler can.0.sort
     (sym (own_is h listed k own name does.0 f.old) ∙ f.wrong.place.there) f.wrong.kind
-sort_right h listed (said.Wake own burst) (Rouse k ticks) name does can f =
+sort_right h listed (said.Wake own every burst) (Rouse k how) name does can f =
     thread_no_scheduler h listed k own name does.0 f.old can f.wrong
 sort_right h listed (said.Block own) (Block k) name does can f =
     thread_no_scheduler h listed k own name does f.old can f.wrong
@@ -325,7 +325,7 @@ few_nodes h (said.Thread new perch) step most does can f = (let e = f.loads in c
 few_nodes h (said.End own) step most does can f = (let e = f.loads in cc)
 few_nodes h (said.Unload own) step most does can f = (let e = f.loads in cc)
 few_nodes h (said.Move own perch) step most does can f = (let e = f.loads in cc)
-few_nodes h (said.Wake own burst) step most does can f = (let e = f.loads in cc)
+few_nodes h (said.Wake own every burst) step most does can f = (let e = f.loads in cc)
 few_nodes h (said.Block own) step most does can f = (let e = f.loads in cc)
 few_nodes h _ _ most does can f = does
 
@@ -337,7 +337,7 @@ few_threads h (said.Load new config perches) step most does can f = (let e = f.a
 few_threads h (said.End own) step most does can f = (let e = f.admits in cc)
 few_threads h (said.Unload own) step most does can f = (let e = f.admits in cc)
 few_threads h (said.Move own perch) step most does can f = (let e = f.admits in cc)
-few_threads h (said.Wake own burst) step most does can f = (let e = f.admits in cc)
+few_threads h (said.Wake own every burst) step most does can f = (let e = f.admits in cc)
 few_threads h (said.Block own) step most does can f = (let e = f.admits in cc)
 few_threads h _ _ most does can f = does
 
@@ -368,7 +368,7 @@ unload_empty h listed (said.Load new config perches) step name seats does can f 
 unload_empty h listed (said.Thread new perch) step name seats does can f = (let e = f.unloads in cc)
 unload_empty h listed (said.End own) step name seats does can f = (let e = f.unloads in cc)
 unload_empty h listed (said.Move own perch) step name seats does can f = (let e = f.unloads in cc)
-unload_empty h listed (said.Wake own burst) step name seats does can f = (let e = f.unloads in cc)
+unload_empty h listed (said.Wake own every burst) step name seats does can f = (let e = f.unloads in cc)
 unload_empty h listed (said.Block own) step name seats does can f = (let e = f.unloads in cc)
 unload_empty h listed _ _ name seats does can f = does
 
@@ -403,7 +403,7 @@ no_cycle h listed (said.Load new config perches) step name does can f = (let e =
 no_cycle h listed (said.Thread new perch) step name does can f = (let e = f.moves in cc)
 no_cycle h listed (said.End own) step name does can f = (let e = f.moves in cc)
 no_cycle h listed (said.Unload own) step name does can f = (let e = f.moves in cc)
-no_cycle h listed (said.Wake own burst) step name does can f = (let e = f.moves in cc)
+no_cycle h listed (said.Wake own every burst) step name does can f = (let e = f.moves in cc)
 no_cycle h listed (said.Block own) step name does can f = (let e = f.moves in cc)
 no_cycle h listed _ _ name does can f = does
 
@@ -436,7 +436,7 @@ chains_low h listed (said.Move own perch) (Move k seat below) level shares does 
 chains_low h listed (said.Thread new perch) step level shares does can c = absurd c
 chains_low h listed (said.End own) step level shares does can c = absurd c
 chains_low h listed (said.Unload own) step level shares does can c = absurd c
-chains_low h listed (said.Wake own burst) step level shares does can c = absurd c
+chains_low h listed (said.Wake own every burst) step level shares does can c = absurd c
 chains_low h listed (said.Block own) step level shares does can c = absurd c
 chains_low h listed _ _ level shares does can c = absurd does
 
@@ -451,7 +451,7 @@ boxed boxes (said.Thread new perch) kind used box f = (let e = f.loads in cc)
 boxed boxes (said.End own) kind used box f = (let e = f.loads in cc)
 boxed boxes (said.Unload own) kind used box f = (let e = f.loads in cc)
 boxed boxes (said.Move own perch) kind used box f = (let e = f.loads in cc)
-boxed boxes (said.Wake own burst) kind used box f = (let e = f.loads in cc)
+boxed boxes (said.Wake own every burst) kind used box f = (let e = f.loads in cc)
 boxed boxes (said.Block own) kind used box f = (let e = f.loads in cc)
 
 -- what a step that may be taken does lacks a box or a derivation alone

@@ -14,7 +14,7 @@ use Rattle.hls_report_text.specs.declared.report.Answer.TheVariants.{Done, Refus
 use Rattle.hls_report_text.specs.declared.report.Answered.{Answered}
 use Rattle.hls_report_text.specs.Content.{Content}
 use Rattle.hls_machine.specs.Hierarchy.{Hierarchy, Node, Loaded, Admitted, Stay, Tick, Wake, Asleep, name_of}
-use Rattle.hls_machine.specs.Hierarchy.{start}
+use Rattle.hls_machine.specs.Hierarchy.{Burst, start}
 use Rattle.hls_machine.specs.Hierarchy.{Awake, Awake_for, is_just, was_served, had_asked}
 use Rattle.hls_machine.specs.Steps.{Step, Load, Admit, End, Unload, Move, Rouse, Block, Elapse}
 use Rattle.hls_machine.specs.Steps.{Path, thread_of, is_thread}
@@ -26,7 +26,7 @@ use Rattle.hls_machine.proofs.Kept.{at_same, at_other}
 use Rattle.hls_legal.specs.Commands.{has_done, rouses}
 use Rattle.hls_legal.specs.Schedule.{path_at, is_served}
 use Rattle.hls_legal.specs.Ready.{is_ready}
-use Rattle.hls_legal.specs.Tells.{HasName, Answers, Names, TellsFrom, Tells}
+use Rattle.hls_legal.specs.Tells.{HasName, Answers, Names, TellsFrom, Tells, burst_of}
 use Rattle.hls_legal.proofs.Rousings.{name_in, not_meant, names_same, wake_from, wake_since}
 use Rattle.hls_legal.proofs.Alike.{wake_of, alike-ticked, almost-roused, wake-roused, moved-reseated}
 use Rattle.hls_legal.proofs.Told.{IsThreadNamed, Wakes, Serves, Leaves, Makes, RousesEach, wakes_step}
@@ -123,7 +123,7 @@ module _ (c : Content) (h : Hierarchy) (k : ℕ) (how : Wake) where
 since_later : (now x : ℕ) (w : Wake) → wake_since (now + 1) w ≤ x → x < now + 1 → wake_since now w ≤ x
 since_later now x Asleep lo hi = absurd (omega arith)
 since_later now x Awake lo hi = absurd (omega arith)
-since_later now x (Awake_for ticks since) lo hi = lo
+since_later now x (Awake_for burst since) lo hi = lo
 
 module _ (c : Content) (h : Hierarchy) (asking : ℕ → Bool) (masks : ℕ → ℕ) (path : Option Path)
     (asks : IsAsking h asking masks) (unique : Unique h.nodes)
@@ -220,16 +220,17 @@ module _ (c : Content) (h : Hierarchy) (asking : ℕ → Bool) (masks : ℕ → 
 
 -- ---- a step, and a run
 
-woken_by : (ticks burst : Option ℕ) (now tick : ℕ) (name : Text) → ticks ≡ burst → tick ≡ now
-    → wake_by ticks now
-    ≡ wake_from (Some (record { tick = tick; command = said.Wake name burst; answer = Done [] }))
-woken_by ticks None now tick name e at = ap (λ (b : Option ℕ). wake_by b now) e
-woken_by ticks (Some n) now tick name e at = ap (λ (b : Option ℕ). wake_by b now) e
-    ∙ ap (λ (t : ℕ). Awake_for n t) (sym at)
+woken_by : (how : Option Burst) (every burst : Option ℕ) (now tick : ℕ) (name : Text)
+    → how ≡ burst_of every burst → tick ≡ now
+    → wake_by how now
+    ≡ wake_from (Some (record { tick = tick; command = said.Wake name every burst; answer = Done [] }))
+woken_by how every None now tick name e at = ap (λ (b : Option Burst). wake_by b now) e
+woken_by how every (Some n) now tick name e at = ap (λ (b : Option Burst). wake_by b now) e
+    ∙ ap (λ (t : ℕ). Awake_for (record { ticks = n; every = every }) t) (sym at)
 
-since_woken : (ticks : Option ℕ) (now : ℕ) → wake_since now (wake_by ticks now) ≡ now
+since_woken : (how : Option Burst) (now : ℕ) → wake_since now (wake_by how now) ≡ now
 since_woken None now = refl
-since_woken (Some n) now = refl
+since_woken (Some burst) now = refl
 
 pub old_name : (h : Hierarchy) → Unique h.nodes → (k : ℕ) (mine : Text) → HasName h k mine
     → (d : ℕ) (name : Text)
@@ -279,12 +280,12 @@ step_told c h before tick (said.Move name perch) (Done by) (Move k seat below) c
     (each_effect c h k node below a (old_name h unique k name does.0)
     (λ n is named. Leaves (record { is = sym moved.sort ∙ is; named = sym moved.name ∙ named }) moved.wake
     refl))
-step_told c h before tick (said.Wake name burst) (Done by) (Rouse k ticks) can does at unique told =
-    let a : Answered = record { tick = tick; command = said.Wake name burst; answer = Done by } in
-    told_wake c h k (wake_by ticks h.now) before a at told
-    (each_wake c h k (wake_by ticks h.now) a unique does.0 (ap is_thread can.there)
+step_told c h before tick (said.Wake name every burst) (Done by) (Rouse k how) can does at unique told =
+    let a : Answered = record { tick = tick; command = said.Wake name every burst; answer = Done by } in
+    told_wake c h k (wake_by how h.now) before a at told
+    (each_wake c h k (wake_by how h.now) a unique does.0 (ap is_thread can.there)
     (names_same name name refl)
-    (woken_by ticks burst h.now tick name does.1 at) (since_woken ticks h.now))
+    (woken_by how every burst h.now tick name does.1 at) (since_woken how h.now))
 step_told c h before tick (said.Block name) (Done by) (Block k) can does at unique told =
     let a : Answered = record { tick = tick; command = said.Block name; answer = Done by } in
     told_wake c h k Asleep before a at told

@@ -153,7 +153,7 @@ module _ (r : Renaming) (h g : Hierarchy) (twin : Twin r h g) where
 
   wrong-sort : (c : Command) (name : Text) → refusals.IsOfWrongSort h c name → refusals.IsOfWrongSort g c name
   wrong-sort (said.End other) name f = scheduler-named name f
-  wrong-sort (said.Wake other burst) name f = scheduler-named name f
+  wrong-sort (said.Wake other every burst) name f = scheduler-named name f
   wrong-sort (said.Block other) name f = scheduler-named name f
   wrong-sort (said.Unload other) name f = thread-named name f
   wrong-sort (said.Move other perch) name f =
@@ -281,7 +281,7 @@ module _ (r : Renaming) (h g : Hierarchy) (twin : Twin r h g) where
   chain-after (said.Thread name perch) level shares has = absurd has
   chain-after (said.End name) level shares has = absurd has
   chain-after (said.Unload name) level shares has = absurd has
-  chain-after (said.Wake name burst) level shares has = absurd has
+  chain-after (said.Wake name every burst) level shares has = absurd has
   chain-after (said.Block name) level shares has = absurd has
 
   -- ---- dues
@@ -356,7 +356,7 @@ module _ (r : Renaming) (h g : Hierarchy) (twin : Twin r h g) where
       ∷ (dues-on perch.want (number_of h name) ∙ ap (dues_on g perch.want) (sym (number-twin name))) i
   dues-twin (said.End name) = refl
   dues-twin (said.Unload name) = refl
-  dues-twin (said.Wake name burst) = refl
+  dues-twin (said.Wake name every burst) = refl
   dues-twin (said.Block name) = refl
 
   -- ---- places
@@ -367,7 +367,7 @@ module _ (r : Renaming) (h g : Hierarchy) (twin : Twin r h g) where
   places-thread (said.Load name config perches) f = absurd f
   places-thread (said.End name) f = absurd f
   places-thread (said.Unload name) f = absurd f
-  places-thread (said.Wake name burst) f = absurd f
+  places-thread (said.Wake name every burst) f = absurd f
   places-thread (said.Block name) f = absurd f
 
   wrong-place : (c : Command) (spot : Spot) (name : Option Text) → refusals.IsPlaceOfWrongSort h c spot name

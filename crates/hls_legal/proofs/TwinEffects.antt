@@ -11,7 +11,7 @@ use Rattle.hls_kinds.proofs.Rooms.{roomless}
 use Rattle.hls_machine.specs.Ledgers.{with_marks}
 use Rattle.hls_machine.specs.Hierarchy.{Hierarchy, Node, Loaded, Admitted, Scheduler, Thread, Place, Processor}
 use Rattle.hls_machine.specs.Hierarchy.{At, Seat}
-use Rattle.hls_machine.specs.Hierarchy.{SeatHolder, Wake, Asleep, Awake, Awake_for, seats_of}
+use Rattle.hls_machine.specs.Hierarchy.{SeatHolder, Burst, Wake, Asleep, Awake, Awake_for, seats_of}
 use Rattle.hls_machine.specs.Steps.{seating_at, leaving_at, seatings, leavings, marked, renewed, roused, is_processor}
 use Rattle.hls_machine.specs.Steps.{root_without, root_with, listed, is_thread, is_scheduler, sitters}
 use Rattle.hls_machine.specs.Steps.{nodes_after, effect}
@@ -180,7 +180,7 @@ served-past : (h g later after : Hierarchy) (k c : ℕ) (wake : Wake) → later.
     → later.now ≡ h.now → ServedAlike h g k c wake → ServedAlike later after k c wake
 served-past h g later after k c Asleep e f now served = tt
 served-past h g later after k c Awake e f now served = tt
-served-past h g later after k c (Awake_for ticks since) e f now served =
+served-past h g later after k c (Awake_for burst since) e f now served =
     λ t from lt. ap (λ p. Rattle.hls_machine.specs.Hierarchy.was_served p k t) e
     ∙ served t from (omega (arith, lt, now)) ∙ sym (ap (λ p. Rattle.hls_machine.specs.Hierarchy.was_served p c t) f)
 
@@ -333,9 +333,9 @@ wake-twin r h g twin k how served = record {
           (sym (Rattle.hls_machine.proofs.Kept.at_other c k (roused how (h.nodes c)) (h.nodes c) ne)) (twin.serves c)
     ]
 
-pub rouse-twin : (r : Renaming) (h g : Hierarchy) → Twin r h g → (k : ℕ) (burst : Option ℕ)
+pub rouse-twin : (r : Renaming) (h g : Hierarchy) → Twin r h g → (k : ℕ) (burst : Option Burst)
     → Twin r (with_wake h k (wake_by burst h.now)) (with_wake g (r.to k) (wake_by burst g.now))
 rouse-twin r h g twin k None = wake-twin r h g twin k Awake tt
-rouse-twin r h g twin k (Some ticks) =
-    subst (λ n. Twin r (with_wake h k (Awake_for ticks h.now)) (with_wake g (r.to k) (Awake_for ticks n))) twin.now
-    (wake-twin r h g twin k (Awake_for ticks h.now) (λ t from lt. absurd (omega (arith, from, lt))))
+rouse-twin r h g twin k (Some burst) =
+    subst (λ n. Twin r (with_wake h k (Awake_for burst h.now)) (with_wake g (r.to k) (Awake_for burst n))) twin.now
+    (wake-twin r h g twin k (Awake_for burst h.now) (λ t from lt. absurd (omega (arith, from, lt))))

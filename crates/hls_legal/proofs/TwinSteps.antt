@@ -204,13 +204,13 @@ step-twin r h g twin go mine listed (said.Move name perch) (Move k seat below) (
     served-reseated h g k c seat None served = tt
     served-reseated h g k c seat (Some (Loaded s)) served = tt
     served-reseated h g k c seat (Some (Admitted x)) served = served
-step-twin r h g twin go mine listed (said.Wake name burst) (Rouse k ticks) (Rouse d more) does doing can could =
+step-twin r h g twin go mine listed (said.Wake name every burst) (Rouse k how) (Rouse d other) does doing can could =
     record {
       renaming = r;
-      twin = subst (λ n. Twin r (after h (Rouse k ticks)) (after g (Rouse n more)))
+      twin = subst (λ n. Twin r (after h (Rouse k how)) (after g (Rouse n other)))
           (number-same r h g twin listed k d name does.0 doing.0)
-          (subst (λ b. Twin r (after h (Rouse k ticks)) (after g (Rouse (r.to k) b))) (does.1 ∙ sym doing.1)
-          (rouse-twin r h g twin k ticks));
+          (subst (λ b. Twin r (after h (Rouse k how)) (after g (Rouse (r.to k) b))) (does.1 ∙ sym doing.1)
+          (rouse-twin r h g twin k how));
     }
 step-twin r h g twin go mine listed (said.Block name) (Block k) (Block d) does doing can could = record {
   renaming = r;
@@ -223,6 +223,6 @@ step-twin r h g twin go mine listed (said.Thread name perch) (Admit k new seat) 
 step-twin r h g twin go mine listed (said.End name) (End k) _ does doing can could = absurd doing
 step-twin r h g twin go mine listed (said.Unload name) (Unload k) _ does doing can could = absurd doing
 step-twin r h g twin go mine listed (said.Move name perch) (Move k seat below) _ does doing can could = absurd doing
-step-twin r h g twin go mine listed (said.Wake name burst) (Rouse k ticks) _ does doing can could = absurd doing
+step-twin r h g twin go mine listed (said.Wake name every burst) (Rouse k how) _ does doing can could = absurd doing
 step-twin r h g twin go mine listed (said.Block name) (Block k) _ does doing can could = absurd doing
 step-twin r h g twin go mine listed _ _ other does doing can could = absurd does

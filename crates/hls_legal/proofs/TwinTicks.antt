@@ -2,14 +2,13 @@
 use Rattle.std.proofs.Common.{◌≡◌, ◌≢◌, ◌⊎◌, ℕ, ◌+◌, ◌-◌, ◌<◌, ◌≤◌, ◌==◌, inl, inr, List, [], ◌∷◌, ◌++◌, Option}
 use Rattle.std.proofs.Common.{Some, None, Bool, true, false, refl, sym, ap, ◌∙◌, subst, arith, map, slice_get}
 use Rattle.std.proofs.Common.{if◌then◌else◌}
-use Rattle.std.specs.Prelude.{option_map, nat_lt}
-use Rattle.std.proofs.lemmas.Bool.{cases_eq, cases_lt, eq-eqb, ne_eqb}
+use Rattle.std.specs.Prelude.{option_map}
+use Rattle.std.proofs.lemmas.Bool.{cases_eq, eq-eqb, ne_eqb}
 use Rattle.hls_text.specs.Lines.{Text}
 use Rattle.hls_chron.specs.declared.book.TickRow.{TickRow}
 use Rattle.hls_chron.specs.declared.plain.Config.{Config}
 use Rattle.hls_chron.specs.Ledger.{Ledger, with_row}
-use Rattle.hls_chron.specs.Ticks.{count}
-use Rattle.hls_chron.proofs.CountLaws.{count-agree}
+use Rattle.hls_releases.specs.Releases.{is_unserved}
 use Rattle.hls_kinds.specs.Asks.{asks}
 use Rattle.hls_kinds.specs.Discipline.{Serves}
 use Rattle.hls_kinds.proofs.Rooms.{roomless, asks-room}
@@ -19,6 +18,7 @@ use Rattle.hls_machine.specs.Hierarchy.{is_ready, is_just}
 use Rattle.hls_machine.specs.Steps.{Hop, Path, hop_at, hops_of, thread_of, row_by, ticked, elapsed}
 use Rattle.hls_machine.specs.Legal.{asks_now, IsAsking, Enters, Ends, Walk, root_asks, MayRun}
 use Rattle.hls_legal.specs.Tells.{Names}
+use Rattle.hls_legal.proofs.Served.{unserved_agree}
 use Rattle.hls_legal.proofs.Bare.{terms_like, serves_like}
 use Rattle.hls_legal.proofs.Twins.{Renaming, inverse, same_test, place_to, seat_to}
 use Rattle.hls_legal.proofs.Twins.{TwinNode, ServedAlike, NodeServedAlike, Twin, twin_back, name-twin}
@@ -40,18 +40,10 @@ ready-twin : (h g : Hierarchy) (k c : ℕ) (wake other : Wake) → h.now ≡ g.n
     → is_ready (was_served h.past k) h.now wake ≡ is_ready (was_served g.past c) g.now other
 ready-twin h g k c Asleep other now e served = ap (is_ready (was_served g.past c) g.now) e
 ready-twin h g k c Awake other now e served = ap (is_ready (was_served g.past c) g.now) e
-ready-twin h g k c (Awake_for ticks since) other now e served =
-    ap (λ n. nat_lt n ticks)
-    (counted (cases_lt h.now since))
-    ∙ ap (λ n. nat_lt (count (was_served g.past c) since (n - since)) ticks) now
+ready-twin h g k c (Awake_for burst since) other now e served =
+    unserved_agree (was_served h.past k) (was_served g.past c) burst.every burst.ticks since h.now served
+    ∙ ap (is_unserved (was_served g.past c) burst.every burst.ticks since) now
     ∙ ap (is_ready (was_served g.past c) g.now) e
-  where
-    counted : (h.now < since) ⊎ (since ≤ h.now) → count (was_served h.past k) since (h.now - since)
-        ≡ count (was_served g.past c) since (h.now - since)
-    counted (inl lt) = count-agree (was_served h.past k) (was_served g.past c) since (h.now - since)
-        (λ t from below. absurd (omega (arith, lt, from, below)))
-    counted (inr le) = count-agree (was_served h.past k) (was_served g.past c) since (h.now - since)
-        (λ t from below. served t from (omega (arith, le, below)))
 
 pub asks-by : (r : Renaming) (h g : Hierarchy) (k c mask : ℕ) (a b : Option Node) → h.now ≡ g.now → TwinNode r a b
     → NodeServedAlike h g k c a → asks_now h k mask a ≡ asks_now g c mask b
@@ -257,7 +249,7 @@ module _ (r : Renaming) (h g : Hierarchy) (twin : Twin r h g) (asking : ℕ → 
     served-tick : (c : ℕ) (wake : Wake) → ServedAlike h g c (r.to c) wake → ServedAlike later after c (r.to c) wake
     served-tick c Asleep served = tt
     served-tick c Awake served = tt
-    served-tick c (Awake_for ticks since) served = λ t from lt. elim (cases_eq t h.now) [
+    served-tick c (Awake_for burst since) served = λ t from lt. elim (cases_eq t h.now) [
       | inl e ↦ served-now c t e
       | inr ne ↦ served-before c t ne (served t from (omega (arith, lt, ne)))
     ]

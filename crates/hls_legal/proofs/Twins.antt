@@ -60,11 +60,11 @@ TwinNode r (Some (Loaded s)) (Some (Loaded t)) = TwinScheduler r s t
 TwinNode r (Some (Admitted x)) (Some (Admitted y)) = TwinThread r x y
 TwinNode r _ _ = ⊥
 
--- a wake for so many ticks has had the same ones
+-- a wake for a burst has had the same ticks
 abbrev pub ServedAlike : (h g : Hierarchy) → (k c : ℕ) → Wake → Type 0
 ServedAlike h g k c Asleep = Unit {0}
 ServedAlike h g k c Awake = Unit {0}
-ServedAlike h g k c (Awake_for ticks since) =
+ServedAlike h g k c (Awake_for burst since) =
     (t : ℕ) → since ≤ t → t < h.now → was_served h.past k t ≡ was_served g.past c t
 
 abbrev pub NodeServedAlike : (h g : Hierarchy) → (k c : ℕ) → Option Node → Type 0
@@ -243,7 +243,7 @@ served-back : (h g : Hierarchy) (k c : ℕ) (wake other : Wake) → h.now ≡ g.
     → ServedAlike h g k c wake → ServedAlike g h c k other
 served-back h g k c Asleep other now e served = subst (ServedAlike g h c k) e tt
 served-back h g k c Awake other now e served = subst (ServedAlike g h c k) e tt
-served-back h g k c (Awake_for ticks since) other now e served =
+served-back h g k c (Awake_for burst since) other now e served =
     subst (ServedAlike g h c k) e (λ t from lt. sym (served t from (omega (arith, lt, now))))
 
 node-served-back : (r : Renaming) (h g : Hierarchy) (k c : ℕ) (a b : Option Node) → h.now ≡ g.now → TwinNode r a b

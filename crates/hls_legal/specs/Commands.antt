@@ -21,7 +21,7 @@ has_done test a = is_done a.answer && test a.command
 abbrev pub rouses : (name : Text) → Command → Bool
 rouses name (Thread other perch) = bytes_eq other name
 rouses name (End other) = bytes_eq other name
-rouses name (Wake other burst) = bytes_eq other name
+rouses name (Wake other every burst) = bytes_eq other name
 rouses name (Block other) = bytes_eq other name
 rouses name _ = false
 

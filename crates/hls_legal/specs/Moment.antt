@@ -61,7 +61,7 @@ abbrev pub old_name : Command → Option Text
 old_name (said.End name) = Some name
 old_name (said.Unload name) = Some name
 old_name (said.Move name perch) = Some name
-old_name (said.Wake name burst) = Some name
+old_name (said.Wake name every burst) = Some name
 old_name (said.Block name) = Some name
 old_name _ = None
 

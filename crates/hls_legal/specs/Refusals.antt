@@ -38,7 +38,7 @@ pub record IsNameUnknown (h : Hierarchy) (command : Command) (name : Text) : Typ
 -- 12 WrongSort: end, wake or block names a scheduler, unload a thread, move a join
 abbrev pub IsOfWrongSort : Hierarchy → Command → Text → Type 0
 IsOfWrongSort h (End other) name = NamesScheduler h name
-IsOfWrongSort h (Wake other burst) name = NamesScheduler h name
+IsOfWrongSort h (Wake other every burst) name = NamesScheduler h name
 IsOfWrongSort h (Block other) name = NamesScheduler h name
 IsOfWrongSort h (Unload other) name = NamesThread h name
 IsOfWrongSort h (Move other perch) name = NamesJoin h name

@@ -14,7 +14,7 @@ use Rattle.hls_report_text.specs.declared.report.Answer.{Answer}
 use Rattle.hls_report_text.specs.declared.report.Answer.TheVariants.{Done, Refused}
 use Rattle.hls_report_text.specs.declared.report.Answered.{Answered}
 use Rattle.hls_report_text.specs.Content.{Content}
-use Rattle.hls_machine.specs.Hierarchy.{Hierarchy, Place, Processor, At, Seat, start, name_of}
+use Rattle.hls_machine.specs.Hierarchy.{Hierarchy, Place, Processor, At, Seat, Burst, start, name_of}
 use Rattle.hls_machine.specs.Steps.{Step, Refuse, Load, Admit, End, Unload, Move, Rouse, Block, Elapse, Hop}
 use Rattle.hls_machine.specs.Steps.{Path, after}
 use Rattle.hls_legal.specs.Schedule.{path_at}
@@ -43,6 +43,10 @@ ArePerches h [] [] = Unit {0}
 ArePerches h (seat ∷ seats) (perch ∷ perches) = IsPerch h seat perch × ArePerches h seats perches
 ArePerches h _ _ = ⊥
 
+abbrev pub burst_of : (every burst : Option ℕ) → Option Burst
+burst_of every None = None
+burst_of every (Some ticks) = Some (record { ticks = ticks; every = every })
+
 -- a step does what a command asks for
 abbrev pub Does : Hierarchy → Command → Step → Type 0
 Does h (said.Load name config perches) (Load k new set spare_ticks spare_marks seats) =
@@ -51,7 +55,7 @@ Does h (said.Thread name perch) (Admit k new seat) = (new ≡ name) × IsPerch h
 Does h (said.End name) (End k) = HasName h k name
 Does h (said.Unload name) (Unload k) = HasName h k name
 Does h (said.Move name perch) (Move k seat below) = HasName h k name × IsPerch h seat perch
-Does h (said.Wake name burst) (Rouse k ticks) = HasName h k name × (ticks ≡ burst)
+Does h (said.Wake name every burst) (Rouse k how) = HasName h k name × (how ≡ burst_of every burst)
 Does h (said.Block name) (Block k) = HasName h k name
 Does h _ _ = ⊥
 

@@ -15,7 +15,7 @@ use Rattle.hls_legal.specs.Moment.{Boxes}
 use Rattle.hls_legal.specs.Legal.{IsLegalContent}
 use Rattle.hls_legal.proofs.KeepingStays.{report_kept}
 use Rattle.hls_legal_jobs.specs.Kept.{KeepsJobs}
-use Rattle.hls_legal_jobs.specs.Reports.{IsReservedStay, IsWake, due_in, IsWokenInTurn}
+use Rattle.hls_legal_jobs.specs.Reports.{IsReservedStay, IsReleased, due_in, IsWokenInTurn}
 use Rattle.hls_legal_jobs.proofs.Wakes.{one_period}
 use Rattle.hls_legal_jobs.proofs.Lasting.{jobs_of_stay}
 use Rattle.hls_legal_jobs.proofs.Prompt.{accounts_prompt}
@@ -29,16 +29,15 @@ jobs_kept s given boxes c legal = record {
       (supply.stays_kept legal.steps legal.run.legal)));
 }
 
--- a wake for no more than the budget
-pub frame_kept : (s : Scenario) (given : ℕ) (boxes : Boxes) (c : Content) (stay : Stay) (r : Reservation) (from : ℕ)
-    (wake : Answered) (ticks : ℕ) → IsLegalContent s given boxes c → IsReservedStay c stay r
-    → IsWokenInTurn c stay.name r from (end_of c stay) → from ≤ wake.tick → IsWake c stay.name wake ticks → 0 < ticks
-    → ticks ≤ r.x → wake.tick + (r.y + ticks - r.x) ≤ end_of c stay
-    → ((t : ℕ) → wake.tick ≤ t → t < wake.tick + (r.y + ticks - r.x)
-    → last_rousing stay.name t c.answered ≡ Some wake)
-    → ticks ≤ count (is_served c.stretches stay.name) wake.tick (r.y + ticks - r.x)
-frame_kept s given boxes c stay r from wake ticks legal reserved turn low is some few within words =
+-- a release for no more than the budget
+pub frame_kept : (s : Scenario) (given : ℕ) (boxes : Boxes) (c : Content) (stay : Stay) (r : Reservation)
+    (from w : ℕ) (wake : Answered) (ticks : ℕ) → IsLegalContent s given boxes c → IsReservedStay c stay r
+    → IsWokenInTurn c stay.name r from (end_of c stay) → from ≤ w → IsReleased c stay.name w wake ticks → 0 < ticks
+    → ticks ≤ r.x → w + (r.y + ticks - r.x) ≤ end_of c stay
+    → ((t : ℕ) → w ≤ t → t < w + (r.y + ticks - r.x) → last_rousing stay.name t c.answered ≡ Some wake)
+    → ticks ≤ count (is_served c.stretches stay.name) w (r.y + ticks - r.x)
+frame_kept s given boxes c stay r from w wake ticks legal reserved turn low is some few within words =
     let due : due_in r ticks ≡ r.y + ticks - r.x = (one_period r ticks some few).1 in
-    let served = ((jobs_kept s given boxes c legal).reserved stay r from reserved turn).done wake ticks ticks low is
+    let served = ((jobs_kept s given boxes c legal).reserved stay r from reserved turn).done w wake ticks ticks low is
     (omega arith) (omega (arith, due, within)) (λ t lo hi. words t lo (omega (arith, due, hi))) in
-    subst (λ (n : ℕ). ticks ≤ count (is_served c.stretches stay.name) wake.tick n) due served
+    subst (λ (n : ℕ). ticks ≤ count (is_served c.stretches stay.name) w n) due served

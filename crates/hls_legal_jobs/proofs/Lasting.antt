@@ -155,7 +155,7 @@ seat_on test (said.End name) port seat e on = absurd (cc)
 seat_on test (said.Unload name) port seat e on = absurd (cc)
 seat_on test (said.Move name perch) port seat e on =
     ap (λ (x : Perch). is_on test x.spot) (only_one perch seat port e) ∙ on
-seat_on test (said.Wake name burst) port seat e on = absurd (cc)
+seat_on test (said.Wake name every burst) port seat e on = absurd (cc)
 seat_on test (said.Block name) port seat e on = absurd (cc)
 
 nobody_seated : (name : Text) (by : Answered) → last_seating name [] ≡ Some by → ⊥
@@ -216,7 +216,7 @@ seats_kept h before k mine name (said.Move other perch) (Done by) tick (Move c s
     not_it before mine name other below shut
 seats_kept h before k mine name (said.End other) (Done by) tick step has below can does shut = refl
 seats_kept h before k mine name (said.Unload other) (Done by) tick step has below can does shut = refl
-seats_kept h before k mine name (said.Wake other burst) (Done by) tick step has below can does shut = refl
+seats_kept h before k mine name (said.Wake other every burst) (Done by) tick step has below can does shut = refl
 seats_kept h before k mine name (said.Block other) (Done by) tick step has below can does shut = refl
 seats_kept h before k mine name _ (Done by) tick _ has below can does shut = absurd does
 

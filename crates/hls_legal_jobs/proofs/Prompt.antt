@@ -19,9 +19,9 @@ use Rattle.hls_legal.specs.Commands.{last_rousing}
 use Rattle.hls_legal.specs.Schedule.{is_served}
 use Rattle.hls_legal.specs.Ready.{is_ready}
 use Rattle.hls_legal.specs.Kept.{KeepsAccount}
-use Rattle.hls_legal_jobs.specs.Reports.{IsWake}
+use Rattle.hls_legal_jobs.specs.Reports.{IsReleased}
 use Rattle.hls_legal_jobs.specs.Kept.{GivesIn, IsPrompt}
-use Rattle.hls_legal_jobs.proofs.Wakes.{ready_while}
+use Rattle.hls_legal_jobs.proofs.Wakes.{ready_since}
 
 -- all ticks served
 all_count : (served : ℕ → Bool) (lo n : ℕ) → ((t : ℕ) → lo ≤ t → t < lo + n → served t ≡ true)
@@ -121,27 +121,27 @@ has_by (kept.Psbe s d) served lo m n has meets =
     share_has s.num s.den d.num d.den n m (count served lo n) has (meets lo n (omega arith) (omega arith))
 
 -- a thread that was served too few is ready all along
-prompt_by : (c : Content) (name : Text) (g : Guarantee) (from until : ℕ) (wake : Answered) (ticks m n : ℕ)
+prompt_by : (c : Content) (name : Text) (g : Guarantee) (from until w : ℕ) (wake : Answered) (ticks m n : ℕ)
     → ((lo hi : ℕ) → from ≤ lo → hi ≤ until → ((t : ℕ) → lo ≤ t → t < hi → is_ready c name t ≡ true)
     → Satisfies g (is_served c.stretches name) lo hi)
-    → from ≤ wake.tick → IsWake c name wake ticks → m ≤ ticks → GivesIn g m n → wake.tick + n ≤ until
-    → ((t : ℕ) → wake.tick ≤ t → t < wake.tick + n → last_rousing name t c.answered ≡ Some wake)
-    → m ≤ count (is_served c.stretches name) wake.tick n
-prompt_by c name g from until wake ticks m n windows low is few has within words =
-    elim (cases_lt (count (is_served c.stretches name) wake.tick n) m) [
+    → from ≤ w → IsReleased c name w wake ticks → m ≤ ticks → GivesIn g m n → w + n ≤ until
+    → ((t : ℕ) → w ≤ t → t < w + n → last_rousing name t c.answered ≡ Some wake)
+    → m ≤ count (is_served c.stretches name) w n
+prompt_by c name g from until w wake ticks m n windows low is few has within words =
+    elim (cases_lt (count (is_served c.stretches name) w n) m) [
       | inr enough ↦ enough
       | inl fewer ↦
-          has_by g (is_served c.stretches name) wake.tick m n has
-          (windows wake.tick (wake.tick + n) low within
-          (λ t lo hi. ready_while c name t ticks wake (words t lo hi) is.burst
-          (let less = (count-within (is_served c.stretches name) wake.tick n wake.tick (t - wake.tick)
+          has_by g (is_served c.stretches name) w m n has
+          (windows w (w + n) low within
+          (λ t lo hi. ready_since c name w t ticks wake is lo (words t lo hi)
+          (let less = (count-within (is_served c.stretches name) w n w (t - w)
           (omega arith) (omega arith)).less in omega arith)))
     ]
 
 pub account_prompt : (c : Content) (a : Account) → KeepsAccount c a → IsPrompt c a
 account_prompt c a keeps = record {
-  done = λ wake ticks m n low is few has within words.
-      prompt_by c a.name a.kept a.from (a.to + 1) wake ticks m n keeps.windows low is few has within words;
+  done = λ w wake ticks m n low is few has within words.
+      prompt_by c a.name a.kept a.from (a.to + 1) w wake ticks m n keeps.windows low is few has within words;
 }
 
 each_prompt : (c : Content) (accounts : List Account) → AllByRecursion (KeepsAccount c) accounts

@@ -63,7 +63,7 @@ perches_same (Thread name perch) = refl
 perches_same (End name) = refl
 perches_same (Unload name) = refl
 perches_same (Move name perch) = refl
-perches_same (Wake name burst) = refl
+perches_same (Wake name every burst) = refl
 perches_same (Block name) = refl
 
 record HasPerch (h : Hierarchy) (held : List Seat) (port : ℕ) (perch : Perch) : Type 0 where

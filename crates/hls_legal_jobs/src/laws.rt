@@ -1,12 +1,13 @@
 //! What holds of jobs: each function's contract is a law, and its body does nothing.
 
-ghost use Rattle.std.specs.Prelude.{◌≡◌, ℕ, ◌+◌, ◌-◌, ◌≤◌, ◌<◌, Bool, List, Some};
+ghost use Rattle.std.specs.Prelude.{◌≡◌, ℕ, ◌+◌, ◌-◌, ◌≤◌, ◌<◌, Bool, List, Some, None};
 ghost use Rattle.hls_chron.specs.Ledger.{Ledger, now_of};
 ghost use Rattle.hls_chron.specs.Seats.{asked, served};
 ghost use Rattle.hls_chron.specs.Ticks.{count};
 ghost use Rattle.hls_kinds.specs.Tenants.{tenant_at};
 ghost use Rattle.hls_kinds.specs.Made.{IsMade};
 ghost use Rattle.hls_book.specs.Books.{IsGiven};
+ghost use Rattle.hls_text.specs.Lines.{Text};
 ghost use Rattle.hls_scenario.specs.declared.scenario.Scenario.{Scenario};
 ghost use Rattle.hls_report_text.specs.declared.report.Answered.{Answered};
 ghost use Rattle.hls_report_text.specs.Content.{Content};
@@ -23,8 +24,8 @@ ghost use Rattle.hls_legal.specs.Legal.{IsLegalContent};
 ghost use Rattle.hls_legal_jobs.specs.Jobs.{AsksForJobs, AreInTime};
 ghost use Rattle.hls_legal_jobs.specs.Runs.{HasReservation};
 ghost use Rattle.hls_legal_jobs.specs.Kept.{KeepsJobs};
-ghost use Rattle.hls_legal_jobs.specs.Reports.{IsReservedStay, IsWake, periods_for, due_in, IsWokenInTurn};
-ghost use Rattle.hls_legal_jobs.specs.Reports.{IsServedInTime};
+ghost use Rattle.hls_legal_jobs.specs.Reports.{IsReservedStay, IsWake, IsReleased, every_in, periods_for};
+ghost use Rattle.hls_legal_jobs.specs.Reports.{due_in, IsWokenInTurn, IsServedInTime};
 
 use hls_chron::{Config, Terms};
 use hls_kinds::{Reservation, Tenant};
@@ -72,14 +73,22 @@ pub fn legal_reports_keep_their_jobs()
 {}
 
 /// Will a frame be in time? In a legal report a thread sits as `res x y` below a scheduler for which every tick is
-/// guaranteed, and is woken in turn. Then it has the ticks of each wake within `y` ticks where the wake is for `x`, and
-/// sooner by what it is for less; unless there is a further word on it before, and as long as its stay lasts.
+/// guaranteed, and is woken in turn. Then it has the ticks of each release of a wake within `y` ticks where the wake is
+/// for `x`, and sooner by what it is for less; unless there is a further word on it before, and as long as its stay
+/// lasts.
 pub fn frames_are_in_time()
-    ensures { (s : Scenario) (given : ℕ) (boxes : Boxes) (c : Content) (stay : Stay) (r : Reservation) (from : ℕ)
+    ensures { (s : Scenario) (given : ℕ) (boxes : Boxes) (c : Content) (stay : Stay) (r : Reservation) (from w : ℕ)
         (wake : Answered) (ticks : ℕ) → IsLegalContent s given boxes c → IsReservedStay c stay r →
-        IsWokenInTurn c stay.name r from (end_of c stay) → from ≤ wake.tick → IsWake c stay.name wake ticks →
-        0 < ticks → ticks ≤ r.x → wake.tick + (r.y + ticks - r.x) ≤ end_of c stay →
-        ((t : ℕ) → wake.tick ≤ t → t < wake.tick + (r.y + ticks - r.x) →
-        last_rousing stay.name t c.answered ≡ Some wake) →
-        ticks ≤ count (is_served c.stretches stay.name) wake.tick (r.y + ticks - r.x) }
+        IsWokenInTurn c stay.name r from (end_of c stay) → from ≤ w → IsReleased c stay.name w wake ticks →
+        0 < ticks → ticks ≤ r.x → w + (r.y + ticks - r.x) ≤ end_of c stay →
+        ((t : ℕ) → w ≤ t → t < w + (r.y + ticks - r.x) → last_rousing stay.name t c.answered ≡ Some wake) →
+        ticks ≤ count (is_served c.stretches stay.name) w (r.y + ticks - r.x) }
+{}
+
+/// The first release of a wake is in its own tick, and one that is not periodic has no other.
+pub fn wakes_are_released()
+    ensures first { (c : Content) (name : Text) (wake : Answered) (ticks : ℕ) → IsWake c name wake ticks →
+        IsReleased c name wake.tick wake ticks }
+    ensures once { (c : Content) (name : Text) (w : ℕ) (wake : Answered) (ticks : ℕ) →
+        IsReleased c name w wake ticks → every_in wake.command ≡ None → w ≡ wake.tick }
 {}

@@ -75,7 +75,7 @@ boxes_alike boxes (said.Thread name perch) one two alike = refl
 boxes_alike boxes (said.End name) one two alike = refl
 boxes_alike boxes (said.Unload name) one two alike = refl
 boxes_alike boxes (said.Move name perch) one two alike = refl
-boxes_alike boxes (said.Wake name burst) one two alike = refl
+boxes_alike boxes (said.Wake name every burst) one two alike = refl
 boxes_alike boxes (said.Block name) one two alike = refl
 
 -- ---- side by side

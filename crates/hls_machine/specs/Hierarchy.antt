@@ -5,7 +5,7 @@ use Rattle.hls_chron.specs.declared.plain.Config.{Config}
 use Rattle.hls_chron.specs.declared.plain.Config.TheVariants as configs
 use Rattle.hls_chron.specs.declared.plain.Terms.{Terms}
 use Rattle.hls_chron.specs.Ledger.{Ledger}
-use Rattle.hls_chron.specs.Ticks.{count}
+use Rattle.hls_releases.specs.Releases.{is_unserved}
 use Rattle.hls_kinds.specs.Tenants.{settled_at}
 use Rattle.hls_guarantee.specs.declared.Guarantee.{Guarantee}
 use Rattle.hls_book.specs.Promise.{given, asked_by}
@@ -24,11 +24,16 @@ pub record Seat : Type 0 where
   pub terms : Terms
   pub kept : Guarantee
 
--- what stands of wakes and blocks: nothing or a block, a wake, or a wake for so many ticks at a tick
+-- so many ticks, once, or again in every so many ticks
+pub record Burst : Type 0 where
+  pub ticks : ℕ
+  pub every : Option ℕ
+
+-- what stands of wakes and blocks: nothing or a block, a wake, or a wake for a burst at a tick
 pub data Wake : Type 0 where
   Asleep : Wake
   Awake : Wake
-  Awake_for : (ticks : ℕ) → (since : ℕ) → Wake
+  Awake_for : (burst : Burst) → (since : ℕ) → Wake
 
 -- a loaded scheduler, with a seat for each of its ports
 pub record Scheduler : Type 0 where
@@ -106,11 +111,11 @@ was_served past thread t = is_just (past t).to thread
 abbrev pub had_asked : (ℕ → Tick) → (node : ℕ) → ℕ → Bool
 had_asked past node t = (past t).asking node
 
--- a wake makes a thread ready, and a wake for so many ticks until it was served them
+-- a wake makes a thread ready, and a wake for a burst until it was served it since the last release
 abbrev pub is_ready : (serves : ℕ → Bool) → (now : ℕ) → Wake → Bool
 is_ready serves now Asleep = false
 is_ready serves now Awake = true
-is_ready serves now (Awake_for ticks since) = nat_lt (count serves since (now - since)) ticks
+is_ready serves now (Awake_for burst since) = is_unserved serves burst.every burst.ticks since now
 
 abbrev pub name_of : Option Node → Option (List ℕ)
 name_of None = None

@@ -9,7 +9,7 @@ use Rattle.hls_chron.specs.declared.plain.Config.{Config}
 use Rattle.hls_chron.specs.declared.plain.Terms.{Terms}
 use Rattle.hls_chron.specs.Ledger.{with_row, with_mark}
 use Rattle.hls_machine.specs.Ledgers.{empty_book, with_marks}
-use Rattle.hls_machine.specs.Hierarchy.{Place, Processor, At, Seat, Wake, Asleep, Awake, Awake_for}
+use Rattle.hls_machine.specs.Hierarchy.{Place, Processor, At, Seat, Burst, Wake, Asleep, Awake, Awake_for}
 use Rattle.hls_machine.specs.Hierarchy.{Scheduler, Thread, Node, Loaded, Admitted, SeatHolder, Stay, Hierarchy}
 use Rattle.hls_machine.specs.Hierarchy.{seats_of}
 
@@ -36,7 +36,7 @@ pub data Step : Type 0 where
   End : (node : ℕ) → Step
   Unload : (node : ℕ) → Step
   Move : (node : ℕ) → (seat : Seat) → (below : ℕ → Bool) → Step
-  Rouse : (node : ℕ) → (burst : Option ℕ) → Step
+  Rouse : (node : ℕ) → (burst : Option Burst) → Step
   Block : (node : ℕ) → Step
   Elapse : (asking : ℕ → Bool) → (masks : ℕ → ℕ) → (path : Option Path) → Step
 
@@ -82,9 +82,9 @@ roused how None = None
 roused how (Some (Loaded s)) = Some (Loaded s)
 roused how (Some (Admitted t)) = Some (Admitted (record t { wake = how }))
 
-abbrev pub wake_by : (burst : Option ℕ) → (now : ℕ) → Wake
+abbrev pub wake_by : (burst : Option Burst) → (now : ℕ) → Wake
 wake_by None now = Awake
-wake_by (Some ticks) now = Awake_for ticks now
+wake_by (Some burst) now = Awake_for burst now
 
 -- the root where these seats are left, and where node k takes these
 abbrev pub is_processor : Place → Bool

@@ -64,28 +64,28 @@ sort_sched (Some (Admitted t)) kind is = absurd is
 
 plain_of : (h : Hierarchy) (command : Command) (name : Text) → IsOfThread command name → IsPlain h command name
 plain_of h (said.End other) name e = subst (λ (n : Text). IsPlain h (said.End other) n) e (ends h other)
-plain_of h (said.Wake other burst) name e =
-    subst (λ (n : Text). IsPlain h (said.Wake other burst) n) e (wakes h other burst)
+plain_of h (said.Wake other every burst) name e =
+    subst (λ (n : Text). IsPlain h (said.Wake other every burst) n) e (wakes h other every burst)
 plain_of h (said.Block other) name e = subst (λ (n : Text). IsPlain h (said.Block other) n) e (blocks h other)
 plain_of h _ name e = absurd e
 
 wrong_of : (h : Hierarchy) (command : Command) (name : Text) → IsOfThread command name → NamesScheduler h name
     → IsOfWrongSort h command name
 wrong_of h (said.End other) name e is = is
-wrong_of h (said.Wake other burst) name e is = is
+wrong_of h (said.Wake other every burst) name e is = is
 wrong_of h (said.Block other) name e is = is
 wrong_of h _ name e is = absurd e
 
 not_wrong : (h : Hierarchy) (command : Command) (name : Text) → IsOfThread command name → NamesThread h name
     → ¬ IsOfWrongSort h command name
 not_wrong h (said.End other) name e is f = (let a = is.there in let b = f.there in cc)
-not_wrong h (said.Wake other burst) name e is f = (let a = is.there in let b = f.there in cc)
+not_wrong h (said.Wake other every burst) name e is f = (let a = is.there in let b = f.there in cc)
 not_wrong h (said.Block other) name e is f = (let a = is.there in let b = f.there in cc)
 not_wrong h _ name e is f = e
 
 no_unload : (command : Command) (name other : Text) → IsOfThread command name → ¬ (command ≡ said.Unload other)
 no_unload (said.End a) name other e f = cc
-no_unload (said.Wake a burst) name other e f = cc
+no_unload (said.Wake a every burst) name other e f = cc
 no_unload (said.Block a) name other e f = cc
 no_unload _ name other e f = e
 

@@ -44,8 +44,8 @@ ends h name = record {
   no_move = λ other perch e. cc;
 }
 
-pub wakes : (h : Hierarchy) (name : Text) (burst : Option ℕ) → IsPlain h (said.Wake name burst) name
-wakes h name burst = record {
+pub wakes : (h : Hierarchy) (name : Text) (every burst : Option ℕ) → IsPlain h (said.Wake name every burst) name
+wakes h name every burst = record {
   old = refl;
   new = refl;
   places = refl;

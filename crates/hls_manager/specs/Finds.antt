@@ -23,6 +23,6 @@ IsNoScheduler h name _ = ⊥
 -- a command that a thread of this name is needed for, and nothing else
 abbrev pub IsOfThread : Command → Text → Type 0
 IsOfThread (End other) name = other ≡ name
-IsOfThread (Wake other burst) name = other ≡ name
+IsOfThread (Wake other every burst) name = other ≡ name
 IsOfThread (Block other) name = other ≡ name
 IsOfThread _ name = ⊥

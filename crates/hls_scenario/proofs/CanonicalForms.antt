@@ -22,10 +22,10 @@ use Rattle.hls_scenario.specs.declared.scenario.Item.{Item}
 use Rattle.hls_scenario.specs.declared.scenario.Scenario.{Scenario}
 use Rattle.hls_scenario.specs.Forms.{the, number, pair_forms, guarantee_forms, terms_forms}
 use Rattle.hls_scenario.specs.Forms.{config_forms, quantum_forms, spot_forms, perch_forms}
-use Rattle.hls_scenario.specs.Forms.{more_perches_forms, perches_forms, burst_forms, command_forms, item_forms}
-use Rattle.hls_scenario.specs.Forms.{depth_lines, scenario_lines}
-use Rattle.hls_scenario.specs.Grammar.{IsTerms, IsSpot, IsPerch, IsLoad, IsBurst, IsCommand, AreItems}
-use Rattle.hls_scenario.specs.Grammar.{IsDepth, IsScenario}
+use Rattle.hls_scenario.specs.Forms.{more_perches_forms, perches_forms, burst_forms, waking_forms, command_forms}
+use Rattle.hls_scenario.specs.Forms.{item_forms, depth_lines, scenario_lines}
+use Rattle.hls_scenario.specs.Grammar.{IsTerms, IsSpot, IsPerch, IsLoad, IsBurst, IsWaking, IsCommand}
+use Rattle.hls_scenario.specs.Grammar.{AreItems, IsDepth, IsScenario}
 use Rattle.hls_scenario.proofs.CanonicalLines.{Sign, IsWord, all_append, decimal_word}
 use Rattle.hls_scenario.proofs.CanonicalPrinting.{load_perches}
 use Rattle.hls_scenario.proofs.CanonicalWords.{IsPrintable, ArePrintable, IsPrintableLine, ArePrintableLines}
@@ -176,6 +176,17 @@ burst_printable None is = tt
 burst_printable (Some ticks) is =
     let fits : ticks ≤ 100000 = is.1 in number_words (codes "for") ticks refl (omega arith)
 
+waking_printable : (version : ℕ) (every burst : Option ℕ) → IsWaking version every burst
+    → ArePrintable (waking_forms every burst)
+waking_printable version None burst is = burst_printable burst is
+waking_printable version (Some period) None is = absurd is
+waking_printable version (Some period) (Some ticks) is =
+    let often : period ≤ 100000 = is.1.1 in
+    let fits : ticks ≤ 100000 = is.2.1 in (
+      word (codes "every") refl,
+      (small_word period (omega arith), number_words (codes "burst") ticks refl (omega arith)),
+    )
+
 pub command_printable : (version : ℕ) (command : Command) → IsCommand version command
     → ArePrintable (command_forms version command)
 command_printable version (Load name config perches) is =
@@ -190,8 +201,8 @@ command_printable version (Move name perch) is = (
   word (codes "move") refl,
   (name_word name is.0, (word (codes "to") refl, perch_printable perch is.1)),
 )
-command_printable version (Wake name burst) is =
-    (word (codes "wake") refl, (name_word name is.0, burst_printable burst is.1))
+command_printable version (Wake name every burst) is =
+    (word (codes "wake") refl, (name_word name is.0, waking_printable version every burst is.1))
 command_printable version (Block name) is = (word (codes "block") refl, (name_word name is, tt))
 
 -- ---- the lines of a scenario

@@ -81,13 +81,20 @@ abbrev pub burst_forms : Option ℕ → List Form
 burst_forms None = []
 burst_forms (Some ticks) = the (codes "for") ∷ number ticks ∷ []
 
+-- a periodic wake has its period before its burst
+abbrev pub waking_forms : (every burst : Option ℕ) → List Form
+waking_forms None burst = burst_forms burst
+waking_forms (Some period) None = []
+waking_forms (Some period) (Some ticks) =
+    the (codes "every") ∷ number period ∷ the (codes "burst") ∷ number ticks ∷ []
+
 abbrev pub verb_of : Command → Text
 verb_of (Load name config perches) = codes "load"
 verb_of (Thread name perch) = codes "thread"
 verb_of (End name) = codes "end"
 verb_of (Unload name) = codes "unload"
 verb_of (Move name perch) = codes "move"
-verb_of (Wake name burst) = codes "wake"
+verb_of (Wake name every burst) = codes "wake"
 verb_of (Block name) = codes "block"
 
 -- what stands after the verb
@@ -98,7 +105,7 @@ operands_of version (Thread name perch) = the name ∷ the (codes "on") ∷ perc
 operands_of version (End name) = the name ∷ []
 operands_of version (Unload name) = the name ∷ []
 operands_of version (Move name perch) = the name ∷ the (codes "to") ∷ perch_forms perch
-operands_of version (Wake name burst) = the name ∷ burst_forms burst
+operands_of version (Wake name every burst) = the name ∷ waking_forms every burst
 operands_of version (Block name) = the name ∷ []
 
 abbrev pub command_forms : (version : ℕ) → Command → List Form

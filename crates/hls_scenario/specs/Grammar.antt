@@ -68,13 +68,20 @@ abbrev pub IsBurst : Option ℕ → Type 0
 IsBurst None = Unit {0}
 IsBurst (Some ticks) = IsWithin 1 100000 ticks
 
+-- until a block, for a burst, or, but in version 1, for a burst from each release on
+abbrev pub IsWaking : (version : ℕ) → (every burst : Option ℕ) → Type 0
+IsWaking version None burst = IsBurst burst
+IsWaking version (Some period) None = ⊥
+IsWaking version (Some period) (Some ticks) =
+    ((version ≡ 1) → ⊥) × IsWithin 1 100000 period × IsWithin 1 100000 ticks
+
 abbrev pub IsCommand : (version : ℕ) → Command → Type 0
 IsCommand version (Load name config perches) = IsName name × IsLoad version config perches
 IsCommand version (Thread name perch) = IsName name × IsPerch perch
 IsCommand version (End name) = IsName name
 IsCommand version (Unload name) = IsName name
 IsCommand version (Move name perch) = IsName name × IsPerch perch
-IsCommand version (Wake name burst) = IsName name × IsBurst burst
+IsCommand version (Wake name every burst) = IsName name × IsWaking version every burst
 IsCommand version (Block name) = IsName name
 
 -- ticks never fall and are below the horizon

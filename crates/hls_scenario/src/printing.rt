@@ -5,7 +5,7 @@ ghost use Rattle.hls_guarantee.specs.Limits.{IsNarrow};
 ghost use Rattle.hls_scenario.specs.Forms.{the, fraction, number, spaced, joined, line_text, header_forms};
 ghost use Rattle.hls_scenario.specs.Forms.{horizon_forms, depth_lines, guarantee_forms, terms_forms};
 ghost use Rattle.hls_scenario.specs.Forms.{config_forms, quantum_forms, spot_forms, perch_forms, perches_forms};
-ghost use Rattle.hls_scenario.specs.Forms.{burst_forms};
+ghost use Rattle.hls_scenario.specs.Forms.{burst_forms, waking_forms};
 ghost use Rattle.hls_scenario.specs.Printing.{comma_text};
 ghost use Rattle.hls_scenario.specs.Forms.{command_forms, item_forms, command_text, scenario_text};
 ghost use Rattle.hls_scenario.specs.Grammar.{IsScenario, IsCommand, IsScenarioText};
@@ -129,9 +129,9 @@ pub fn put_command(out: &mut Vec<u8>, version: u8, command: &Command) -> Result<
             put(out, b" to")?;
             put_perch(out, perch)
         }
-        Command::Wake { name, burst } => {
+        Command::Wake { name, every, burst } => {
             put_named(out, b"wake", name)?;
-            put_burst(out, *burst)
+            put_waking(out, *every, *burst)
         }
         Command::Block { name } => put_named(out, b"block", name),
     }
@@ -244,6 +244,21 @@ fn put_terms(out: &mut Vec<u8>, terms: &Terms) -> Result<(), AllocError>
         Terms::Turn => put(out, b" turn"),
         Terms::Sole => put(out, b" sole"),
     }
+}
+
+fn put_waking(out: &mut Vec<u8>, every: Option<u32>, burst: Option<u32>) -> Result<(), AllocError>
+    ensures { OnOk result (out.new.items ≡ out.old.items ++ spaced (waking_forms every burst)) }
+{
+    let Some(period) = every else {
+        return put_burst(out, burst);
+    };
+    let Some(ticks) = burst else {
+        return Ok(());
+    };
+    put(out, b" every")?;
+    put_number(out, period)?;
+    put(out, b" burst")?;
+    put_number(out, ticks)
 }
 
 fn put_burst(out: &mut Vec<u8>, burst: Option<u32>) -> Result<(), AllocError>

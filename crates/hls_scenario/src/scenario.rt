@@ -45,9 +45,12 @@ pub enum Command {
         name: Name,
         perch: Perch,
     },
-    /// Makes a thread ready, until it blocks or was served so many ticks.
+    /// Makes a thread ready, until it blocks or was served `burst` ticks. In version 2 a wake may have a release in its
+    /// own tick and one in `every` so many ticks after it: from each on the thread is ready until it blocks or was
+    /// served its burst since then, and what is left of one is dropped at the next.
     Wake {
         name: Name,
+        every: Option<u32>,
         burst: Option<u32>,
     },
     /// Makes a thread not ready.

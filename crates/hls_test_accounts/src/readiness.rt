@@ -1,6 +1,7 @@
 // In which ticks a thread is ready.
-ghost use Rattle.std.specs.Prelude.{◌≡◌, ◌+◌, ◌^◌, ◌<◌, option_copied};
+ghost use Rattle.std.specs.Prelude.{◌≡◌, ◌+◌, ◌^◌, ◌<◌, ◌≤◌, option_copied};
 ghost use Rattle.hls_chron.specs.Ticks.{count};
+ghost use Rattle.hls_releases.specs.Releases.{last_release};
 ghost use Rattle.hls_report_text.specs.Content.{content_of};
 ghost use Rattle.hls_legal.specs.Schedule as spelled;
 ghost use Rattle.hls_legal.specs.Ready as told;
@@ -26,17 +27,34 @@ pub fn count_served(report: &Report, name: &Name, from: u32, ticks: u32) -> u32
     counted
 }
 
+/// The last release up to a tick of a wake in a tick before, by its definition.
+fn release_before(every: Option<u32>, since: u32, tick: u32) -> u32
+    requires order { since ≤ tick }
+    ensures is { result ≡ last_release every since tick }
+    ensures upto { result ≤ tick }
+{
+    match every {
+        None | Some(0) => since,
+        Some(period) => tick - (tick - since) % period,
+    }
+}
+
 /// Whether what a command of a tick says of a thread makes it ready in a tick.
 fn lasts(report: &Report, name: &Name, since: u32, tick: u32, command: &Command) -> bool
+    requires order { since ≤ tick }
     ensures { result
         ≡ told.lasts (spelled.is_served (content_of report.now).stretches name.now) since tick command.now }
 {
     match command {
         Command::Wake { burst: None, .. } => true,
         Command::Wake {
+            every,
             burst: Some(ticks),
             ..
-        } => count_served(report, name, since, tick.saturating_sub(since)) < *ticks,
+        } => {
+            let from = release_before(*every, since, tick);
+            count_served(report, name, from, tick - from) < *ticks
+        }
         _ => false,
     }
 }

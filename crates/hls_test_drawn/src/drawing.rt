@@ -204,14 +204,20 @@ impl Drawing {
         format!(in self.alloc; "move {name} to {place} as {wanted}")
     }
 
-    /// The wake of a thread, for some ticks or until it is blocked.
+    /// The wake of a thread: until it is blocked, for some ticks, or, in version 2, for some from each release on.
     fn wake(&mut self) -> Result<String, AllocError> {
         let name = self.thread()?;
-        match self.draw(2) {
+        let ways = if self.version == 1 { 2 } else { 4 };
+        match self.draw(ways) {
             0 => format!(in self.alloc; "wake {name}"),
-            _ => {
+            1 => {
                 let ticks = self.number(9);
                 format!(in self.alloc; "wake {name} for {ticks}")
+            }
+            _ => {
+                let period = self.number(9);
+                let ticks = self.number(4);
+                format!(in self.alloc; "wake {name} every {period} burst {ticks}")
             }
         }
     }

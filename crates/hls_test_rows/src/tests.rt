@@ -33,3 +33,30 @@ fn finds_where_windows_begin(rt: HostRuntime) -> Result<(), Fail> {
     }
     Ok(())
 }
+
+/// A thread with releases at 1, at 5, and at 9, where it is blocked.
+const PERIODIC: &[u8] =
+    b"hls-report 2\nhorizon 10\ndepth 3\nat 0 load root fp on cpu as ALL\n= done\n\
+    at 0 thread a on root prio 0 as ALL\n= done\nat 1 wake a every 4 burst 2\n= done\n\
+    at 9 block a\n= done\nschedule\n0..0 idle\n1..2 cpu/root/a\n3..4 idle\n5..6 cpu/root/a\n\
+    7..9 idle\naccounts\na 0..9 ALL ready 4 served 4\nidle 6\nend\n";
+
+#[test]
+fn finds_who_is_ready_by_a_periodic_wake(rt: HostRuntime) -> Result<(), Fail> {
+    match read_report(rt.alloc(), PERIODIC) {
+        Ok(report) => {
+            let stays = stays_of(rt.alloc(), report.answered.items())?;
+            for stay in stays.iter() {
+                for (tick, ready) in [(0, false), (1, true), (2, true), (3, false), (4, false)] {
+                    assert_eq!(rt; is_ready(&report, &stay.name, tick), ready, "at {tick}");
+                }
+                for (tick, ready) in [(5, true), (6, true), (7, false), (8, false), (9, false)] {
+                    assert_eq!(rt; is_ready(&report, &stay.name, tick), ready, "at {tick}");
+                }
+            }
+            assert_eq!(rt; stays.len(), 1);
+        }
+        Err(fault) => return Err(Fail::from("no report")),
+    }
+    Ok(())
+}

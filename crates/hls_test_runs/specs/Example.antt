@@ -40,7 +40,7 @@ abbrev pub admit_player : Step
 admit_player = Admit player (codes "player") player_seat
 
 abbrev pub wake_player : Step
-wake_player = Rouse player (Some 2)
+wake_player = Rouse player (Some (record { ticks = 2; every = None }))
 
 -- all ask, through slot 0 of each scheduler
 abbrev pub all_ask : ℕ → Bool

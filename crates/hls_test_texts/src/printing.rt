@@ -45,6 +45,9 @@ at 0 load root sfq 4 2 2 on cpu as ALL
 at 0 load below sfq 100 20 1 on root weight 1 as NULL
 at 0 load even rr 5 on root weight 2 as NULL
 at 5 thread a on below weight 20 as NULL
+at 5 wake a every 4 burst 2
+at 5 wake a for 3
+at 5 wake a
 "
             .as_slice(),
     ];
@@ -123,11 +126,19 @@ fn prints_a_command_without_its_tick(rt: HostRuntime) -> Result<(), Fail> {
     let name = Name::read(b"a").ok_or("no name")?;
     let wake = Command::Wake {
         name,
+        every: None,
         burst: Some(3),
     };
     let first = print_command(rt.alloc(), 1, &wake)?;
     assert_eq!(rt; first.as_slice(), b"wake a for 3".as_slice());
     let second = print_command(rt.alloc(), 2, &wake)?;
     assert_eq!(rt; second.as_slice(), b"wake a for 3".as_slice());
+    let periodic = Command::Wake {
+        name,
+        every: Some(4),
+        burst: Some(2),
+    };
+    let third = print_command(rt.alloc(), 2, &periodic)?;
+    assert_eq!(rt; third.as_slice(), b"wake a every 4 burst 2".as_slice());
     Ok(())
 }

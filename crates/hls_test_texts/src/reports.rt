@@ -67,6 +67,13 @@ fn refusals(name: Name) -> [(Refusal, &'static [u8]); 17] {
     ]
 }
 
+/// A report whose one command is refused.
+fn refused(alloc: Global, refusal: &[u8]) -> Result<Vec<u8>, AllocError> {
+    let head = b"hls-report 1\nhorizon 1\ndepth 3\nat 0 wake a\n= refused ".as_slice();
+    let rest = b"\nschedule\n0..0 idle\naccounts\nidle 1\nend\n".as_slice();
+    [head, refusal, rest].concat(alloc)
+}
+
 #[test]
 fn writes_and_reads_each_refusal(rt: HostRuntime) -> Result<(), Fail> {
     let name = Name::read(b"player").expect(&rt, "a name");
@@ -74,9 +81,9 @@ fn writes_and_reads_each_refusal(rt: HostRuntime) -> Result<(), Fail> {
         let mut out = Vec::new(rt.alloc());
         put_refusal(&mut out, &one)?;
         assert_eq!(rt; out.as_slice(), text);
-        let answer = [b"= refused ".as_slice(), text].concat(rt.alloc())?;
-        let read = with_line(rt.alloc(), SMALLEST, 4, &answer)?;
-        assert_eq!(rt; bad_line(rt.alloc(), &read), Some(6), "at {text:?}");
+        let whole = refused(rt.alloc(), text)?;
+        let again = written_again(rt.alloc(), &whole);
+        assert_eq!(rt; again.as_deref(), Some(whole.as_slice()), "at {text:?}");
     }
     Ok(())
 }
@@ -186,6 +193,7 @@ fn finds_the_bad_line(rt: HostRuntime) -> Result<(), Fail> {
         (3, b"at 1 wake a".as_slice()),
         (3, b"at 0  wake a".as_slice()),
         (3, b"at 0 wake a for 0".as_slice()),
+        (3, b"at 0 wake a every 4 burst 2".as_slice()),
         (3, b"at 0 load root sfq 4 2 1 on cpu as ALL".as_slice()),
         (4, b"= gone".as_slice()),
         (4, b"= refused 10 NameTaken cpu".as_slice()),
@@ -222,7 +230,7 @@ fn finds_the_bad_line(rt: HostRuntime) -> Result<(), Fail> {
     Ok(())
 }
 
-/// A report of the longest run in version 2, with a quantum.
+/// A report of the longest run in version 2, with a quantum and a periodic wake.
 const LONGEST: &[u8] = b"hls-report 2\n\
     horizon 1000000\n\
     depth 3\n\
@@ -231,6 +239,8 @@ const LONGEST: &[u8] = b"hls-report 2\n\
     by root 0 ALL CPU ALL\n\
     at 999999 thread a on root weight 5 as NULL\n\
     = refused 16 TermsUnfit root\n\
+    at 999999 wake a every 100000 burst 1\n\
+    = refused 11 NoSuchName a\n\
     schedule\n\
     0..999999 idle\n\
     accounts\n\
@@ -270,8 +280,13 @@ fn finds_the_bad_line_in_version_two(rt: HostRuntime) -> Result<(), Fail> {
         (3, b"at 0 load root sfq 4 2 0 on cpu as ALL".as_slice()),
         (3, b"at 0 load root sfq 4 2 101 on cpu as ALL".as_slice()),
         (3, b"at 0 load root sfq 4 2 02 on cpu as ALL".as_slice()),
-        (9, b"0..1000000 idle".as_slice()),
-        (11, b"a 0..1000000 ALL ready 1 served 1".as_slice()),
+        (3, b"at 0 wake a every 0 burst 1".as_slice()),
+        (3, b"at 0 wake a every 04 burst 1".as_slice()),
+        (3, b"at 0 wake a every 4 burst 100001".as_slice()),
+        (3, b"at 0 wake a every 4".as_slice()),
+        (3, b"at 0 wake a burst 1 every 4".as_slice()),
+        (11, b"0..1000000 idle".as_slice()),
+        (13, b"a 0..1000000 ALL ready 1 served 1".as_slice()),
     ];
     for (kept, line) in table {
         let text = with_line(rt.alloc(), LONGEST, kept, line)?;

@@ -155,6 +155,50 @@ fn finds_the_faults_of_quanta(rt: HostRuntime) -> Result<(), Fail> {
 }
 
 #[test]
+fn finds_the_faults_of_periods(rt: HostRuntime) -> Result<(), Fail> {
+    let table = [
+        (1u8, b"at 0 wake a every 4 burst 2".as_slice(), Cause::Word),
+        (2, b"at 0 wake a every".as_slice(), Cause::Short),
+        (2, b"at 0 wake a every 4".as_slice(), Cause::Short),
+        (2, b"at 0 wake a every 4 burst".as_slice(), Cause::Short),
+        (2, b"at 0 wake a every 0 burst 2".as_slice(), Cause::Number),
+        (
+            2,
+            b"at 0 wake a every 100001 burst 2".as_slice(),
+            Cause::Number,
+        ),
+        (2, b"at 0 wake a every 4 burst 0".as_slice(), Cause::Number),
+        (
+            2,
+            b"at 0 wake a every 4 burst 100001".as_slice(),
+            Cause::Number,
+        ),
+        (2, b"at 0 wake a every burst 2".as_slice(), Cause::Number),
+        (2, b"at 0 wake a every 4 for 2".as_slice(), Cause::Word),
+        (2, b"at 0 wake a evry 4 burst 2".as_slice(), Cause::Word),
+        (2, b"at 0 wake a burst 2".as_slice(), Cause::Word),
+        (2, b"at 0 wake a every 4 burst 2 2".as_slice(), Cause::Extra),
+        (2, b"at 0 wake a for 2 every 4".as_slice(), Cause::Extra),
+    ];
+    for (version, line, cause) in table {
+        let mut text = Vec::new(rt.alloc());
+        text.extend_from_slice(if version == 1 {
+            b"hls 1".as_slice()
+        } else {
+            b"hls 2".as_slice()
+        })?;
+        text.extend_from_slice(b"\nhorizon 5\n")?;
+        text.extend_from_slice(line)?;
+        assert_eq!(rt;
+            fault_of(rt.alloc(), &text),
+            Some((3, cause)),
+            "at {line:?}"
+        );
+    }
+    Ok(())
+}
+
+#[test]
 fn finds_the_faults_of_texts(rt: HostRuntime) {
     let table = [
         (b"".as_slice(), 1, Cause::Header),
@@ -222,6 +266,12 @@ fn reads_lines_as_they_may_be_written(rt: HostRuntime) {
         (
             b"hls 2\nhorizon 1000000\nat 999999 load a sfq 100 20 100 on b weight 20 as ALL".as_slice(),
             1,
+        ),
+        (
+            b"hls 2\nhorizon 9\nat 0 wake every every 1 burst 1\n\
+              at 8 wake a every 100000\tburst 100000 # jobs"
+                .as_slice(),
+            2,
         ),
     ];
     for (text, count) in table {

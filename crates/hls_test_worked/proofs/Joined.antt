@@ -261,12 +261,12 @@ answer_b = done_at h5 kit4 3 r5 admit_b run.admit_other (refl, record { place = 
       tt,
     )
 
-wake_a : Answered h6 kit4 (Wake (codes "a") None) []
-wake_a = done_at h6 kit4 3 r6 (Wake (codes "a") None) (Rouse run.joined None) (refl, refl)
+wake_a : Answered h6 kit4 (Wake (codes "a") None None) []
+wake_a = done_at h6 kit4 3 r6 (Wake (codes "a") None None) (Rouse run.joined None) (refl, refl)
     joining_legal.1.1.1.1.1.1.0 tt [] tt
 
-wake_b : Answered h7 kit4 (Wake (codes "b") None) []
-wake_b = done_at h7 kit4 3 r7 (Wake (codes "b") None) (Rouse run.other None) (refl, refl)
+wake_b : Answered h7 kit4 (Wake (codes "b") None None) []
+wake_b = done_at h7 kit4 3 r7 (Wake (codes "b") None None) (Rouse run.other None) (refl, refl)
     joining_legal.1.1.1.1.1.1.1.0 tt [] tt
 
 -- the refused move

@@ -99,8 +99,8 @@ answer_a = done_at h2 kit2 3 r2 admit_a admit (refl, record { place = refl; term
       tt,
     )
 
-wake_a : Answered h3 kit2 (Wake (codes "a") None) []
-wake_a = done_at h3 kit2 3 r3 (Wake (codes "a") None) (Rouse 2 None) (refl, refl) can_wake tt [] tt
+wake_a : Answered h3 kit2 (Wake (codes "a") None None) []
+wake_a = done_at h3 kit2 3 r3 (Wake (codes "a") None None) (Rouse 2 None) (refl, refl) can_wake tt [] tt
 
 -- the seat on the moved scheduler, as it is derived anew
 abbrev a_anew : Due

@@ -160,8 +160,8 @@ answer_a = done_at h1 kit1 3 r1 admit_a admit (refl, record { place = refl; term
       tt,
     )
 
-wake_done : Answered h2 kit1 (Wake (codes "a") None) []
-wake_done = done_at h2 kit1 3 r2 (Wake (codes "a") None) (Rouse 1 None) (refl, refl) wake_may tt [] tt
+wake_done : Answered h2 kit1 (Wake (codes "a") None None) []
+wake_done = done_at h2 kit1 3 r2 (Wake (codes "a") None None) (Rouse 1 None) (refl, refl) wake_may tt [] tt
 
 along : AnswersAlong 3 start full_kit steps answered
 unfolding steps

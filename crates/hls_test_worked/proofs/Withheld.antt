@@ -145,8 +145,8 @@ answer_a = done_at h1 kit1 3 r1 admit_a reserved.admit_reserver
       tt,
     )
 
-wake_a : Answered h2 kit1 (Wake (codes "a") None) []
-wake_a = done_at h2 kit1 3 r2 (Wake (codes "a") None) (Rouse reserved.reserver None) (refl, refl)
+wake_a : Answered h2 kit1 (Wake (codes "a") None None) []
+wake_a = done_at h2 kit1 3 r2 (Wake (codes "a") None None) (Rouse reserved.reserver None) (refl, refl)
     expired_admits.1.1.0 tt [] tt
 
 end_a : Answered h4 kit1 (End (codes "a")) []

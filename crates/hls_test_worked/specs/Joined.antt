@@ -47,8 +47,8 @@ answered =
     ∷ done 0 admit_a (seated (codes "a") 0
     (lent_after (Resb true 2 10) R2 (Resb false 2 10) kinds.Join (Resb false 2 10)) ∷ [])
     ∷ done 0 admit_b (seated (codes "b") 0 (lent Null kinds.Rr Null) ∷ [])
-    ∷ done 0 (Wake (codes "a") None) []
-    ∷ done 0 (Wake (codes "b") None) []
+    ∷ done 0 (Wake (codes "a") None None) []
+    ∷ done 0 (Wake (codes "b") None None) []
     ∷ refused 3 move_j (WrongSort (Some (codes "j")))
     ∷ []
 

@@ -16,7 +16,7 @@ refuses_the_thread = record {
   depth = 3;
   answered = done 0 load_root (seated (codes "root") 0 (lent All kinds.Cpu All) ∷ [])
       ∷ refused 0 admit_a (NoDerivation (codes "a") 3)
-      ∷ refused 0 (Wake (codes "a") None) (NoSuchName (codes "a"))
+      ∷ refused 0 (Wake (codes "a") None None) (NoSuchName (codes "a"))
       ∷ [];
   stretches = stretch 0 0 None ∷ [];
   accounts = [];

@@ -31,7 +31,7 @@ answered =
     done 0 load_root (seated (codes "root") 0 (lent All kinds.Cpu All) ∷ [])
     ∷ done 0 load_e (seated (codes "e") 0 (lent All kinds.Fp Null) ∷ [])
     ∷ done 0 admit_a (seated (codes "a") 0 (lent Null kinds.Edf Null) ∷ [])
-    ∷ done 0 (Wake (codes "a") None) []
+    ∷ done 0 (Wake (codes "a") None None) []
     ∷ done 1 move_e (seated (codes "e") 0 (lent All kinds.Fp Null)
     ∷ seated (codes "a") 0 (lent Null kinds.Edf Null) ∷ [])
     ∷ []

@@ -23,7 +23,7 @@ abbrev pub answered : List Answered
 answered =
     done 0 load_root (seated (codes "root") 0 (lent All kinds.Cpu All) ∷ [])
     ∷ done 0 admit_a (seated (codes "a") 0 (lent All kinds.Fp All) ∷ [])
-    ∷ done 0 (Wake (codes "a") None) []
+    ∷ done 0 (Wake (codes "a") None None) []
     ∷ []
 
 abbrev pub smallest : Content

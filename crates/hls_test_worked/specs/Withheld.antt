@@ -28,7 +28,7 @@ abbrev pub answered : List Answered
 answered =
     done 0 load_root (seated (codes "root") 0 (lent All kinds.Cpu All) ∷ [])
     ∷ done 0 admit_a (seated (codes "a") 0 (lent All kinds.Edf (Resb true 2 4)) ∷ [])
-    ∷ done 0 (Wake (codes "a") None) []
+    ∷ done 0 (Wake (codes "a") None None) []
     ∷ done 1 (End (codes "a")) []
     ∷ refused 1 admit_b (NoRoom 66786643213290000 100179964819935000)
     ∷ []

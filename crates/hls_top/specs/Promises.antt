@@ -45,10 +45,6 @@ pub record IsAnswerIn (m : Moment) (command : Command) (answer : Answer) : Type 
   pub refused : HasRoom m command
       → (IsRefusal answer ↔ ((name : Text) × IsUnderived m.hierarchy m.depth command name))
 
--- what a report has told before a command: the commands before it, and the ticks before its tick
-abbrev pub told_before : Content → (at : ℕ) → Answered → Content
-told_before c at a = record c { horizon = a.tick; answered = take at c.answered }
-
 -- the hierarchy where these steps lead, with the boxes that the commands before one have left
 abbrev pub moment_before : Content → Boxes → (past : List Step) → (at : ℕ) → Moment
 moment_before c boxes past at = record {
@@ -57,13 +53,13 @@ moment_before c boxes past at = record {
   depth = c.depth;
 }
 
--- a run is cut before a command of the report: its first steps are those that the report has told by then, and where
--- they lead the answer is the defined one
+-- a run is cut before a command of the report: its first steps are those that the report has told by then, of the
+-- commands before it and the ticks before its tick, and where they lead the answer is the defined one
 pub record IsAnsweredBehind (boxes : Boxes) (c : Content) (steps : List Step) (at : ℕ) (a : Answered) : Type 0 where
   pub past : List Step
   pub rest : List Step
   pub whole : past ++ rest ≡ steps
-  pub tells : Tells (told_before c at a) past
+  pub tells : Tells (record c { horizon = a.tick; answered = take at c.answered }) past
   pub answer : IsAnswerIn (moment_before c boxes past at) a.command a.answer
 
 -- the report tells one legal run, and along it each of its commands is answered so
@@ -84,7 +80,7 @@ pub record KeepsPromises (s : Scenario) (given : ℕ) (boxes : Boxes) (c : Conte
   pub ready : RunsReady c
   -- every stay meets its printed guarantee in every window in which its thread is ready, and keeps its cap
   pub stays : All (KeepsAccount c) c.accounts
-  -- what a wake asks for is served in time, by the thread's reservation and by its guarantee
+  -- what each release of a wake asks for is served in time, by the thread's reservation and by its guarantee
   pub jobs : KeepsJobs c
   pub answers : AnswersEach boxes c
   pub refusals : RefusesIdly s given boxes c

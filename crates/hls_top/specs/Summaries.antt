@@ -22,13 +22,10 @@ abbrev pub done_of : List Answered → ℕ
 done_of answered = count_by (λ a. is_done a.answer) answered
 
 -- all others were refused
-abbrev pub refused_of : List Answered → ℕ
-refused_of answered = length answered - done_of answered
-
 abbrev pub commands_line : List Answered → Text
 commands_line answered =
     codes "commands " ++ (decimal (length answered) ++ (codes " done " ++ (decimal (done_of answered)
-    ++ (codes " refused " ++ decimal (refused_of answered)))))
+    ++ (codes " refused " ++ decimal (length answered - done_of answered)))))
 
 abbrev pub ticks_line : (horizon idle : ℕ) → Text
 ticks_line horizon idle = codes "ticks " ++ (decimal horizon ++ (codes " idle " ++ decimal idle))

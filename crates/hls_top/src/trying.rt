@@ -7,7 +7,7 @@ ghost use Rattle.hls_report_text.specs.Content.{content_of};
 ghost use Rattle.hls_report_text.specs.ReportText.{ended, with_end};
 ghost use Rattle.hls_top.specs.Outputs.{IsOfTrial};
 ghost use Rattle.hls_legal.specs.Commands.{is_done};
-ghost use Rattle.hls_top.specs.Summaries.{done_of, refused_of, commands_line, ticks_line, trial_lines};
+ghost use Rattle.hls_top.specs.Summaries.{done_of, commands_line, ticks_line, trial_lines};
 
 use crate::carrying::carry_out;
 use crate::outputs::Output;

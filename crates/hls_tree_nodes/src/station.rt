@@ -96,7 +96,8 @@ impl Station {
     pub fn fits(&self, terms: &Terms) -> Option<SeatFault>
         requires posted { IsPosted (post_of seen self.now) }
         requires ranges { TermsInRange terms.now }
-        ensures some { IfSome result (IsFirstFault (config_of (seen self.now.unit)) (seen self.now.unit).book terms.now) }
+        ensures some { IfSome result
+            (IsFirstFault (config_of (seen self.now.unit)) (seen self.now.unit).book terms.now) }
         ensures none { IsNone result →
             HasNoFault (config_of (seen self.now.unit)) (seen self.now.unit).book terms.now }
     {

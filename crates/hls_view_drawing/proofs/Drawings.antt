@@ -63,3 +63,6 @@ pub commands_told : (r : Report) (answered : List Answered) → IsWellFormed r �
 commands_told r answered formed e =
     subst (AllByRecursion (λ (a : Answered). IsCommand r.version a.command)) (sym e)
     (commands_in r.version r.horizon 0 r.answered formed.content.answered)
+
+-- what the calls for a picture ask for
+pub ruleset drawn = (valid_ways, counted_ways, signed_ways, tight_ways, commands_told)

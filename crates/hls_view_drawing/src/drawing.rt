@@ -67,7 +67,7 @@ struct Found<'a> {
     counts: &'a [Counts],
 }
 
-#[tactic(auto, using(crate::proofs::Drawings::valid_ways, crate::proofs::Drawings::counted_ways, crate::proofs::Drawings::signed_ways, crate::proofs::Drawings::tight_ways, crate::proofs::Drawings::commands_told))]
+#[tactic(auto, using(crate::proofs::Drawings::drawn))]
 fn drawing_over(
     alloc: Global,
     report: &Report,

@@ -15,8 +15,8 @@ use Rattle.hls_legal.specs.Commands.{is_done, has_done, rouses}
 use Rattle.hls_legal.proofs.Rousings.{names_same}
 use Rattle.hls_view_jobs.specs.declared.job.Sort.TheVariants.{Blocks, Ends}
 use Rattle.hls_view_jobs.specs.declared.job.Release.{Release}
-use Rattle.hls_view_jobs.specs.Words.{sort_of, words_on}
-use Rattle.hls_view_jobs.specs.Jobs.{first, releases}
+use Rattle.hls_view_jobs.specs.Words.{sort_of, repeat_of, words_on, wakes_on, first}
+use Rattle.hls_view_jobs.specs.Jobs.{releases}
 use Rattle.hls_view_jobs.specs.Threads.{Life, admits, admitted, life_of, lives, has_tick, lasting, is_named}
 use Rattle.hls_view_jobs.specs.Threads.{releases_of}
 use Rattle.hls_view_jobs.specs.Inside.Sound.{AreWords}
@@ -33,11 +33,12 @@ pub record IsAdmitted (c : Content) (life : Life) : Type 0 where
   pub order : AreAnswered c.version c.horizon by.tick after
   pub admits : admitted by ≡ Some life.name
   pub from : life.from ≡ by.tick
-  pub words : life.words ≡ words_on life.name after
+  pub words : life.words ≡ words_on c.horizon life.name after
+  pub wakes : life.wakes ≡ wakes_on life.name after
 
 one_admitted : (c : Content) (before : List Answered) (a : Answered) (after : List Answered) (found : Option Text)
     → c.answered ≡ before ++ a ∷ after → a.tick < c.horizon → AreAnswered c.version c.horizon a.tick after
-    → admitted a ≡ found → All (IsAdmitted c) (life_of a.tick after found)
+    → admitted a ≡ found → All (IsAdmitted c) (life_of c.horizon a.tick after found)
 one_admitted c before a after None split early order is = All-nil (IsAdmitted c)
 one_admitted c before a after (Some name) split early order is =
     All-cons (IsAdmitted c) _ [] (record {
@@ -50,19 +51,20 @@ one_admitted c before a after (Some name) split early order is =
       admits = is;
       from = refl;
       words = refl;
+      wakes = refl;
     }) (All-nil (IsAdmitted c))
 
 all_admitted : (c : Content) (before after : List Answered) (last : ℕ) → c.answered ≡ before ++ after
-    → AreAnswered c.version c.horizon last after → All (IsAdmitted c) (lives after)
+    → AreAnswered c.version c.horizon last after → All (IsAdmitted c) (lives c.horizon after)
 all_admitted c before [] last split order = All-nil (IsAdmitted c)
 all_admitted c before (a ∷ after) last split order =
-    All-append (IsAdmitted c) (life_of a.tick after (admitted a)) (lives after)
+    All-append (IsAdmitted c) (life_of c.horizon a.tick after (admitted a)) (lives c.horizon after)
     (one_admitted c before a after (admitted a) split order.3 order.4 refl)
     (all_admitted c (before ++ a ∷ []) after a.tick (split ∙ sym (append_assoc before (a ∷ []) after)) order.4)
 
 pub lasting_admitted : (c : Content) → IsContent c → All (IsAdmitted c) (lasting c)
 lasting_admitted c formed =
-    All-filter (has_tick c.horizon) (IsAdmitted c) (lives c.answered)
+    All-filter (has_tick c.horizon) (IsAdmitted c) (lives c.horizon c.answered)
     (all_admitted c [] c.answered 0 refl formed.answered)
 
 pub life_admitted : (c : Content) (life : Life) → IsContent c → Contains (lasting c) life → IsAdmitted c life
@@ -92,27 +94,29 @@ life_said c life is =
 record Rouses (name : Text) (command : Command) : Type 0 where
   pub rouses : rouses name command ≡ true
   pub sort : sort_of command ≡ Ends
+  pub once : repeat_of command ≡ None
 
 admits_rouses : (name : Text) (command : Command) → admits command ≡ Some name → Rouses name command
 admits_rouses name (Load other config perches) is = absurd cc
 admits_rouses name (Thread other perch) is =
-    let same : other ≡ name = cc in record { rouses = names_same name other same; sort = refl }
+    let same : other ≡ name = cc in record { rouses = names_same name other same; sort = refl; once = refl }
 admits_rouses name (End other) is = absurd cc
 admits_rouses name (Unload other) is = absurd cc
 admits_rouses name (Move other perch) is = absurd cc
-admits_rouses name (Wake other burst) is = absurd cc
+admits_rouses name (Wake other every burst) is = absurd cc
 admits_rouses name (Block other) is = absurd cc
 
 record Admits (name : Text) (a : Answered) : Type 0 where
   pub done : has_done (rouses name) a ≡ true
   pub sort : sort_of a.command ≡ Ends
+  pub once : repeat_of a.command ≡ None
 
 admits_one : (name : Text) (a : Answered) → admitted a ≡ Some name → Admits name a
 admits_one name a is = by (is_done a.answer) refl is
   where
     by : (done : Bool) → is_done a.answer ≡ done → cond done (admits a.command) None ≡ Some name → Admits name a
     by true e is =
-        let r = admits_rouses name a.command is in record { done = rw (e, r.rouses) refl; sort = r.sort }
+        let r = admits_rouses name a.command is in record { done = rw (e, r.rouses) refl; sort = r.sort; once = r.once }
     by false e is = absurd cc
 
 -- from its admission on it is as if it were blocked
@@ -121,7 +125,8 @@ pub life_begins : (c : Content) (life : Life) → IsAdmitted c life
 life_begins c life is =
     let a = admits_one life.name is.by is.admits in
     rw (is.words, is.from)
-    (λ t from before. says c life.name is.before is.by is.after is.split is.order a.done t from before ∙ rw a.sort refl)
+    (λ t from before. says c life.name is.before is.by is.after is.split is.order a.done a.once t from before
+    ∙ rw a.sort refl)
 
 -- ---- the releases of all threads of a name
 

@@ -15,8 +15,8 @@ use Rattle.hls_view_jobs.specs.declared.job.Fate.{Fate}
 use Rattle.hls_view_jobs.specs.declared.job.Fate.TheVariants as fates
 use Rattle.hls_view_jobs.specs.declared.job.Job.{Job}
 use Rattle.hls_view_jobs.specs.declared.summary.Which.TheVariants.{ByWake}
-use Rattle.hls_view_jobs.specs.Words.{is_wake}
-use Rattle.hls_view_jobs.specs.Jobs.{first, releases, until, IsFate, IsJob, AreJobs}
+use Rattle.hls_view_jobs.specs.Words.{is_wake, first}
+use Rattle.hls_view_jobs.specs.Jobs.{releases, until, IsFate, IsJob, AreJobs}
 use Rattle.hls_view_jobs.specs.Promises.{IsWithinBound}
 use Rattle.hls_view_jobs.specs.Summaries.{has_fate, of_fate, gaps_behind, gaps}
 use Rattle.hls_view_job_laws.specs.Lives.{is_endless}

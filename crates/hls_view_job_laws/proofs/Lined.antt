@@ -1,7 +1,7 @@
 -- The line of a thread whose jobs keep their bounds.
 use Rattle.std.proofs.Common.{◌≡◌, ℕ, ◌≤◌, List, [], ◌∷◌, Bool, true, false, cond, length, get_or, refl, sym, ap}
 use Rattle.std.proofs.Common.{◌∙◌, subst, arith, inl, inr}
-use Rattle.std.specs.Prelude.{Option, Some, None, IfSome, All, filter}
+use Rattle.std.specs.Prelude.{Option, Some, None, IfSome, filter}
 use Rattle.std.specs.List.{AllByRecursion}
 use Rattle.std.proofs.lemmas.Bool.{cases_lt, le-leb, leb-true}
 use Rattle.std.proofs.lemmas.List.Elements.{All-from_recursion, recursion_from_All, All-filter, All-from_get_or}
@@ -24,13 +24,13 @@ use Rattle.hls_view_jobs.specs.Summaries.{of_fate, has_ticks, gaps, IsLeast, Are
 use Rattle.hls_view_jobs.specs.Summaries.{IsGreatest, IsLine, AreLines}
 use Rattle.hls_view_jobs.proofs.WordsSound.{releases_sound}
 use Rattle.hls_view_job_laws.specs.Jobs.{IsReadyThroughout, KeepsBound}
-use Rattle.hls_view_job_laws.specs.Lives.{is_endless}
-use Rattle.hls_view_job_laws.specs.Lines.{IsLineInBound}
+use Rattle.hls_view_job_laws.specs.Lives.{is_endless, IsWokenForJobs}
+use Rattle.hls_view_job_laws.specs.Lines.{IsLineInBound, AreLinesInBound}
 use Rattle.hls_view_job_laws.specs.Clauses.{NeverFails}
 use Rattle.hls_view_job_laws.proofs.Admitted.{IsAdmitted, lasting_admitted, life_words}
 use Rattle.hls_view_job_laws.proofs.Readying.{life_ready}
 use Rattle.hls_view_job_laws.proofs.Windowed.{jobs_bounded}
-use Rattle.hls_view_job_laws.proofs.Woken.{none_pass, as_many_jobs}
+use Rattle.hls_view_job_laws.proofs.Woken.{none_pass}
 use Rattle.hls_view_job_laws.proofs.Dropping.{IsInBound, none_dropped}
 
 -- ---- a bound that none exceeds
@@ -119,36 +119,35 @@ far_apart bound (Some apart) numbers le least =
 undropped : (c : Content) (life : Life) (line : ThreadJobs) (is : IsLine c life line) (bound : ℕ)
     → AllByRecursion (IsInBound bound) is.jobs
     → IsGreatestBound (filter has_ticks is.jobs) (length (filter has_ticks is.jobs)) bound
-    → line.wakes ≡ line.summary.jobs → IfSome line.summary.apart (λ apart. bound ≤ apart) → (jobs : List Job)
+    → IsWokenForJobs life → IfSome line.summary.apart (λ apart. bound ≤ apart) → (jobs : List Job)
     → jobs ≡ is.jobs → line.summary.by_wake ≡ 0
-undropped c life line is bound within greatest same le [] e =
+undropped c life line is bound within greatest woken le [] e =
     is.summary.by_wake ∙ ap (λ (l : List Job). length (filter (of_fate ByWake) l)) (sym e)
-undropped c life line is bound within greatest same le (job ∷ jobs) e =
+undropped c life line is bound within greatest woken le (job ∷ jobs) e =
     is.summary.by_wake
     ∙ none_pass (of_fate ByWake) is.jobs
     (none_dropped c life.name bound (bound_some bound is.jobs within greatest job) life.words is.jobs
-    (recursion_from_All (λ (word : Word). is_endless word.sort ≡ false) life.words
-    (as_many_jobs c life line is same))
+    (recursion_from_All (λ (word : Word). is_endless word.sort ≡ false) life.words woken)
     is.are (far_apart bound line.summary.apart (gaps is.jobs) le is.summary.apart) within)
 
 line_in_bound : (c : Content) (life : Life) (line : ThreadJobs) (is : IsLine c life line)
-    → AllByRecursion KeepsBound is.jobs → IsLineInBound line
+    → AllByRecursion KeepsBound is.jobs → IsLineInBound life line
 line_in_bound c life line is keep = record {
   worst = λ responses bound responded bounded.
       let greatest : IsGreatest (filter has_ticks is.jobs) (Some bound) =
       subst (IsGreatest (filter has_ticks is.jobs)) bounded is.summary.bound in
       worst_in bound is.jobs responses (all_in_bound bound is.jobs keep greatest)
       (subst (AreResponsesOf (filter (of_fate Done) is.jobs)) responded is.summary.responses);
-  by_wake = λ bound same bounded le.
+  by_wake = λ bound woken bounded le.
       let greatest : IsGreatest (filter has_ticks is.jobs) (Some bound) =
       subst (IsGreatest (filter has_ticks is.jobs)) bounded is.summary.bound in
-      undropped c life line is bound (all_in_bound bound is.jobs keep greatest) greatest same le is.jobs refl;
+      undropped c life line is bound (all_in_bound bound is.jobs keep greatest) greatest woken le is.jobs refl;
 }
 
 -- ---- each line
 
 line_keeps : (c : Content) (life : Life) (line : ThreadJobs) → IsContent c → NeverFails Supplied c → IsAdmitted c life
-    → IsLine c life line → IsLineInBound line
+    → IsLine c life line → IsLineInBound life line
 line_keeps c life line formed met admitted is =
     line_in_bound c life line is
     (jobs_bounded c life.name (releases life.words) is.jobs formed met
@@ -157,7 +156,7 @@ line_keeps c life line formed met admitted is =
     is.are (recursion_from_All (IsReadyThroughout c life.name) is.jobs (life_ready c life is.jobs admitted is.are)))
 
 each_line : (c : Content) (lives : List Life) (lines : List ThreadJobs) → IsContent c → NeverFails Supplied c
-    → AllByRecursion (IsAdmitted c) lives → AreLines c lives lines → AllByRecursion IsLineInBound lines
+    → AllByRecursion (IsAdmitted c) lives → AreLines c lives lines → AreLinesInBound lives lines
 each_line c [] [] formed met admitted are = tt
 each_line c [] (line ∷ lines) formed met admitted are = absurd are
 each_line c (life ∷ lives) [] formed met admitted are = absurd are
@@ -165,8 +164,7 @@ each_line c (life ∷ lives) (line ∷ lines) formed met admitted are =
     (line_keeps c life line formed met admitted.0 are.0, each_line c lives lines formed met admitted.1 are.1)
 
 pub lines_in_bound : (c : Content) (lines : List ThreadJobs) → IsContent c → NeverFails Supplied c
-    → AreLines c (lasting c) lines → All IsLineInBound lines
+    → AreLines c (lasting c) lines → AreLinesInBound (lasting c) lines
 lines_in_bound c lines formed met are =
-    All-from_recursion IsLineInBound lines
-    (each_line c (lasting c) lines formed met
-    (recursion_from_All (IsAdmitted c) (lasting c) (lasting_admitted c formed)) are)
+    each_line c (lasting c) lines formed met
+    (recursion_from_All (IsAdmitted c) (lasting c) (lasting_admitted c formed)) are

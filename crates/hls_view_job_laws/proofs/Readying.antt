@@ -17,8 +17,8 @@ use Rattle.hls_view_jobs.specs.declared.job.Sort.TheVariants.{Wakes, Blocks, End
 use Rattle.hls_view_jobs.specs.declared.job.Word.{Word}
 use Rattle.hls_view_jobs.specs.declared.job.Release.{Release}
 use Rattle.hls_view_jobs.specs.declared.job.Job.{Job}
-use Rattle.hls_view_jobs.specs.Words.{is_end, end_in}
-use Rattle.hls_view_jobs.specs.Jobs.{first, release_of, releases, until, IsJob, AreJobs}
+use Rattle.hls_view_jobs.specs.Words.{is_end, end_in, first}
+use Rattle.hls_view_jobs.specs.Jobs.{release_of, releases, until, IsJob, AreJobs}
 use Rattle.hls_view_jobs.specs.Threads.{Life, releases_of, AreJobsOf}
 use Rattle.hls_view_job_laws.specs.Jobs.{IsTickOf, IsReadyThroughout}
 use Rattle.hls_view_job_laws.specs.Lives.{is_endless}

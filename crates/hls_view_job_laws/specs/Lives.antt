@@ -1,12 +1,12 @@
 -- A thread of a report with its jobs.
-use Rattle.std.specs.Prelude.{◌≡◌, ℕ, ◌-◌, List, All, Contains, Bool, true, false, None}
+use Rattle.std.specs.Prelude.{◌≡◌, ℕ, ◌-◌, List, All, Contains, Bool, true, false, None, filter, length}
 use Rattle.hls_chron.specs.Ticks.{count}
 use Rattle.hls_report_text.specs.Content.{Content}
 use Rattle.hls_view_jobs.specs.declared.job.Sort.{Sort}
 use Rattle.hls_view_jobs.specs.declared.job.Sort.TheVariants.{Wakes}
 use Rattle.hls_view_jobs.specs.declared.job.Word.{Word}
 use Rattle.hls_view_jobs.specs.declared.job.Job.{Job}
-use Rattle.hls_view_jobs.specs.Words.{end_in}
+use Rattle.hls_view_jobs.specs.Words.{is_wake, end_in}
 use Rattle.hls_view_jobs.specs.Jobs.{releases, AreJobs}
 use Rattle.hls_view_jobs.specs.Threads.{Life, lasting}
 
@@ -19,6 +19,10 @@ pub record HasJobs (c : Content) (life : Life) (jobs : List Job) : Type 0 where
 abbrev pub is_endless : Sort → Bool
 is_endless (Wakes None) = true
 is_endless _ = false
+
+-- how often it is woken, the later releases of its periodic wakes with the wakes that were commanded
+abbrev pub releases_in : Life → ℕ
+releases_in life = length (filter (λ (word : Word). is_wake word.sort) life.words)
 
 -- each of its wakes does say so, and so releases a job
 abbrev pub IsWokenForJobs : Life → Type 0

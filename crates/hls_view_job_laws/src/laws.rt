@@ -1,6 +1,6 @@
 //! What jobs tell: each function's contract is a law, and its body does nothing.
 
-ghost use Rattle.std.specs.Prelude.{◌≡◌, ◌+◌, ◌≤◌, ◌<◌, ◌↔◌, ℕ, List, All, Any, true, sum, map, filter};
+ghost use Rattle.std.specs.Prelude.{◌≡◌, ◌+◌, ◌≤◌, ◌<◌, ◌↔◌, ℕ, List, All, Any, Contains, true, sum, map, filter};
 ghost use Rattle.hls_text.specs.Lines.{Text};
 ghost use Rattle.hls_scenario.specs.declared.scenario.Scenario.{Scenario};
 ghost use Rattle.hls_report_text.specs.Content.{Content};
@@ -21,8 +21,8 @@ ghost use Rattle.hls_view_jobs.specs.Jobs.{AreJobs};
 ghost use Rattle.hls_view_jobs.specs.Threads.{Life, lasting, AreJobsOf};
 ghost use Rattle.hls_view_jobs.specs.Summaries.{number, of_fate, IsSummary, IsLine, AreLines};
 ghost use Rattle.hls_view_job_laws.specs.Jobs.{IsTickOf, IsReadyThroughout, KeepsBound};
-ghost use Rattle.hls_view_job_laws.specs.Lives.{HasJobs, IsWokenForJobs, ticks_with};
-ghost use Rattle.hls_view_job_laws.specs.Lines.{IsLineInBound};
+ghost use Rattle.hls_view_job_laws.specs.Lives.{HasJobs, IsWokenForJobs, releases_in, ticks_with};
+ghost use Rattle.hls_view_job_laws.specs.Lines.{AreLinesInBound};
 ghost use Rattle.hls_view_job_laws.specs.Clauses.{NeverFails};
 
 /// In all ticks of a job its thread is ready.
@@ -31,10 +31,16 @@ pub fn threads_are_ready_in_their_jobs()
         All (IsReadyThroughout c name) jobs }
 {}
 
-/// The line of a thread has as many jobs as wakes exactly where each wake releases a job.
+/// The line of a thread has as many jobs as it has wakes and later releases of periodic ones exactly where each wake
+/// releases a job. In version 1, where no wake has a later release, that is how many wakes the line tells; else it
+/// tells no more wakes than jobs where each releases one.
 pub fn lines_tell_whether_each_wake_releases_a_job()
-    ensures { (c : Content) (life : Life) (line : ThreadJobs) → IsLine c life line →
-        (line.wakes ≡ line.summary.jobs) ↔ IsWokenForJobs life }
+    ensures releases { (c : Content) (life : Life) (line : ThreadJobs) → IsLine c life line →
+        (releases_in life ≡ line.summary.jobs) ↔ IsWokenForJobs life }
+    ensures wakes { (c : Content) (life : Life) (line : ThreadJobs) → IsContent c → Contains (lasting c) life →
+        IsLine c life line → c.version ≡ 1 → (line.wakes ≡ line.summary.jobs) ↔ IsWokenForJobs life }
+    ensures few { (c : Content) (life : Life) (line : ThreadJobs) → IsContent c → Contains (lasting c) life →
+        IsLine c life line → IsWokenForJobs life → line.wakes ≤ line.summary.jobs }
 {}
 
 /// Where each wake of a thread releases a job, the ticks of its jobs are exactly those in which it is ready.
@@ -68,11 +74,11 @@ pub fn jobs_keep_their_bounds()
         AreJobsOf c name jobs → All KeepsBound jobs }
 {}
 
-/// So the line of a thread tells no response above its bound; and no wake drops a job, where each wake releases one and
-/// they are no closer than the bound.
+/// So the line of a thread tells no response above its bound; and neither a wake nor a later release of one drops a
+/// job, where each wake releases one and they are no closer than the bound.
 pub fn lines_keep_their_bounds()
     ensures { (c : Content) (lines : List ThreadJobs) → IsContent c → NeverFails Supplied c →
-        AreLines c (lasting c) lines → All IsLineInBound lines }
+        AreLines c (lasting c) lines → AreLinesInBound (lasting c) lines }
 {}
 
 /// A legal report keeps all these bounds: those of its jobs, and those of its lines.
@@ -80,7 +86,7 @@ pub fn legal_reports_keep_their_bounds()
     ensures jobs { (s : Scenario) (given : ℕ) (boxes : Boxes) (c : Content) (name : Text) (jobs : List Job) →
         IsLegalContent s given boxes c → AreJobsOf c name jobs → All KeepsBound jobs }
     ensures lines { (s : Scenario) (given : ℕ) (boxes : Boxes) (c : Content) (lines : List ThreadJobs) →
-        IsLegalContent s given boxes c → AreLines c (lasting c) lines → All IsLineInBound lines }
+        IsLegalContent s given boxes c → AreLines c (lasting c) lines → AreLinesInBound (lasting c) lines }
 {}
 
 /// In a legal report what the jobs of a thread got adds up to the ticks in which it is served, where each wake of it

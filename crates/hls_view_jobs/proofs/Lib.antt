@@ -1,4 +1,5 @@
 pub mod WordLaws
+pub mod AgainLaws
 pub mod WordsSound
 pub mod FateLaws
 pub mod StayLaws

@@ -28,15 +28,15 @@ of_append name one two =
     ap (flat_map (λ (life : Life). releases life.words)) (filter_append (is_named name) one two)
     ∙ flat_map-append (λ (life : Life). releases life.words) (filter (is_named name) one) (filter (is_named name) two)
 
-of_next : (name : Text) (answered : List Answered) (all : List Admission) (i : ℕ) (one : Admission)
+of_next : (name : Text) (horizon : ℕ) (answered : List Answered) (all : List Admission) (i : ℕ) (one : Admission)
     → i < length all → one ≡ get_or all i one
-    → of_lives name (map (life_by answered) (take (i + 1) all))
-    ≡ of_lives name (map (life_by answered) (take i all)) ++ of_lives name (life_by answered one ∷ [])
-of_next name answered all i one lt is =
-    ap (λ (l : List Admission). of_lives name (map (life_by answered) l))
+    → of_lives name (map (life_by horizon answered) (take (i + 1) all))
+    ≡ of_lives name (map (life_by horizon answered) (take i all)) ++ of_lives name (life_by horizon answered one ∷ [])
+of_next name horizon answered all i one lt is =
+    ap (λ (l : List Admission). of_lives name (map (life_by horizon answered) l))
     (take_more all i one lt ∙ ap (λ (x : Admission). take i all ++ x ∷ []) (sym is))
-    ∙ ap (of_lives name) (map-append (life_by answered) (take i all) (one ∷ []))
-    ∙ of_append name (map (life_by answered) (take i all)) (life_by answered one ∷ [])
+    ∙ ap (of_lives name) (map-append (life_by horizon answered) (take i all) (one ∷ []))
+    ∙ of_append name (map (life_by horizon answered) (take i all)) (life_by horizon answered one ∷ [])
 
 of_one : (name : Text) (life : Life) → is_named name life ≡ true → of_lives name (life ∷ []) ≡ releases life.words
 of_one name life named = rw named (append-nil (releases life.words))
@@ -45,38 +45,38 @@ of_other : (name : Text) (life : Life) → is_named name life ≡ false → of_l
 of_other name life other = rw other refl
 
 pub named_next : (c : Content) (name : Text) (all : List Admission) (i : ℕ) (one : Admission) (old more new : List Job)
-    → i < length all → one ≡ get_or all i one → is_named name (life_by c.answered one) ≡ true
-    → AreJobs c name (releases (life_by c.answered one).words) more → new ≡ old ++ more
-    → AreJobs c name (of_lives name (map (life_by c.answered) (take i all))) old
-    → AreJobs c name (of_lives name (map (life_by c.answered) (take (i + 1) all))) new
+    → i < length all → one ≡ get_or all i one → is_named name (life_by c.horizon c.answered one) ≡ true
+    → AreJobs c name (releases (life_by c.horizon c.answered one).words) more → new ≡ old ++ more
+    → AreJobs c name (of_lives name (map (life_by c.horizon c.answered) (take i all))) old
+    → AreJobs c name (of_lives name (map (life_by c.horizon c.answered) (take (i + 1) all))) new
 named_next c name all i one old more new lt is named found put are =
     subst (λ (l : List Release). AreJobs c name l new)
-    (sym (of_next name c.answered all i one lt is
-    ∙ ap (λ (l : List Release). of_lives name (map (life_by c.answered) (take i all)) ++ l)
-    (of_one name (life_by c.answered one) named)))
-    (subst (AreJobs c name (of_lives name (map (life_by c.answered) (take i all))
-    ++ releases (life_by c.answered one).words)) (sym put)
-    (jobs_append c name (of_lives name (map (life_by c.answered) (take i all)))
-    (releases (life_by c.answered one).words) old more are found))
+    (sym (of_next name c.horizon c.answered all i one lt is
+    ∙ ap (λ (l : List Release). of_lives name (map (life_by c.horizon c.answered) (take i all)) ++ l)
+    (of_one name (life_by c.horizon c.answered one) named)))
+    (subst (AreJobs c name (of_lives name (map (life_by c.horizon c.answered) (take i all))
+    ++ releases (life_by c.horizon c.answered one).words)) (sym put)
+    (jobs_append c name (of_lives name (map (life_by c.horizon c.answered) (take i all)))
+    (releases (life_by c.horizon c.answered one).words) old more are found))
 
 pub other_next : (c : Content) (name : Text) (all : List Admission) (i : ℕ) (one : Admission) (old new : List Job)
-    → i < length all → one ≡ get_or all i one → is_named name (life_by c.answered one) ≡ false → new ≡ old
-    → AreJobs c name (of_lives name (map (life_by c.answered) (take i all))) old
-    → AreJobs c name (of_lives name (map (life_by c.answered) (take (i + 1) all))) new
+    → i < length all → one ≡ get_or all i one → is_named name (life_by c.horizon c.answered one) ≡ false → new ≡ old
+    → AreJobs c name (of_lives name (map (life_by c.horizon c.answered) (take i all))) old
+    → AreJobs c name (of_lives name (map (life_by c.horizon c.answered) (take (i + 1) all))) new
 other_next c name all i one old new lt is other put are =
     subst (λ (l : List Release). AreJobs c name l new)
-    (sym (of_next name c.answered all i one lt is
-    ∙ ap (λ (l : List Release). of_lives name (map (life_by c.answered) (take i all)) ++ l)
-    (of_other name (life_by c.answered one) other)
-    ∙ append-nil (of_lives name (map (life_by c.answered) (take i all)))))
-    (subst (AreJobs c name (of_lives name (map (life_by c.answered) (take i all)))) (sym put) are)
+    (sym (of_next name c.horizon c.answered all i one lt is
+    ∙ ap (λ (l : List Release). of_lives name (map (life_by c.horizon c.answered) (take i all)) ++ l)
+    (of_other name (life_by c.horizon c.answered one) other)
+    ∙ append-nil (of_lives name (map (life_by c.horizon c.answered) (take i all)))))
+    (subst (AreJobs c name (of_lives name (map (life_by c.horizon c.answered) (take i all)))) (sym put) are)
 
 pub named_all : (c : Content) (name : Text) (all : List Admission) (i : ℕ) (jobs : List Job) → length all ≤ i
-    → map (life_by c.answered) all ≡ lasting c
-    → AreJobs c name (of_lives name (map (life_by c.answered) (take i all))) jobs → AreJobsOf c name jobs
+    → map (life_by c.horizon c.answered) all ≡ lasting c
+    → AreJobs c name (of_lives name (map (life_by c.horizon c.answered) (take i all))) jobs → AreJobsOf c name jobs
 named_all c name all i jobs end whole are =
     subst (λ (l : List Life). AreJobs c name (of_lives name l) jobs)
-    (ap (map (life_by c.answered)) (take_all i all end) ∙ whole) are
+    (ap (map (life_by c.horizon c.answered)) (take_all i all end) ∙ whole) are
 
 -- ---- lines
 
@@ -88,20 +88,24 @@ lines_append c (x ∷ all) more [] others are rest = absurd are
 lines_append c (x ∷ all) more (l ∷ some) others are rest = (are.0, lines_append c all more some others are.1 rest)
 
 pub lines_next : (c : Content) (all : List Admission) (i : ℕ) (one : Admission) (line : ThreadJobs)
-    (old new : List ThreadJobs) → i < length all → one ≡ get_or all i one → IsLine c (life_by c.answered one) line
-    → new ≡ old ++ line ∷ [] → AreLines c (map (life_by c.answered) (take i all)) old
-    → AreLines c (map (life_by c.answered) (take (i + 1) all)) new
+    (old new : List ThreadJobs) → i < length all → one ≡ get_or all i one
+    → IsLine c (life_by c.horizon c.answered one) line → new ≡ old ++ line ∷ []
+    → AreLines c (map (life_by c.horizon c.answered) (take i all)) old
+    → AreLines c (map (life_by c.horizon c.answered) (take (i + 1) all)) new
 lines_next c all i one line old new lt is made put are =
     subst (λ (l : List Life). AreLines c l new)
-    (sym (ap (map (life_by c.answered)) (take_more all i one lt
+    (sym (ap (map (life_by c.horizon c.answered)) (take_more all i one lt
     ∙ ap (λ (x : Admission). take i all ++ x ∷ []) (sym is))
-    ∙ map-append (life_by c.answered) (take i all) (one ∷ [])))
-    (subst (AreLines c (map (life_by c.answered) (take i all) ++ life_by c.answered one ∷ [])) (sym put)
-    (lines_append c (map (life_by c.answered) (take i all)) (life_by c.answered one ∷ []) old (line ∷ []) are
+    ∙ map-append (life_by c.horizon c.answered) (take i all) (one ∷ [])))
+    (subst (AreLines c (map (life_by c.horizon c.answered) (take i all) ++ life_by c.horizon c.answered one ∷ []))
+    (sym put)
+    (lines_append c (map (life_by c.horizon c.answered) (take i all)) (life_by c.horizon c.answered one ∷ []) old
+    (line ∷ []) are
     (made, tt)))
 
 pub lines_all : (c : Content) (all : List Admission) (i : ℕ) (lines : List ThreadJobs) → length all ≤ i
-    → map (life_by c.answered) all ≡ lasting c → AreLines c (map (life_by c.answered) (take i all)) lines
-    → AreLines c (lasting c) lines
+    → map (life_by c.horizon c.answered) all ≡ lasting c
+    → AreLines c (map (life_by c.horizon c.answered) (take i all)) lines → AreLines c (lasting c) lines
 lines_all c all i lines end whole are =
-    subst (λ (l : List Life). AreLines c l lines) (ap (map (life_by c.answered)) (take_all i all end) ∙ whole) are
+    subst (λ (l : List Life). AreLines c l lines)
+    (ap (map (life_by c.horizon c.answered)) (take_all i all end) ∙ whole) are

@@ -15,8 +15,8 @@ use Rattle.hls_view_jobs.specs.declared.job.Release.{Release}
 use Rattle.hls_view_jobs.specs.declared.job.Fate.{Fate}
 use Rattle.hls_view_jobs.specs.declared.job.Fate.TheVariants.{Done, Dropped, Open}
 use Rattle.hls_view_jobs.specs.declared.job.Job.{Job}
-use Rattle.hls_view_jobs.specs.Words.{words_on}
-use Rattle.hls_view_jobs.specs.Jobs.{first, release_of, releases, until, IsFate, AreJobs}
+use Rattle.hls_view_jobs.specs.Words.{words_on, first}
+use Rattle.hls_view_jobs.specs.Jobs.{release_of, releases, until, IsFate, AreJobs}
 use Rattle.hls_view_jobs.specs.Inside.Sound.{AreWords}
 use Rattle.hls_view_jobs.proofs.WordsSound.{words_sound}
 
@@ -150,24 +150,24 @@ behind version horizon last [] a after are = are.4
 behind version horizon last (b ∷ before) a after are = behind version horizon b.tick before a after are.4
 
 orders : (c : Content) (before : List Answered) (a : Answered) (after : List Answered) (name : Text) → IsContent c
-    → c.answered ≡ before ++ a ∷ after → AreApart c.horizon (releases (words_on name after))
+    → c.answered ≡ before ++ a ∷ after → AreApart c.horizon (releases (words_on c.horizon name after))
 orders c before a after name formed split =
-    releases_apart c.horizon a.tick (words_on name after)
+    releases_apart c.horizon a.tick (words_on c.horizon name after)
     (words_sound c.version c.horizon a.tick name after
     (behind c.version c.horizon 0 before a after (subst (AreAnswered c.version c.horizon 0) split formed.answered)))
 
 pub jobs_apart : (c : Content) (before : List Answered) (a : Answered) (after : List Answered) (name : Text)
     (jobs : List Job) (i j : ℕ) (one other : Job) → IsContent c → c.answered ≡ before ++ a ∷ after
-    → AreJobs c name (releases (words_on name after)) jobs → i < j → slice_get jobs i ≡ Some one
+    → AreJobs c name (releases (words_on c.horizon name after)) jobs → i < j → slice_get jobs i ≡ Some one
     → slice_get jobs j ≡ Some other → one.release + one.ticks ≤ other.release
 jobs_apart c before a after name jobs i j one other formed split are lt here there =
-    apart_at c name (releases (words_on name after)) jobs (orders c before a after name formed split) are i j one
-    other lt
-    here there
+    apart_at c name (releases (words_on c.horizon name after)) jobs (orders c before a after name formed split) are i j
+    one other lt here there
 
 pub open_last : (c : Content) (before : List Answered) (a : Answered) (after : List Answered) (name : Text)
     (jobs : List Job) (i : ℕ) (one : Job) → IsContent c → c.answered ≡ before ++ a ∷ after
-    → AreJobs c name (releases (words_on name after)) jobs → slice_get jobs i ≡ Some one → one.fate ≡ Open
+    → AreJobs c name (releases (words_on c.horizon name after)) jobs → slice_get jobs i ≡ Some one → one.fate ≡ Open
     → i + 1 ≡ length jobs
 open_last c before a after name jobs i one formed split are here left =
-    open_at c name (releases (words_on name after)) jobs (orders c before a after name formed split) are i one here left
+    open_at c name (releases (words_on c.horizon name after)) jobs (orders c before a after name formed split) are i one
+    here left

@@ -1,4 +1,4 @@
--- Jobs: each wake for so many ticks releases one.
+-- Jobs: each wake for so many ticks releases one, and so does each later release of a periodic wake.
 use Rattle.std.specs.Prelude.{◌≡◌, ℕ, ◌+◌, ◌-◌, ◌≤◌, ◌<◌, List, [], ◌∷◌, ◌++◌, Option, Some, None, Bool}
 use Rattle.std.specs.Prelude.{◌&&◌, nat_le, find, option_map, zero, suc}
 use Rattle.std.specs.Str.{bytes_eq}
@@ -16,13 +16,10 @@ use Rattle.hls_view_jobs.specs.declared.job.Release.{Release}
 use Rattle.hls_view_jobs.specs.declared.job.Fate.{Fate}
 use Rattle.hls_view_jobs.specs.declared.job.Fate.TheVariants.{Done, Dropped, Open}
 use Rattle.hls_view_jobs.specs.declared.job.Job.{Job}
+use Rattle.hls_view_jobs.specs.Words.{first}
 use Rattle.hls_view_jobs.specs.Bounds.{promised_in}
 
 -- ---- releases
-
-abbrev pub first : List Word → Option Word
-first [] = None
-first (word ∷ words) = Some word
 
 -- a wake for so many ticks releases a job, and lasts up to the next word
 abbrev pub release_of : (tick : ℕ) → Sort → (next : Option Word) → List Release

@@ -3,7 +3,6 @@ use Rattle.std.specs.Prelude.{◌≡◌, ℕ, ◌-◌, ◌≤◌, ◌<◌, ◌�
 use Rattle.std.specs.Prelude.{length, get_or, map, filter, sum, nat_le}
 use Rattle.hls_frac.specs.Frac.{IsQuotient}
 use Rattle.hls_report_text.specs.Content.{Content}
-use Rattle.hls_view_jobs.specs.declared.job.Word.{Word}
 use Rattle.hls_view_jobs.specs.declared.job.Fate.{Fate}
 use Rattle.hls_view_jobs.specs.declared.job.Fate.TheVariants.{Done, Dropped, Open}
 use Rattle.hls_view_jobs.specs.declared.job.Job.{Job}
@@ -132,7 +131,7 @@ pub record IsLine (c : Content) (life : Life) (line : ThreadJobs) : Type 0 where
   pub name : line.name ≡ life.name
   pub from : line.from ≡ life.from
   pub to : line.to ≡ end_in c.horizon life.words - 1
-  pub wakes : line.wakes ≡ length (filter (λ (w : Word). is_wake w.sort) life.words)
+  pub wakes : line.wakes ≡ life.wakes
   pub jobs : List Job
   pub are : AreJobs c life.name (releases life.words) jobs
   pub summary : IsSummary jobs line.summary

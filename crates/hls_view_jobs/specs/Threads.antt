@@ -10,14 +10,16 @@ use Rattle.hls_legal.specs.Commands.{is_done}
 use Rattle.hls_view_jobs.specs.declared.job.Word.{Word}
 use Rattle.hls_view_jobs.specs.declared.job.Release.{Release}
 use Rattle.hls_view_jobs.specs.declared.job.Job.{Job}
-use Rattle.hls_view_jobs.specs.Words.{words_on, end_in}
+use Rattle.hls_view_jobs.specs.Words.{words_on, wakes_on, end_in}
 use Rattle.hls_view_jobs.specs.Jobs.{releases, AreJobs}
 
--- its name, the tick of its admission, and the words on it from there on
+-- its name, the tick of its admission, the words on it from there on, and how many of these are wakes that were
+-- commanded
 pub record Life : Type 0 where
   pub name : Text
   pub from : ℕ
   pub words : List Word
+  pub wakes : ℕ
 
 -- whom a command admits
 abbrev pub admits : Command → Option Text
@@ -27,21 +29,22 @@ admits _ = None
 abbrev pub admitted : Answered → Option Text
 admitted a = if is_done a.answer then admits a.command else None
 
-abbrev pub life_of : (tick : ℕ) → (after : List Answered) → Option Text → List Life
-life_of tick after None = []
-life_of tick after (Some name) = record { name = name; from = tick; words = words_on name after } ∷ []
+abbrev pub life_of : (horizon tick : ℕ) → (after : List Answered) → Option Text → List Life
+life_of horizon tick after None = []
+life_of horizon tick after (Some name) =
+    record { name = name; from = tick; words = words_on horizon name after; wakes = wakes_on name after } ∷ []
 
 -- each thread that is admitted, in the order of admissions
-abbrev pub lives : List Answered → List Life
-lives [] = []
-lives (a ∷ after) = life_of a.tick after (admitted a) ++ lives after
+abbrev pub lives : (horizon : ℕ) → List Answered → List Life
+lives horizon [] = []
+lives horizon (a ∷ after) = life_of horizon a.tick after (admitted a) ++ lives horizon after
 
 abbrev pub has_tick : (horizon : ℕ) → Life → Bool
 has_tick horizon life = nat_lt life.from (end_in horizon life.words)
 
 -- those that have a tick
 abbrev pub lasting : Content → List Life
-lasting c = filter (has_tick c.horizon) (lives c.answered)
+lasting c = filter (has_tick c.horizon) (lives c.horizon c.answered)
 
 -- ---- of one name
 

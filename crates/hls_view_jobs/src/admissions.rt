@@ -53,7 +53,7 @@ fn is_end_of(a: &Answered, name: &Name) -> bool
 /// The tick before which the thread of a name is there, by the commands from a place on.
 fn end_from(horizon: u32, answered: &[Answered], place: usize, name: &Name) -> u32
     requires { place ≤ length answered.now }
-    ensures { result ≡ end_in horizon (words_on name.now (drop place answered.now)) }
+    ensures { result ≡ end_in horizon (words_on horizon name.now (drop place answered.now)) }
 {
     for at in place..answered.len() {
         let a = &answered[at];
@@ -69,9 +69,9 @@ fn admission_at(report: &Report, place: usize) -> Option<Admission>
     requires formed { IsWellFormed report.now }
     requires within { place < length report.now.answered }
     ensures is { IfSome result (IsAdmission (content_of report.now)) }
-    ensures lives { filter (has_tick report.now.horizon) (lives (drop place report.now.answered))
-        ≡ map (life_by report.now.answered) (listed result)
-        ++ filter (has_tick report.now.horizon) (lives (drop (place + 1) report.now.answered)) }
+    ensures lives { filter (has_tick report.now.horizon) (lives report.now.horizon (drop place report.now.answered))
+        ≡ map (life_by report.now.horizon report.now.answered) (listed result)
+        ++ filter (has_tick report.now.horizon) (lives report.now.horizon (drop (place + 1) report.now.answered)) }
 {
     let answered = report.answered.items();
     let a = &answered[place];
@@ -110,7 +110,8 @@ fn add(all: &mut Vec<Admission>, one: Option<Admission>) -> Result<(), AllocErro
 pub(crate) fn admissions(alloc: Global, report: &Report) -> Result<Vec<Admission>, AllocError>
     requires { IsWellFormed report.now }
     ensures are { IfOk result (λ all. All (IsAdmission (content_of report.now)) all.items) }
-    ensures lives { IfOk result (λ all. map (life_by report.now.answered) all.items ≡ lasting (content_of report.now)) }
+    ensures lives { IfOk result (λ all.
+        map (life_by report.now.horizon report.now.answered) all.items ≡ lasting (content_of report.now)) }
 {
     let mut all = Vec::new(alloc);
     for place in 0..report.answered.items().len() {

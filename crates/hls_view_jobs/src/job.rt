@@ -9,14 +9,14 @@ pub enum Sort {
     Ends,
 }
 
-/// A command on a thread that was carried out, and its tick.
+/// A command on a thread that was carried out, or a later release of a periodic wake, and its tick.
 #[derive(Clone, Copy, Debug, PartialEq, Eq)]
 pub struct Word {
     pub tick: u32,
     pub sort: Sort,
 }
 
-/// A wake for so many ticks, and the next word on its thread, if there is one.
+/// A wake for so many ticks, or a later release of a periodic one, and the next word on its thread, if there is one.
 #[derive(Clone, Copy, Debug, PartialEq, Eq)]
 pub struct Release {
     pub tick: u32,
@@ -35,11 +35,11 @@ pub enum Fate {
     Open,
 }
 
-/// A wake for so many ticks, and what became of it.
+/// A wake for so many ticks, or a later release of a periodic one, and what became of it.
 #[derive(Clone, Copy, Debug, PartialEq, Eq)]
 pub struct Job {
     pub release: u32,
-    /// For how many ticks the wake is.
+    /// For how many ticks it is.
     pub asked: u32,
     /// How many ticks it has, from its release on: those up to the one in which it is done, or else all before the
     /// next word on its thread, or before the horizon.

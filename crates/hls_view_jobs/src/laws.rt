@@ -23,7 +23,7 @@ ghost use Rattle.hls_view_jobs.specs.Summaries.{IsSummary};
 pub fn jobs_have_no_tick_in_common()
     ensures { (c : Content) (before : List Answered) (a : Answered) (after : List Answered) (name : Text)
         (jobs : List Job) (i j : ℕ) (one other : Job) → IsContent c → c.answered ≡ before ++ a ∷ after →
-        AreJobs c name (releases (words_on name after)) jobs → i < j → slice_get jobs i ≡ Some one →
+        AreJobs c name (releases (words_on c.horizon name after)) jobs → i < j → slice_get jobs i ≡ Some one →
         slice_get jobs j ≡ Some other → one.release + one.ticks ≤ other.release }
 {}
 
@@ -31,7 +31,7 @@ pub fn jobs_have_no_tick_in_common()
 pub fn only_the_last_job_may_be_open()
     ensures { (c : Content) (before : List Answered) (a : Answered) (after : List Answered) (name : Text)
         (jobs : List Job) (i : ℕ) (one : Job) → IsContent c → c.answered ≡ before ++ a ∷ after →
-        AreJobs c name (releases (words_on name after)) jobs → slice_get jobs i ≡ Some one → one.fate ≡ Open →
+        AreJobs c name (releases (words_on c.horizon name after)) jobs → slice_get jobs i ≡ Some one → one.fate ≡ Open →
         i + 1 ≡ length jobs }
 {}
 

@@ -8,7 +8,7 @@ use hls_frac::Frac;
 pub enum Which {
     Done,
     Dropped,
-    /// Those that a wake dropped: they were unfinished when the next work came.
+    /// Those that a wake, or a later release of a periodic one, dropped: they were unfinished when the next work came.
     ByWake,
     Open,
 }
@@ -50,7 +50,7 @@ pub struct Summary {
     pub bound: Option<u128>,
 }
 
-/// A thread from its first tick to its last: how often it was woken, and what its jobs come to.
+/// A thread from its first tick to its last: how many commands woke it, and what its jobs come to.
 #[derive(Clone, Copy, Debug, PartialEq, Eq)]
 pub struct ThreadJobs {
     pub name: Name,

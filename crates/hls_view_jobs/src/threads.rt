@@ -14,8 +14,8 @@ use crate::job::{Job, Word};
 use crate::releases::releases_of;
 use crate::sources::{Sources, stays_named};
 use crate::summary::ThreadJobs;
-use crate::totals::{summary_of, wakes_in};
-use crate::words::words_on;
+use crate::totals::summary_of;
+use crate::words::{wakes_on, words_on};
 use hls_chron::Name;
 use hls_report_text::Report;
 use std::alloc::{AllocError, Global};
@@ -50,12 +50,15 @@ fn jobs_on(
 /// The words on a thread, from its admission to its end.
 fn words_of(alloc: Global, report: &Report, thread: &Admission) -> Result<Vec<Word>, AllocError>
     requires { IsAdmission (content_of report.now) thread.now }
-    ensures words { IfOk result (λ words. words.items ≡ (life_by report.now.answered thread.now).words) }
+    ensures words { IfOk result (λ words.
+        words.items ≡ (life_by report.now.horizon report.now.answered thread.now).words) }
     ensures sound { IfOk result (λ words. AreWords report.now.horizon 0 words.items) }
 {
+    let answered = report.answered.items();
     let words = words_on(
         alloc,
-        report.answered.items(),
+        report.horizon,
+        answered,
         thread.place + 1,
         &thread.name,
     )?;
@@ -74,7 +77,7 @@ fn jobs_in(
     requires thread { IsAdmission (content_of report.now) thread.now }
     ensures sources { OnOk result (AreSources report.now sources.new) }
     ensures jobs { IfOk result (λ jobs. AreJobs (content_of report.now) thread.now.name
-        (releases (life_by report.now.answered thread.now).words) jobs.items) }
+        (releases (life_by report.now.horizon report.now.answered thread.now).words) jobs.items) }
 {
     let words = words_of(alloc, report, thread)?;
     jobs_on(alloc, report, sources, &thread.name, &words)
@@ -91,7 +94,7 @@ fn jobs_among(
     requires formed { IsWellFormed report.now }
     requires sources { AreSources report.now sources.old }
     requires threads { All (IsAdmission (content_of report.now)) threads.now }
-    requires all { map (life_by report.now.answered) threads.now ≡ lasting (content_of report.now) }
+    requires all { map (life_by report.now.horizon report.now.answered) threads.now ≡ lasting (content_of report.now) }
     ensures { IfOk result (λ jobs. AreJobsOf (content_of report.now) name.now jobs.items) }
 {
     let mut jobs = Vec::new(alloc);
@@ -129,12 +132,13 @@ fn line_of(
     requires sources { AreSources report.now sources.old }
     requires thread { IsAdmission (content_of report.now) thread.now }
     ensures sources { OnOk result (AreSources report.now sources.new) }
-    ensures line { IfOk result (IsLine (content_of report.now) (life_by report.now.answered thread.now)) }
+    ensures line { IfOk result
+        (IsLine (content_of report.now) (life_by report.now.horizon report.now.answered thread.now)) }
 {
     let words = words_of(alloc, report, thread)?;
     let jobs = jobs_on(alloc, report, sources, &thread.name, &words)?;
     let summary = summary_of(alloc, &jobs)?;
-    let wakes = wakes_in(&words);
+    let wakes = wakes_on(report.answered.items(), thread.place + 1, &thread.name);
     Ok(ThreadJobs {
         name: thread.name,
         from: thread.from,
@@ -154,7 +158,7 @@ fn lines_among(
     requires formed { IsWellFormed report.now }
     requires sources { AreSources report.now sources.old }
     requires threads { All (IsAdmission (content_of report.now)) threads.now }
-    requires all { map (life_by report.now.answered) threads.now ≡ lasting (content_of report.now) }
+    requires all { map (life_by report.now.horizon report.now.answered) threads.now ≡ lasting (content_of report.now) }
     ensures { IfOk result (λ lines. AreLines (content_of report.now) (lasting (content_of report.now)) lines.items) }
 {
     let mut lines = Vec::new(alloc);

@@ -1,12 +1,10 @@
 // What the jobs of a thread come to.
-ghost use Rattle.std.specs.Prelude.{◌≡◌, IfOk, filter, length};
-ghost use Rattle.hls_view_jobs.specs.Words.{is_wake};
-ghost use Rattle.hls_view_jobs.specs.declared.job.Word.{Word as WordRecord};
+ghost use Rattle.std.specs.Prelude.{◌≡◌, IfOk, filter};
 ghost use Rattle.hls_view_jobs.specs.Summaries.{has_fate, of_fate, has_ticks, AreResponsesOf, IsGreatest};
 ghost use Rattle.hls_view_jobs.specs.Summaries.{IsSummary};
 ghost use Rattle.hls_view_jobs.specs.Inside.Running.{longer, greater, IsLongestWhole};
 
-use crate::job::{Fate, Job, Word};
+use crate::job::{Fate, Job};
 use crate::numbers::{gaps, least, most, numbers, sum_of};
 use crate::summary::{Number, Responses, Summary, Which};
 use hls_frac::Frac;
@@ -51,19 +49,6 @@ fn with_ticks(alloc: Global, jobs: &[Job]) -> Result<Vec<Job>, AllocError>
         }
     }
     Ok(all)
-}
-
-/// How many words wake the thread.
-pub(crate) fn wakes_in(words: &[Word]) -> usize
-    ensures { result ≡ length (filter (λ (w : WordRecord). is_wake w.sort) words.now) }
-{
-    let mut wakes = 0;
-    for word in words {
-        if word.sort.is_wake() {
-            wakes += 1;
-        }
-    }
-    wakes
 }
 
 /// The longer of a job, if there is one, and a later one.

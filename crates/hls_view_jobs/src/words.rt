@@ -1,13 +1,22 @@
 // The words on a thread.
-ghost use Rattle.std.specs.Prelude.{◌≡◌, ◌+◌, ◌≤◌, ◌<◌, ◌++◌, ◌∷◌, [], drop, IfOk, OnOk, length};
+ghost use Rattle.std.specs.Prelude.{◌≡◌, ◌+◌, ◌≤◌, ◌<◌, ◌++◌, ◌∷◌, [], Some, drop, IfOk, OnOk, length};
+ghost use Rattle.hls_chron.specs.Ticks.{one_if};
 ghost use Rattle.hls_legal.specs.Commands.{has_done, rouses};
-ghost use Rattle.hls_view_jobs.specs.Words.{sort_of, word_of, is_end, is_wake, words_on, end_in};
+ghost use Rattle.hls_view_jobs.specs.Words.{sort_of, word_of, is_end, is_wake, words_on, wakes_on, end_in};
+ghost use Rattle.hls_view_jobs.specs.Words.{repeat_of, first, last_by, later};
 
 use crate::job::{Sort, Word};
 use hls_chron::Name;
 use hls_report_text::{Answer, Answered};
 use hls_scenario::Command;
 use std::alloc::{AllocError, Global};
+
+/// A periodic wake is for so many ticks in every so many.
+#[derive(Clone, Copy, Debug, PartialEq, Eq)]
+pub struct Repeat {
+    pub period: u32,
+    pub ticks: u32,
+}
 
 /// What a command says of the thread that it rouses.
 pub(crate) fn sort_of(command: &Command) -> Sort
@@ -17,6 +26,22 @@ pub(crate) fn sort_of(command: &Command) -> Sort
         Command::Wake { burst, .. } => Sort::Wakes { burst: *burst },
         Command::Block { .. } => Sort::Blocks,
         _ => Sort::Ends,
+    }
+}
+
+fn repeat_of(command: &Command) -> Option<Repeat>
+    ensures { result ≡ repeat_of command.now }
+{
+    match command {
+        Command::Wake {
+            every: Some(period),
+            burst: Some(ticks),
+            ..
+        } => Some(Repeat {
+            period: *period,
+            ticks: *ticks,
+        }),
+        _ => None,
     }
 }
 
@@ -38,6 +63,17 @@ impl Sort {
         match self {
             Sort::Wakes { .. } => true,
             Sort::Blocks | Sort::Ends => false,
+        }
+    }
+
+    /// How many wakes it is, one or none.
+    fn wakes(&self) -> usize
+        ensures is { result ≡ one_if (is_wake self.now) }
+        ensures few { result ≤ 1 }
+    {
+        match self {
+            Sort::Wakes { .. } => 1,
+            Sort::Blocks | Sort::Ends => 0,
         }
     }
 }
@@ -65,18 +101,71 @@ pub(crate) fn has_roused(a: &Answered, name: &Name) -> bool
     }
 }
 
+/// The last tick that may have a release of the thread of a name, before these commands.
+fn last_before(horizon: u32, after: &[Answered], name: &Name) -> u32
+    ensures { result ≡ last_by horizon (first (words_on horizon name.now after.now)) }
+{
+    for a in after {
+        if has_roused(a, name) {
+            return a.tick;
+        }
+    }
+    horizon.saturating_sub(1)
+}
+
+/// Puts the later releases of a wake in a tick, up to a last tick, behind all others.
+fn put_again(words: &mut Vec<Word>, tick: u32, last: u32, repeat: &Repeat) -> Result<(), AllocError>
+    ensures { OnOk result (words.new.items ≡ words.old.items ++ later tick last (Some repeat.now)) }
+{
+    if repeat.period == 0 {
+        return Ok(());
+    }
+    let sort = Sort::Wakes {
+        burst: Some(repeat.ticks),
+    };
+    let many = last.saturating_sub(tick) / repeat.period;
+    let mut at = tick;
+    for done in 0..many {
+        at += repeat.period;
+        words.push(Word { tick: at, sort })?;
+    }
+    Ok(())
+}
+
+/// Puts the later releases of a command, before those commands that come after it, behind all others.
+///
+/// # Errors
+/// Returns `AllocError` for want of memory.
+pub fn put_later(
+    words: &mut Vec<Word>,
+    horizon: u32,
+    a: &Answered,
+    after: &[Answered],
+    name: &Name,
+) -> Result<(), AllocError>
+    ensures { OnOk result (words.new.items ≡ words.old.items
+        ++ later a.now.tick (last_by horizon (first (words_on horizon name.now after.now))) (repeat_of a.now.command)) }
+{
+    if let Some(repeat) = repeat_of(&a.command) {
+        let last = last_before(horizon, after, name);
+        put_again(words, a.tick, last, &repeat)?;
+    }
+    Ok(())
+}
+
 /// The words on the thread of a name, of the commands from a place on, up to its end.
 ///
 /// # Errors
 /// Returns `AllocError` for want of memory.
-pub(crate) fn words_on(
+pub fn words_on(
     alloc: Global,
+    horizon: u32,
     answered: &[Answered],
     place: usize,
     name: &Name,
 ) -> Result<Vec<Word>, AllocError>
     requires { place ≤ length answered.now }
-    ensures { IfOk result (λ words. words.items ≡ words_on name.now (drop place answered.now)) }
+    ensures { IfOk result (λ words. words.items ≡ words_on horizon name.now (drop place answered.now)) }
 {
     let mut words = Vec::new(alloc);
     for at in place..answered.len() {
@@ -87,7 +176,27 @@ pub(crate) fn words_on(
             if sort.is_end() {
                 return Ok(words);
             }
+            put_later(&mut words, horizon, a, &answered[at + 1..], name)?;
         }
     }
     Ok(words)
+}
+
+/// How many of the commands from a place on wake the thread of a name, up to its end.
+pub(crate) fn wakes_on(answered: &[Answered], place: usize, name: &Name) -> usize
+    requires { place ≤ length answered.now }
+    ensures { result ≡ wakes_on name.now (drop place answered.now) }
+{
+    let mut wakes = 0;
+    for at in place..answered.len() {
+        let a = &answered[at];
+        if has_roused(a, name) {
+            let sort = sort_of(&a.command);
+            if sort.is_end() {
+                return wakes;
+            }
+            wakes += sort.wakes();
+        }
+    }
+    wakes
 }

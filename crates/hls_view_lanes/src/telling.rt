@@ -94,7 +94,8 @@ impl Telling {
     fn go_to(&mut self, alloc: Global, report: &Report, tick: u32) -> Result<(), AllocError>
         requires formed { IsWellFormed report.now }
         requires telling { IsTelling report.now self.old.rows.items self.old }
-        ensures { OnOk result (IsTellingOf report.now self.old.rows.items (ways_at (content_of report.now) tick) self.new) }
+        ensures { OnOk result
+            (IsTellingOf report.now self.old.rows.items (ways_at (content_of report.now) tick) self.new) }
     {
         if self.following.go_to(alloc, report, tick)? {
             return self.renew(alloc);

@@ -389,5 +389,5 @@ listed-after tree threads place (said.Move name perch) all t e l =
     same-listed (with_moved tree perch (member_of tree name)) threads (with_reopened place ns all)
     (moved-listed tree threads name perch (with_reopened place ns all) (member_of tree name) refl t.ranked.once
     (relisted place ns all tree threads (moved-once tree threads name t.ranked.once l.threads_once l.running) l))
-listed-after tree threads place (said.Wake name burst) all t e l = same-listed tree threads all l
+listed-after tree threads place (said.Wake name every burst) all t e l = same-listed tree threads all l
 listed-after tree threads place (said.Block name) all t e l = same-listed tree threads all l

@@ -155,5 +155,5 @@ command-tree tree (said.Move name perch) t e =
     let p = placed tree (said.Move name perch) e in
     moved tree name perch (member_of tree name) t refl
     (all-seatable tree (said.Move name perch) (perch ∷ []) p.spots perch (inl refl)) p.cycle
-command-tree tree (said.Wake name burst) t e = t
+command-tree tree (said.Wake name every burst) t e = t
 command-tree tree (said.Block name) t e = t

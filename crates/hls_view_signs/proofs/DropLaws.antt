@@ -1,6 +1,7 @@
 -- Jobs that are dropped, command by command.
-use Rattle.std.proofs.Common.{◌≡◌, ℕ, zero, suc, ◌+◌, ◌<◌, ◌≤◌, List, [], ◌∷◌, ◌++◌, Bool, true, false, refl, sym, ap, ◌∙◌}
-use Rattle.std.proofs.Common.{◌||◌, ◌==◌, cond, drop, length, subst, arith}
+use Rattle.std.proofs.Common.{◌≡◌, ℕ, zero, suc, ◌+◌, ◌<◌, ◌≤◌, List, [], ◌∷◌}
+use Rattle.std.proofs.Common.{◌++◌, Bool, true, false, refl, sym, ap, ◌∙◌}
+use Rattle.std.proofs.Common.{◌&&◌, ◌||◌, ◌==◌, drop, length, subst, arith}
 use Rattle.std.specs.Prelude.{Option, Some, None, IfSome, slice_get}
 use Rattle.std.specs.List.{list_any, AllByRecursion}
 use Rattle.std.proofs.lemmas.Bool.{ne_eqb}
@@ -11,15 +12,16 @@ use Rattle.hls_text.specs.Lines.{Text}
 use Rattle.hls_report_text.specs.declared.report.Answered.{Answered}
 use Rattle.hls_report_text.specs.Content.{Content}
 use Rattle.hls_report_text.specs.WellFormed.{AreAnswered, IsContent}
-use Rattle.hls_legal.specs.Commands.{has_done, rouses}
 use Rattle.hls_view_jobs.specs.declared.job.Sort.{Sort}
 use Rattle.hls_view_jobs.specs.declared.job.Sort.TheVariants.{Wakes, Blocks, Ends}
 use Rattle.hls_view_jobs.specs.declared.job.Word.{Word}
 use Rattle.hls_view_jobs.specs.declared.job.Release.{Release}
-use Rattle.hls_view_jobs.specs.Words.{sort_of, word_of, is_end, words_on}
-use Rattle.hls_view_jobs.specs.Jobs.{first, release_of, releases}
+use Rattle.hls_view_jobs.specs.Words.{is_wake, words_on, first}
+use Rattle.hls_view_jobs.specs.Inside.Sound.{AreWords}
+use Rattle.hls_view_jobs.specs.Jobs.{release_of, releases}
 use Rattle.hls_view_jobs.proofs.WordLaws.{dropped_at}
-use Rattle.hls_view_signs.specs.Happenings.{is_dropped}
+use Rattle.hls_view_jobs.proofs.WordsSound.{words_sound}
+use Rattle.hls_view_signs.specs.Happenings.{is_woken, is_dropped}
 use Rattle.hls_view_signs.specs.Inside.Words.{released, any_released, AreEarly, AreRising, last_of}
 
 -- ---- one word more
@@ -138,31 +140,33 @@ none_behind c t name last ws i w rising there late =
 
 -- ---- commands come before the horizon, and so do words
 
-drop_early : (version k last h : ℕ) (all : List Answered) → AreAnswered version h last all
-    → AllByRecursion (λ (a : Answered). a.tick < h) (drop k all)
-drop_early version zero last h [] are = tt
-drop_early version zero last h (a ∷ all) are = (are.3, drop_early version zero a.tick h all are.4)
-drop_early version (suc k) last h [] are = tt
-drop_early version (suc k) last h (a ∷ all) are = drop_early version k a.tick h all are.4
+answered_since : (version h last later : ℕ) (all : List Answered) → last ≤ later → AreAnswered version h later all
+    → AreAnswered version h last all
+answered_since version h last later [] le are = tt
+answered_since version h last later (a ∷ all) le are =
+    let order = are.2 in (are.0, are.1, omega (arith, le, order), are.3, are.4)
 
-word_early : (h : ℕ) (a : Answered) (ws : List Word) (roused end : Bool) → a.tick < h → AreEarly h ws
-    → AreEarly h (cond roused (word_of a ∷ cond end [] ws) ws)
-word_early h a ws true true early more = (early, tt)
-word_early h a ws true false early more = (early, more)
-word_early h a ws false end early more = more
+answered_behind : (version k h last : ℕ) (all : List Answered) → AreAnswered version h last all
+    → AreAnswered version h last (drop k all)
+answered_behind version zero h last all are = are
+answered_behind version (suc k) h last [] are = are
+answered_behind version (suc k) h last (a ∷ all) are =
+    answered_since version h last a.tick (drop k all) are.2 (answered_behind version k h a.tick all are.4)
 
-words_early : (h : ℕ) (name : Text) (all : List Answered) → AllByRecursion (λ (a : Answered). a.tick < h) all
-    → AreEarly h (words_on name all)
-unfolding words_on
-words_early h name [] early = tt
-words_early h name (a ∷ all) early =
-    word_early h a (words_on name all) (has_done (rouses name) a) (is_end (sort_of a.command)) early.0
-    (words_early h name all early.1)
+words_early : (h last : ℕ) (ws : List Word) → AreWords h last ws → AreEarly h ws
+words_early h last [] are = tt
+words_early h last (w ∷ ws) are = (are.2, words_early h w.tick ws are.3)
+
+pub words_behind : (c : Content) (name : Text) (k : ℕ) → IsContent c
+    → AreWords c.horizon 0 (words_on c.horizon name (drop k c.answered))
+words_behind c name k formed =
+    words_sound c.version c.horizon 0 name (drop k c.answered)
+    (answered_behind c.version k c.horizon 0 c.answered formed.answered)
 
 pub early_behind : (c : Content) (name : Text) (k : ℕ) → IsContent c
-    → AreEarly c.horizon (words_on name (drop k c.answered))
+    → AreEarly c.horizon (words_on c.horizon name (drop k c.answered))
 early_behind c name k formed =
-    words_early c.horizon name (drop k c.answered) (drop_early c.version k 0 c.horizon c.answered formed.answered)
+    words_early c.horizon 0 (words_on c.horizon name (drop k c.answered)) (words_behind c name k formed)
 
 pub early_more : (t h : ℕ) (ws : List Word) → t ≤ h → AreEarly t ws → AreEarly h ws
 early_more t h [] le early = tt
@@ -188,30 +192,9 @@ abbrev rises_from : ℕ → List Word → Type 0
 rises_from t [] = Unit {0}
 rises_from t (w ∷ ws) = (t ≤ w.tick) × rises_from w.tick ws
 
-rise_sooner : (s t : ℕ) (ws : List Word) → s ≤ t → rises_from t ws → rises_from s ws
-rise_sooner s t [] le rise = tt
-rise_sooner s t (w ∷ ws) le rise = (let first = rise.0 in omega (arith, le, first), rise.1)
-
-word_rises : (last : ℕ) (a : Answered) (ws : List Word) (roused end : Bool) → last ≤ a.tick → rises_from a.tick ws
-    → rises_from last (cond roused (word_of a ∷ cond end [] ws) ws)
-word_rises last a ws true true le more = (le, tt)
-word_rises last a ws true false le more = (le, more)
-word_rises last a ws false end le more = rise_sooner last a.tick ws le more
-
-words_rise : (version h last : ℕ) (name : Text) (all : List Answered) → AreAnswered version h last all
-    → rises_from last (words_on name all)
-unfolding words_on
-words_rise version h last name [] are = tt
-words_rise version h last name (a ∷ all) are =
-    word_rises last a (words_on name all) (has_done (rouses name) a) (is_end (sort_of a.command)) are.2
-    (words_rise version h a.tick name all are.4)
-
-rise_behind : (version k h last : ℕ) (name : Text) (all : List Answered) → AreAnswered version h last all
-    → rises_from last (words_on name (drop k all))
-rise_behind version zero h last name all are = words_rise version h last name all are
-rise_behind version (suc k) h last name [] are = words_rise version h last name [] are
-rise_behind version (suc k) h last name (a ∷ all) are =
-    rise_sooner last a.tick (words_on name (drop k all)) are.2 (rise_behind version k h a.tick name all are.4)
+words_rise : (h last : ℕ) (ws : List Word) → AreWords h last ws → rises_from last ws
+words_rise h last [] are = tt
+words_rise h last (w ∷ ws) are = (are.1, words_rise h w.tick ws are.3)
 
 rise_at : (t : ℕ) (ws : List Word) (j : ℕ) (b : Word) → rises_from t ws → slice_get ws j ≡ Some b → t ≤ b.tick
 rise_at t [] j b rise there = absurd (cc)
@@ -231,6 +214,56 @@ in_order t (w ∷ ws) rise zero (suc j) a b le e f =
 in_order t (w ∷ ws) rise (suc i) zero a b le e f = absurd (omega (arith, le))
 in_order t (w ∷ ws) rise (suc i) (suc j) a b le e f = in_order w.tick ws rise.1 i j a b (omega (arith, le)) e f
 
-pub rising_behind : (c : Content) (name : Text) (k : ℕ) → IsContent c → AreRising (words_on name (drop k c.answered))
+pub rising_behind : (c : Content) (name : Text) (k : ℕ) → IsContent c
+    → AreRising (words_on c.horizon name (drop k c.answered))
 rising_behind c name k formed =
-    in_order 0 (words_on name (drop k c.answered)) (rise_behind c.version k c.horizon 0 name c.answered formed.answered)
+    in_order 0 (words_on c.horizon name (drop k c.answered))
+    (words_rise c.horizon 0 (words_on c.horizon name (drop k c.answered)) (words_behind c name k formed))
+
+-- ---- who is woken
+
+-- words of earlier ticks are passed over
+pub woken_passed : (t : ℕ) (ws : List Word) (i : ℕ)
+    → ((k : ℕ) (w : Word) → k < i → slice_get ws k ≡ Some w → w.tick < t)
+    → list_any (is_woken t) ws ≡ list_any (is_woken t) (drop i ws)
+woken_passed t ws zero early = refl
+woken_passed t [] (suc i) early = refl
+woken_passed t (w ∷ ws) (suc i) early =
+    let soon : w.tick < t = early 0 w (omega arith) refl in
+    ap (λ b. (b && is_wake w.sort) || list_any (is_woken t) ws)
+    (other_word w t (λ same. omega (arith, soon, same)))
+    ∙ woken_passed t ws i (λ k v lt. early (suc k) v (omega (arith, lt)))
+
+none_woken : (t : ℕ) (ws : List Word) → AllByRecursion (λ (w : Word). t < w.tick) ws
+    → list_any (is_woken t) ws ≡ false
+none_woken t [] late = refl
+none_woken t (w ∷ ws) late =
+    let far = late.0 in
+    ap (λ b. (b && is_wake w.sort) || list_any (is_woken t) ws)
+    (other_word w t (λ same. omega (arith, far, same)))
+    ∙ none_woken t ws late.1
+
+pub woken_late : (t : ℕ) (ws : List Word) (i : ℕ) (w : Word) → AreRising ws → slice_get ws i ≡ Some w → t < w.tick
+    → list_any (is_woken t) (drop i ws) ≡ false
+woken_late t ws i w rising there late =
+    none_woken t (drop i ws)
+    (all_late t ws i (λ k v le at. let more = rising i k w v le there at in omega (arith, late, more)))
+
+woken_at : (t : ℕ) (ws : List Word) (i : ℕ) (w : Word) → slice_get ws i ≡ Some w
+    → list_any (is_woken t) (drop i ws) ≡ (is_woken t w || list_any (is_woken t) (drop (i + 1) ws))
+woken_at t ws i w there =
+    ap (list_any (is_woken t)) (dropped_at ws i w (slice_get_within ws i w there)
+    (sym (get_or_from_slice_get ws i w w there)))
+
+pub woken_here : (t : ℕ) (ws : List Word) (i : ℕ) (w : Word) → slice_get ws i ≡ Some w → is_woken t w ≡ true
+    → list_any (is_woken t) (drop i ws) ≡ true
+woken_here t ws i w there on =
+    woken_at t ws i w there ∙ ap (λ b. b || list_any (is_woken t) (drop (i + 1) ws)) on
+
+pub woken_past : (t : ℕ) (ws : List Word) (i : ℕ) (w : Word) → slice_get ws i ≡ Some w → is_woken t w ≡ false
+    → list_any (is_woken t) (drop i ws) ≡ list_any (is_woken t) (drop (i + 1) ws)
+woken_past t ws i w there off =
+    woken_at t ws i w there ∙ ap (λ b. b || list_any (is_woken t) (drop (i + 1) ws)) off
+
+pub woken_end : (t : ℕ) (ws : List Word) (i : ℕ) → length ws ≤ i → list_any (is_woken t) (drop i ws) ≡ false
+woken_end t ws i end = ap (list_any (is_woken t)) (drop_all i ws end)

@@ -40,8 +40,8 @@ found_if c all node place (Some h) are is on =
     record {
       heard = h;
       there = is;
-      words = one_of c all place h are is ∙ ap (λ (n : Text). words_on n (drop (h.born + 1) c.answered)) name
-          ∙ ap (λ (n : ℕ). words_on node.label.name (drop (n + 1) c.answered)) born;
+      words = one_of c all place h are is ∙ ap (λ (n : Text). words_on c.horizon n (drop (h.born + 1) c.answered)) name
+          ∙ ap (λ (n : ℕ). words_on c.horizon node.label.name (drop (n + 1) c.answered)) born;
     }
 
 -- they stand at a place where those of such a thread do
@@ -52,16 +52,16 @@ found_at c all node place are on = found_if c all node place (slice_get all plac
 -- those that are read there
 pub read_at : (c : Content) (all : List Heard) (node : Node) (place : ℕ) (h : Heard) → IsHeardAt c all node place
     → h ≡ get_or all place h
-    → h.words.items ≡ words_on node.label.name (drop (node.standing.born + 1) c.answered)
+    → h.words.items ≡ words_on c.horizon node.label.name (drop (node.standing.born + 1) c.answered)
 read_at c all node place h at is =
     ap (λ (x : Heard). x.words.items) (is ∙ get_or_from_slice_get all place at.heard h at.there) ∙ at.words
 
 pub read_early : (c : Content) (node : Node) (ws : List Word) → IsContent c
-    → ws ≡ words_on node.label.name (drop (node.standing.born + 1) c.answered) → AreEarly c.horizon ws
+    → ws ≡ words_on c.horizon node.label.name (drop (node.standing.born + 1) c.answered) → AreEarly c.horizon ws
 read_early c node ws formed is =
     subst (AreEarly c.horizon) (sym is) (early_behind c node.label.name (node.standing.born + 1) formed)
 
 pub read_rising : (c : Content) (node : Node) (ws : List Word) → IsContent c
-    → ws ≡ words_on node.label.name (drop (node.standing.born + 1) c.answered) → AreRising ws
+    → ws ≡ words_on c.horizon node.label.name (drop (node.standing.born + 1) c.answered) → AreRising ws
 read_rising c node ws formed is =
     subst AreRising (sym is) (rising_behind c node.label.name (node.standing.born + 1) formed)

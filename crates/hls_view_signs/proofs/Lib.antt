@@ -2,6 +2,7 @@ pub mod Tests
 pub mod Ranges
 pub mod ColumnLaws
 pub mod DropLaws
+pub mod NoteLaws
 pub mod CommandLaws
 pub mod MomentLaws
 pub mod SceneLaws

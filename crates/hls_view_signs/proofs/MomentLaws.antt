@@ -4,10 +4,9 @@ use Rattle.std.proofs.Common.{◌&&◌, ◌||◌, ◌⊎◌, inl, inr, cond, tak
 use Rattle.std.specs.Prelude.{Option, Some, None}
 use Rattle.std.specs.List.{list_any, AllByRecursion}
 use Rattle.std.proofs.lemmas.Bool.{eqb-true, eq-eqb}
-use Rattle.std.proofs.lemmas.List.{take_more, map-append}
+use Rattle.std.proofs.lemmas.List.{take_more, take_all, map-append}
 use Rattle.std.proofs.lemmas.List.Elements.{filter-append}
 use Rattle.std.proofs.lemmas.List.Folds.{list_any-append}
-use Rattle.hls_report_text.specs.declared.report.Answered.{Answered}
 use Rattle.hls_report_text.specs.Content.{Content}
 use Rattle.hls_view_scale.specs.declared.scale.Scale.{Scale}
 use Rattle.hls_view_tale.specs.declared.label.Label.{Label}
@@ -19,10 +18,13 @@ use Rattle.hls_view_lanes.specs.Likeness.{is_same}
 use Rattle.hls_view_signs.specs.declared.event.Event.{Event}
 use Rattle.hls_view_signs.specs.declared.event.Event.TheVariants.{Begun, Woken, Dropped}
 use Rattle.hls_view_signs.specs.declared.moments.Moment.{Moment}
+use Rattle.hls_view_signs.specs.declared.notes.Note.{Note}
 use Rattle.hls_view_signs.specs.Happenings.{happens_if, happens_to, happens_in}
-use Rattle.hls_view_signs.specs.Inside.Moments.{has, is_at, is_in, IsMoment, IsOf, IsPut, IsShown, AreMomentsOf}
+use Rattle.hls_view_signs.specs.Inside.Moments.{has, is_at, IsMoment, IsOf, IsPut, IsShown, AreMomentsOf, AreMoments}
+use Rattle.hls_view_signs.specs.Inside.Notes.{is_in, AreNotes}
 use Rattle.hls_view_signs.specs.Inside.Nodes.{node_with, happens_to_any}
 use Rattle.hls_view_signs.proofs.Tests.{either, or_left, or_right, all_append, all_weaker}
+use Rattle.hls_view_signs.proofs.CommandLaws.{happens_noted}
 
 pub node_happens : (c : Content) (t : ℕ) (event : Event) (label : Label) (s : Option Standing)
     → happens_to_any c t event (node_with label s) ≡ happens_if c t event label s
@@ -93,7 +95,7 @@ place_left on all i p old new lt is off put was =
     ∙ ap (λ b. map labels_of (filter on (take i all)) ++ map labels_of (cond b (p ∷ []) [])) (sym off)
     ∙ sym (next_place on all i p lt is)
 
--- ---- one command more
+-- ---- one note more
 
 pub put_none : (c : Content) (t : ℕ) (all : List Moment) → list_any (is_at t) all ≡ true → IsPut c t all all
 put_none c t all there =
@@ -109,17 +111,17 @@ put_one c t m old new is put = record {
       ∙ or_right (list_any (is_at t) old) (is_at t m || false) (or_left (is_at t m) false (eq-eqb m.tick t is.tick));
 }
 
-next_taken : (all : List Answered) (i : ℕ) (a : Answered) → i < length all → a ≡ get_or all i a
+next_taken : (all : List Note) (i : ℕ) (a : Note) → i < length all → a ≡ get_or all i a
     → take (i + 1) all ≡ take i all ++ a ∷ []
 next_taken all i a lt is = take_more all i a lt ∙ ap (λ x. take i all ++ x ∷ []) (sym is)
 
-now_in : (t : ℕ) (a : Answered) → (is_in t a || false) ≡ true → a.tick ≡ t
+now_in : (t : ℕ) (a : Note) → (is_in t a || false) ≡ true → a.tick ≡ t
 now_in t a some = elim (either (is_in t a) false some) [
   | inl now ↦ eqb-true a.tick t now
   | inr off ↦ absurd (let wrong : false ≡ true = off in cc)
 ]
 
-any_taken : (t : ℕ) (all : List Answered) (i : ℕ) (a : Answered) → i < length all → a ≡ get_or all i a
+any_taken : (t : ℕ) (all : List Note) (i : ℕ) (a : Note) → i < length all → a ≡ get_or all i a
     → list_any (is_in t) (take (i + 1) all) ≡ true → (list_any (is_in t) (take i all) ≡ true) ⊎ (a.tick ≡ t)
 any_taken t all i a lt is some =
     let split = sym (list_any-append (is_in t) (take i all) (a ∷ []))
@@ -129,7 +131,7 @@ any_taken t all i a lt is some =
       | inr here ↦ inr (now_in t a here)
     ]
 
-pub moments_put : (c : Content) (s : Scale) (all : List Answered) (i : ℕ) (a : Answered) (old new : List Moment)
+pub moments_put : (c : Content) (s : Scale) (all : List Note) (i : ℕ) (a : Note) (old new : List Moment)
     → i < length all → a ≡ get_or all i a → s.from ≤ a.tick → a.tick ≤ s.to → IsPut c a.tick old new
     → AreMomentsOf c s (take i all) old → AreMomentsOf c s (take (i + 1) all) new
 moments_put c s all i a old new lt is from to put was = record {
@@ -148,7 +150,7 @@ moments_put c s all i a old new lt is from to put was = record {
   ];
 }
 
-pub moments_left : (c : Content) (s : Scale) (all : List Answered) (i : ℕ) (a : Answered) (old : List Moment)
+pub moments_left : (c : Content) (s : Scale) (all : List Note) (i : ℕ) (a : Note) (old : List Moment)
     → i < length all → a ≡ get_or all i a → (s.from ≤ a.tick → a.tick ≤ s.to → ⊥)
     → AreMomentsOf c s (take i all) old → AreMomentsOf c s (take (i + 1) all) old
 moments_left c s all i a old lt is beyond was = record {
@@ -160,5 +162,15 @@ moments_left c s all i a old lt is beyond was = record {
   ];
 }
 
-pub moments_none : (c : Content) (s : Scale) (all : List Answered) → AreMomentsOf c s (take 0 all) []
+pub moments_none : (c : Content) (s : Scale) (all : List Note) → AreMomentsOf c s (take 0 all) []
 moments_none c s all = record { are = tt; each = λ t begins ends some. some }
+
+-- something happens in noted ticks alone
+pub moments_all : (c : Content) (s : Scale) (notes : List Note) (i : ℕ) (all : List Moment) → length notes ≤ i
+    → AreNotes c s notes → AreMomentsOf c s (take i notes) all → AreMoments c s all
+moments_all c s notes i all end are of = record {
+  are = of.are;
+  each = λ t from to event row on. of.each t from to
+      (subst (λ (l : List Note). list_any (is_in t) l ≡ true) (sym (take_all i notes end))
+      (happens_noted c s notes are t from to event row on));
+}

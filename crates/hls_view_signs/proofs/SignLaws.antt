@@ -19,7 +19,6 @@ use Rattle.hls_view_signs.specs.Inside.Moments.{has, is_at, IsShown, AreMoments}
 use Rattle.hls_view_signs.proofs.Tests.{alike, first_of_two, second_of_two, both_of_two, any_of_gives, any_weaker}
 use Rattle.hls_view_signs.proofs.Ranges.{Passes, some-passes, any-passes, filter-same}
 use Rattle.hls_view_signs.proofs.ColumnLaws.{IsInside, inside_own, own_inside, inside_shown}
-use Rattle.hls_view_signs.proofs.CommandLaws.{happens_by_commands}
 use Rattle.hls_view_signs.proofs.MomentLaws.{has_is}
 
 -- something happens in a row, in a column
@@ -46,7 +45,7 @@ in_there c s event row k all are some =
     both_of_two (has event row m) (column_of s m.tick == k)
     (has_is c event row m of.is ∙ ap (happens_in c event row) tick ∙ some.on)
     (eq-eqb (column_of s m.tick) k (ap (column_of s) tick ∙ own_inside s some.t k inside))) are.are
-    (are.each some.t shown.0 shown.1 (happens_by_commands c event row some.t some.on))
+    (are.each some.t shown.0 shown.1 event row some.on)
 
 column_is : (c : Content) (s : Scale) (event : Event) (row : List Label) (k : ℕ) (all : List Moment)
     → AreMoments c s all

@@ -2,18 +2,14 @@
 use Rattle.std.specs.Prelude.{ℕ, ◌+◌, ◌-◌, ◌==◌, ◌&&◌, not, nat_lt, List, Option, Some, None, Bool, false}
 use Rattle.std.specs.Prelude.{drop, slice_get}
 use Rattle.std.specs.List.{list_any}
-use Rattle.std.specs.Str.{bytes_eq}
 use Rattle.hls_text.specs.Lines.{Text}
 use Rattle.hls_chron.specs.Ticks.{count}
-use Rattle.hls_scenario.specs.declared.scenario.Command.{Command}
-use Rattle.hls_scenario.specs.declared.scenario.Command.TheVariants.{Wake}
 use Rattle.hls_report_text.specs.declared.report.Answered.{Answered}
 use Rattle.hls_report_text.specs.Content.{Content}
-use Rattle.hls_legal.specs.Commands.{has_done}
 use Rattle.hls_legal.specs.Schedule.{is_served}
 use Rattle.hls_view_jobs.specs.declared.job.Word.{Word}
 use Rattle.hls_view_jobs.specs.declared.job.Release.{Release}
-use Rattle.hls_view_jobs.specs.Words.{is_end, words_on}
+use Rattle.hls_view_jobs.specs.Words.{is_end, is_wake, words_on}
 use Rattle.hls_view_jobs.specs.Jobs.{releases, until}
 use Rattle.hls_view_tale.specs.declared.label.Label.{Label}
 use Rattle.hls_view_tale.specs.declared.place.Place.{Place}
@@ -33,17 +29,13 @@ is_of t (Some a) = a.tick == t
 
 -- ---- wakes
 
-abbrev pub wakes : (name : Text) → Command → Bool
-wakes name (Wake other burst) = bytes_eq other name
-wakes name _ = false
-
--- the thread of a name is woken in a tick
-abbrev pub has_woken : (t : ℕ) → (name : Text) → Answered → Bool
-has_woken t name a = a.tick == t && has_done (wakes name) a
+-- a word wakes its thread in a tick: a command, or a later release of a periodic wake
+abbrev pub is_woken : (t : ℕ) → Word → Bool
+is_woken t word = word.tick == t && is_wake word.sort
 
 -- ---- drops
 
--- a wake or a block of a tick
+-- a wake, a later release of one, or a block of a tick
 abbrev pub breaks : (t : ℕ) → Option Word → Bool
 breaks t None = false
 breaks t (Some word) = word.tick == t && not (is_end word.sort)
@@ -58,9 +50,10 @@ is_dropped c t name r = breaks t r.next
 -- the stay begins; this very thread is woken; a job of this very thread is dropped
 abbrev pub happens : Content → (t : ℕ) → Event → Label → Standing → Bool
 happens c t Begun label s = is_of t (slice_get c.answered s.opened)
-happens c t Woken label s = is_thread label && list_any (has_woken t label.name) (drop (s.born + 1) c.answered)
+happens c t Woken label s = is_thread label
+    && list_any (is_woken t) (words_on c.horizon label.name (drop (s.born + 1) c.answered))
 happens c t Dropped label s = is_thread label
-    && list_any (is_dropped c t label.name) (releases (words_on label.name (drop (s.born + 1) c.answered)))
+    && list_any (is_dropped c t label.name) (releases (words_on c.horizon label.name (drop (s.born + 1) c.answered)))
 
 abbrev pub happens_if : Content → (t : ℕ) → Event → Label → Option Standing → Bool
 happens_if c t event label None = false

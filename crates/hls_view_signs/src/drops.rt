@@ -1,7 +1,6 @@
-// Jobs that a wake or a block drops.
+// Words that wake a thread, and jobs that a wake or a block drops.
 ghost use Rattle.std.specs.Prelude.{◌≡◌, ◌+◌, ◌<◌, ◌&&◌, ◌==◌, not, Some, IfSome};
 ghost use Rattle.std.specs.List.{list_any};
-ghost use Rattle.hls_legal.specs.Commands.{has_done, rouses};
 ghost use Rattle.hls_text.specs.Lines.{Text};
 ghost use Rattle.hls_report_text.specs.Content.{Content};
 ghost use Rattle.hls_audit_threads.specs.Inside.Ticks.{TellsServed};
@@ -12,32 +11,9 @@ ghost use Rattle.hls_view_signs.specs.Happenings as told;
 ghost use Rattle.hls_view_signs.specs.Inside.Words.{released, AreEarly, AreRising, AreParted, last_of};
 
 use hls_audit_spans::Spans;
-use hls_chron::Name;
-use hls_report_text::{Answer, Answered};
-use hls_scenario::Command;
 use hls_view_jobs::{Sort, Word};
 
-/// What a command says of the thread that it rouses.
-fn sort_of(command: &Command) -> Sort
-    ensures { result ≡ words.sort_of command.now }
-{
-    match command {
-        Command::Wake { burst, .. } => Sort::Wakes { burst: *burst },
-        Command::Block { .. } => Sort::Blocks,
-        _ => Sort::Ends,
-    }
-}
-
-pub(crate) fn word_of(a: &Answered) -> Word
-    ensures { result ≡ words.word_of a.now }
-{
-    Word {
-        tick: a.tick,
-        sort: sort_of(&a.command),
-    }
-}
-
-pub(crate) fn is_end(sort: Sort) -> bool
+fn is_end(sort: Sort) -> bool
     ensures { result ≡ words.is_end sort }
 {
     match sort {
@@ -46,26 +22,12 @@ pub(crate) fn is_end(sort: Sort) -> bool
     }
 }
 
-/// Whether a command admits, wakes, blocks or ends the thread of a name.
-fn rouses(command: &Command, thread: &Name) -> bool
-    ensures { result ≡ rouses thread.now command.now }
+fn is_wake(sort: Sort) -> bool
+    ensures { result ≡ words.is_wake sort }
 {
-    match command {
-        Command::Thread { name, .. } => name == thread,
-        Command::End { name } => name == thread,
-        Command::Wake { name, .. } => name == thread,
-        Command::Block { name } => name == thread,
-        _ => false,
-    }
-}
-
-/// Whether a command that was carried out does.
-pub(crate) fn has_roused(a: &Answered, name: &Name) -> bool
-    ensures { result ≡ has_done (rouses name.now) a.now }
-{
-    match &a.answer {
-        Answer::Done(_) => rouses(&a.command, name),
-        Answer::Refused(_) => false,
+    match sort {
+        Sort::Wakes { .. } => true,
+        Sort::Blocks | Sort::Ends => false,
     }
 }
 
@@ -125,6 +87,30 @@ fn words_before(words: &[Word], tick: u32) -> usize
         }
     }
     low
+}
+
+/// Whether a word wakes its thread in a tick.
+fn wakes(word: &Word, tick: u32) -> bool
+    ensures { result ≡ told.is_woken tick word.now }
+{
+    word.tick == tick && is_wake(word.sort)
+}
+
+/// Whether a thread on which these are the words is woken in a tick.
+pub(crate) fn is_woken(tick: u32, words: &[Word]) -> bool
+    requires { AreRising words.now }
+    ensures { result ≡ list_any (told.is_woken tick) words.now }
+{
+    for at in words_before(words, tick)..words.len() {
+        let word = words[at];
+        if tick < word.tick {
+            return false;
+        }
+        if wakes(&word, tick) {
+            return true;
+        }
+    }
+    false
 }
 
 /// The last of the first so many words.

@@ -6,7 +6,7 @@ use hls_view_tale::{Label, Standing};
 pub enum Event {
     /// Its stay begins.
     Begun,
-    /// It is a thread, and is woken.
+    /// It is a thread, and is woken, by a command or by a later release of a periodic wake.
     Woken,
     /// It is a thread, and a wake or a block drops a job of it.
     Dropped,

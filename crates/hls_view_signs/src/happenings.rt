@@ -1,26 +1,21 @@
 // What happens to whoever has a place.
-ghost use Rattle.std.specs.Prelude.{◌≡◌, ◌+◌, IfOk, OnOk, drop, option_copied, slice_get};
-ghost use Rattle.std.specs.List.{list_any};
+ghost use Rattle.std.specs.Prelude.{◌≡◌, IfOk, OnOk, option_copied, slice_get};
 ghost use Rattle.std.specs.Str.{bytes_eq};
 ghost use Rattle.hls_report_text.specs.Content.{content_of};
 ghost use Rattle.hls_report_text.specs.WellFormed.{IsWellFormed};
 ghost use Rattle.hls_view_tree.specs.Stays.{standing_of};
 ghost use Rattle.hls_view_lanes.specs.Leaves.{is_thread};
-ghost use Rattle.hls_audit_threads.specs.Inside.Order.{AreInOrder};
 ghost use Rattle.hls_view_signs.specs.Happenings as told;
 ghost use Rattle.hls_view_signs.specs.Inside.Nodes.{node_with, happens_at, happens_to_any};
 ghost use Rattle.hls_view_signs.specs.Inside.Sources.{AreSources};
 
-use crate::commands::behind;
-use crate::drops::is_dropped;
+use crate::drops::{is_dropped, is_woken};
 use crate::event::{Asked, Event, Node};
 use crate::heard::heard_at;
-use crate::roused::before;
 use crate::sources::Sources;
 use hls_audit_clauses::Sort;
 use hls_chron::Name;
-use hls_report_text::{Answer, Answered, Report};
-use hls_scenario::Command;
+use hls_report_text::{Answered, Report};
 use hls_view_tale::{Label, Standing};
 use std::alloc::{AllocError, Global};
 
@@ -34,45 +29,6 @@ pub(crate) fn is_of(answered: &[Answered], place: usize, tick: u32) -> bool
     }
 }
 
-fn wakes(command: &Command, thread: &Name) -> bool
-    ensures { result ≡ told.wakes thread.now command.now }
-{
-    match command {
-        Command::Wake { name, .. } => name == thread,
-        _ => false,
-    }
-}
-
-/// Whether a command wakes the thread of a name in a tick.
-fn has_woken(a: &Answered, tick: u32, name: &Name) -> bool
-    ensures { result ≡ told.has_woken tick name.now a.now }
-{
-    match &a.answer {
-        Answer::Done(_) => a.tick == tick && wakes(&a.command, name),
-        Answer::Refused(_) => false,
-    }
-}
-
-/// Whether a thread is woken in a tick that the command at a place admitted.
-fn is_woken(answered: &[Answered], born: usize, tick: u32, name: &Name) -> bool
-    ensures { result ≡ list_any (told.has_woken tick name.now) (drop (born + 1) answered.now) }
-{
-    behind(answered, born)
-        .iter()
-        .any(|a| has_woken(a, tick, name))
-}
-
-/// Whether it is, asked of the commands of the tick alone, since a report may have many others.
-fn is_woken_in(answered: &[Answered], born: usize, tick: u32, name: &Name) -> bool
-    requires { AreInOrder answered.now }
-    ensures { result ≡ list_any (told.has_woken tick name.now) (drop (born + 1) answered.now) }
-{
-    let first = before(answered, u64::from(tick));
-    let until = before(answered, u64::from(tick) + 1);
-    let place = if born < first { first - 1 } else { born };
-    is_woken(&answered[..until], place, tick, name)
-}
-
 fn is_thread(label: &Label) -> bool
     ensures { result ≡ is_thread label.now }
 {
@@ -80,6 +36,30 @@ fn is_thread(label: &Label) -> bool
         Sort::Thread => true,
         Sort::Scheduler { .. } => false,
     }
+}
+
+/// Whether a node is woken in a tick.
+fn has_woken(
+    alloc: Global,
+    report: &Report,
+    sources: &mut Sources,
+    tick: u32,
+    node: &Node,
+) -> Result<bool, AllocError>
+    requires formed { IsWellFormed report.now }
+    requires sources { AreSources report.now sources.old }
+    ensures sources { OnOk result (AreSources report.now sources.new) }
+    ensures is { IfOk result (λ is. is ≡ happens_at (content_of report.now) tick Event.Woken node.now) }
+{
+    if !is_thread(&node.label) {
+        return Ok(false);
+    }
+    let name = node.label.name;
+    let place = sources
+        .known
+        .place_of(alloc, report, &sources.lookup, &name)?;
+    let at = heard_at(alloc, &mut sources.heard, report, node, place)?;
+    Ok(is_woken(tick, &sources.heard[at].words))
 }
 
 /// Whether work of a node is dropped in a tick.
@@ -123,13 +103,7 @@ fn happens(
     let answered = report.answered.items();
     match asked.event {
         Event::Begun => Ok(is_of(answered, node.standing.opened, asked.tick)),
-        Event::Woken => {
-            let name = &node.label.name;
-            Ok(
-                is_thread(&node.label)
-                    && is_woken_in(answered, node.standing.born, asked.tick, name),
-            )
-        }
+        Event::Woken => has_woken(alloc, report, sources, asked.tick, node),
         Event::Dropped => has_dropped(alloc, report, sources, asked.tick, node),
     }
 }

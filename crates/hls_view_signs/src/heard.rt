@@ -1,15 +1,13 @@
 // The words on threads, told of each once it is asked for.
-ghost use Rattle.std.specs.Prelude.{◌≡◌, ◌+◌, IfOk, OnOk, Some, drop, slice_get};
+ghost use Rattle.std.specs.Prelude.{◌≡◌, IfOk, OnOk, Some, slice_get};
 ghost use Rattle.hls_report_text.specs.Content.{Content, content_of};
-ghost use Rattle.hls_view_jobs.specs.Words as words;
 ghost use Rattle.hls_view_signs.specs.Inside.Heard.{is_of_node, IsHeard, AreHeard, IsHeardAt};
 
 use crate::commands::behind;
-use crate::drops::{has_roused, is_end, word_of};
 use crate::event::Node;
 use hls_chron::Name;
-use hls_report_text::{Answered, Report};
-use hls_view_jobs::Word;
+use hls_report_text::Report;
+use hls_view_jobs::{Word, words_on};
 use std::alloc::{AllocError, Global};
 
 /// The words on a thread that the command at a place admitted, up to its end.
@@ -18,30 +16,6 @@ pub(crate) struct Heard {
     pub(crate) name: Name,
     pub(crate) born: usize,
     pub(crate) words: Vec<Word>,
-}
-
-/// The words on the thread of a name behind a place, up to its end.
-fn words_behind(
-    alloc: Global,
-    answered: &[Answered],
-    place: usize,
-    name: &Name,
-) -> Result<Vec<Word>, AllocError>
-    ensures { IfOk result (λ all. all.items ≡ words.words_on name.now (drop (place + 1) answered.now)) }
-{
-    let later = behind(answered, place);
-    let mut words = Vec::new(alloc);
-    for at in 0..later.len() {
-        let a = &later[at];
-        if has_roused(a, name) {
-            let word = word_of(a);
-            words.push(word)?;
-            if is_end(word.sort) {
-                return Ok(words);
-            }
-        }
-    }
-    Ok(words)
 }
 
 fn is_heard(heard: &[Heard], place: usize, node: &Node) -> bool
@@ -87,7 +61,8 @@ pub(crate) fn heard_at(
     }
     let name = node.label.name;
     let born = node.standing.born;
-    let words = words_behind(alloc, report.answered.items(), born, &name)?;
+    let later = behind(report.answered.items(), born);
+    let words = words_on(alloc, report.horizon, later, 0, &name)?;
     let at = put_heard(all, guess, Heard { name, born, words })?;
     Ok(at)
 }

@@ -10,6 +10,7 @@ mod happenings;
 mod heard;
 pub mod laws;
 mod moments;
+mod notes;
 mod roused;
 mod signs;
 mod sources;

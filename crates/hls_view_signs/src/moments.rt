@@ -1,16 +1,18 @@
-// What happens in each tick that has commands.
+// What happens in each tick in which something may.
 ghost use Rattle.std.specs.Prelude.{◌≡◌, IfOk, OnOk, true};
 ghost use Rattle.std.specs.List.{list_any};
 ghost use Rattle.hls_report_text.specs.Content.{content_of};
 ghost use Rattle.hls_report_text.specs.WellFormed.{IsWellFormed};
 ghost use Rattle.hls_view_tale.specs.Hierarchies.{IsHierarchy};
 ghost use Rattle.hls_view_tree.specs.Stays.{standing_of};
+ghost use Rattle.hls_view_signs.specs.Inside.Notes.{AreInOrder};
 ghost use Rattle.hls_view_signs.specs.Inside.Scenes as scenes;
 ghost use Rattle.hls_view_signs.specs.Inside.Moments as told;
 ghost use Rattle.hls_view_signs.specs.Inside.Sources.{AreSources};
 
 use crate::event::{Asked, Event, Node};
 use crate::happenings::{happens_if, is_of, node_at};
+use crate::notes::{Note, notes_of};
 use crate::roused::{is_roused, roused_in};
 use crate::sources::Sources;
 use hls_chron::{List, Name};
@@ -33,7 +35,7 @@ pub(crate) struct Moment {
 #[derive(Clone, Copy)]
 struct Scene<'a> {
     hierarchy: &'a Hierarchy,
-    /// Whom the commands of the tick rouse.
+    /// Who is told something in the tick.
     roused: &'a [Name],
     /// Whether a stay begins.
     begins: bool,
@@ -98,22 +100,16 @@ fn moment_at(
     alloc: Global,
     report: &Report,
     sources: &mut Sources,
-    hierarchy: &Hierarchy,
+    scene: &Scene<'_>,
     tick: u32,
 ) -> Result<Moment, AllocError>
     requires formed { IsWellFormed report.now }
     requires sources { AreSources report.now sources.old }
-    requires hierarchy { IsHierarchy (content_of report.now) tick hierarchy.now }
+    requires hierarchy { IsHierarchy (content_of report.now) tick scene.now.hierarchy.now }
+    requires all { told.KnowsAll (content_of report.now) tick scene.now.roused.now scene.now.begins }
     ensures sources { OnOk result (AreSources report.now sources.new) }
     ensures is { IfOk result (told.IsOf (content_of report.now) tick) }
 {
-    let answered = report.answered.items();
-    let roused = roused_in(alloc, answered, tick)?;
-    let scene = Scene {
-        hierarchy,
-        roused: &roused,
-        begins: any_begun(answered, &hierarchy.standing, tick),
-    };
     let begun = Asked {
         event: Event::Begun,
         tick,
@@ -128,9 +124,9 @@ fn moment_at(
     };
     Ok(Moment {
         tick,
-        begun: ways_with(alloc, report, sources, &scene, begun)?,
-        woken: ways_with(alloc, report, sources, &scene, woken)?,
-        dropped: ways_with(alloc, report, sources, &scene, dropped)?,
+        begun: ways_with(alloc, report, sources, scene, begun)?,
+        woken: ways_with(alloc, report, sources, scene, woken)?,
+        dropped: ways_with(alloc, report, sources, scene, dropped)?,
     })
 }
 
@@ -173,9 +169,17 @@ struct Gathering {
 
 impl Gathering {
     /// Puts what happens in a tick behind all others, if it is not there yet.
-    fn put(&mut self, alloc: Global, report: &Report, tick: u32) -> Result<(), AllocError>
+    fn put(
+        &mut self,
+        alloc: Global,
+        report: &Report,
+        notes: &[Note],
+        tick: u32,
+    ) -> Result<(), AllocError>
         requires formed { IsWellFormed report.now }
         requires gathering { told.IsGathering report.now self.old }
+        requires order { AreInOrder notes.now }
+        requires notes { scenes.AreSaid (content_of report.now) tick notes.now }
         ensures gathering { OnOk result (told.IsGathering report.now self.new) }
         ensures put { OnOk result
             (told.IsPut (content_of report.now) tick self.old.moments.items self.new.moments.items) }
@@ -185,13 +189,19 @@ impl Gathering {
         }
         self.following.go_to(alloc, report, tick)?;
         let hierarchy = &self.following.hierarchy;
-        let moment = moment_at(alloc, report, &mut self.sources, hierarchy, tick)?;
+        let roused = roused_in(alloc, notes, tick)?;
+        let scene = Scene {
+            hierarchy,
+            roused: &roused,
+            begins: any_begun(report.answered.items(), &hierarchy.standing, tick),
+        };
+        let moment = moment_at(alloc, report, &mut self.sources, &scene, tick)?;
         self.moments.push(moment)?;
         Ok(())
     }
 }
 
-/// What happens in each shown tick that has commands.
+/// What happens in each shown tick in which something does.
 ///
 /// # Errors
 /// Returns `AllocError` for want of memory.
@@ -208,11 +218,11 @@ pub(crate) fn moments_of(
         following: Following::new(alloc),
         moments: Vec::new(alloc),
     };
-    let answered = report.answered.items();
-    for at in 0..answered.len() {
-        let tick = answered[at].tick;
+    let notes = notes_of(alloc, report, scale)?;
+    for at in 0..notes.len() {
+        let tick = notes[at].tick;
         if scale.from <= tick && tick <= scale.to {
-            gathering.put(alloc, report, tick)?;
+            gathering.put(alloc, report, &notes, tick)?;
         }
     }
     Ok(gathering.moments)

@@ -23,7 +23,7 @@ use std::alloc::{AllocError, Global};
 pub struct Signs {
     /// A stay with this place begins.
     pub begins: List<u32>,
-    /// A thread that has this place is woken.
+    /// A thread that has this place is woken, by a command or by a later release of a periodic wake.
     pub wakes: List<u32>,
     /// A wake or a block drops a job of a thread that has this place.
     pub drops: List<u32>,

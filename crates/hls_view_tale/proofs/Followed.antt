@@ -36,7 +36,7 @@ threads_done names (Thread name perch) true e = ap (λ (l : List Text). l ++ nam
 threads_done names (End name) true e = append-nil (filter (λ other. not (ends other (End name))) names)
 threads_done names (Unload name) true e = same_all names
 threads_done names (Move name perch) true e = same_all names
-threads_done names (Wake name burst) true e = same_all names
+threads_done names (Wake name every burst) true e = same_all names
 threads_done names (Block name) true e = same_all names
 
 threads_refused : (names : List Text) (command : Command) (done : Bool) → done ≡ false

@@ -112,7 +112,7 @@ after_valid version tree (End name) is all = without_valid tree name all
 after_valid version tree (Unload name) is all = without_valid tree name all
 after_valid version tree (Move name perch) is all =
     moved_valid tree perch (member_of tree name) (valid_narrow perch.want is.1.want) all
-after_valid version tree (Wake name burst) is all = all
+after_valid version tree (Wake name every burst) is all = all
 after_valid version tree (Block name) is all = all
 
 answer_valid : (version : ℕ) (tree : List Member) (a : Answered) → IsCommand version a.command

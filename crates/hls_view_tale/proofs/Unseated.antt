@@ -33,7 +33,7 @@ tree_quiet tree (Thread name perch) true e = absurd (let no : true ≡ false = e
 tree_quiet tree (End name) true e = absurd (let no : true ≡ false = e in cc)
 tree_quiet tree (Unload name) true e = absurd (let no : true ≡ false = e in cc)
 tree_quiet tree (Move name perch) true e = absurd (let no : true ≡ false = e in cc)
-tree_quiet tree (Wake name burst) true e = refl
+tree_quiet tree (Wake name every burst) true e = refl
 tree_quiet tree (Block name) true e = refl
 
 stays_quiet : (tree : List Member) (names : List Text) (place : ℕ) (all : List Standing) (command : Command)
@@ -45,7 +45,7 @@ stays_quiet tree names place all (Thread name perch) true e = absurd (let no : t
 stays_quiet tree names place all (End name) true e = absurd (let no : true ≡ false = e in cc)
 stays_quiet tree names place all (Unload name) true e = absurd (let no : true ≡ false = e in cc)
 stays_quiet tree names place all (Move name perch) true e = absurd (let no : true ≡ false = e in cc)
-stays_quiet tree names place all (Wake name burst) true e = refl
+stays_quiet tree names place all (Wake name every burst) true e = refl
 stays_quiet tree names place all (Block name) true e = refl
 
 pub alike_first : (all : List Answered) (first : ℕ) → IsAlike all first first

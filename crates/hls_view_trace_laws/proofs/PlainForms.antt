@@ -141,6 +141,11 @@ plain_burst : (burst : Option ℕ) → ArePlain (forms.burst_forms burst)
 plain_burst None = tt
 plain_burst (Some ticks) = (refl, (plain_number ticks, tt))
 
+plain_waking : (every burst : Option ℕ) → ArePlain (forms.waking_forms every burst)
+plain_waking None burst = plain_burst burst
+plain_waking (Some period) None = tt
+plain_waking (Some period) (Some ticks) = (refl, (plain_number period, (refl, (plain_number ticks, tt))))
+
 plain_command_forms : (version : ℕ) (command : Command) → IsCommand version command
     → ArePlain (forms.command_forms version command)
 plain_command_forms version (Load name config perches) is = (
@@ -155,7 +160,7 @@ plain_command_forms version (Thread name perch) is = (refl, (plain_name name is.
 plain_command_forms version (End name) is = (refl, (plain_name name is, tt))
 plain_command_forms version (Unload name) is = (refl, (plain_name name is, tt))
 plain_command_forms version (Move name perch) is = (refl, (plain_name name is.0, (refl, plain_perch perch is.1)))
-plain_command_forms version (Wake name burst) is = (refl, (plain_name name is.0, plain_burst burst))
+plain_command_forms version (Wake name every burst) is = (refl, (plain_name name is.0, plain_waking every burst))
 plain_command_forms version (Block name) is = (refl, (plain_name name is, tt))
 
 pub plain_command : (version : ℕ) (command : Command) → IsCommand version command

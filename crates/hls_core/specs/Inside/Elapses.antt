@@ -1,5 +1,5 @@
 -- What ticks come to.
-use Rattle.std.specs.Prelude.{◌≡◌, ℕ, ◌<◌, ◌≤◌, ◌+◌, ◌^◌, Option, Some, None, Bool}
+use Rattle.std.specs.Prelude.{◌≡◌, ℕ, ◌<◌, ◌≤◌, ◌+◌, Option, Some, None, Bool}
 use Rattle.hls_report_text.specs.declared.report.Path.{Path}
 use Rattle.hls_sched.specs.Seen.{Seen}
 use Rattle.hls_machine.specs.Hierarchy.{Hierarchy}
@@ -15,7 +15,7 @@ use Rattle.hls_core_stays.specs.declared.stays.Stays.{Stays}
 use Rattle.hls_core_journal.specs.declared.journal.Journal.{Journal}
 use Rattle.hls_core_journal.specs.Kept.{IsWayOrIdle}
 use Rattle.hls_core_journal.specs.Ways.{names_by}
-use Rattle.hls_core.specs.Bursts.{left_in}
+use Rattle.hls_core.specs.Bursts.{begun_in}
 use Rattle.hls_core.specs.Left.{IsLeft}
 use Rattle.hls_core.specs.Leaps.{Changes}
 use Rattle.hls_core.specs.Standing.{IsAt}
@@ -55,7 +55,7 @@ module _ {V : Type 0} {P : V → Type 0} where
     pub standing : IsStanding h
     pub noted : AreNoted h j
     pub early : h.now + most ≤ t.horizon
-    pub small : h.now + most < 2 ^ 32
+    pub short : t.horizon ≤ 1000000
 
   -- each of so many ticks could elapse by the path, and the tree is of the hierarchy after them
   pub record IsAfter (seen : (x : V) × P x → Seen) (new : Tree V P) (h : Hierarchy) (asking : ℕ → Bool)
@@ -73,5 +73,5 @@ module _ {V : Type 0} {P : V → Type 0} where
     pub names : Names h path (names_by j.names.keys told)
     pub way : IsWayOrIdle j told
     pub ready : IsReadyOf seen new (later h asking masks path ticks)
-    pub left : IsLeft (left_in bursts) (later h asking masks path ticks)
+    pub left : IsLeft (begun_in bursts) (later h asking masks path ticks)
     pub stays : AreStays tallies (later h asking masks path ticks)

@@ -1,8 +1,9 @@
 -- What a command comes to.
-use Rattle.std.specs.Prelude.{ℕ}
+use Rattle.std.specs.Prelude.{ℕ, ◌==◌, ◌≤◌, Bool, false}
 use Rattle.hls_scenario.specs.declared.scenario.Command.{Command}
 use Rattle.hls_scenario.specs.declared.scenario.Command.TheVariants.{Wake, Block}
 use Rattle.hls_report_text.specs.declared.report.Answer.{Answer}
+use Rattle.hls_report_text.specs.declared.report.Answer.TheVariants.{Done}
 use Rattle.hls_sched.specs.Seen.{Seen}
 use Rattle.hls_machine.specs.Hierarchy.{Hierarchy}
 use Rattle.hls_machine.specs.Steps.{Step, after}
@@ -15,17 +16,23 @@ use Rattle.hls_core_stays.specs.Tallies.{AreStays, IsStanding}
 use Rattle.hls_core_stays.specs.Turnovers.{IsTurnover}
 use Rattle.hls_core_stays.specs.declared.stays.Stays.{Stays}
 use Rattle.hls_core_stays.specs.declared.turnover.Turnover.{Turnover}
+use Rattle.hls_core_stays.specs.declared.turnover.Turnover.TheVariants.{Ends}
 use Rattle.hls_manager.specs.Outcomes as manager
 use Rattle.hls_core.specs.Standing.{IsAt}
 use Rattle.hls_core.specs.Left.{IsLeft}
-use Rattle.hls_core.specs.Bursts.{left_in}
+use Rattle.hls_core.specs.Bursts.{begun_in}
 use Rattle.hls_core.specs.declared.bursts.Bursts.{Bursts}
 
 -- a command of seats: no wake and no block
 abbrev pub IsOfSeats : Command → Type 0
-IsOfSeats (Wake name burst) = ⊥
+IsOfSeats (Wake name every burst) = ⊥
 IsOfSeats (Block name) = ⊥
 IsOfSeats _ = Unit {0}
+
+-- a thread that was ended
+abbrev pub ends : Turnover → Answer → (k : ℕ) → Bool
+ends (Ends id) (Done seats) k = k == id
+ends _ _ k = false
 
 -- V and P are what the checker knows a box by
 module _ {V : Type 0} {P : V → Type 0} where
@@ -33,7 +40,7 @@ module _ {V : Type 0} {P : V → Type 0} where
   pub record CarriesOut (seen : (x : V) × P x → Seen) (old new : Tree V P) (bursts : Bursts) (m : Moment)
       (commands : ℕ) (command : Command) (answer : Answer) : Type 0 where
     pub out : manager.CarriesOut seen old new m commands command answer
-    pub left : IsLeft (left_in bursts) (after m.hierarchy out.step)
+    pub left : IsLeft (begun_in bursts) (after m.hierarchy out.step)
 
   -- a command may be carried out in the hierarchy where a legal run leads, whose stays these are
   pub record MayCarry (seen : (x : V) × P x → Seen) (t : Tree V P) (bursts : Bursts) (tallies : Stays) (h : Hierarchy)
@@ -42,6 +49,7 @@ module _ {V : Type 0} {P : V → Type 0} where
     pub marks : manager.HasMarkRoom h
     pub stays : AreStays tallies h
     pub standing : IsStanding h
+    pub short : t.horizon ≤ 1000000
 
   -- by whatever step the command was answered, after which the tree is, the stays are those after it
   abbrev pub CarriesStays : ((x : V) × P x → Seen) → (old new : Tree V P) → Bursts → (was now : Stays) → Command

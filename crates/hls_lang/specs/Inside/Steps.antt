@@ -1,10 +1,11 @@
 -- What the reader's private functions do.
-use Rattle.std.specs.Prelude.{ℕ, ◌==◌, ◌&&◌, Bool, true, not, fold, List, [], ◌∷◌, ◌++◌, codes, Result, Ok}
+use Rattle.std.specs.Prelude.{ℕ, ◌==◌, ◌&&◌, Bool, true, not, fold, List, []}
+use Rattle.std.specs.Prelude.{◌∷◌, ◌++◌, codes, Option, Some, Result, Ok}
 use Rattle.hls_text.specs.Lines.{Text, may_stand}
 use Rattle.hls_scenario.specs.declared.scenario.Command.{Command}
 use Rattle.hls_scenario.specs.declared.scenario.Item.{Item}
 use Rattle.hls_lang.specs.declared.fault.Cause.{Cause}
-use Rattle.hls_lang.specs.Words.{◌>>=◌, Found, word_at, tick_at}
+use Rattle.hls_lang.specs.Words.{◌>>=◌, Found, no_more, word_at, number_at, tick_at}
 use Rattle.hls_lang.specs.Reading.{command_at}
 
 -- a byte that may stand in a line and begins no comment
@@ -17,6 +18,10 @@ are_plain line = fold (λ all b. all && is_plain b) true line
 -- the tick before a command
 abbrev pub stamp_at : (horizon last : ℕ) → List Text → Found ℕ
 stamp_at horizon last ts = word_at (codes "at") ts >>= λ r. tick_at horizon last r
+
+-- a burst that ends the line
+abbrev pub last_burst_at : List Text → Result (Option ℕ) Cause
+last_burst_at ts = number_at 1 100000 ts >>= λ n. no_more n.1 >>= λ u. Ok (Some n.0)
 
 -- the items with one more
 abbrev pub with_command : List Item → ℕ → Command → Result (List Item) Cause

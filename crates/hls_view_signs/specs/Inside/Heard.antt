@@ -8,7 +8,7 @@ use Rattle.hls_view_signs.specs.declared.event.Node.{Node}
 use Rattle.hls_view_signs.specs.declared.heard.Heard.{Heard}
 
 abbrev pub IsHeard : Content → Heard → Type 0
-IsHeard c h = h.words.items ≡ words_on h.name (drop (h.born + 1) c.answered)
+IsHeard c h = h.words.items ≡ words_on c.horizon h.name (drop (h.born + 1) c.answered)
 
 abbrev pub AreHeard : Content → List Heard → Type 0
 AreHeard c all = AllByRecursion (IsHeard c) all
@@ -22,4 +22,4 @@ is_of_node node (Some h) = h.born == node.standing.born && bytes_eq h.name node.
 pub record IsHeardAt (c : Content) (all : List Heard) (node : Node) (place : ℕ) : Type 0 where
   pub heard : Heard
   pub there : slice_get all place ≡ Some heard
-  pub words : heard.words.items ≡ words_on node.label.name (drop (node.standing.born + 1) c.answered)
+  pub words : heard.words.items ≡ words_on c.horizon node.label.name (drop (node.standing.born + 1) c.answered)

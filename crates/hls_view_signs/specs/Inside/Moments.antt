@@ -1,8 +1,7 @@
--- What happens in the ticks that have commands.
+-- What happens in the ticks in which something may.
 use Rattle.std.specs.Prelude.{◌≡◌, ℕ, ◌≤◌, ◌==◌, List, ◌++◌, Option, None, Bool, true, map, filter}
 use Rattle.std.specs.Prelude.{if◌then◌else◌}
 use Rattle.std.specs.List.{list_any, AllByRecursion}
-use Rattle.hls_report_text.specs.declared.report.Answered.{Answered}
 use Rattle.hls_text.specs.Lines.{Text}
 use Rattle.hls_report_text.specs.declared.report.Report.{Report}
 use Rattle.hls_report_text.specs.Content.{Content, content_of}
@@ -19,7 +18,9 @@ use Rattle.hls_view_signs.specs.declared.event.Event.TheVariants.{Begun, Woken, 
 use Rattle.hls_view_signs.specs.declared.event.Node.{Node}
 use Rattle.hls_view_signs.specs.declared.moments.Moment.{Moment}
 use Rattle.hls_view_signs.specs.declared.moments.Gathering.{Gathering}
-use Rattle.hls_view_signs.specs.Happenings.{happens_to}
+use Rattle.hls_view_signs.specs.Happenings.{happens_to, happens_in}
+use Rattle.hls_view_signs.specs.declared.notes.Note.{Note}
+use Rattle.hls_view_signs.specs.Inside.Notes.{is_in}
 use Rattle.hls_view_signs.specs.Inside.Nodes.{node_with}
 use Rattle.hls_view_signs.specs.Inside.Scenes.{may_happen}
 use Rattle.hls_view_signs.specs.Inside.Sources.{AreSources}
@@ -65,21 +66,21 @@ pub record IsPut (c : Content) (t : ℕ) (old new : List Moment) : Type 0 where
   pub are : AllByRecursion (IsOf c t) more
   pub there : list_any (is_at t) new ≡ true
 
-abbrev pub is_in : (t : ℕ) → Answered → Bool
-is_in t a = a.tick == t
-
 pub record IsShown (c : Content) (s : Scale) (m : Moment) : Type 0 where
   pub is : IsMoment c m
   pub begins : s.from ≤ m.tick
   pub ends : m.tick ≤ s.to
 
--- of each shown tick of these commands
-pub record AreMomentsOf (c : Content) (s : Scale) (answered : List Answered) (all : List Moment) : Type 0 where
+-- of each shown tick of these notes
+pub record AreMomentsOf (c : Content) (s : Scale) (notes : List Note) (all : List Moment) : Type 0 where
   pub are : AllByRecursion (IsShown c s) all
-  pub each : (t : ℕ) → s.from ≤ t → t ≤ s.to → list_any (is_in t) answered ≡ true → list_any (is_at t) all ≡ true
+  pub each : (t : ℕ) → s.from ≤ t → t ≤ s.to → list_any (is_in t) notes ≡ true → list_any (is_at t) all ≡ true
 
-abbrev pub AreMoments : Content → Scale → List Moment → Type 0
-AreMoments c s all = AreMomentsOf c s c.answered all
+-- of each shown tick in which something happens
+pub record AreMoments (c : Content) (s : Scale) (all : List Moment) : Type 0 where
+  pub are : AllByRecursion (IsShown c s) all
+  pub each : (t : ℕ) → s.from ≤ t → t ≤ s.to → (event : Event) (row : List Label)
+      → happens_in c event row t ≡ true → list_any (is_at t) all ≡ true
 
 pub record IsGathering (r : Report) (g : Gathering) : Type 0 where
   pub sources : AreSources r g.sources

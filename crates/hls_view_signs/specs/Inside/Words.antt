@@ -4,7 +4,8 @@ use Rattle.std.specs.Prelude.{length, slice_get}
 use Rattle.std.specs.List.{list_any, AllByRecursion}
 use Rattle.hls_view_jobs.specs.declared.job.Word.{Word}
 use Rattle.hls_view_jobs.specs.declared.job.Release.{Release}
-use Rattle.hls_view_jobs.specs.Jobs.{first, release_of, releases}
+use Rattle.hls_view_jobs.specs.Words.{first}
+use Rattle.hls_view_jobs.specs.Jobs.{release_of, releases}
 
 abbrev pub released : (last next : Option Word) → List Release
 released None next = []

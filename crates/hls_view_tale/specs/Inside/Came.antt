@@ -9,7 +9,7 @@ use Rattle.hls_view_tale.specs.Standings.{standing}
 
 -- begins, ends or moves stays
 abbrev pub seats : Command → Bool
-seats (Wake name burst) = false
+seats (Wake name every burst) = false
 seats (Block name) = false
 seats _ = true
 

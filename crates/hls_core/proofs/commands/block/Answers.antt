@@ -6,25 +6,27 @@ use Rattle.hls_core.proofs.commands.block.Goals as goal
 
 pub follow-requires-clause-may : goal.follow-requires-clause-may
 follow-requires-clause-may g c =
-    may_rouse _ c.args.tree.now c.set_ready.new.self c.args.bursts.now c.args.bursts.now c.args.stays.now c.in-Ok.id
+    may_rouse _ c.args.tree.now c.set_ready.new.self c.args.bursts.now c.forget.new.self c.args.stays.now c.in-Ok.id
     (Block c.args.name.now) c.requires.stands (λ h tree. (c.in-Ok.ensures.found h tree).0)
-    (blocked _ c.args.tree.now c.set_ready.new.self c.args.bursts.now c.in-Ok.id c.args.name.now (record {
+    (blocked _ c.args.tree.now c.set_ready.new.self c.args.bursts.now c.forget.new.self c.in-Ok.id c.args.name.now
+    (record {
       found = c.in-Ok.ensures.found;
       done = c.in-Ok.ensures.done;
       woken = c.set_ready.ensures.woken;
       set = c.set_ready.ensures.set;
       others = c.set_ready.ensures.others;
-    }) _ refl)
+    }) c.forget.ensures.here c.forget.ensures.others _ refl)
 
 pub returns-in-Ok-clause-carried : goal.returns-in-Ok-clause-carried
 returns-in-Ok-clause-carried g c =
-    blocked _ c.args.tree.now c.set_ready.new.self c.args.bursts.now c.in-Ok.id c.args.name.now (record {
+    blocked _ c.args.tree.now c.set_ready.new.self c.args.bursts.now c.forget.new.self c.in-Ok.id c.args.name.now
+    (record {
       found = c.in-Ok.ensures.found;
       done = c.in-Ok.ensures.done;
       woken = c.set_ready.ensures.woken;
       set = c.set_ready.ensures.set;
       others = c.set_ready.ensures.others;
-    }) c.done.result c.done.ensures
+    }) c.forget.ensures.here c.forget.ensures.others c.done.result c.done.ensures
 
 pub returns-in-Ok-clause-stays : goal.returns-in-Ok-clause-stays
 returns-in-Ok-clause-stays g c =

@@ -30,9 +30,11 @@ follow-requires-clause-may g c =
 
 pub returns-in_ok-answer-in_default-clause-carried : goal.returns-in_ok-answer-in_default-clause-carried
 returns-in_ok-answer-in_default-clause-carried g c = λ h is.
-    managed _ c.args.tree.now c.carry_out.new.tree c.args.bursts.now (moment h c.args.kit.now c.args.depth)
-    c.args.commands c.args.command.now c.in_ok-answer-in_default.answer
+    managed _ c.args.tree.now c.carry_out.new.tree c.args.bursts.now c.forget.new.bursts
+    (moment h c.args.kit.now c.args.depth) c.args.commands c.args.command.now c.in_ok-answer-in_default.answer
+    c.in_ok-turnover-in_default.turnover
     (of_seats c.args.command.now c.in_default.not-Wake c.in_default.not-Block) is
+    (c.in_ok-turnover-in_default.ensures h is.tree) c.forget.ensures
     (c.in_ok-answer-in_default.ensures.carried h is.tree is.reached)
 
 pub returns-in_ok-answer-in_default-clause-stays : goal.returns-in_ok-answer-in_default-clause-stays

@@ -8,8 +8,8 @@ tell_due-requires g c =
     still_tells _ c.args.core.now c.loop-core.core c.args.text.now.items c.loop-core.text.items
     c.loop-core.invariant.on c.requires
 
-pub pass_steadily-requires-clause-may : goal.pass_steadily-requires-clause-may
-pass_steadily-requires-clause-may g c =
+pub pass_along-requires-clause-may : goal.pass_along-requires-clause-may
+pass_along-requires-clause-may g c =
     told_goes_on _ c.tell_due.new.core c.tell_due.new.text.items
     (still_tells _ c.args.core.now c.tell_due.new.core c.args.text.now.items c.tell_due.new.text.items
     (tells_both _ c.args.core.now c.loop-core.core c.tell_due.new.core c.args.text.now.items c.loop-core.text.items
@@ -17,13 +17,13 @@ pass_steadily-requires-clause-may g c =
 
 pub loop-core-preserved : goal.loop-core-preserved
 loop-core-preserved g c = record {
-  on = tells_both _ c.args.core.now c.loop-core.core c.pass_steadily.new.self c.args.text.now.items
+  on = tells_both _ c.args.core.now c.loop-core.core c.pass_along.new.self c.args.text.now.items
       c.loop-core.text.items c.tell_due.new.text.items c.loop-core.invariant.on
-      (tells_both _ c.loop-core.core c.tell_due.new.core c.pass_steadily.new.self c.loop-core.text.items
+      (tells_both _ c.loop-core.core c.tell_due.new.core c.pass_along.new.self c.loop-core.text.items
       c.tell_due.new.text.items c.tell_due.new.text.items c.in_ok-tell_due.ensures.on
-      (tells_tick _ c.tell_due.new.core c.pass_steadily.new.self c.tell_due.new.text.items c.pass_steadily.ensures.is
-      c.pass_steadily.ensures.answers));
-  scenario = c.pass_steadily.ensures.scenario ∙ c.tell_due.ensures.scenario ∙ c.loop-core.invariant.scenario;
+      (tells_tick _ c.tell_due.new.core c.pass_along.new.self c.tell_due.new.text.items c.pass_along.ensures.is
+      c.pass_along.ensures.answers));
+  scenario = c.pass_along.ensures.scenario ∙ c.tell_due.ensures.scenario ∙ c.loop-core.invariant.scenario;
 }
 
 pub returns-clause-ended : goal.returns-clause-ended

@@ -12,7 +12,8 @@ returns-then-a-until-clause-is c =
     record {
       within = c.requires.within;
       until = c.end_from-until.ensures
-          ∙ ap (λ (l : List Answered). end_in r.horizon (words_on c.in-Some.name (drop (c.args.place + 1) l))) same;
+          ∙ ap (λ (l : List Answered).
+          end_in r.horizon (words_on r.horizon c.in-Some.name (drop (c.args.place + 1) l))) same;
       some = c.if-a-until.true;
       words = words_behind r.version r.horizon c.in-Some.name r.answered c.args.place a c.requires.within
           (subst (λ (l : List Answered). a ≡ get_or l c.args.place a) same c.index-answered-place.is)

@@ -7,6 +7,6 @@ use Rattle.hls_view_jobs.proofs.admissions.admissions.Given as goal
 abbrev pub invariant-loop-place : goal.invariant-loop-place
 invariant-loop-place l = record {
   are : All (IsAdmission (content_of l.report)) l.all.items;
-  lives : lasting (content_of l.report) ≡ map (life_by l.report.answered) l.all.items
-      ++ filter (has_tick l.report.horizon) (lives (drop l.place l.report.answered));
+  lives : lasting (content_of l.report) ≡ map (life_by l.report.horizon l.report.answered) l.all.items
+      ++ filter (has_tick l.report.horizon) (lives l.report.horizon (drop l.place l.report.answered));
 }

@@ -1,4 +1,5 @@
-use Rattle.std.proofs.Common.{◌≡◌, ℕ, ◌+◌, List, [], ◌∷◌, ◌++◌, Bool, true, false, take, map, filter, sym, ap, ◌∙◌, subst}
+use Rattle.std.proofs.Common.{◌≡◌, ℕ, ◌+◌, List, [], ◌∷◌, ◌++◌, Bool, true}
+use Rattle.std.proofs.Common.{false, take, map, filter, sym, ap, ◌∙◌, subst}
 use Rattle.std.proofs.Common.{refl, append-nil}
 use Rattle.std.specs.Prelude.{All, Some, cond, slice_get}
 use Rattle.std.proofs.lemmas.List.{take_more}

@@ -18,10 +18,10 @@ loop-at-preserved c =
     let one = c.index-threads-at.result in
     elim c.if-eq.branch [
       | then-eq+in_ok-more+in_ok-extend_from_slice w ↦
-          let named : is_named name (life_by r.answered one) ≡ true = sym c.eq.ensures ∙ w.if-eq.true in
+          let named : is_named name (life_by r.horizon r.answered one) ≡ true = sym c.eq.ensures ∙ w.if-eq.true in
           let more = w.in_ok-more.more.items in
-          let found : AreJobs content name (releases (life_by r.answered one).words) more =
-          subst (λ (n : Text). AreJobs content n (releases (life_by r.answered one).words) more)
+          let found : AreJobs content name (releases (life_by r.horizon r.answered one).words) more =
+          subst (λ (n : Text). AreJobs content n (releases (life_by r.horizon r.answered one).words) more)
           (bytes_same one.name name named) w.in_ok-more.ensures.jobs in
           let put : c.if-eq.jobs.items ≡ c.loop-at.jobs.items ++ more = ap (λ v. v.items) w.jobs-is
           ∙ w.in_ok-extend_from_slice.ensures.items
@@ -33,7 +33,7 @@ loop-at-preserved c =
                 c.if-eq.jobs.items c.loop-at-test.true c.index-threads-at.is named found put c.loop-at.invariant.jobs;
           }
       | else-eq w ↦
-          let other : is_named name (life_by r.answered one) ≡ false = sym c.eq.ensures ∙ w.if-eq.false in
+          let other : is_named name (life_by r.horizon r.answered one) ≡ false = sym c.eq.ensures ∙ w.if-eq.false in
           record {
             sources = subst (AreSources r) (sym w.sources-is) c.loop-at.invariant.sources;
             jobs = other_next content name c.args.threads.now c.loop-at.at one c.loop-at.jobs.items c.if-eq.jobs.items

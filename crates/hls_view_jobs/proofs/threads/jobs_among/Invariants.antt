@@ -9,5 +9,5 @@ abbrev pub invariant-loop-at : goal.invariant-loop-at
 invariant-loop-at l = record {
   sources : AreSources l.report l.sources;
   jobs : AreJobs (content_of l.report) l.name
-      (of_lives l.name (map (life_by l.report.answered) (take l.at l.threads))) l.jobs.items;
+      (of_lives l.name (map (life_by l.report.horizon l.report.answered) (take l.at l.threads))) l.jobs.items;
 }

@@ -7,5 +7,6 @@ use Rattle.hls_view_jobs.proofs.threads.lines_among.Given as goal
 abbrev pub invariant-loop-at : goal.invariant-loop-at
 invariant-loop-at l = record {
   sources : AreSources l.report l.sources;
-  lines : AreLines (content_of l.report) (map (life_by l.report.answered) (take l.at l.threads)) l.lines.items;
+  lines : AreLines (content_of l.report) (map (life_by l.report.horizon l.report.answered) (take l.at l.threads))
+      l.lines.items;
 }

@@ -23,7 +23,8 @@ pub is_dropped-requires-clause-early : goal.is_dropped-requires-clause-early
 is_dropped-requires-clause-early c =
     let content = content_of c.args.report.now in
     let node = c.args.node.now in
-    let words : c.deref.result.now ≡ words_on node.label.name (drop (node.standing.born + 1) content.answered) =
+    let words : c.deref.result.now
+    ≡ words_on content.horizon node.label.name (drop (node.standing.born + 1) content.answered) =
     c.deref.ensures.value
     ∙ read_at content c.heard_at.new.all.items node c.in_ok-at.at c.index-2.result.now c.in_ok-at.ensures.at
     c.index-2.ensures in
@@ -36,7 +37,8 @@ pub is_dropped-requires-clause-rising : goal.is_dropped-requires-clause-rising
 is_dropped-requires-clause-rising c =
     let content = content_of c.args.report.now in
     let node = c.args.node.now in
-    let words : c.deref.result.now ≡ words_on node.label.name (drop (node.standing.born + 1) content.answered) =
+    let words : c.deref.result.now
+    ≡ words_on content.horizon node.label.name (drop (node.standing.born + 1) content.answered) =
     c.deref.ensures.value
     ∙ read_at content c.heard_at.new.all.items node c.in_ok-at.at c.index-2.result.now c.in_ok-at.ensures.at
     c.index-2.ensures in
@@ -49,7 +51,7 @@ returns-clause-is c =
     let name = node.label.name in
     let items = c.place_of.new.self.ticks.items in
     let place = c.in_ok-place.place in
-    let words : c.deref.result.now ≡ words_on name (drop (node.standing.born + 1) content.answered) =
+    let words : c.deref.result.now ≡ words_on content.horizon name (drop (node.standing.born + 1) content.answered) =
     c.deref.ensures.value
     ∙ read_at content c.heard_at.new.all.items node c.in_ok-at.at c.index-2.result.now c.in_ok-at.ensures.at
     c.index-2.ensures in
@@ -58,8 +60,8 @@ returns-clause-is c =
     (slice_get_read items (length items) place c.index.result.now refl
     (known_within content c.place_of.new.self name place c.in_ok-place.ensures.place) c.index.ensures) in
     let thread : is_thread node.label ≡ true = grind arith in
-    let cut = list_any (is_dropped content c.args.tick name) (releases (words_on name (drop (node.standing.born + 1)
-    content.answered))) in
+    let cut = list_any (is_dropped content c.args.tick name)
+    (releases (words_on content.horizon name (drop (node.standing.born + 1) content.answered))) in
     c.is_dropped.ensures content name served early
     ∙ ap (λ (ws : List Word). list_any (is_dropped content c.args.tick name) (releases ws)) words
     ∙ ap (λ (b : Bool). b && cut) (sym thread)

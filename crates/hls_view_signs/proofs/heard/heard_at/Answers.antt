@@ -27,5 +27,7 @@ returns-clause-at c =
       };
       there = c.in_ok-at.ensures.there;
       words = c.in_ok-words.ensures
-          ∙ ap (λ (l : List Answered). words_on node.label.name (drop (node.standing.born + 1) l)) c.items.ensures;
+          ∙ ap (words_on c.args.report.now.horizon node.label.name) c.behind-later.ensures
+          ∙ ap (λ (l : List Answered). words_on c.args.report.now.horizon node.label.name
+          (drop (node.standing.born + 1) l)) c.items.ensures;
     }

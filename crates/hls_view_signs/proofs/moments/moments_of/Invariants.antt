@@ -6,5 +6,5 @@ use Rattle.hls_view_signs.proofs.moments.moments_of.Given as goal
 abbrev pub invariant-loop-at : goal.invariant-loop-at
 invariant-loop-at l = record {
   gathering : IsGathering l.report l.gathering;
-  moments : AreMomentsOf (content_of l.report) l.scale (take l.at l.answered) l.gathering.moments.items;
+  moments : AreMomentsOf (content_of l.report) l.scale (take l.at l.notes.items) l.gathering.moments.items;
 }

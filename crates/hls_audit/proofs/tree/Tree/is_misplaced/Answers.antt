@@ -45,7 +45,7 @@ returns-in-End c =
 pub returns-in-Wake : goal.returns-in-Wake
 returns-in-Wake c =
     let tree = c.args.self.now.members.items in
-    ap not c.is_thread-in-Wake.ensures ∙ wake_misplaced tree c.in-Wake.name c.in-Wake.burst
+    ap not c.is_thread-in-Wake.ensures ∙ wake_misplaced tree c.in-Wake.name c.in-Wake.every c.in-Wake.burst
     ∙ ap (is_misplaced tree) (sym c.in-Wake.is)
 
 pub returns-in-Block : goal.returns-in-Block

@@ -32,7 +32,7 @@ returns-in-Wake c =
     let all = c.args.answered.now in
     let a = c.args.a.now in
     let done = c.requires.done in
-    let command = Wake c.in-Wake.name c.in-Wake.burst in
+    let command = Wake c.in-Wake.name c.in-Wake.every c.in-Wake.burst in
     carried_quiet c.args.self.now c.args.self.now all c.args.place a c.requires.there
     (quiet_load (take c.args.place all) a command done c.in-Wake.is (λ n. refl) refl (λ n. refl) refl) refl
     c.requires.carried.open_at

@@ -3,7 +3,7 @@ use Rattle.hls_core_stays.proofs.turnover.Turnover.of.Goals as goal
 
 pub returns-in-Wake : goal.returns-in-Wake
 returns-in-Wake g c =
-    λ h tree. roused_wake h c.args.command.now _ _ c.rouses.result c.in-Wake.is (c.rouses.ensures h tree)
+    λ h tree. roused_wake h c.args.command.now _ _ _ c.rouses.result c.in-Wake.is (c.rouses.ensures h tree)
 
 pub returns-in-Block : goal.returns-in-Block
 returns-in-Block g c =
