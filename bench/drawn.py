@@ -26,7 +26,7 @@ KINDS = list(TERMS)
 NUMBERS = """0 1 2 19 20 21 31 32 100 101 1000 1001 9999 10000 10001 20000 20001 99999 100000 100001 01 -1 +1 1.0
     4294967296 18446744073709551616 1/2 2/4 1/0 0/1 3/2 1/01 1/ /2 1000000/1000001 10000000001""".split()
 WORDS = """hls horizon depth at load thread end unload move wake block on to as for , cpu fp edf sfq rr wheel join prio
-    res weight slots turn sole hard soft ALL NULL RESBH RESBS RESCH RESCS PSBE every left limit a_ _a A a-b 9
+    res weight slots turn sole hard soft ALL NULL RESBH RESBS RESCH RESCS PSBE every burst left limit a_ _a A a-b 9
     sixteen_letters_ seventeen_letters # a#b %""".split()
 BYTES = [b"\x80", b"\r", b"\0", b"\x7f", b"\t", b"#", b" ", b"x", b"0", b","]
 BLANK_LINES = [b"", b" ", b"\t", b"# a note", b"#\xff", b"  # depth 3"]
@@ -247,7 +247,10 @@ class Drawing:
 
     def wake(self):
         name, burst = self.someone(), self.draw.choice([0, 0, 0, 1, 2, 3, 7, 20])
-        self.say(f"wake {name} for {burst}" if burst else f"wake {name}")
+        if burst and self.version == 2 and self.one_in(2):
+            self.say(f"wake {name} every {self.draw.choice([1, 2, 3, 5, 8, 13, 40])} burst {burst}")
+        else:
+            self.say(f"wake {name} for {burst}" if burst else f"wake {name}")
 
     def block(self):
         self.say(f"block {self.someone()}")

@@ -10,10 +10,14 @@ import sys
 
 HORIZON = 100000
 
+# The longest horizon of version 2.
+LONG = 1000000
+
 
 def scenario(items, horizon=HORIZON, depth=None):
-    """The text of these pairs of a tick and a command."""
-    head = ["hls 1", f"horizon {horizon}"] + ([] if depth is None else [f"depth {depth}"])
+    """The text of these pairs of a tick and a command, in the first version that has such a horizon."""
+    version = 1 if horizon <= HORIZON else 2
+    head = [f"hls {version}", f"horizon {horizon}"] + ([] if depth is None else [f"depth {depth}"])
     return "\n".join(head + [f"at {tick} {command}" for tick, command in items]) + "\n"
 
 
@@ -66,8 +70,8 @@ def farm(top=None):
     return items + at_first(*(f"wake {name}" for names in threads for name in names))
 
 
-def one_thread():
-    return scenario(at_first("load r fp on cpu as ALL", "thread a on r prio 0 as ALL", "wake a"))
+def one_thread(horizon=HORIZON):
+    return scenario(at_first("load r fp on cpu as ALL", "thread a on r prio 0 as ALL", "wake a"), horizon)
 
 
 # Where threads of the mix go, and how often each is drawn.
@@ -211,6 +215,38 @@ def requests(count):
     return scenario(items, depth=6)
 
 
+def periodic():
+    """The desktop with sound, by turns of five ticks, and periodic wakes of all but two threads that are always awake."""
+    return scenario(at_first(
+        "load root fp on cpu as ALL", "load e edf on root prio 0 as ALL", "load bg rr 10 on root prio 1 as NULL",
+        "thread player on e res 4 33 hard as RESBH 4 33", "thread sound on e res 1 10 hard as RESBH 1 10",
+        "load s sfq 4 2 5 on e res 15 40 hard as PSBE 3/8 19", "thread editor on s weight 3 as PSBE 9/32 20",
+        "thread compiler on s weight 1 as PSBE 3/32 10", "thread mail on bg turn as NULL",
+        "thread index on bg turn as NULL", "wake player every 33 burst 4", "wake sound every 10 burst 1",
+        "wake editor every 200 burst 60", "wake compiler", "wake mail every 1000 burst 20", "wake index"), LONG)
+
+
+def turns():
+    """20 threads of different weights, by turns of ten ticks."""
+    items = at_first("load s sfq 100 20 10 on cpu as ALL")
+    for number in range(20):
+        items += at_first(f"thread t{number} on s weight {1 + number % 9} as NULL", f"wake t{number}")
+    return scenario(items, LONG)
+
+
+def wheels():
+    """Four wheels with long places, two of them at a join's ports, one below it."""
+    items = at_first(
+        "load a wheel 1000 on cpu as ALL", "load b wheel 700 on a slots 400 as NULL",
+        "load c wheel 900 on a slots 300 as NULL", "load j join on b slots 500 as NULL , c slots 600 as NULL",
+        "load d wheel 50 on j sole as NULL")
+    for wheel in "abcd":
+        for number in range(2):
+            slots = 20 if wheel == "d" else 100
+            items += at_first(f"thread {wheel}{number} on {wheel} slots {slots} as NULL", f"wake {wheel}{number}")
+    return scenario(items, LONG)
+
+
 # The name of a case, what it is, how many ticks it has, and its text.
 SCENARIOS = {
     "a1": ("1,000 admissions, 64,535 wakes and blocks", HORIZON, lambda: early(1000, 64535)),
@@ -223,6 +259,10 @@ SCENARIOS = {
     "f1": ("4,000 moves above 256 threads", HORIZON, lambda: moves(4000)),
     "f2": ("20,000 of them in one tick", 100, lambda: moves_at_once(20000)),
     "g": ("20,000 requests at depth 6", HORIZON, lambda: requests(20000)),
+    "i1": ("one thread, a million ticks", LONG, lambda: one_thread(LONG)),
+    "i2": ("a desktop of periodic wakes", LONG, periodic),
+    "i4": ("20 threads by turns of ten ticks", LONG, turns),
+    "i5": ("wheels with long places", LONG, wheels),
     "l1": ("six threads, uneven work", HORIZON, office),
     "l2": ("256 threads, 20,000 wakes and blocks, some moves", HORIZON, busy),
 }

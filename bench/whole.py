@@ -7,7 +7,8 @@ Usage: bench/whole.py [--prog NAME=COMMAND].. [--cases a1,b,..] [--reps N] [--ti
 
 Of each program the median processor time (user and system), the whole time by the ticks and by the commands, and the
 most memory are told, and the ratios to the first program (x). Cases that begin with h are `check` on reports that the
-first program wrote. Outputs are compared in a run that does not count; the derivations of `by` lines may differ.
+first program wrote; those with an i, of a million ticks, are of version 2. Outputs are compared in a run that does not
+count; the derivations of `by` lines may differ.
 --instructions counts instructions besides, by valgrind, which takes long; they do not depend on what else the machine
 does. --markdown writes the table of docs/SPEED.md.
 """
@@ -20,7 +21,8 @@ from runs import PROVED, count, digest, program, repeat, run
 from texts import SCENARIOS
 
 # Audits, each of the report of a scenario.
-CHECKS = {"ha": "a1", "hb": "b", "hb2": "b2", "hc": "c", "he": "e", "hf": "f1", "hg": "g"}
+CHECKS = {"ha": "a1", "hb": "b", "hb2": "b2", "hc": "c", "he": "e", "hf": "f1", "hg": "g", "hi1": "i1",
+          "hi2": "i2", "hi4": "i4", "hi5": "i5"}
 
 CASES = list(SCENARIOS) + list(CHECKS)
 
