@@ -1,11 +1,13 @@
-use Rattle.std.proofs.Common.{◌≡◌, ◌<◌, length}
+use Rattle.std.proofs.Common.{◌≡◌, ◌<◌, length, get_or}
+use Rattle.hls_order.specs.Order.{none}
 use Rattle.hls_order.specs.Inside.Rising.{IsRightBut}
-use Rattle.hls_order.proofs.order.replayed.Given as goal
+use Rattle.hls_order.proofs.order.replay.Given as goal
 
 abbrev pub invariant-loop-at : goal.invariant-loop-at
 invariant-loop-at l = record {
   size : length l.winners ≡ 63;
   within : l.at < 63;
+  here : get_or l.winners l.at none ≡ l.winner;
   right : IsRightBut l.keys l.winners l.at;
 }
 
