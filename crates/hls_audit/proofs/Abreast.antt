@@ -1,10 +1,10 @@
 -- Commands and runs, tick by tick.
 use Rattle.std.proofs.Common.{◌≡◌, ℕ, zero, suc, ◌+◌, ◌<◌, ◌≤◌, List, [], ◌∷◌, inl, inr}
 use Rattle.std.proofs.Common.{refl, sym, ap, ◌∙◌, subst, arith, cond, length, get_or, take, map}
-use Rattle.std.specs.Prelude.{Bool, Some, None, nat_le, slice_get, filter, option_map}
-use Rattle.std.proofs.lemmas.Bool.{cases_eq, le-leb, lt-leb}
+use Rattle.std.specs.Prelude.{Bool, Option, Some, None, nat_le, slice_get, filter, option_map, min}
+use Rattle.std.proofs.lemmas.Bool.{cases_eq, cases_lt, le-leb, lt-leb}
 use Rattle.std.proofs.lemmas.List.Sums.{fold_more}
-use Rattle.std.proofs.lemmas.Option.{slice_get_read, slice_get_within, get_or_from_slice_get}
+use Rattle.std.proofs.lemmas.Option.{slice_get_read, slice_get_within, get_or_from_slice_get, slice_get_cases}
 use Rattle.hls_text.specs.Lines.{Text}
 use Rattle.hls_report_text.specs.declared.report.Answered.{Answered}
 use Rattle.hls_report_text.specs.declared.report.Run.{Run}
@@ -17,7 +17,7 @@ use Rattle.hls_audit_clauses.specs.Names.{after_answer, tree_of, tree_at}
 use Rattle.hls_audit_clauses.specs.Ways.{leads_down}
 use Rattle.hls_audit_clauses.specs.Clauses.{IsAstray}
 use Rattle.hls_audit_threads.specs.Inside.Order.{AreInOrder}
-use Rattle.hls_audit.specs.Inside.Leading.{IsAbreast, IsReached}
+use Rattle.hls_audit.specs.Inside.Leading.{IsAbreast, IsReached, tick_or, end_or}
 use Rattle.hls_audit_threads.proofs.RunLaws.{run_since, run_next, path_is, one_run}
 
 -- ---- commands
@@ -180,29 +180,88 @@ reach_next c names runs items t at run formed e same found early past reached =
       until = omega (arith, since, until, over, ahead);
     }
 
--- where neither run nor tree are new, nothing leads astray that did not before
-pub same_before : (c : Content) (names : List Text) (runs : List Run) (t next later at : ℕ) (old new : List Member)
-    → IsContent c → new ≡ old → c.stretches ≡ map (stretch_of names) runs → 0 < t → IsAbreast c.answered t next old
-    → IsAbreast c.answered (t + 1) later new → IsReached runs t at → IsReached runs (t + 1) at
-    → ((k : ℕ) → k < t → ¬ IsAstray c k) → ¬ IsAstray c t
-same_before c names runs zero next later at old new formed trees e some tree more was is none now = absurd
-    (omega (arith, some))
-same_before c names runs (suc t) next later at old new formed equal e some tree more was is none now =
-    let since = was.since in
-    let until = was.until in
-    let one : is.run ≡ was.run = one_run is.run was.run (sym is.there ∙ was.there) in
-    let begun = is.since in
-    let ends = is.until in
-    let here = path_is c names runs (suc t) at is.run formed e is.there (omega (arith, begun)) (omega (arith, ends)) in
-    let before = path_is c names runs t at was.run formed e was.there (omega (arith, since)) (omega (arith, until)) in
-    let same = before ∙ ap (λ (x : Run). option_map (path_names names) x.path) (sym one) ∙ sym here in
-    let then : old ≡ tree_at t c.answered = tree_here c.answered t (suc t) next old (omega arith) tree in
-    let after : new ≡ tree_at (suc t) c.answered =
-    tree_here c.answered (suc t) (suc t + 1) later new refl more in
-    let trees : tree_at (suc t) c.answered ≡ tree_at t c.answered =
-    sym after ∙ equal ∙ then in
-    none t (omega arith) (record {
+-- ---- from one tick on to the next at which a run begins or a command comes
+
+-- no command comes in between
+pub abreast_later : (all : List Answered) (t next later horizon : ℕ) (tree : List Member) → AreInOrder all → t ≤ later
+    → later ≤ tick_or horizon (slice_get all next) → IsAbreast all t next tree → IsAbreast all later next tree
+abreast_later all t next later horizon tree order le soon so_far = record {
+  within = so_far.within;
+  tree_is = so_far.tree_is;
+  before = λ k a lt there. let early = so_far.before k a lt there in omega (arith, early, le);
+  behind = λ k a more there. elim (slice_get_cases all next).1 [
+    | inl found ↦
+        let first = order next k found.0 a more found.2 there in
+        let bound : later ≤ found.0.tick =
+        subst (λ (o : Option Answered). later ≤ tick_or horizon o) found.2 soon in
+        omega (arith, first, bound)
+    | inr past ↦
+        let lt = slice_get_within all k a there in
+        let end = past.0 in absurd (omega (arith, lt, end, more))
+  ];
+}
+
+-- nor does the run end
+pub reached_later : (runs : List Run) (t at later horizon : ℕ) → t ≤ later
+    → later ≤ end_or horizon (slice_get runs at) → IsReached runs t at → IsReached runs later at
+reached_later runs t at later horizon le soon reached =
+    let since = reached.since in record {
+      run = reached.run;
+      there = reached.there;
+      since = omega (arith, since, le);
+      until = subst (λ (o : Option Run). later ≤ end_or horizon o) reached.there soon;
+    }
+
+-- so nothing leads astray in between that does not at once
+pub never_between : (c : Content) (names : List Text) (runs : List Run) (t next at later : ℕ) (tree : List Member)
+    → IsContent c → AreInOrder c.answered → c.stretches ≡ map (stretch_of names) runs
+    → later ≤ tick_or c.horizon (slice_get c.answered next) → later ≤ end_or c.horizon (slice_get runs at)
+    → IsAbreast c.answered (t + 1) next tree → IsReached runs (t + 1) at → ¬ IsAstray c t
+    → (k : ℕ) → t ≤ k → k < later → ¬ IsAstray c k
+never_between c names runs t next at later tree formed order e calm lasts abreast reached none k lo hi now =
+    let since = reached.since in
+    let until = reached.until in
+    let ends : later ≤ reached.run.to + 1 =
+    subst (λ (o : Option Run). later ≤ end_or c.horizon o) reached.there lasts in
+    let here = path_is c names runs k at reached.run formed e reached.there (omega (arith, since, lo))
+    (omega (arith, ends, hi)) in
+    let first = path_is c names runs t at reached.run formed e reached.there (omega (arith, since))
+    (omega (arith, until)) in
+    let still = abreast_later c.answered (t + 1) next (k + 1) c.horizon tree order (omega (arith, lo))
+    (omega (arith, calm, hi)) abreast in
+    let then : tree ≡ tree_at t c.answered = tree_here c.answered t (t + 1) next tree refl abreast in
+    let after : tree ≡ tree_at k c.answered = tree_here c.answered k (k + 1) next tree refl still in
+    none (record {
       names = now.names;
-      path = same ∙ now.path;
-      astray = ap (λ (l : List Member). leads_down l now.names) (sym trees) ∙ now.astray;
+      path = first ∙ sym here ∙ now.path;
+      astray = ap (λ (l : List Member). leads_down l now.names) (sym then ∙ after) ∙ now.astray;
     })
+
+-- none up to there
+pub none_until : (c : Content) (names : List Text) (runs : List Run) (t next at later : ℕ) (tree : List Member)
+    → IsContent c → AreInOrder c.answered → c.stretches ≡ map (stretch_of names) runs
+    → later ≤ tick_or c.horizon (slice_get c.answered next) → later ≤ end_or c.horizon (slice_get runs at)
+    → IsAbreast c.answered (t + 1) next tree → IsReached runs (t + 1) at → ((k : ℕ) → k < t + 1 → ¬ IsAstray c k)
+    → (k : ℕ) → k < later → ¬ IsAstray c k
+none_until c names runs t next at later tree formed order e calm lasts abreast reached none k lt =
+    elim (cases_lt k t) [
+      | inl early ↦ none k (omega (arith, early))
+      | inr late ↦ never_between c names runs t next at later tree formed order e calm lasts abreast reached
+          (none t (omega arith)) k late lt
+    ]
+
+-- time goes on
+pub moment_later : (all : List Answered) (runs : List Run) (t next at horizon : ℕ) (tree : List Member) → t < horizon
+    → IsAbreast all (t + 1) next tree → IsReached runs (t + 1) at
+    → t < min (tick_or horizon (slice_get all next)) (end_or horizon (slice_get runs at))
+moment_later all runs t next at horizon tree lt abreast reached =
+    let until = reached.until in
+    let ends : t < end_or horizon (slice_get runs at) =
+    subst (λ (o : Option Run). t < end_or horizon o) (sym reached.there) (omega (arith, until)) in
+    let comes : t < tick_or horizon (slice_get all next) = elim (slice_get_cases all next).1 [
+      | inl found ↦
+          let late = abreast.behind next found.0 (omega arith) found.2 in
+          subst (λ (o : Option Answered). t < tick_or horizon o) (sym found.2) (omega (arith, late))
+      | inr past ↦ subst (λ (o : Option Answered). t < tick_or horizon o) (sym past.1) lt
+    ] in
+    omega (arith, ends, comes)

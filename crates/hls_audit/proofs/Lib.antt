@@ -11,3 +11,5 @@ pub mod KnownLaws
 pub mod RisingLaws
 pub mod WayLaws
 pub mod Abreast
+pub mod IdleLaws
+pub mod FollowedLaws

@@ -7,3 +7,4 @@ pub mod Failing
 pub mod Known
 pub mod Rising
 pub mod Leading
+pub mod Followed

@@ -1,5 +1,5 @@
 // Paths that lead nowhere, by a tree that follows the commands from tick to tick.
-ghost use Rattle.std.specs.Prelude.{◌≡◌, ◌+◌, ◌<◌, List, IfOk, Decides, option_map, true};
+ghost use Rattle.std.specs.Prelude.{◌≡◌, ◌+◌, ◌<◌, List, IfOk, Decides, option_map, true, slice_get};
 ghost use Rattle.hls_audit_clauses.specs.declared.member.Member.{Member};
 ghost use Rattle.hls_report_text.specs.Content.{content_of, path_names};
 ghost use Rattle.hls_report_text.specs.WellFormed.{HasShort, IsWellFormed};
@@ -7,9 +7,11 @@ ghost use Rattle.hls_legal.specs.Schedule as spelled;
 ghost use Rattle.hls_audit_clauses.specs.Names as told;
 ghost use Rattle.hls_audit_clauses.specs.Clauses.{IsAstray};
 ghost use Rattle.hls_audit_watch.specs.First.{FirstAt};
-ghost use Rattle.hls_audit.specs.Inside.Leading.{IsAbreast, IsReached};
+ghost use Rattle.hls_audit.specs.Inside.Followed.{AreFollowed};
+ghost use Rattle.hls_audit.specs.Inside.Leading.{IsAbreast, IsReached, tick_or, end_or};
 ghost use Rattle.hls_audit_threads.specs.Inside.Order.{AreInOrder};
 
+use crate::followed::Followed;
 use crate::tree::Tree;
 use hls_report_text::{Answer, Answered, Path, Report};
 use hls_scenario::Command;
@@ -96,42 +98,61 @@ pub(crate) fn path_of(report: &Report, at: usize, tick: u32) -> Option<Path>
 }
 
 /// Whether the second clause fails at a tick, whose run is at a place, and up to which the tree follows the commands.
-fn is_astray(report: &Report, tree: &Tree, at: usize, tick: u32) -> bool
+fn is_astray(report: &Report, tree: &Tree, followed: &mut Followed, at: usize, tick: u32) -> bool
     requires formed { IsWellFormed report.now }
     requires reached { IsReached report.now.runs (tick + 1) at }
     requires tree { tree.now.members.items ≡ told.tree_at tick (content_of report.now).answered }
-    ensures { Decides result (IsAstray (content_of report.now) tick) }
+    requires followed { AreFollowed tree.now.members.items report.now.names followed.old.paths.items }
+    ensures followed { AreFollowed tree.now.members.items report.now.names followed.new.paths.items }
+    ensures astray { Decides result (IsAstray (content_of report.now) tick) }
 {
     match path_of(report, at, tick) {
-        Some(path) => !tree.leads_down(report.names.items(), &path),
+        Some(path) => !followed.leads_down(tree, report.names.items(), &path),
         None => false,
     }
 }
 
-/// Whether a tick is not the first, and neither the tree nor the run is new in it.
-fn is_as_before(tick: u32, is_same: bool, last: usize, at: usize) -> bool
-    ensures { result ≡ true → (0 < tick) × (is_same ≡ true) × (at ≡ last) }
+/// The tick of the command at a place, or else the horizon.
+fn command_tick(report: &Report, at: usize) -> u32
+    ensures { result ≡ tick_or report.now.horizon (slice_get report.now.answered at) }
 {
-    0 < tick && is_same && at == last
+    match report.answered.items().get(at) {
+        Some(a) => a.tick,
+        None => report.horizon,
+    }
 }
 
-/// The first tick at which the second clause fails. A path is looked at where its run begins, and where commands
-/// changed the tree.
+/// The tick behind the run at a place, or else the horizon.
+fn run_end(report: &Report, at: usize) -> u32
+    requires { IsWellFormed report.now }
+    ensures { result ≡ end_or report.now.horizon (slice_get report.now.runs at) }
+{
+    match report.runs.items().get(at) {
+        Some(run) => run.to + 1,
+        None => report.horizon,
+    }
+}
+
+/// The first tick at which the second clause fails. What is looked at are the ticks at which a run begins or commands
+/// come: a path leads astray at one of them, or never.
 pub(crate) fn first_astray(alloc: Global, report: &Report) -> Result<Option<u32>, AllocError>
     requires { IsWellFormed report.now }
     ensures { IfOk result (FirstAt (IsAstray (content_of report.now))) }
 {
     let mut tree = Tree::new(alloc);
+    let mut followed = Followed::new(alloc)?;
     let mut next = 0;
     let mut at = 0;
-    for tick in 0..report.horizon {
-        let last = at;
+    let mut tick = 0;
+    while tick < report.horizon {
         let (upto, is_same) = follow_tick(alloc, &mut tree, report.answered.items(), next, tick)?;
+        followed.keep(is_same);
         next = upto;
-        at = run_of(report, last, tick);
-        if !is_as_before(tick, is_same, last, at) && is_astray(report, &tree, at, tick) {
+        at = run_of(report, at, tick);
+        if is_astray(report, &tree, &mut followed, at, tick) {
             return Ok(Some(tick));
         }
+        tick = command_tick(report, next).min(run_end(report, at));
     }
     Ok(None)
 }

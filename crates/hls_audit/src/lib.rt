@@ -6,6 +6,7 @@ mod below;
 mod commands;
 mod counts;
 mod dues;
+mod followed;
 mod known;
 mod leading;
 mod placing;

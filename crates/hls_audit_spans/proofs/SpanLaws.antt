@@ -6,7 +6,7 @@ use Rattle.std.specs.Prelude.{Option, Some, None, slice_get, min, nat_lt}
 use Rattle.std.proofs.Math.Nat.{min-eq_left, min-eq_right}
 use Rattle.std.proofs.lemmas.Bool.{cases_lt, ltb-true, ltb-false}
 use Rattle.std.proofs.lemmas.Option.{slice_get_cases, get_or_from_slice_get, slice_get_read}
-use Rattle.std.proofs.lemmas.Option.{slice_get_past}
+use Rattle.std.proofs.lemmas.Option.{slice_get_past, slice_get_within}
 use Rattle.hls_chron.specs.Ticks.{count}
 use Rattle.hls_audit_spans.specs.declared.span.Span.{Span}
 use Rattle.hls_audit_spans.specs.Spans.{IsSpan, start, IsQuiet, Tell}
@@ -67,6 +67,17 @@ last_read f spans end tick at place here last e is =
     let up = last.place in
     let same : place ≡ last.k = omega (arith, e, up) in
     is ∙ ap (λ n. get_or spans n here) same ∙ get_or_from_slice_get spans last.k last.s here there
+
+-- all spans begin before the end
+pub begun_all : (f : ℕ → Bool) (spans : List Span) (end at : ℕ) → at ≡ length spans → Tell f spans end
+    → IsBegun spans end at
+begun_all f spans end at is tell = record {
+  within = omega (arith, is);
+  last = λ k s up there.
+      let some = (tell.each k s there).some in
+      let within = tell.within k s there in omega (arith, some, within);
+  next = λ s there. let lt = slice_get_within spans at s there in absurd (omega (arith, lt, is));
+}
 
 -- ---- how many before a tick
 

@@ -66,6 +66,18 @@ abbrev pub IsBeyond : (f g : ℕ → Bool) → (end : ℕ) → Option ℕ → Ty
 IsBeyond f g end None = (t : ℕ) → t < end → f t ≡ true → g t ≡ true
 IsBeyond f g end (Some beyond) = IsBeyondAt f g end beyond
 
+-- the first tick, from one on and before another, that passes one test and not another
+pub record IsBeyondInAt (f g : ℕ → Bool) (since until beyond : ℕ) : Type 0 where
+  pub behind : since ≤ beyond
+  pub within : beyond < until
+  pub on : f beyond ≡ true
+  pub off : g beyond ≡ false
+  pub none : (t : ℕ) → since ≤ t → t < beyond → f t ≡ true → g t ≡ true
+
+abbrev pub IsBeyondIn : (f g : ℕ → Bool) → (since until : ℕ) → Option ℕ → Type 0
+IsBeyondIn f g since until None = (t : ℕ) → since ≤ t → t < until → f t ≡ true → g t ≡ true
+IsBeyondIn f g since until (Some beyond) = IsBeyondInAt f g since until beyond
+
 -- whether each tick from one on passes
 pub record AreTicks (f : ℕ → Bool) (from : ℕ) (list : List Bool) : Type 0 where
   pub each : (t : ℕ) → t < length list → get_or list t false ≡ f (t + from)

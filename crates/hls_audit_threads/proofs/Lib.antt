@@ -6,6 +6,7 @@ pub mod Formed
 pub mod Least
 pub mod EachStay
 pub mod OneStay
+pub mod EveryTick
 pub mod LineLaws
 pub mod ReleaseLaws
 pub mod Linked

@@ -1,6 +1,6 @@
 -- The ticks in which a thread is ready by a wake with releases.
-use Rattle.std.proofs.Common.{◌≡◌, ℕ, ◌+◌, ◌-◌, ◌<◌, ◌≤◌, Bool, true, false, inl, inr, List, Some}
-use Rattle.std.proofs.Common.{refl, sym, ap, ◌∙◌, subst, arith}
+use Rattle.std.proofs.Common.{◌≡◌, ℕ, ◌+◌, ◌-◌, ◌<◌, ◌≤◌, Bool, true, inl, inr, List, Some}
+use Rattle.std.proofs.Common.{ap, ◌∙◌, arith}
 use Rattle.std.specs.Prelude.{nat_lt}
 use Rattle.std.proofs.lemmas.Bool.{cases_lt, lt-ltb, le-ltb}
 use Rattle.hls_chron.specs.Ticks.{count}
@@ -11,7 +11,7 @@ use Rattle.hls_audit_spans.proofs.Counts.{count_off}
 use Rattle.hls_audit_spans.proofs.Growing.{tell_wider}
 use Rattle.hls_releases.specs.Releases.{IsRelease, last_release, is_unserved}
 use Rattle.hls_releases.proofs.Releases.{last_upto, last_of, last_is_release, period_ahead, none_between}
-use Rattle.hls_releases.proofs.Releases.{next_at_release, release_later}
+use Rattle.hls_releases.proofs.Releases.{next_at_release}
 use Rattle.hls_audit_threads.specs.Inside.Lines.{IsReleaseFrom, IsUnused}
 
 -- a release up to a tick is not after the last one

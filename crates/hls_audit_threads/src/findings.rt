@@ -6,6 +6,7 @@ ghost use Rattle.hls_legal.specs.Accounts as told;
 ghost use Rattle.hls_audit_clauses.specs.Clauses.{RunsUnready, IsStarved, IsOverCap};
 ghost use Rattle.hls_audit_watch.specs.First.{FirstAt};
 
+use crate::known_threads::KnownThreads;
 use crate::lookup::Lookup;
 use crate::meeting::are_all_met;
 use crate::paths::first_unready;
@@ -42,8 +43,9 @@ impl Findings {
     {
         let stays = stays_of(alloc, report.answered.items())?;
         let lookup = Lookup::of(alloc, report)?;
-        let unready = first_unready(alloc, report, &lookup)?;
-        let of_stays = StayFindings::of(alloc, report, &lookup, &stays)?;
+        let mut known = KnownThreads::new(alloc);
+        let unready = first_unready(alloc, report, &lookup, &mut known)?;
+        let of_stays = StayFindings::of(alloc, report, &lookup, &mut known, &stays)?;
         Ok(Findings {
             unready,
             starved: of_stays.starved,

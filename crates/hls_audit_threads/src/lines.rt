@@ -45,15 +45,16 @@ struct Periodic {
 }
 
 impl Periodic {
-    /// The last release up to the next served tick, from a release on and before an end.
-    fn used(&self, served: &Spans, release: u32, until: u32) -> Option<u32>
+    /// The last release up to the next served tick, from a release on and before an end. It is fast where so many
+    /// served spans, or a few more, begin by then.
+    fn used(&self, served: &Spans, near: usize, release: u32, until: u32) -> Option<u32>
         requires some { 0 < self.now.period }
         requires release { release < until → IsRelease self.now.period self.now.since release }
         ensures release { IfSome result (told.IsReleaseFrom self.now.period self.now.since release until) }
         ensures next { (f : ℕ → Bool) (end : ℕ) → Tell f served.now.spans.items end → release ≤ end → until ≤ end →
             told.IsUnused f release (told.end_or until result) }
     {
-        match served.next(release) {
+        match served.next_near(near, release) {
             Some(at) => {
                 let at = at.max(release);
                 if at < until {
@@ -87,9 +88,11 @@ impl Periodic {
     {
         let mut from = self.since;
         let mut release = self.since;
-        while let Some(used) = self.used(served, release, until) {
+        let mut near = 0;
+        while let Some(used) = self.used(served, near, release, until) {
             let end = self.end_of(used, until);
-            let reach = served.reach(used, self.ticks, end);
+            near = served.begun_near(near, used);
+            let reach = served.reach_near(near, used, self.ticks, end);
             if from < reach && reach < end {
                 ready.add(from, reach)?;
                 from = end;

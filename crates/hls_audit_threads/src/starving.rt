@@ -1,5 +1,6 @@
 // The first tick of one stay at which its thread lacks what is guaranteed, or has more than the cap.
 ghost use Rattle.std.specs.Prelude.{◌≡◌, ◌+◌, ◌≤◌, ℕ, Bool, true, IfOk};
+ghost use Rattle.hls_guarantee.specs.declared.Guarantee.TheVariants.{All};
 ghost use Rattle.hls_guarantee.specs.Cap.{KeepsCap};
 ghost use Rattle.hls_guarantee.specs.Limits.{IsValid};
 ghost use Rattle.hls_guarantee.specs.Satisfaction.{Satisfies};
@@ -25,6 +26,16 @@ fn is_null(kept: &Guarantee) -> bool
     }
 }
 
+/// Whether a guarantee promises every tick.
+fn is_all(kept: &Guarantee) -> bool
+    ensures { result ≡ true → kept.now ≡ All }
+{
+    match *kept {
+        Guarantee::All => true,
+        _ => false,
+    }
+}
+
 /// Whether a guarantee has no cap.
 fn is_uncapped(kept: &Guarantee) -> bool
     ensures { result ≡ true → (served : ℕ → Bool) (lo hi : ℕ) → KeepsCap kept.now served lo hi }
@@ -37,7 +48,8 @@ fn is_uncapped(kept: &Guarantee) -> bool
 }
 
 /// The first tick of a stay, which ends before another, at which its thread is ready, and the longest window that ends
-/// with it does not have what is guaranteed. The ticks of the stay are watched one by one where something is promised.
+/// with it does not have what is guaranteed. The ticks of the stay are watched one by one where something is promised,
+/// and not every tick: else the first lack is the first tick in which the thread is ready and not served.
 pub(crate) fn first_starving(
     alloc: Global,
     stay: &Stay,
@@ -54,6 +66,9 @@ pub(crate) fn first_starving(
 {
     if is_null(&stay.kept) {
         return Ok(None);
+    }
+    if is_all(&stay.kept) {
+        return Ok(ready.first_beyond_in(served, stay.since, until));
     }
     let ready = ready.list(alloc, stay.since, until)?;
     let served = served.list(alloc, stay.since, until)?;

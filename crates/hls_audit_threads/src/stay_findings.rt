@@ -79,17 +79,18 @@ impl StayFindings {
         alloc: Global,
         report: &Report,
         lookup: &Lookup,
+        known: &mut KnownThreads,
         stays: &[FoundStay],
     ) -> Result<StayFindings, AllocError>
         requires formed { IsWellFormed report.now }
         requires lookup { IsLookup report.now lookup.now }
+        requires known { AreKnown (content_of report.now) known.old }
         requires stays { map (stay_by report.now.answered) stays.now ≡ filter lasts (told.stays report.now.answered) }
         ensures starved { IfOk result (λ f. FirstAt (IsStarved (content_of report.now)) f.starved) }
         ensures over_cap { IfOk result (λ f. FirstAt (IsOverCap (content_of report.now)) f.over_cap) }
         ensures accounts { IfOk result (λ f.
             AreMet report.now.accounts (ends.accounts_of (content_of report.now)) f.met) }
     {
-        let mut known = KnownThreads::new(alloc);
         let mut findings = StayFindings::new();
         for found in stays {
             let stay = found.stay(report.answered.items());

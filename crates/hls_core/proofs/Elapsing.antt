@@ -170,7 +170,8 @@ module _ {V : Type 0} {P : V → Type 0} (seen : (x : V) × P x → Seen) (choic
     pub flags : (k : ℕ) → ready_of seen passed k ≡ ready_of seen old k
     pub none : passed.route ≡ None → thread ≡ None
     pub some : (front : List ℕ) (last : ℕ) → passed.route ≡ Some (front ++ last ∷ []) → thread ≡ Some last
-    pub law : (k : ℕ) → StandsIn n (choice_at (boxed choice) passed.nodes k) (shown_at (boxed seen) passed.nodes k)
+    pub law : 1 < n → (k : ℕ)
+        → StandsIn n (choice_at (boxed choice) passed.nodes k) (shown_at (boxed seen) passed.nodes k)
     pub burst : IsWithin (left_in bursts) thread n
     pub ahead : (h : Hierarchy) → IsTreeOf seen old h → (k : ℕ) (release : Release) → next_in bursts k ≡ Some release
         → h.now + n ≤ release.tick
@@ -313,7 +314,8 @@ module _ {V : Type 0} {P : V → Type 0} (seen : (x : V) × P x → Seen) (choic
         record {
           one = λ m k slot lt on serves.
               chosen_one _ _ _ _ _ _ h asking slots path n may.at_state.reached
-              (leaps.tree h may.at_state.tree).of by leaps.law m k slot (omega (arith, lt)) on serves;
+              (leaps.tree h may.at_state.tree).of by (leaps.law (omega (arith, lt))) m k slot (omega (arith, lt)) on
+              serves;
           ready = λ m k t lt there.
               (let was = (on_ticks h asking slots path m).was k t there in
               still (suc m) k t lt was ∙ sym (still m k t (omega (arith, lt)) was));

@@ -1,6 +1,6 @@
 -- The first release of all.
 use Rattle.std.proofs.Common.{◌≡◌, ◌≢◌, ℕ, zero, suc, ◌<◌, ◌≤◌, ◌⊎◌, inl, inr, min, length, List, [], ◌∷◌, false}
-use Rattle.std.proofs.Common.{refl, sym, ap, ◌∙◌, arith, get_or, slice_set, subst}
+use Rattle.std.proofs.Common.{◌+◌, ◌++◌, refl, sym, ap, ◌∙◌, arith, get_or, slice_set, subst, take}
 use Rattle.std.specs.Prelude.{Option, Some, None}
 use Rattle.std.proofs.lemmas.Bool.{cases_lt, cases_eq, ne_eqb}
 use Rattle.std.proofs.lemmas.List.{get_or-set_same, get_or-set_other, get_or_default}
@@ -150,3 +150,26 @@ none_due begun first tick is ahead other k = by (next_at begun k) refl
     by (Some release) e =
         ne_eqb release.tick tick (late first release ahead other
         (subst (λ o. NotAfter o release.tick) (sym is) (not_after begun k release e)))
+
+-- ---- one more
+
+from_more : (first : Option ℕ) (begun : List (Option Begun)) (one : Option Begun)
+    → first_from first (begun ++ one ∷ []) ≡ sooner (first_from first begun) (next_by one)
+from_more first [] one = refl
+from_more first (x ∷ begun) one = from_more (sooner first (next_by x)) begun one
+
+taken_more : (begun : List (Option Begun)) (at : ℕ) (one : Option Begun) → at < length begun
+    → take (suc at) (slice_set begun at one) ≡ take at begun ++ one ∷ []
+taken_more [] at one lt = absurd (omega (arith, lt))
+taken_more (x ∷ begun) zero one lt = refl
+taken_more (x ∷ begun) (suc at) one lt =
+    ap (λ (more : List (Option Begun)). x ∷ more) (taken_more begun at one (omega (arith, lt)))
+
+pub first_more : (begun : List (Option Begun)) (at : ℕ) (one : Option Begun) (first : Option ℕ) → at < length begun
+    → first ≡ first_of (take at begun)
+    → sooner first (next_by one) ≡ first_of (take (at + 1) (slice_set begun at one))
+first_more begun at one first lt before =
+    let next : suc at ≡ at + 1 = omega arith in
+    ap (λ (f : Option ℕ). sooner f (next_by one)) before ∙ sym (from_more None (take at begun) one)
+    ∙ ap first_of (sym (taken_more begun at one lt))
+    ∙ ap (λ (n : ℕ). first_of (take n (slice_set begun at one))) next

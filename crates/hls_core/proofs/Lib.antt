@@ -19,3 +19,5 @@ pub mod Pushed
 pub mod Sparing
 pub mod Tellings
 pub mod Texts
+pub mod Least
+pub mod Chained

@@ -1,10 +1,9 @@
 -- The text that is told is that of a legal report.
 use Rattle.std.proofs.Common.{◌≡◌, ℕ, List, [], ◌++◌, sym, ap, ◌∙◌, subst}
 use Rattle.std.proofs.Common.{arith, append_assoc}
-use Rattle.std.specs.Prelude.{Option, All, flat_map, codes}
+use Rattle.std.specs.Prelude.{Option, flat_map, codes}
 use Rattle.std.specs.Fn.{Mut}
 use Rattle.std.proofs.lemmas.List.{append-nil}
-use Rattle.std.proofs.lemmas.List.Elements.{All-weaker}
 use Rattle.std.proofs.lemmas.List.Folds.{flat_map-map}
 use Rattle.hls_text.specs.Lines.{Text}
 use Rattle.hls_guarantee.specs.declared.Guarantee.{Guarantee}
@@ -12,12 +11,11 @@ use Rattle.hls_scenario.specs.declared.scenario.Scenario.{Scenario}
 use Rattle.hls_report_text.specs.declared.report.Account.{Account}
 use Rattle.hls_report_text.specs.declared.report.Answered.{Answered}
 use Rattle.hls_report_text.specs.declared.report.Report.{Report}
-use Rattle.hls_report_text.specs.declared.report.Run.{Run}
 use Rattle.hls_report_text.specs.declared.stretch.Stretch.{Stretch}
 use Rattle.hls_report_text.specs.Content.{Content, content_of, stretch_of}
 use Rattle.hls_report_text.specs.ReportText.{head_lines, end_lines, answered_lines, stretch_text, account_text}
 use Rattle.hls_report_text.specs.ReportText.{with_end, ended, report_text}
-use Rattle.hls_report_text.specs.WellFormed.{HasShort, IsContent}
+use Rattle.hls_report_text.specs.WellFormed.{IsContent}
 use Rattle.hls_report_text.proofs.Contents.{some_report}
 use Rattle.hls_report_text.proofs.Writings.{whole_report, accounts_kept}
 use Rattle.hls_sched.specs.Seen.{Seen}
@@ -28,14 +26,13 @@ use Rattle.hls_legal.specs.Agrees.{accounts_in, idle_in}
 use Rattle.hls_legal.proofs.Agreements.{accounts_told, idle_told}
 use Rattle.hls_legal.specs.Moment.{Boxes}
 use Rattle.hls_core_journal.specs.Told.{answered_by, stretches_of, told, with_totals}
-use Rattle.hls_core_journal.specs.Kept.{IsWayOrIdle}
-use Rattle.hls_core_journal.proofs.Keeps.{way_short}
 use Rattle.hls_core_journal.proofs.Formed.{content_formed}
 use Rattle.hls_core_stays.specs.Tallies.{AreStays}
 use Rattle.hls_core_stays.specs.Told as stays
+use Rattle.hls_core_stays.specs.declared.stays.Stays.{Stays}
 use Rattle.hls_core.specs.Cores.{IsCoreOf}
 use Rattle.hls_core.specs.Inside.Sparing.{keeping}
-use Rattle.hls_core.specs.Inside.Tellings.{IsToldIn, MayTell, TellsRest}
+use Rattle.hls_core.specs.Inside.Tellings.{IsToldIn, MayTell, TellsStays, TellsRest}
 use Rattle.hls_core.specs.declared.cores.Core.{Core}
 use Rattle.hls_core.proofs.Opened.{none_answered}
 use Rattle.hls_core.proofs.Ended.{state_now, ends_legal}
@@ -62,31 +59,39 @@ parts_told r =
     (flat_map-map spelled (stretch_of r.names) r.runs)
     ∙ whole_report r
 
--- the parts, as they are appended
-joined : (was scheduled accounted lined text first stretches accounts last : Text)
-    → scheduled ≡ was ++ (codes "schedule\n" ++ stretches) → accounted ≡ scheduled ++ codes "accounts\n"
-    → lined ≡ accounted ++ accounts → text ≡ lined ++ last → was ≡ first
+-- the parts, as they stand one behind the other
+joined : (was schedule back text first stretches accounts last : Text) → text ≡ was ++ schedule ++ back
+    → schedule ≡ codes "schedule\n" ++ stretches → back ≡ codes "accounts\n" ++ accounts ++ last → was ≡ first
     → text ≡ (((((first ++ codes "schedule\n") ++ stretches) ++ codes "accounts\n") ++ accounts) ++ last)
-joined was scheduled accounted lined text first stretches accounts last one two three four begun =
-    four
-    ∙ ap (λ (x : Text). x ++ last)
-    (three ∙ ap (λ (x : Text). x ++ accounts)
-    (two ∙ ap (λ (x : Text). x ++ codes "accounts\n")
-    (one ∙ ap (λ (x : Text). x ++ (codes "schedule\n" ++ stretches)) begun
-    ∙ sym (append_assoc first (codes "schedule\n") stretches))))
+joined was schedule back text first stretches accounts last one two three begun =
+    let scheduled : Text = (first ++ codes "schedule\n") ++ stretches in
+    one
+    ∙ ap (λ (x : Text). x ++ schedule ++ back) begun
+    ∙ ap (λ (x : Text). x ++ back)
+    (ap (λ (x : Text). first ++ x) two ∙ sym (append_assoc first (codes "schedule\n") stretches))
+    ∙ ap (λ (x : Text). scheduled ++ x) three
+    ∙ sym (append_assoc scheduled (codes "accounts\n" ++ accounts) last)
+    ∙ ap (λ (x : Text). x ++ last) (sym (append_assoc scheduled (codes "accounts\n") accounts))
+
+-- what is told of stays
+pub stays_apart : (s : Stays) (now idle : ℕ) (empty begun lined text : Text) → empty ≡ []
+    → begun ≡ empty ++ codes "accounts\n"
+    → ((h : Hierarchy) → AreStays s h → h.now ≡ now → lined ≡ begun ++ account_lines (accounts_in h))
+    → ((h : Hierarchy) → AreStays s h → idle ≡ idle_in h) → text ≡ lined ++ ended (end_lines idle)
+    → TellsStays s now text
+stays_apart s now idle empty begun lined text none first accounts count last h is at_now =
+    last
+    ∙ ap (λ n. lined ++ ended (end_lines n)) (count h is)
+    ∙ ap (λ (x : Text). x ++ ended (end_lines (idle_in h)))
+    (accounts h is at_now
+    ∙ ap (λ (x : Text). x ++ account_lines (accounts_in h))
+    (first ∙ ap (λ (x : Text). x ++ codes "accounts\n") none))
 
 -- V and P are what the checker knows a box by, and W, Q and X a rule
 module _ {V W : Type 0} {P : V → Type 0} {Q : W → Type 0}
     {X : Mut ((x : W) × Q x) (Guarantee × (Guarantee × Unit {0})) (Option Guarantee)}
     (seen : (x : V) × P x → Seen) where
   -- ---- what is asked of the parts
-
-  pub runs_short : (c : Core V W P Q X) (was : Text) → MayTell seen c was
-      → All (λ (run : Run). HasShort run.path) c.journal.runs.items
-  runs_short c was may =
-      let j = (keeping may.is.answers c).journal in
-      All-weaker (λ (run : Run). IsWayOrIdle j run.path) (λ (run : Run). HasShort run.path)
-      (λ run way. way_short j run.path way) j.runs.items may.is.is.kept.ways
 
   whole : (c : Core V W P Q X) (s : Scenario) (given : ℕ) (boxes : Boxes) (was : Text)
       → IsToldIn seen c s given boxes was → c.journal.ticks ≡ c.scenario.horizon → c.journal.ticks ≡ s.horizon
@@ -125,15 +130,11 @@ module _ {V W : Type 0} {P : V → Type 0} {Q : W → Type 0}
 
   -- ---- the text
 
-  pub rest_told : (c : Core V W P Q X) (was scheduled accounted told_now text : Text) (now idle : ℕ)
+  pub rest_told : (c : Core V W P Q X) (was schedule back text : Text) (now : ℕ)
       → c.journal.ticks ≡ c.scenario.horizon → now ≡ c.journal.ticks
-      → scheduled ≡ was ++ (codes "schedule\n" ++ flat_map spelled (stretches_of c.journal))
-      → accounted ≡ scheduled ++ codes "accounts\n"
-      → ((h : Hierarchy) → AreStays c.stays h → h.now ≡ now → told_now ≡ accounted ++ account_lines (accounts_in h))
-      → ((h : Hierarchy) → AreStays c.stays h → idle ≡ idle_in h)
-      → text ≡ told_now ++ ended (end_lines idle)
-      → TellsRest seen c was text
-  rest_told c was scheduled accounted told_now text now idle over at_now one two three four five s given boxes t =
+      → schedule ≡ codes "schedule\n" ++ flat_map spelled (stretches_of c.journal)
+      → TellsStays c.stays now back → text ≡ was ++ schedule ++ back → TellsRest seen c was text
+  rest_told c was schedule back text now over at_now scheduled accounted parts s given boxes t =
       let h = state start t.is.steps in
       let j = (keeping t.answers c).journal in
       let bare = bare_of c s given boxes was t in
@@ -142,20 +143,18 @@ module _ {V W : Type 0} {P : V → Type 0} {Q : W → Type 0}
       let horizon = whole c s given boxes was t over in
       let all : accounts_in h ≡ accounts_of bare =
       sym (accounts_told bare t.is.steps t.is.run.legal t.is.run.tells) in
-      let idle_is : idle ≡ idle_of bare =
-      four h t.is.stays ∙ sym (idle_told bare t.is.steps t.is.run.legal t.is.run.tells) in
-      let accounts = three h t.is.stays (leads_now c s given boxes was t ∙ sym at_now)
-      ∙ ap (λ (l : List Account). accounted ++ account_lines l) all in
+      let idle : idle_in h ≡ idle_of bare = sym (idle_told bare t.is.steps t.is.run.legal t.is.run.tells) in
+      let behind = accounted h t.is.stays (leads_now c s given boxes was t ∙ sym at_now)
+      ∙ ap (λ (l : List Account). codes "accounts\n" ++ account_lines l ++ ended (end_lines (idle_in h))) all
+      ∙ ap (λ n. codes "accounts\n" ++ account_lines content.accounts ++ ended (end_lines n)) idle in
       let begun : was ≡ ended (head_lines s.version content.horizon c.depth)
       ++ flat_map (lines s.version) content.answered =
       t.spelled ∙ ap (λ n. ended (head_lines s.version n c.depth) ++ flat_map (lines s.version) content.answered)
       (sym horizon) in
       let text_is : text ≡ parts_of content =
-      joined was scheduled accounted told_now text (ended (head_lines s.version content.horizon c.depth)
+      joined was schedule back text (ended (head_lines s.version content.horizon c.depth)
       ++ flat_map (lines s.version) content.answered) (flat_map spelled content.stretches)
-      (account_lines content.accounts)
-      (ended (end_lines content.idle)) one two accounts
-      (five ∙ ap (λ n. told_now ++ ended (end_lines n)) idle_is) begun in
+      (account_lines content.accounts) (ended (end_lines content.idle)) parts scheduled behind begun in
       record {
         report = r.0;
         legal = ends_legal seen (keeping t.answers c) s given boxes r.0 (record {

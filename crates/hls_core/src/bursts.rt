@@ -79,15 +79,19 @@ fn first_in(begun: &[Option<Begun>]) -> Option<u32>
     first
 }
 
-/// Makes those bursts whole that have a release in a tick.
-fn release_all(begun: &mut [Option<Begun>], now: u32)
+/// Makes those bursts whole that have a release in a tick, and finds the tick of the first release behind it.
+fn release_all(begun: &mut [Option<Begun>], now: u32) -> Option<u32>
     requires fits { (k : ℕ) (release : Release) → next_by (get_or begun.old k None) ≡ Some release →
         release.tick ≡ now → release.tick + release.every < 2 ^ 32 }
-    ensures { (k : ℕ) → get_or begun.new k None ≡ released now (get_or begun.old k None) }
+    ensures whole { (k : ℕ) → get_or begun.new k None ≡ released now (get_or begun.old k None) }
+    ensures first { result ≡ first_of begun.new }
 {
+    let mut first = None;
     for it in begun.iter_mut() {
         *it = released(*it, now);
+        first = sooner_of(first, next_of(it));
     }
+    first
 }
 
 impl Bursts {
@@ -206,7 +210,8 @@ impl Bursts {
             release.tick ≡ now → release.tick + release.every < 2 ^ 32 }
         ensures { (k : ℕ) → begun_in self.new k ≡ released now (begun_in self.old k) }
     {
-        self.is_known = false;
-        release_all(&mut self.begun, now);
+        let first = release_all(&mut self.begun, now);
+        self.first = first;
+        self.is_known = true;
     }
 }

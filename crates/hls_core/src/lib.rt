@@ -9,6 +9,8 @@ mod cores;
 mod stepping;
 mod telling;
 mod ticks;
+mod told;
 mod ways;
 
 pub use cores::Core;
+pub use told::Told;

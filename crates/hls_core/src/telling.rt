@@ -6,10 +6,13 @@ ghost use Rattle.hls_sched.specs.GoodKit.{IsGood};
 ghost use Rattle.hls_sched.specs.Boxed.{boxed};
 ghost use Rattle.hls_manager.specs.Outcomes.{boxes_in};
 ghost use Rattle.hls_core.specs.Cores.{NoneDue};
-ghost use Rattle.hls_core.specs.Texts.{IsLegalText};
-ghost use Rattle.hls_core.specs.Inside.Tellings.{MayTell, TellsOn, HasUntold, TellsLast, TellsRest};
+ghost use Rattle.hls_core_stays.specs.Told as accounts;
+ghost use Rattle.hls_core.specs.Texts.{IsLegalText, told_text};
+ghost use Rattle.hls_core.specs.Inside.Tellings.{MayTell, TellsOn, HasUntold, TellsLast, TellsStays, TellsRest};
 
 use crate::Core;
+use crate::told::Told;
+use hls_core_stays::Stays;
 use hls_report_text::{put_answered, put_end, put_head};
 use hls_rules::RuleBook;
 use hls_scenario::Scenario;
@@ -77,15 +80,28 @@ fn tell_all(core: &mut Core, text: &mut Vec<u8>) -> Result<(), AllocError>
     Ok(())
 }
 
-/// Tells of the schedule and the accounts, once all commands were told. The memory of what is not told any more is
-/// given back first.
-fn tell_rest(core: Core, text: &mut Vec<u8>) -> Result<(), AllocError>
-    requires may { MayTell seen core text.old.items }
+/// Tells of the accounts and of the end, once all ticks have passed.
+fn tell_accounts(alloc: Global, stays: Stays, now: u32) -> Result<Vec<u8>, AllocError>
+    requires { accounts.MayTell stays now }
+    ensures { IfOk result (λ text. TellsStays stays now text.items) }
+{
+    let mut text = Vec::new(alloc);
+    let idle = stays.idle();
+    put(&mut text, b"accounts\n")?;
+    stays.put_accounts(&mut text, now)?;
+    put_end(&mut text, idle)?;
+    Ok(text)
+}
+
+/// Tells of the schedule and the accounts behind the text so far, once all commands were told. The memory of what is
+/// not told any more is given back first.
+fn tell_rest(core: Core, text: Vec<u8>) -> Result<Told, AllocError>
+    requires may { MayTell seen core text.items }
     requires ended { core.journal.ticks ≡ core.scenario.horizon }
-    ensures { OnOk result (TellsRest seen core text.old.items text.new.items) }
+    ensures { IfOk result (λ told. TellsRest seen core text.items (told_text told)) }
 {
     let Core {
-        alloc: _,
+        alloc,
         scenario,
         depth: _,
         kit,
@@ -99,18 +115,16 @@ fn tell_rest(core: Core, text: &mut Vec<u8>) -> Result<(), AllocError>
     drop(tree);
     drop(kit);
     drop(scenario);
-    journal.put_schedule(text)?;
     let now = journal.ticks();
-    drop(journal);
-    let idle = stays.idle();
-    put(text, b"accounts\n")?;
-    stays.put_accounts(text, now)?;
-    put_end(text, idle)
+    let schedule = journal.into_schedule()?;
+    let back = tell_accounts(alloc, stays, now)?;
+    Told::new(alloc, text, schedule, back)
 }
 
 impl Core {
     /// Carries a scenario out, as a core that is opened with these, and returns the text of its report. An answer
-    /// is told as soon as there is one, and not kept. The text is written into the room that is given, whose bytes go.
+    /// is told as soon as there is one, and not kept. What comes before the schedule is written into the room that is
+    /// given, whose bytes go.
     ///
     /// # Errors
     /// Returns `AllocError` for want of memory. What was handed in is dropped.
@@ -121,11 +135,11 @@ impl Core {
         kit: Kit,
         rules: RuleBook,
         room: Vec<u8>,
-    ) -> Result<Vec<u8>, AllocError>
+    ) -> Result<Told, AllocError>
         requires scenario { IsScenario scenario }
         requires depth { depth ≤ 6 }
         requires kit { IsGood (boxed seen) kit }
-        ensures { IfOk result (λ text. IsLegalText scenario depth (boxes_in kit) text.items) }
+        ensures { IfOk result (λ told. IsLegalText scenario depth (boxes_in kit) (told_text told)) }
     {
         let mut text = room;
         text.clear();
@@ -137,7 +151,6 @@ impl Core {
             core.depth,
         )?;
         tell_all(&mut core, &mut text)?;
-        tell_rest(core, &mut text)?;
-        Ok(text)
+        tell_rest(core, text)
     }
 }

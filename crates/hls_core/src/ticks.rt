@@ -70,11 +70,16 @@ fn standing(tree: &Tree, bursts: &Bursts, thread: &Option<NodeId>, most: u32) ->
         IsRest (left_in bursts.now) thread.now result }
     ensures least { (k : ℕ) → result ≤ stands_in (choice_at (boxed choice) tree.now.nodes k)
         (shown_at (boxed seen) tree.now.nodes k) }
-    ensures law { (k : ℕ) → StandsIn result (choice_at (boxed choice) tree.now.nodes k)
+    ensures law { 1 < result → (k : ℕ) → StandsIn result (choice_at (boxed choice) tree.now.nodes k)
         (shown_at (boxed seen) tree.now.nodes k) }
     ensures burst { IsWithin (left_in bursts.now) thread.now result }
 {
-    rest_of(bursts, thread, tree.stands().min(most))
+    let rest = rest_of(bursts, thread, most);
+    // Each scheduler stands for one tick.
+    if rest == 1 {
+        return rest;
+    }
+    tree.stands().min(rest)
 }
 
 /// Lets so many ticks pass, in which each scheduler stands.
@@ -84,7 +89,7 @@ fn advance(tree: &mut Tree, ticks: u32)
     requires some { 0 < ticks }
     requires least { (k : ℕ) → ticks ≤ stands_in (choice_at (boxed choice) tree.old.nodes k)
         (shown_at (boxed seen) tree.old.nodes k) }
-    requires law { (k : ℕ) → StandsIn ticks (choice_at (boxed choice) tree.old.nodes k)
+    requires law { 1 < ticks → (k : ℕ) → StandsIn ticks (choice_at (boxed choice) tree.old.nodes k)
         (shown_at (boxed seen) tree.old.nodes k) }
     ensures elapsed { (h : Hierarchy) (asking : ℕ → Bool) (slots : ℕ → ℕ) (path : Option Way) →
         IsTreeOf seen tree.old h → PassesBy seen choice tree.old h asking slots path →

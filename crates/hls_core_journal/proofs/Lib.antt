@@ -9,4 +9,5 @@ pub mod Totals
 pub mod Few
 pub mod Formed
 pub mod Pairs
-pub mod Spelled
+pub mod Endings
+pub mod Lines

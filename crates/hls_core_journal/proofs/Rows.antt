@@ -1,12 +1,11 @@
 -- Runs that are kept in rows.
 use Rattle.std.proofs.Common.{◌≡◌, ℕ, ◌+◌, ◌-◌, ◌<◌, ◌≤◌, List, [], ◌∷◌, ◌++◌, length, refl, sym, ap, ◌∙◌, arith}
-use Rattle.std.proofs.Common.{append_assoc, flat_map, get_or, take, Bool, true, false, nat_eq}
+use Rattle.std.proofs.Common.{get_or, Bool, true, false, nat_eq}
 use Rattle.std.specs.Option.{option_eq}
 use Rattle.std.specs.Prelude.{◌&&◌, Option, Some, None, All, slice_get, slice_set}
 use Rattle.std.specs.Cmp.Lexicographic.{pointwise, same_text}
 use Rattle.std.proofs.lemmas.Bool.{eqb-true}
-use Rattle.std.proofs.lemmas.List.{get_or-map, length-append, length-map, map-set, map_push, take_more}
-use Rattle.std.proofs.lemmas.Grind.{flat_map-append}
+use Rattle.std.proofs.lemmas.List.{get_or-map, length-append, length-map, map-set, map_push}
 use Rattle.std.proofs.lemmas.List.Elements.{All-head, All-tail, All-push, All-weaker}
 use Rattle.std.proofs.lemmas.Option.{get_or_from_slice_get, slice_get_within}
 use Rattle.hls_report_text.specs.declared.report.Path.{Path}
@@ -106,15 +105,3 @@ pushed_rows ways new rows place tick path are more few there = record {
       (let count = length-append rows (row_of tick place ∷ []) in
       let fewer = are.few in omega (arith, count, fewer, few));
 }
-
--- ---- runs one by one
-
-pub one_more : {A : Type 0} (f : A → List ℕ) (out was new : List ℕ) (xs : List A) (at : ℕ) (x : A)
-    → was ≡ out ++ flat_map f (take at xs) → slice_get xs at ≡ Some x → new ≡ was ++ flat_map f (x ∷ [])
-    → new ≡ out ++ flat_map f (take (at + 1) xs)
-one_more f out was new xs at x before there push =
-    push ∙ ap (λ (t : List ℕ). t ++ flat_map f (x ∷ [])) before
-    ∙ append_assoc out (flat_map f (take at xs)) (flat_map f (x ∷ []))
-    ∙ ap (λ (t : List ℕ). out ++ t) (sym (flat_map-append f (take at xs) (x ∷ [])))
-    ∙ ap (λ y. out ++ flat_map f (take at xs ++ y ∷ [])) (sym (get_or_from_slice_get xs at x x there))
-    ∙ ap (λ ys. out ++ flat_map f ys) (sym (take_more xs at x (slice_get_within xs at x there)))

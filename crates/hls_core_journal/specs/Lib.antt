@@ -2,4 +2,5 @@ pub mod Store
 pub mod Told
 pub mod Ways
 pub mod Kept
+pub mod Schedule
 pub mod Inside

@@ -1,26 +1,23 @@
 // A journal.
-ghost use Rattle.std.specs.Prelude.{◌≡◌, ◌↔◌, ◌+◌, ◌-◌, ◌^◌, ◌<◌, ◌≤◌, [], ◌∷◌, ◌++◌, List, Some, true, All};
+ghost use Rattle.std.specs.Prelude.{◌≡◌, ◌↔◌, ◌+◌, ◌-◌, ◌^◌, ◌<◌, ◌≤◌, [], ◌∷◌, ◌++◌, List, Some, true};
 ghost use Rattle.std.specs.Prelude.{IfOk, IfSome, IsNone, IsTrue, false, get_or, length, slice_get};
-ghost use Rattle.std.specs.Prelude.{OnOk, codes, flat_map, option_copied, option_to_list, vec_capacity};
+ghost use Rattle.std.specs.Prelude.{option_copied, option_to_list, vec_capacity};
 ghost use Rattle.std.specs.List.{list_any};
 ghost use Rattle.std.specs.Str.{bytes_eq};
 ghost use Rattle.indexmap.specs.IndexSet.{spare};
-ghost use Rattle.hls_report_text.specs.declared.report.Run.{Run};
 ghost use Rattle.hls_report_text.specs.Content.{path_names};
-ghost use Rattle.hls_report_text.specs.ReportText.{stretch_text, with_end};
 ghost use Rattle.hls_report_text.specs.WellFormed.{HasShort};
 ghost use Rattle.hls_legal.specs.Commands.{is_done};
 ghost use Rattle.hls_legal.specs.Moment.{new_name};
 ghost use Rattle.hls_core_journal.specs.Kept.{naming};
 
-use crate::runs::{Runs, last_place, put_all, put_tick};
+use crate::runs::{Runs, last_place, put_tick};
 use crate::sums::{NAMES, sum_of_name};
 use crate::ways::{insert, is_at, place_of, push};
 use hls_chron::Name;
 use hls_core_guesses::Guesses;
 use hls_report_text::{Answer, Path};
 use hls_scenario::{Command, Item};
-use hls_text::put;
 use indexmap::IndexSet;
 use std::alloc::{AllocError, Global};
 
@@ -71,7 +68,6 @@ fn is_done(answer: &Answer) -> bool
 }
 
 impl Journal {
-    ghost use Rattle.hls_core_journal.specs.Told.{stretches_of};
     ghost use Rattle.hls_core_journal.specs.Kept.{IsNew, MayNote, MayTick, AreWithin, has_name, IsNoted, AreTicked};
     ghost use Rattle.hls_core_journal.specs.Ways.{names_by, last_names};
 
@@ -173,18 +169,5 @@ impl Journal {
         put_tick(&self.names, &mut self.runs, self.ticks, path);
         self.runs.lengthen(self.ticks + (ticks - 1));
         self.ticks += ticks;
-    }
-
-    /// Appends the schedule of the ticks that have passed.
-    ///
-    /// # Errors
-    /// Returns `AllocError` for want of memory.
-    pub fn put_schedule(&self, out: &mut Vec<u8>) -> Result<(), AllocError>
-        requires { All (λ (run : Run). HasShort run.path) self.now.runs.items }
-        ensures { OnOk result (out.new.items ≡ out.old.items
-            ++ (codes "schedule\n" ++ flat_map (λ s. with_end (stretch_text s)) (stretches_of self.now))) }
-    {
-        put(out, b"schedule\n")?;
-        put_all(out, self.names.as_slice(), &self.runs)
     }
 }

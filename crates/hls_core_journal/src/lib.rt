@@ -5,7 +5,10 @@ mod answered;
 mod journal;
 mod report;
 mod runs;
+mod schedule;
 mod sums;
+mod tails;
 mod ways;
 
 pub use journal::Journal;
+pub use schedule::Schedule;

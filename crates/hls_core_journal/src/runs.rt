@@ -1,12 +1,11 @@
 // Runs of ticks with one path, in little room.
 ghost use Rattle.std.specs.Prelude.{◌≡◌, ◌↔◌, ◌+◌, ◌-◌, ◌<◌, ◌≤◌, ◌^◌, ◌++◌, ◌∷◌, [], List, Option, Some, All};
-ghost use Rattle.std.specs.Prelude.{IfOk, IsTrue, OnOk, ℕ, flat_map, length, option_copied, option_map, slice_get};
+ghost use Rattle.std.specs.Prelude.{IfOk, IsTrue, ℕ, length, option_copied, option_map, slice_get};
 ghost use Rattle.std.specs.Prelude.{map, vec_capacity};
 ghost use Rattle.hls_report_text.specs.declared.report.Path.{Path};
 ghost use Rattle.hls_report_text.specs.declared.report.Run.{Run};
-ghost use Rattle.hls_report_text.specs.Content.{stretch_of};
-ghost use Rattle.hls_report_text.specs.ReportText.{stretch_text, with_end};
 ghost use Rattle.hls_report_text.specs.WellFormed.{HasShort};
+ghost use Rattle.hls_core_journal.specs.declared.runs.Row.{Row as RowSeen};
 ghost use Rattle.hls_core_journal.specs.Ways.{names_by, last_names, IsLonger};
 ghost use Rattle.hls_core_journal.specs.Inside.Rows.{way_at, run_by, runs_by};
 
@@ -14,17 +13,17 @@ use crate::sums::{WAYS, sum_of_way};
 use crate::ways::same_way;
 use hls_chron::Name;
 use hls_core_guesses::Guesses;
-use hls_report_text::{Path, Run, put_runs};
+use hls_report_text::{Path, Run};
 use indexmap::IndexSet;
 use std::alloc::{AllocError, Global};
 use std::marker::Model;
 
 /// A run whose path stands among others.
 #[derive(Clone, Copy, Debug)]
-struct Row {
-    from: u32,
-    to: u32,
-    way: u32,
+pub(crate) struct Row {
+    pub(crate) from: u32,
+    pub(crate) to: u32,
+    pub(crate) way: u32,
 }
 
 // There may be a million of each.
@@ -117,21 +116,6 @@ impl Runs {
         })
     }
 
-    /// How many runs there are.
-    fn len(&self) -> usize
-        ensures { result ≡ length self.now.items }
-    {
-        self.rows.len()
-    }
-
-    /// The run at a place.
-    fn run(&self, place: usize) -> Run
-        requires { place < length self.now.items }
-        ensures { slice_get self.now.items place ≡ Some result }
-    {
-        run_of(&self.ways, &self.rows[place])
-    }
-
     /// The path of the last run, if there is one.
     fn last_path(&self) -> Option<&Option<Path>>
         ensures { option_copied result ≡ option_map (λ (run : Run). run.path)
@@ -169,6 +153,19 @@ impl Runs {
             to: tick,
             way: way as u32,
         });
+    }
+
+    /// The runs as they are kept: rows, and the paths that they share.
+    pub(crate) fn into_rows(self) -> (Vec<Row>, Vec<Option<Path>>)
+        ensures known { All (λ (row : RowSeen). row.way < length result.1.items) result.0.items }
+        ensures runs { runs_by result.1.items result.0.items ≡ self.items }
+    {
+        let Runs {
+            rows,
+            ways,
+            guesses: _,
+        } = self;
+        (rows, ways)
     }
 
     /// The runs as a list.
@@ -217,16 +214,4 @@ pub(crate) fn put_tick(names: &IndexSet<Name>, runs: &mut Runs, tick: u32, path:
         return;
     }
     runs.push(tick, path);
-}
-
-/// Appends the lines of runs.
-pub(crate) fn put_all(out: &mut Vec<u8>, names: &[Name], runs: &Runs) -> Result<(), AllocError>
-    requires { All (λ (run : Run). HasShort run.path) runs.now.items }
-    ensures { OnOk result (out.new.items ≡ out.old.items
-        ++ flat_map (λ run. with_end (stretch_text (stretch_of names.now run))) runs.now.items) }
-{
-    for at in 0..runs.len() {
-        put_runs(out, names, &[runs.run(at)])?;
-    }
-    Ok(())
 }

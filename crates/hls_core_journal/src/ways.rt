@@ -59,7 +59,7 @@ pub fn insert(names: &mut IndexSet<Name>, name: Name) -> usize
 }
 
 /// The name at a place, and nothing where there is none.
-fn name_at(names: &IndexSet<Name>, place: usize) -> &[u8]
+pub fn name_at(names: &IndexSet<Name>, place: usize) -> &[u8]
     ensures { result.now ≡ get_or names.now.keys place [] }
 {
     match names.get_index(place) {

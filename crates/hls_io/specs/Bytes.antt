@@ -1,5 +1,5 @@
 -- Bytes that may be told or not, before and after a call.
-use Rattle.std.specs.Prelude.{◌≡◌, ℕ, ◌<◌, ◌≤◌, List, length, take, drop, Option, Some, is_some, IfSome}
+use Rattle.std.specs.Prelude.{◌≡◌, ℕ, ◌<◌, ◌≤◌, List, ◌++◌, length, take, drop, Option, Some, is_some, IfSome}
 use Rattle.std.specs.Io.KnownBytes.{Appends, IsAtEnd}
 
 -- whether the bytes are told stays as it was
@@ -22,3 +22,9 @@ TakesAtMost most old new = (n : ℕ) × (n ≤ most) × TakesFirst n old new
 -- a part of the bytes is appended, from their front and not the whole
 abbrev pub AppendsPart : Option (List ℕ) → Option (List ℕ) → List ℕ → Type 0
 AppendsPart old new bytes = (n : ℕ) × (n < length bytes) × Appends old new (take n bytes)
+
+-- a piece was put behind what a room held: of both a front was appended, and the room holds the rest
+pub record Gathers (old new : Option (List ℕ)) (was room piece : List ℕ) : Type 0 where
+  pub given : List ℕ
+  pub written : Appends old new given
+  pub rest : given ++ room ≡ was ++ piece

@@ -5,6 +5,7 @@
 #![tactic(auto)]
 
 mod fault;
+mod gathering;
 mod mem_sink;
 mod mem_source;
 mod sink;
@@ -14,6 +15,7 @@ mod std_sink;
 mod std_source;
 
 pub use fault::Failed;
+pub use gathering::gather;
 pub use mem_sink::MemSink;
 pub use mem_source::MemSource;
 pub use sink::{Sink, write_all};

@@ -95,3 +95,36 @@ pub same_game : (keys others : List (Option ℕ)) (one other : ℕ) → key_of k
     → key_of keys other ≡ key_of others other → better keys one other ≡ better others one other
 same_game keys others one other a b = ap (λ m. first_of one m other (key_of keys other)) a
     ∙ ap (λ m. first_of one (key_of others one) other m) b
+
+-- nor does it matter who is named first
+first_swap : (one other : ℕ) (mine its : Option ℕ) → first_of one mine other its ≡ first_of other its one mine
+first_swap one other None None = refl
+first_swap one other (Some key) None = refl
+first_swap one other None (Some its) = refl
+first_swap one other (Some key) (Some its) =
+    go (nat_lt key its || (key == its && nat_le one other)) (nat_lt its key || (its == key && nat_le other one)) refl
+    refl
+  where
+    go : (test back : Bool) → (nat_lt key its || (key == its && nat_le one other)) ≡ test
+        → (nat_lt its key || (its == key && nat_le other one)) ≡ back → cond test one other ≡ cond back other one
+    go true false e f = refl
+    go false true e f = refl
+    go true true e f =
+        let a = won key its one other e in
+        let b = won its key other one f in
+        let le = a.0 in
+        let ge = b.0 in
+        let x = a.1 (omega (arith, le, ge)) in
+        let y = b.1 (omega (arith, le, ge)) in
+        omega (arith, x, y)
+    go false false e f =
+        let a = lost key its one other e in
+        let b = lost its key other one f in
+        let ge = a.0 in
+        let le = b.0 in
+        let x = a.1 (omega (arith, le, ge)) in
+        let y = b.1 (omega (arith, le, ge)) in
+        omega (arith, x, y)
+
+pub game_swap : (keys : List (Option ℕ)) (one other : ℕ) → better keys one other ≡ better keys other one
+game_swap keys one other = first_swap one other (key_of keys one) (key_of keys other)

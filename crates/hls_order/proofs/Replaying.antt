@@ -5,8 +5,8 @@ use Rattle.std.proofs.Common.{refl, sym, ap, ap₂, ◌∙◌, inl, inr, subst, 
 use Rattle.std.specs.Prelude.{Option, slice_set, replicate}
 use Rattle.hls_order.specs.Order.{key_of, none, better, entry_of, IsTournament}
 use Rattle.hls_order.specs.Inside.Rising.{up, IsAbove, IsRightBut}
-use Rattle.hls_order.proofs.Ways.{parent_left, parent_right, up_more, up_le}
-use Rattle.hls_order.proofs.Playing.{same_game}
+use Rattle.hls_order.proofs.Ways.{parent_left, parent_right, up_more, up_le, beside}
+use Rattle.hls_order.proofs.Playing.{same_game, game_swap}
 use Rattle.hls_order.proofs.Winning.{stands}
 
 sides : (a b : ℕ) → (a ≡ b) ⊎ (a ≢ b)
@@ -64,6 +64,24 @@ module _ (keys others : List (Option ℕ)) (winners : List ℕ) (t : IsTournamen
 
 -- ---- one game more
 
+-- the game above an entry is that of whoever stands there and whoever stands beside it
+pub beside_game : (keys : List (Option ℕ)) (winners : List ℕ) (at first : ℕ) → 0 < at
+    → get_or winners at none ≡ first
+    → better keys (get_or winners (2 * ((at - 1) / 2) + 1) none) (get_or winners (2 * ((at - 1) / 2) + 2) none)
+    ≡ better keys first (get_or winners (beside at) none)
+beside_game keys winners at first some here = elim (side at some) [
+  | inl left ↦
+      ap₂ (λ a b. better keys a b) (ap (λ k. get_or winners k none) (sym left) ∙ here)
+      (ap (λ k. get_or winners k none) (omega (arith, some, left)))
+  | inr right ↦
+      ap₂ (λ a b. better keys a b) (ap (λ k. get_or winners k none) (omega (arith, some, right)))
+      (ap (λ k. get_or winners k none) (sym right) ∙ here)
+      ∙ game_swap keys (get_or winners (beside at) none) first
+]
+  where
+    side : (at : ℕ) → 0 < at → (at ≡ 2 * ((at - 1) / 2) + 1) ⊎ (at ≡ 2 * ((at - 1) / 2) + 2)
+    side at some = grind arith
+
 module _ (keys : List (Option ℕ)) (winners : List ℕ) (at : ℕ) (some : 0 < at) (within : at < 63)
     (size : length winners ≡ 63) (r : IsRightBut keys winners at) where
   abbrev above : ℕ
@@ -111,6 +129,13 @@ module _ (keys : List (Option ℕ)) (winners : List ℕ) (at : ℕ) (some : 0 < 
         (sym (kept (2 * k + 1) (child (2 * k + 1) k (parent_left k) (omega arith) not)))
         (sym (kept (2 * k + 2) (child (2 * k + 2) k (parent_right k) (omega arith) not)));
   }
+
+  pub risen_by : (first next : ℕ) → get_or winners at none ≡ first
+      → next ≡ better keys first (get_or winners (beside at) none)
+      → IsRightBut keys (slice_set winners above next) above
+  risen_by first next here is =
+      subst (λ entry. IsRightBut keys (slice_set winners above entry) above)
+      (beside_game keys winners at first some here ∙ sym is) risen
 
 -- nothing is above the first entry
 pub won_all : (keys : List (Option ℕ)) (winners : List ℕ) → IsRightBut keys winners 0 → IsTournament keys winners

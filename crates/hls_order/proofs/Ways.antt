@@ -5,6 +5,10 @@ use Rattle.hls_order.specs.Inside.Rising.{up}
 abbrev pub parent : ℕ → ℕ
 parent at = (at - 1) / 2
 
+-- two entries beside each other, which play each other
+abbrev pub beside : (at : ℕ) → ℕ
+beside at = 4 * ((at - 1) / 2) + 3 - at
+
 pub parent_left : (at : ℕ) → (2 * at + 1 - 1) / 2 ≡ at
 parent_left at = omega arith
 

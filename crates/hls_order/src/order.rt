@@ -1,6 +1,6 @@
 // A tournament over 32 slots.
-ghost use Rattle.std.specs.Prelude.{◌≡◌, ◌<◌, None, Some, replicate, slice_set, MatchOption};
-ghost use Rattle.hls_order.specs.Order.{IsEmpty, IsLeast, IsTournament, better as better_of, key_of};
+ghost use Rattle.std.specs.Prelude.{◌≡◌, ◌+◌, ◌-◌, ◌*◌, ◌/◌, ◌<◌, None, Some, replicate, slice_set, MatchOption};
+ghost use Rattle.hls_order.specs.Order.{IsEmpty, IsLeast, IsTournament, better as better_of, entry_of, key_of};
 ghost use Rattle.hls_order.specs.Inside.Rising.{IsRightBut};
 
 use std::marker::Model;
@@ -46,37 +46,76 @@ fn key_at(keys: &[Option<u128>; SLOTS], slot: u8) -> Option<u128>
     }
 }
 
+/// An entry where its slot is present, else none.
+fn present(keys: &[Option<u128>; SLOTS], entry: u8) -> u8
+    ensures { result ≡ entry_of entry (key_of keys.now entry) }
+{
+    match key_at(keys, entry) {
+        Some(_) => entry,
+        None => NONE,
+    }
+}
+
 /// That one of two entries which goes first.
 fn better(keys: &[Option<u128>; SLOTS], one: u8, other: u8) -> u8
     ensures { result ≡ better_of keys.now one other }
 {
-    match (key_at(keys, one), key_at(keys, other)) {
-        (Some(key), Some(its)) => {
-            if key < its || (key == its && one <= other) {
-                one
-            } else {
-                other
-            }
-        }
-        (Some(_), None) => one,
-        (None, Some(_)) => other,
-        (None, None) => NONE,
+    let Some(key) = key_at(keys, one) else {
+        return present(keys, other);
+    };
+    let Some(its) = key_at(keys, other) else {
+        return one;
+    };
+    if one <= other {
+        if its < key { other } else { one }
+    } else if key < its {
+        one
+    } else {
+        other
     }
 }
 
-/// The tournament, where what stands at an entry is new: each entry above it is played again.
-fn replayed(keys: &[Option<u128>; SLOTS], winners: [u8; ENTRIES], from: usize) -> [u8; ENTRIES]
-    requires within { from < 63 }
-    requires right { IsRightBut keys.now winners from }
-    ensures { IsTournament keys.now result }
+/// The entry that plays an entry.
+fn beside(at: usize) -> usize
+    requires some { 0 < at }
+    requires within { at < 63 }
+    ensures { result ≡ 4 * ((at - 1) / 2) + 3 - at }
 {
-    let mut winners = winners;
+    4 * ((at - 1) / 2) + 3 - at
+}
+
+/// Plays each game above an entry again, where what stands there is new.
+fn replay(keys: &[Option<u128>; SLOTS], winners: &mut [u8; ENTRIES], from: usize)
+    requires within { from < 63 }
+    requires right { IsRightBut keys.now winners.old from }
+    ensures { IsTournament keys.now winners.new }
+{
+    let mut winner = winners[from];
     let mut at = from;
     while at > 0 {
+        winner = better(keys, winner, winners[beside(at)]);
         at = (at - 1) / 2;
-        winners[at] = better(keys, winners[2 * at + 1], winners[2 * at + 2]);
+        winners[at] = winner;
     }
-    winners
+}
+
+/// What the least would be if this slot were taken out: only the games on its way up are played again.
+fn first_but(keys: &[Option<u128>; SLOTS], winners: &[u8; ENTRIES], slot: u32) -> Option<u32>
+    requires within { slot < 32 }
+    requires right { IsTournament keys.now winners.now }
+    ensures { MatchOption result (IsEmpty (slice_set keys.now slot None)) (IsLeast (slice_set keys.now slot None)) }
+{
+    let mut first = NONE;
+    let mut at = FIRST + slot as usize;
+    while at > 0 {
+        first = better(keys, first, winners[beside(at)]);
+        at = (at - 1) / 2;
+    }
+    if first < NONE {
+        Some(u32::from(first))
+    } else {
+        None
+    }
 }
 
 impl Order {
@@ -97,9 +136,8 @@ impl Order {
     {
         let at = slot as usize;
         self.keys[at] = Some(key);
-        let mut winners = self.winners;
-        winners[FIRST + at] = slot as u8;
-        self.winners = replayed(&self.keys, winners, FIRST + at);
+        self.winners[FIRST + at] = slot as u8;
+        replay(&self.keys, &mut self.winners, FIRST + at);
     }
 
     /// Takes a slot out, whether it is present or not.
@@ -109,9 +147,8 @@ impl Order {
     {
         let at = slot as usize;
         self.keys[at] = None;
-        let mut winners = self.winners;
-        winners[FIRST + at] = NONE;
-        self.winners = replayed(&self.keys, winners, FIRST + at);
+        self.winners[FIRST + at] = NONE;
+        replay(&self.keys, &mut self.winners, FIRST + at);
     }
 
     /// The present slot of least key, and of these the least.
@@ -124,6 +161,22 @@ impl Order {
         } else {
             None
         }
+    }
+
+    /// The key of a slot, where it is present.
+    pub fn key(&self, slot: u32) -> Option<u128>
+        requires { slot < 32 }
+        ensures { result ≡ key_of self.now slot }
+    {
+        self.keys[slot as usize]
+    }
+
+    /// What the least would be if this slot were taken out.
+    pub fn least_but(&self, slot: u32) -> Option<u32>
+        requires { slot < 32 }
+        ensures { MatchOption result (IsEmpty (slice_set self.now slot None)) (IsLeast (slice_set self.now slot None)) }
+    {
+        first_but(&self.keys, &self.winners, slot)
     }
 
     /// The entries: that of a slot is the slot, or 32 where it is absent; each of the others is that one of the two
@@ -146,9 +199,15 @@ mod tests {
         order.put(1, 10);
         order.put(2, 7);
         assert_eq!(rt; order.least(), Some(2));
+        assert_eq!(rt; order.least_but(2), Some(1));
+        assert_eq!(rt; order.least_but(1), Some(2));
+        assert_eq!(rt; order.key(1), Some(10));
         order.put(2, 11);
         assert_eq!(rt; order.least(), Some(1));
+        assert_eq!(rt; order.least_but(1), Some(3));
         order.take(1);
         assert_eq!(rt; order.least(), Some(3));
+        order.take(2);
+        assert_eq!(rt; order.least_but(3), None);
     }
 }

@@ -10,3 +10,6 @@ pub mod Reports
 pub mod RunSteps
 pub mod ItemTexts
 pub mod Sections
+pub mod DigitLaws
+pub mod RecentLaws
+pub mod LineEnds

@@ -4,3 +4,4 @@ pub mod AccountLines
 pub mod CommandLines
 pub mod RunLines
 pub mod Paths
+pub mod Digits

@@ -10,9 +10,11 @@ mod lines;
 mod path_reading;
 mod places;
 mod reader;
+mod recent_paths;
 mod refusal_reading;
 mod report_reading;
 mod run_reading;
+mod span_reading;
 mod words;
 
 pub use fault::ReportFault;

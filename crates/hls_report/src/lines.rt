@@ -4,13 +4,24 @@ ghost use Rattle.hls_report_text.specs.WellFormed.{IsOneLine};
 ghost use Rattle.hls_report.specs.Inside.Rests.{CanCount};
 
 use crate::ReportFault;
-use hls_text::cut;
+use memchr::memchr;
 
 /// The rest of a text, and the number of the line that was asked for last.
 #[derive(Debug, Drop)]
 pub struct Lines<'a> {
     pub rest: &'a [u8],
     pub count: u32,
+}
+
+/// The first line, without its end, and what stands behind that. `None` where no whole line is there.
+fn first_line(text: &[u8]) -> Option<(&[u8], &[u8])>
+    ensures { MatchOption result (IsOneLine text.now)
+        (λ p. IsOneLine p.0.now × (text.now ≡ p.0.now ++ (10 ∷ p.1.now))) }
+{
+    match memchr(b'\n', text) {
+        Some(place) => Some((&text[..place], &text[place + 1..])),
+        None => None,
+    }
 }
 
 impl<'a> Lines<'a> {
@@ -22,7 +33,7 @@ impl<'a> Lines<'a> {
         ensures count { self.new.count ≡ self.old.count + 1 }
     {
         self.count += 1;
-        let (line, rest) = cut(self.rest, b'\n')?;
+        let (line, rest) = first_line(self.rest)?;
         self.rest = rest;
         Some(line)
     }

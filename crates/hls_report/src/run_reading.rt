@@ -1,6 +1,6 @@
 // Reading the runs.
 ghost use Rattle.std.specs.Prelude.{◌≡◌, ◌↔◌, ◌^◌, ◌<◌, ◌≤◌, ◌+◌, ◌++◌, ◌∷◌, [], List, ℕ, length, map, codes};
-ghost use Rattle.std.specs.Prelude.{Option, Some, None, IfOk, OnOk, IfErr, MatchOption, IsTrue};
+ghost use Rattle.std.specs.Prelude.{Option, Some, None, IfOk, OnOk, IfErr, IfSome, MatchOption, IsTrue};
 ghost use Rattle.std.specs.List.{AllByRecursion};
 ghost use Rattle.hls_text.specs.Lines.{Text};
 ghost use Rattle.hls_chron.specs.Name.{IsName};
@@ -9,13 +9,14 @@ ghost use Rattle.hls_report_text.specs.ReportText.{two_words, span_text, path_te
 ghost use Rattle.hls_report.specs.Inside.Rests.{CanCount, Passes, FailsAt, RunRest, AccountRest};
 ghost use Rattle.hls_report.specs.Inside.RunLines.{FitsPath, IsPathTold, IsNextRun, IsRunTold, IsLast, RunPasses};
 ghost use Rattle.hls_report.specs.Inside.RunLines.{stretches_of, IsSchedule, AreNames, IsRunRead, RunFails};
-ghost use Rattle.hls_report.specs.Inside.RunLines.{AccountsPass, AccountsFail};
+ghost use Rattle.hls_report.specs.Inside.RunLines.{AccountsPass, AccountsFail, AreRecent};
 ghost use Rattle.hls_report_text.specs.declared.stretch.Stretch.{Stretch};
 
 use crate::ReportFault;
-use crate::line_reading::spanned;
 use crate::lines::Lines;
 use crate::path_reading::path;
+use crate::recent_paths::{Known, Told, place_of};
+use crate::span_reading::span_before;
 use hls_chron::{List, Name};
 use hls_report_text::{Path, Run};
 use hls_text::after;
@@ -44,7 +45,7 @@ fn run_front(line: &[u8], from: u32, horizon: u32) -> Option<RunFront<'_>>
         (λ f. (from ≤ f.to) × (f.to < horizon)
         × (line.now ≡ two_words (span_text from f.to) f.words.now)) }
 {
-    let Some((first, to, words)) = spanned(line) else {
+    let Some((first, to, words)) = span_before(line) else {
         return None;
     };
     if first == from && from <= to && to < horizon {
@@ -54,8 +55,8 @@ fn run_front(line: &[u8], from: u32, horizon: u32) -> Option<RunFront<'_>>
     }
 }
 
-/// The path that words tell, or `None` for `idle`.
-fn told_path(known: &mut IndexSet<Name>, words: &[u8]) -> Result<Option<Option<Path>>, AllocError>
+/// The path that words tell, name by name, or `None` for `idle`.
+fn new_path(known: &mut IndexSet<Name>, words: &[u8]) -> Result<Option<Option<Path>>, AllocError>
     requires { length known.old.keys ≤ 2 ^ 16 }
     ensures { IfOk result (λ found. MatchOption found
         ((p : Option (List Text)) → FitsPath known.old.keys p → words.now ≡ path_text p → ⊥)
@@ -73,6 +74,28 @@ fn told_path(known: &mut IndexSet<Name>, words: &[u8]) -> Result<Option<Option<P
     }
 }
 
+/// The path that words tell, which they may have told of late, or `None` for `idle`.
+fn told_path<'a>(known: &mut Known<'a>, words: &'a [u8]) -> Result<Option<Option<Path>>, AllocError>
+    requires few { length known.old.names.keys ≤ 2 ^ 16 }
+    requires recent { AreRecent known.old }
+    ensures told { IfOk result (λ found. MatchOption found
+        ((p : Option (List Text)) → FitsPath known.old.names.keys p → words.now ≡ path_text p → ⊥)
+        (IsPathTold known.old.names.keys known.new.names.keys words.now)) }
+    ensures recent { IfOk result (λ found. IfSome found (λ path. AreRecent known.new)) }
+{
+    let place = place_of(words);
+    if let Some(path) = known.path_at(place, words) {
+        return Ok(Some(path));
+    }
+    match new_path(&mut known.names, words)? {
+        Some(path) => {
+            known.keep(place, Told { words, path });
+            Ok(Some(path))
+        }
+        None => Ok(None),
+    }
+}
+
 /// A run, and the words of its path.
 #[derive(Debug, Drop)]
 struct ToldRun<'a> {
@@ -82,19 +105,21 @@ struct ToldRun<'a> {
 
 /// The run from that tick on that a line tells, whose path has other words than the last.
 fn told_run<'a>(
-    known: &mut IndexSet<Name>,
+    known: &mut Known<'a>,
     line: &'a [u8],
     from: u32,
     last: &[u8],
     horizon: u32,
 ) -> Result<Option<ToldRun<'a>>, AllocError>
     requires few { horizon ≤ 1000000 }
-    requires known { length known.old.keys ≤ 2 ^ 16 }
-    ensures { IfOk result (λ found. MatchOption found
-        ((s : Stretch) → IsNextRun horizon from last.now known.old.keys s →
+    requires known { length known.old.names.keys ≤ 2 ^ 16 }
+    requires recent { AreRecent known.old }
+    ensures told { IfOk result (λ found. MatchOption found
+        ((s : Stretch) → IsNextRun horizon from last.now known.old.names.keys s →
         line.now ≡ stretch_text s → ⊥)
-        (λ t. IsRunTold horizon from last.now known.old.keys known.new.keys line.now t.words.now
+        (λ t. IsRunTold horizon from last.now known.old.names.keys known.new.names.keys line.now t.words.now
         t.run)) }
+    ensures recent { IfOk result (λ found. IfSome found (λ t. AreRecent known.new)) }
 {
     let Some(front) = run_front(line, from, horizon) else {
         return Ok(None);
@@ -117,7 +142,7 @@ fn told_run<'a>(
 
 /// Reads the next run.
 fn next_run<'a>(
-    known: &mut IndexSet<Name>,
+    known: &mut Known<'a>,
     lines: &mut Lines<'a>,
     from: u32,
     last: &[u8],
@@ -126,10 +151,12 @@ fn next_run<'a>(
     requires room { CanCount lines.old }
     requires few { horizon ≤ 1000000 }
     requires left { from < horizon }
-    requires known { AreNames known.old.keys }
-    ensures ok { IfOk result (λ t. IsRunRead horizon from last.now known.old.keys known.new.keys t.words.now
-        t.run lines.old lines.new) }
-    ensures err { IfErr result (RunFails horizon from last.now known.old.keys lines.old) }
+    requires known { AreNames known.old.names.keys }
+    requires recent { AreRecent known.old }
+    ensures ok { IfOk result (λ t. IsRunRead horizon from last.now known.old.names.keys known.new.names.keys
+        t.words.now t.run lines.old lines.new) }
+    ensures recent { IfOk result (λ t. AreRecent known.new) }
+    ensures err { IfErr result (RunFails horizon from last.now known.old.names.keys lines.old) }
 {
     let Some(line) = lines.next() else {
         return Err(lines.fault());
@@ -180,7 +207,7 @@ pub fn runs(alloc: Global, lines: &mut Lines<'_>, horizon: u32) -> Result<Schedu
         (map stretch_text (stretches_of s) ++ codes "accounts" ∷ []) lines.old lines.new) }
     ensures err { IfErr result (λ fault. FailsAt (RunRest horizon 0 None []) lines.old fault) }
 {
-    let mut known = IndexSet::new(alloc);
+    let mut known = Known::new(alloc)?;
     let mut runs = Vec::new(alloc);
     let mut from = 0;
     let mut last = b"".as_slice();
@@ -192,7 +219,7 @@ pub fn runs(alloc: Global, lines: &mut Lines<'_>, horizon: u32) -> Result<Schedu
     }
     accounts_line(lines)?;
     Ok(Schedule {
-        names: names_of(alloc, &known)?,
+        names: names_of(alloc, &known.names)?,
         runs: List::of(runs),
     })
 }

@@ -2,7 +2,7 @@
 use Rattle.std.proofs.Common.{◌≡◌, ◌≢◌, ℕ, ◌^◌, ◌<◌, zero, suc, List, Some, None, Bool, true, false}
 use Rattle.std.proofs.Common.{refl, sym, ap, ap₂, ◌∙◌, arith, inl, inr, length-set, get_or}
 use Rattle.std.proofs.Common.{get_or-set_same, get_or-set_other}
-use Rattle.std.specs.Prelude.{Option, slice_set, replicate, if◌then◌else◌, is_some, IfSome, MatchOption}
+use Rattle.std.specs.Prelude.{Option, slice_set, replicate, if◌then◌else◌, is_some, IfSome, MatchOption, min, max, ◌==◌}
 use Rattle.std.specs.Int.{bit_at}
 use Rattle.std.proofs.lemmas.Bool.{cases_eq, eqb-true, eq-eqb}
 use Rattle.hls_chron.specs.declared.plain.Kind.TheVariants as kinds
@@ -10,6 +10,7 @@ use Rattle.hls_chron.specs.Ledger.{now_of}
 use Rattle.hls_chron.specs.Seats.{SlotAsks}
 use Rattle.hls_kinds.specs.Asks.{slot_asks}
 use Rattle.hls_kinds.specs.Slots.{IsFirst}
+use Rattle.hls_kinds.specs.Stands.{always, to_rivals, turn_end}
 use Rattle.hls_kinds.specs.Tags.{start_tag}
 use Rattle.hls_kinds.specs.Asks.{with_slot, without_slot}
 use Rattle.hls_sched.specs.Seen.{Seen, IsConfigured, config_of, turned, leapt, tick_row}
@@ -19,7 +20,8 @@ use Rattle.hls_box.specs.Inside.Sound.{IsSound}
 use Rattle.hls_box.proofs.Sounds.{row_serves}
 use Rattle.hls_box.proofs.Choosing.{IsRight, right_asks}
 use Rattle.hls_box.specs.declared.turns.Turn.{Turn}
-use Rattle.hls_box.specs.Turns.{goes_on_by}
+use Rattle.hls_box.specs.Turns.{goes_on_by, left_by}
+use Rattle.hls_box.proofs.TurnLeaps.{had_few}
 use Rattle.hls_box.specs.Keys.{has_key, key_at, key_or}
 use Rattle.hls_box.proofs.LeastLaws.{least_first}
 use Rattle.hls_order.specs.Order.{key_of, IsEmpty, IsLeast}
@@ -27,12 +29,13 @@ use Rattle.hls_order.proofs.Winning.{present_within}
 use Rattle.hls_sfq.specs.declared.shares.FairSeat.{FairSeat}
 use Rattle.hls_sfq.specs.Choice.{tag_of, tag_asking, first_of, choice_of, fair_quantum}
 use Rattle.hls_sfq.specs.Changes.{time_after, seats_after, served_seat, time_leapt, seats_leapt, placed}
+use Rattle.hls_sfq.specs.Changes.{start_or, step_of, rest_in}
 use Rattle.hls_sfq.specs.Queue.{IsQueue, QueuesTags}
 use Rattle.hls_sfq.specs.Tags.{KeepsTags}
 use Rattle.hls_sfq.proofs.TagLaws.{asks_tag}
 use Rattle.hls_sfq.proofs.Calls as calls
 use Rattle.hls_sfq.proofs.Choices.{untagged, silent_slot, same_tests}
-use Rattle.hls_sfq.proofs.Rivals.{least_is, others_turned}
+use Rattle.hls_sfq.proofs.Rivals.{least_is, others_turned, rivals_same, ends_same}
 
 -- ---- the first of the queue is the choice
 
@@ -253,3 +256,27 @@ queue_lent s keys time seats sound configured held q slot lt =
     (calls.keeps s time seats sound held configured) s.mask slot lt
     (sound.seated slot (eqb-true (bit_at s.mask slot) 1 on)) on
     ∙ ap (λ quantum. Some (start_tag quantum s.book (now_of s.book) slot)) (sym quantum_is))
+
+-- ---- for how many ticks the share goes on, by the queue
+
+pub rest_by_queue : (keys : List (Option ℕ)) (quantum : ℕ) (turn : Turn) (time : ℕ) (seats : List (Option FairSeat))
+    (mask now slot tag step ticks left end rest : ℕ) → IsQueue keys time seats mask → turn.ticks < quantum → now ≡ mask
+    → (without_slot slot now == 0) ≡ false → tag ≡ start_or time (get_or seats slot None)
+    → step ≡ step_of (get_or seats slot None) → ticks ≡ max 1 (to_rivals (key_of keys) slot tag step 32)
+    → left ≡ left_by quantum turn slot → end ≡ turn_end quantum left ticks → rest ≡ min end always
+    → rest ≡ rest_in quantum turn time seats mask slot
+rest_by_queue keys quantum turn time seats mask now slot tag step ticks left end rest q few same others tag_is step_is
+    ticks_is left_is end_is rest_is =
+    let had = had_few quantum turn slot few in
+    let some : 0 < left = omega (arith, left_is, had) in
+    let ends : end ≡ turn_end quantum left (to_rivals (tag_asking time seats mask) slot tag step 32) =
+    end_is ∙ ap (turn_end quantum left) ticks_is
+    ∙ ends_same quantum left (to_rivals (key_of keys) slot tag step 32) some
+    ∙ ap (turn_end quantum left) (rivals_same (key_of keys) (tag_asking time seats mask) slot tag step 32 q.tags) in
+    let all : rest ≡ min always (turn_end quantum left (to_rivals (tag_asking time seats mask) slot tag step 32)) =
+    omega (arith, rest_is, ends) in
+    all
+    ∙ rw (left_is, tag_is, step_is) refl
+    ∙ ap (λ alone. if alone then always else min always (turn_end quantum (left_by quantum turn slot)
+    (to_rivals (tag_asking time seats mask) slot (start_or time (get_or seats slot None))
+    (step_of (get_or seats slot None)) 32))) (sym (ap (λ m. without_slot slot m == 0) (sym same) ∙ others))

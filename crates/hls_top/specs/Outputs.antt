@@ -15,6 +15,7 @@ use Rattle.hls_report_text.specs.ReportText.{report_text, ended}
 use Rattle.hls_report_text.specs.WellFormed.{IsReportText}
 use Rattle.hls_legal.specs.Moment.{Boxes}
 use Rattle.hls_legal.specs.Legal.{IsLegalReport}
+use Rattle.hls_core.specs.Texts.{told_text}
 use Rattle.hls_audit.specs.declared.auditing.Outcome.{Outcome}
 use Rattle.hls_audit.specs.declared.auditing.Outcome.TheVariants.{Kept, Broken}
 use Rattle.hls_audit_clauses.specs.Kept.{IsKept}
@@ -24,6 +25,13 @@ use Rattle.hls_top.specs.Exchange.{Drawn, scenario_limit, report_limit}
 use Rattle.hls_top.specs.Promises.{KeepsPromises}
 use Rattle.hls_top.specs.Refusing.{RefusesScenario, RefusesReport}
 use Rattle.hls_top.specs.Summaries.{verdict, trial_lines}
+use Rattle.hls_top.specs.declared.outputs.OutputText.{OutputText}
+use Rattle.hls_top.specs.declared.outputs.OutputText.TheVariants as texts
+
+-- the text that is to be written
+abbrev pub output_text : OutputText → Text
+output_text (texts.Bytes bytes) = bytes.items
+output_text (texts.Report told) = told_text told
 
 -- ---- run
 

@@ -2,10 +2,10 @@
 ghost use Rattle.std.specs.Prelude.{◌≡◌, ◌≤◌, ◌∷◌, ◌++◌, [], IfOk, length};
 ghost use Rattle.hls_report_text.specs.WellFormed.{IsReportText};
 ghost use Rattle.hls_top.specs.Exchange.{report_limit};
-ghost use Rattle.hls_top.specs.Outputs.{IsOfCheck};
+ghost use Rattle.hls_top.specs.Outputs.{IsOfCheck, output_text};
 ghost use Rattle.hls_top.specs.Summaries.{status_of, verdict};
 
-use crate::outputs::Output;
+use crate::outputs::{Output, OutputText};
 use crate::refusing::refusal_line;
 use crate::verdicts::put_verdict;
 use hls_audit::{Outcome, audit};
@@ -39,13 +39,13 @@ pub fn verdict_line(alloc: Global, audit: Outcome) -> Result<Vec<u8>, AllocError
 /// The verdict on a report that was read from a text. The text goes first, to save memory.
 fn verdict_on(alloc: Global, report: &Report, text: Vec<u8>) -> Result<Output, AllocError>
     requires read { IsReportText text.items report.now }
-    ensures { IfOk result (λ output. IsOfCheck text.items output.status output.bytes.items) }
+    ensures { IfOk result (λ output. IsOfCheck text.items output.status (output_text output.text)) }
 {
     drop(text);
     let audit = audit(alloc, report)?;
     Ok(Output {
         status: status_of(audit),
-        bytes: verdict_line(alloc, audit)?,
+        text: OutputText::Bytes(verdict_line(alloc, audit)?),
     })
 }
 
@@ -55,13 +55,13 @@ fn verdict_on(alloc: Global, report: &Report, text: Vec<u8>) -> Result<Output, A
 /// Returns `AllocError` for want of memory.
 pub fn verdict_on_text(alloc: Global, text: Vec<u8>) -> Result<Output, AllocError>
     requires within { length text.items ≤ report_limit }
-    ensures { IfOk result (λ output. IsOfCheck text.items output.status output.bytes.items) }
+    ensures { IfOk result (λ output. IsOfCheck text.items output.status (output_text output.text)) }
 {
     match read_report(alloc, &text) {
         Ok(report) => verdict_on(alloc, &report, text),
         Err(ReportFault::At { line }) => Ok(Output {
             status: Status::RefusedText,
-            bytes: refusal_line(alloc, line, b"Form")?,
+            text: OutputText::Bytes(refusal_line(alloc, line, b"Form")?),
         }),
         Err(ReportFault::Memory(error)) => Err(error),
     }

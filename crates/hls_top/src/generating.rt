@@ -1,8 +1,8 @@
 // The scenario of a number.
 ghost use Rattle.std.specs.Prelude.{IfOk};
-ghost use Rattle.hls_top.specs.Outputs.{IsOfGen};
+ghost use Rattle.hls_top.specs.Outputs.{IsOfGen, output_text};
 
-use crate::outputs::Output;
+use crate::outputs::{Output, OutputText};
 use hls_gen::generate;
 use hls_io::Status;
 use hls_scenario::print_scenario;
@@ -13,11 +13,11 @@ use std::alloc::{AllocError, Global};
 /// # Errors
 /// Returns `AllocError` for want of memory.
 pub fn scenario_of(alloc: Global, number: u32) -> Result<Output, AllocError>
-    ensures { IfOk result (λ output. IsOfGen number output.status output.bytes.items) }
+    ensures { IfOk result (λ output. IsOfGen number output.status (output_text output.text)) }
 {
     let scenario = generate(alloc, number)?;
     Ok(Output {
         status: Status::Done,
-        bytes: print_scenario(alloc, &scenario)?,
+        text: OutputText::Bytes(print_scenario(alloc, &scenario)?),
     })
 }

@@ -6,11 +6,12 @@ ghost use Rattle.hls_sched.specs.Boxed.{boxed};
 ghost use Rattle.hls_manager.specs.Outcomes.{boxes_in};
 ghost use Rattle.hls_top_words.specs.Table.{IsJob};
 ghost use Rattle.hls_top.specs.Exchange.{exchange, shown, IsOrderly};
+ghost use Rattle.hls_top.specs.Outputs.{output_text};
 ghost use Rattle.hls_top.specs.Ends.{Ends};
 ghost use Rattle.hls_top.specs.Musts.{MustAnswer};
 ghost use Rattle.hls_top.specs.Says.{Says, IsSteady};
 
-use crate::outputs::output_of;
+use crate::outputs::{Output, output_of};
 use hls_io::{ReadError, Sink, Source, Status, write_all};
 use hls_rules::RuleBook;
 use hls_sched::{Kit, Scheduler};
@@ -23,6 +24,18 @@ pub fn say<K: Sink>(sink: &mut K, output: &[u8], status: Status) -> Status
     ensures steady { IsSteady (shown K.written K.faults sink.old sink.new) }
 {
     match write_all(sink, output) {
+        Ok(()) => status,
+        Err(_) => Status::WriteFault,
+    }
+}
+
+/// The same of an output.
+fn say_output<K: Sink>(sink: &mut K, output: Output) -> Status
+    ensures says { Says (shown K.written K.faults sink.old sink.new) (output_text output.text) output.status result }
+    ensures steady { IsSteady (shown K.written K.faults sink.old sink.new) }
+{
+    let Output { status, text } = output;
+    match text.write(sink) {
         Ok(()) => status,
         Err(_) => Status::WriteFault,
     }
@@ -45,7 +58,7 @@ fn answer<S: Source, K: Sink>(
         words (boxes_in kit) source.old source.new sink.old sink.new) }
 {
     match output_of(alloc, job, source, kit, rules) {
-        Ok(output) => say(sink, &output.bytes, output.status),
+        Ok(output) => say_output(sink, output),
         Err(ReadError::Fault) => Status::ReadFault,
         Err(ReadError::TooLong) => Status::TooLong,
         Err(ReadError::Memory) => Status::Memory,
@@ -57,7 +70,8 @@ fn answer<S: Source, K: Sink>(
 /// writes what its audit comes to; at `gen` and a number it writes the scenario that is made from the number, and at
 /// `trial` and a number a summary of its report.
 ///
-/// The whole output is built before the first write, and writing takes no memory. Kit and rules are used up.
+/// All memory is taken before the first write: the schedule of a report is written from the records of its runs, and
+/// all else is text by then. Kit and rules are used up.
 pub fn hls_run<S: Source, K: Sink>(
     alloc: Global,
     words: &Vec<String>,

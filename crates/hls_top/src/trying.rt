@@ -5,12 +5,12 @@ ghost use Rattle.hls_sched.specs.Boxed.{boxed};
 ghost use Rattle.hls_manager.specs.Outcomes.{boxes_in};
 ghost use Rattle.hls_report_text.specs.Content.{content_of};
 ghost use Rattle.hls_report_text.specs.ReportText.{ended, with_end};
-ghost use Rattle.hls_top.specs.Outputs.{IsOfTrial};
+ghost use Rattle.hls_top.specs.Outputs.{IsOfTrial, output_text};
 ghost use Rattle.hls_legal.specs.Commands.{is_done};
 ghost use Rattle.hls_top.specs.Summaries.{done_of, commands_line, ticks_line, trial_lines};
 
 use crate::carrying::carry_out;
-use crate::outputs::Output;
+use crate::outputs::{Output, OutputText};
 use crate::verdicts::put_verdict;
 use hls_audit::{Outcome, audit};
 use hls_gen::generate;
@@ -94,13 +94,13 @@ fn summary(
 /// Returns `AllocError` for want of memory.
 pub fn trial_of(alloc: Global, number: u32, kit: Kit, rules: RuleBook) -> Result<Output, AllocError>
     requires good { IsGood (boxed seen) kit }
-    ensures { IfOk result (λ output. IsOfTrial number (boxes_in kit) output.status output.bytes.items) }
+    ensures { IfOk result (λ output. IsOfTrial number (boxes_in kit) output.status (output_text output.text)) }
 {
     let scenario = generate(alloc, number)?;
     let report = carry_out(alloc, scenario, DEPTH, kit, rules)?;
     let audit = audit(alloc, &report)?;
     Ok(Output {
         status: Status::Done,
-        bytes: summary(alloc, number, &report, audit)?,
+        text: OutputText::Bytes(summary(alloc, number, &report, audit)?),
     })
 }

@@ -1,5 +1,5 @@
 -- How far the commands and the runs of a report are gone through, tick by tick.
-use Rattle.std.specs.Prelude.{◌≡◌, ℕ, ◌+◌, ◌-◌, ◌<◌, ◌≤◌, List, Some, take, length, slice_get}
+use Rattle.std.specs.Prelude.{◌≡◌, ℕ, ◌+◌, ◌-◌, ◌<◌, ◌≤◌, List, Option, Some, None, take, length, slice_get}
 use Rattle.hls_report_text.specs.declared.report.Answered.{Answered}
 use Rattle.hls_report_text.specs.declared.report.Run.{Run}
 use Rattle.hls_audit_clauses.specs.declared.member.Member.{Member}
@@ -18,3 +18,13 @@ pub record IsReached (runs : List Run) (t at : ℕ) : Type 0 where
   pub there : slice_get runs at ≡ Some run
   pub since : run.from ≤ t - 1
   pub until : t ≤ run.to + 1
+
+-- ---- up to when nothing comes
+
+abbrev pub tick_or : (horizon : ℕ) → Option Answered → ℕ
+tick_or horizon None = horizon
+tick_or horizon (Some a) = a.tick
+
+abbrev pub end_or : (horizon : ℕ) → Option Run → ℕ
+end_or horizon None = horizon
+end_or horizon (Some run) = run.to + 1

@@ -1,5 +1,5 @@
 -- What a text tells of a scenario so far.
-use Rattle.std.specs.Prelude.{◌≡◌, ℕ, ◌≤◌, List, [], ◌∷◌, ◌++◌, vec_capacity, flat_map, Option}
+use Rattle.std.specs.Prelude.{◌≡◌, ℕ, ◌≤◌, List, [], ◌∷◌, ◌++◌, vec_capacity, flat_map, codes, Option}
 use Rattle.std.specs.Global.{Vec}
 use Rattle.std.specs.Fn.{Mut}
 use Rattle.hls_text.specs.Lines.{Text}
@@ -7,10 +7,15 @@ use Rattle.hls_guarantee.specs.declared.Guarantee.{Guarantee}
 use Rattle.hls_scenario.specs.declared.scenario.Scenario.{Scenario}
 use Rattle.hls_report_text.specs.declared.report.Answer.{Answer}
 use Rattle.hls_report_text.specs.declared.report.Answered.{Answered}
-use Rattle.hls_report_text.specs.ReportText.{head_lines, answered_lines, ended}
+use Rattle.hls_report_text.specs.ReportText.{head_lines, answered_lines, end_lines, ended}
 use Rattle.hls_sched.specs.Seen.{Seen}
+use Rattle.hls_machine.specs.Hierarchy.{Hierarchy}
 use Rattle.hls_legal.specs.Moment.{Boxes}
+use Rattle.hls_legal.specs.Agrees.{accounts_in, idle_in}
 use Rattle.hls_core_journal.specs.Told.{answered_by}
+use Rattle.hls_core_stays.specs.Tallies.{AreStays}
+use Rattle.hls_core_stays.specs.Told.{lines_of}
+use Rattle.hls_core_stays.specs.declared.stays.Stays.{Stays}
 use Rattle.hls_core.specs.Cores.{IsCoreOf}
 use Rattle.hls_core.specs.Texts.{IsLegalText}
 use Rattle.hls_core.specs.Inside.Sparing.{keeping}
@@ -20,6 +25,11 @@ use Rattle.hls_core.specs.declared.cores.Core.{Core}
 abbrev pub told_by : Scenario → (depth : ℕ) → List Answer → Text
 told_by s depth answers = ended (head_lines s.version s.horizon depth)
     ++ flat_map (λ (a : Answered). ended (answered_lines s.version a)) (answered_by s.items answers)
+
+-- the text tells of the accounts of stays and of idle ticks, and ends the report
+abbrev pub TellsStays : Stays → (now : ℕ) → Text → Type 0
+TellsStays s now text = (h : Hierarchy) → AreStays s h → h.now ≡ now
+    → text ≡ codes "accounts\n" ++ lines_of (accounts_in h) ++ ended (end_lines (idle_in h))
 
 -- V and P are what the checker knows a box by, and W, Q and X a rule
 module _ {V W : Type 0} {P : V → Type 0} {Q : W → Type 0}

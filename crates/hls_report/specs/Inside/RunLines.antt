@@ -8,6 +8,8 @@ use Rattle.hls_report.specs.declared.fault.ReportFault.{ReportFault}
 use Rattle.hls_report.specs.declared.lines.Lines.{Lines}
 use Rattle.hls_report_text.specs.declared.report.Path.{Path}
 use Rattle.hls_report_text.specs.declared.report.Run.{Run}
+use Rattle.hls_report.specs.declared.recent_paths.Known.{Known}
+use Rattle.hls_report.specs.declared.recent_paths.Told.{Told}
 use Rattle.hls_report.specs.declared.run_reading.Schedule.{Schedule}
 use Rattle.hls_report_text.specs.declared.stretch.Stretch.{Stretch}
 use Rattle.hls_report_text.specs.Content.{path_names, stretch_of}
@@ -34,6 +36,13 @@ pub record IsPathTold (known new : List Text) (told : Text) (path : Option Path)
   pub words : told ≡ path_text (option_map (path_names new) path)
   pub added : new ≡ with_path known (option_map (path_names new) path)
   pub few : length new ≤ 2 ^ 16
+
+-- words that tell a path of names that are known
+abbrev pub IsRecent : (known : List Text) → Told → Type 0
+IsRecent known told = IsPathTold known known told.words.now told.path
+
+abbrev pub AreRecent : Known → Type 0
+AreRecent known = AllByRecursion (IsRecent known.names.keys) known.recent.items
 
 -- ---- the line of a run
 

@@ -4,6 +4,7 @@ use Rattle.std.specs.List.{AllByRecursion}
 use Rattle.hls_text.specs.Lines.{Text}
 use Rattle.hls_chron.specs.Name.{IsName}
 use Rattle.hls_report_text.specs.Content.{content_of, path_names}
+use Rattle.hls_audit.specs.Inside.Followed.{AreFollowed}
 use Rattle.hls_audit_threads.proofs.OnPaths.{all_named}
 use Rattle.hls_audit.proofs.leading.is_astray.Goals as goal
 
@@ -15,3 +16,8 @@ leads_down-requires-clause-named c =
     c.requires.formed.content
     (c.path_of.ensures.path
     ∙ ap (option_map (path_names c.args.report.now.names)) c.in-Some.is))
+
+pub leads_down-requires-clause-followed : goal.leads_down-requires-clause-followed
+leads_down-requires-clause-followed c =
+    subst (λ (names : List Text). AreFollowed c.args.tree.now.members.items names c.args.followed.now.paths.items)
+    (sym c.items.ensures) c.requires.followed

@@ -1,9 +1,6 @@
-use Rattle.std.proofs.Common.{◌≡◌, ℕ, ◌<◌, ◌≤◌, Bool, refl, sym, ap, ◌∙◌, subst}
-use Rattle.std.specs.Prelude.{Option, Some, None}
+use Rattle.std.proofs.Common.{ℕ, sym, subst}
 use Rattle.hls_audit_spans.specs.Spans.{Tell}
-use Rattle.hls_audit_threads.specs.declared.lines.Readiness.{Readiness}
-use Rattle.hls_audit_threads.specs.declared.lines.Periodic.{Periodic}
-use Rattle.hls_audit_threads.specs.Inside.Lines.{is_on, IsPeriodicBy, IsPeriodicOf, IsOnce}
+use Rattle.hls_audit_threads.specs.Inside.Lines.{IsPeriodicBy, IsPeriodicOf, IsOnce}
 use Rattle.hls_audit_threads.proofs.LineLaws.{fills_some, fills_none, on_ticks, periodic_on}
 use Rattle.hls_audit_threads.proofs.lines.fill.Goals as goal
 

@@ -8,3 +8,6 @@ returns-clause-counted c =
     counted_by c.args.report.now.accounts c.items-2.result.now (accounts_of (content_of c.args.report.now))
     c.in_ok-of_stays.of_stays.met c.are_all_met.result c.items-2.ensures
     (c.are_all_met.ensures (accounts_of (content_of c.args.report.now))) c.in_ok-of_stays.ensures.accounts
+
+pub first_unready-requires-clause-known : goal.first_unready-requires-clause-known
+first_unready-requires-clause-known c = c.new-known.ensures c.args.report.now

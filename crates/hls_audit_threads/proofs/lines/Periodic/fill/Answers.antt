@@ -45,8 +45,8 @@ loop-used-preserved-in_ok-add c =
           (c.used.ensures.next f wide tell (omega arith) le) in
           filled_more f p.period p.ticks p.since c.requires.some c.requires.burst g c.args.until same
           c.loop-used.ready.spans.items c.add.new.self.spans.items c.loop-used.from c.loop-used.release used end
-          c.reach-reach.result c.loop-used.invariant.release next unused soon within
-          (c.reach-reach.ensures f wide tell (omega arith))
+          c.reach_near-reach.result c.loop-used.invariant.release next unused soon within
+          (c.reach_near-reach.ensures f wide tell (omega arith))
           (c.in_ok-add.ensures g (c.loop-used.invariant.filled f g wide tell le old same).tell)
           (c.loop-used.invariant.filled f g wide tell le old same);
     }
@@ -72,18 +72,18 @@ loop-used-preserved c =
           let unused : IsUnused f c.loop-used.release used =
           subst (λ (o : Option ℕ). IsUnused f c.loop-used.release (end_or c.args.until o)) c.in-Some.is
           (c.used.ensures.next f wide tell (omega arith) le) in
-          let reached = c.reach-reach.ensures f wide tell (omega arith) in
+          let reached = c.reach_near-reach.ensures f wide tell (omega arith) in
           let begins =
           burst_begins f p.period p.ticks p.since c.requires.some c.requires.burst g c.args.until same used end
-          c.reach-reach.result lt reached in
-          let whole : end ≤ c.reach-reach.result = elim c.else-from-reach.branch [
+          c.reach_near-reach.result lt reached in
+          let whole : end ≤ c.reach_near-reach.result = elim c.else-from-reach.branch [
             | else-from-reach-via-then-from-reach+else-reach-end w ↦ w.if-reach-end.false
             | else-from-reach-via-else-from-reach w ↦
                 let late = w.if-from-reach.false in absurd (omega (arith, late, begins, after, from))
           ] in
           filled_on f p.period p.ticks p.since c.requires.some c.requires.burst g c.args.until same
           c.loop-used.ready.spans.items c.loop-used.from c.loop-used.release used end
-          c.reach-reach.result c.loop-used.invariant.release next unused soon within reached whole
+          c.reach_near-reach.result c.loop-used.invariant.release next unused soon within reached whole
           (c.loop-used.invariant.filled f g wide tell le old same);
     }
 

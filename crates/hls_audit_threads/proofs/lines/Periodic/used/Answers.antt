@@ -25,7 +25,7 @@ returns-then-at-until-clause-release c =
 pub returns-then-at-until-clause-next : goal.returns-then-at-until-clause-next
 returns-then-at-until-clause-next c = λ f end tell le within t lo hi.
     let found : IsNextAt f c.args.release end c.in-Some.at =
-    subst (IsNext f c.args.release end) c.in-Some.is (c.next.ensures f end tell le) in
+    subst (IsNext f c.args.release end) c.in-Some.is (c.next_near.ensures f end tell le) in
     let release = c.requires.release (omega arith) in
     let early = release.0 in
     let behind = found.behind in
@@ -36,12 +36,12 @@ returns-then-at-until-clause-next c = λ f end tell le within t lo hi.
 pub returns-else-at-until-clause-next : goal.returns-else-at-until-clause-next
 returns-else-at-until-clause-next c = λ f end tell le within t lo hi.
     let found : IsNextAt f c.args.release end c.in-Some.at =
-    subst (IsNext f c.args.release end) c.in-Some.is (c.next.ensures f end tell le) in
+    subst (IsNext f c.args.release end) c.in-Some.is (c.next_near.ensures f end tell le) in
     let behind = found.behind in
     found.none t lo (omega arith)
 
 pub returns-in-None-clause-next : goal.returns-in-None-clause-next
 returns-in-None-clause-next c = λ f end tell le within t lo hi.
     let none : IsNext f c.args.release end None =
-    subst (IsNext f c.args.release end) c.in-None.is (c.next.ensures f end tell le) in
+    subst (IsNext f c.args.release end) c.in-None.is (c.next_near.ensures f end tell le) in
     none t lo (omega arith)

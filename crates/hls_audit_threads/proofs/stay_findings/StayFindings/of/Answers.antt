@@ -10,7 +10,7 @@ use Rattle.hls_audit_threads.proofs.stay_findings.StayFindings.of.Goals as goal
 
 pub loop-found-init : goal.loop-found-init
 loop-found-init c = record {
-  known = c.new-known.ensures c.args.report.now;
+  known = c.requires.known;
   found = found_none (content_of c.args.report.now) (map (stay_by c.args.report.now.answered) c.args.stays.now) _
       c.new-findings.ensures.starved c.new-findings.ensures.over_cap c.new-findings.ensures.met;
 }

@@ -1,3 +1,4 @@
+use Rattle.std.proofs.lemmas.Result.{IfOk-weaker}
 use Rattle.hls_manager.specs.Outcomes.{boxes_in}
 use Rattle.hls_core.proofs.Tellings.{still_tells}
 use Rattle.hls_core.proofs.Texts.{told_first, may_begin}
@@ -19,8 +20,9 @@ tell_rest-requires-clause-may g c =
 
 pub returns : goal.returns
 returns g c =
-    c.in_ok-tell_rest.ensures c.args.scenario c.args.depth (boxes_in c.args.kit)
+    IfOk-weaker c.tell_rest.result _ _ (λ told rest.
+    rest c.args.scenario c.args.depth (boxes_in c.args.kit)
     (c.in_ok-tell_all.ensures.on c.args.scenario c.args.depth (boxes_in c.args.kit)
     (told_first _ c.in_ok-core.core c.args.scenario c.args.depth (boxes_in c.args.kit) c.clear.new.self.items
     c.put_head.new.out.items c.in_ok-core.ensures.is c.in_ok-core.ensures.unanswered c.clear.ensures.items
-    c.in_ok-put_head.ensures))
+    c.in_ok-put_head.ensures))) c.tell_rest.ensures

@@ -3,8 +3,8 @@ use Rattle.hls_order.specs.Order.{entry_of}
 use Rattle.hls_order.proofs.Replaying.{begun}
 use Rattle.hls_order.proofs.order.Order.take.Goals as goal
 
-pub replayed-self-inside-requires-clause-right : goal.replayed-self-inside-requires-clause-right
-replayed-self-inside-requires-clause-right c =
+pub replay-requires-clause-right : goal.replay-requires-clause-right
+replay-requires-clause-right c =
     let keys : length c.self.inside.keys ≡ 32 = search rules in
     let size : length c.self.inside.winners ≡ 63 = search rules in
     let few = c.requires in

@@ -1,0 +1,169 @@
+-- The text of a schedule, line by line.
+use Rattle.std.proofs.Common.{◌≡◌, ℕ, ◌+◌, ◌-◌, ◌^◌, ◌<◌, ◌≤◌, List, [], ◌∷◌, ◌++◌, length, refl, sym, ap, ◌∙◌, subst, arith}
+use Rattle.std.proofs.Common.{map, take, drop, get_or, decimal, append_assoc}
+use Rattle.std.specs.Prelude.{Option, None, Result, Ok, Err, OnOk, OnErr, All, codes, flat_map, slice_set}
+use Rattle.std.proofs.Common.{append-nil}
+use Rattle.std.proofs.lemmas.List.{get_or-map, drop-set, drop_all, length-drop, length-set, take_all, take-append-drop}
+use Rattle.std.proofs.lemmas.List.{take_more}
+use Rattle.std.proofs.lemmas.Fmt.{length-decimal-le}
+use Rattle.std.proofs.lemmas.List.Elements.{All-head, All-tail}
+use Rattle.std.proofs.lemmas.Grind.{flat_map-append}
+use Rattle.hls_io.specs.Bytes.{AppendsPart, Gathers, TellsAlike}
+use Rattle.hls_io.proofs.Steps.{gathers-part, gathers-trans, part-more}
+use Rattle.hls_text.specs.Lines.{Text}
+use Rattle.hls_report_text.specs.declared.report.Path.{Path}
+use Rattle.hls_report_text.specs.declared.report.Run.{Run}
+use Rattle.hls_report_text.specs.declared.stretch.Stretch.{Stretch}
+use Rattle.hls_report_text.specs.Content.{stretch_of}
+use Rattle.hls_report_text.specs.ReportText.{path_text, span_text, stretch_text, with_end}
+use Rattle.hls_core_journal.specs.declared.runs.Row.{Row}
+use Rattle.hls_core_journal.specs.Inside.Rows.{way_at, run_by, runs_by}
+use Rattle.hls_core_journal.specs.Ways.{names_by}
+use Rattle.hls_core_journal.specs.Schedule.{tail_text, line_by}
+
+abbrev spelled : Stretch → Text
+spelled s = with_end (stretch_text s)
+
+line_same : (names : List Text) (ways : List (Option Path)) (row : Row) → row.way < length ways
+    → line_by (map (tail_text names) ways) row ≡ spelled (stretch_of names (run_by ways row))
+line_same names ways row lt =
+    let path = way_at ways row.way in
+    ap (λ t. span_text row.from row.to ++ t) (get_or-map (tail_text names) ways row.way None [] lt)
+    ∙ sym (append_assoc (span_text row.from row.to) (32 ∷ path_text (names_by names path)) (10 ∷ []))
+
+lines_same : (names : List Text) (ways : List (Option Path)) (rows : List Row)
+    → All (λ (row : Row). row.way < length ways) rows
+    → flat_map (line_by (map (tail_text names) ways)) rows ≡ flat_map spelled (map (stretch_of names) (runs_by ways rows))
+lines_same names ways [] all = refl
+lines_same names ways (row ∷ rows) all =
+    let P = λ (r : Row). r.way < length ways in
+    ap (λ t. t ++ flat_map (line_by (map (tail_text names) ways)) rows)
+    (line_same names ways row (All-head P row rows all))
+    ∙ ap (λ t. spelled (stretch_of names (run_by ways row)) ++ t) (lines_same names ways rows (All-tail P row rows all))
+
+-- the text by rows and tails is that by runs and names
+pub schedule_same : (names : List Text) (ways : List (Option Path)) (rows : List Row) (runs : List Run) (tails : List Text)
+    → All (λ (row : Row). row.way < length ways) rows → runs_by ways rows ≡ runs → tails ≡ map (tail_text names) ways
+    → codes "schedule\n" ++ flat_map (line_by tails) rows
+    ≡ codes "schedule\n" ++ flat_map (λ (s : Stretch). with_end (stretch_text s)) (map (stretch_of names) runs)
+schedule_same names ways rows runs tails known are same =
+    ap (λ (ts : List Text). codes "schedule\n" ++ flat_map (line_by ts) rows) same
+    ∙ ap (λ t. codes "schedule\n" ++ t) (lines_same names ways rows known)
+    ∙ ap (λ (rs : List Run). codes "schedule\n" ++ flat_map spelled (map (stretch_of names) rs)) are
+
+-- ---- a span
+
+-- a number of 32 bits has ten digits at most
+pub short_number : (n m : ℕ) → m ≡ n → n < 2 ^ 32 → length (decimal m) ≤ 10
+short_number n m same lt = length-decimal-le 10 m (omega arith) (omega (arith, same, lt)) (omega (arith, same, lt))
+
+pub set_twice : (bytes : List ℕ) (i j x y n : ℕ) → n ≤ length bytes
+    → n ≤ length (slice_set (slice_set bytes i x) j y)
+set_twice bytes i j x y n le =
+    let two = length-set bytes i x in
+    let three = length-set (slice_set bytes i x) j y in omega (arith, le, two, three)
+
+pub span_written : (old one new : List ℕ) (from to one_number other behind start : ℕ) → one_number ≡ from → other ≡ to
+    → length old ≡ 22 → length one ≡ 22 → behind + length (decimal other) ≡ 22 → length (decimal other) ≤ 10
+    → drop behind one ≡ decimal other ++ drop 22 old
+    → drop start new ≡ decimal one_number
+    ++ drop (behind - 2) (slice_set (slice_set one (behind - 1) 46) (behind - 2) 46)
+    → drop start new ≡ span_text from to
+span_written old one new from to one_number other behind start is_from is_to whole long fits short second first =
+    let two = slice_set one (behind - 1) 46 in
+    let three = slice_set two (behind - 2) 46 in
+    let long_two : length two ≡ 22 = length-set one (behind - 1) 46 ∙ long in
+    let after_far : behind - 2 + 1 ≡ behind - 1 = omega (arith, fits, short) in
+    let after_near : behind - 1 + 1 ≡ behind = omega (arith, fits, short) in
+    let nearer : drop (behind - 1) two ≡ 46 ∷ drop behind one =
+    drop-set one (behind - 1) 46 (omega (arith, long, fits, short)) ∙ ap (λ n. 46 ∷ drop n one) after_near in
+    let farther : drop (behind - 2) three ≡ 46 ∷ drop (behind - 1) two =
+    drop-set two (behind - 2) 46 (omega (arith, long_two, fits, short)) ∙ ap (λ n. 46 ∷ drop n two) after_far in
+    let last : drop behind one ≡ decimal to =
+    second ∙ ap (λ t. decimal other ++ t) (drop_all 22 old (omega (arith, whole))) ∙ append-nil (decimal other)
+    ∙ ap decimal is_to in
+    first ∙ ap (λ t. decimal one_number ++ t) (farther ∙ ap (λ t. 46 ∷ t) (nearer ∙ ap (λ t. 46 ∷ t) last))
+    ∙ ap (λ n. span_text n to) is_from
+
+pub rest_of : (bytes : List ℕ) (start : ℕ) → length bytes ≡ 22 → take (22 - start) (drop start bytes) ≡ drop start bytes
+rest_of bytes start whole =
+    let long = length-drop start bytes in take_all (22 - start) (drop start bytes) (omega (arith, long, whole))
+
+-- ---- a line more
+
+-- so much went through the room, and no fault was met
+pub record Wrote (old new : Option (List ℕ)) (was room front : Text) (before now : ℕ) : Type 0 where
+  pub gathered : Gathers old new was room front
+  pub told : TellsAlike old new
+  pub quiet : now ≡ before
+
+line_more : {A : Type 0} (f : A → Text) (head : Text) (xs : List A) (at : ℕ) (d : A) → at < length xs
+    → (head ++ flat_map f (take at xs)) ++ f (get_or xs at d) ≡ head ++ flat_map f (take (at + 1) xs)
+line_more f head xs at d lt =
+    append_assoc head (flat_map f (take at xs)) (f (get_or xs at d))
+    ∙ ap (λ (t : Text). head ++ (flat_map f (take at xs) ++ t)) (sym (append-nil (f (get_or xs at d))))
+    ∙ ap (λ (t : Text). head ++ t) (sym (flat_map-append f (take at xs) (get_or xs at d ∷ [])))
+    ∙ ap (λ ys. head ++ flat_map f ys) (sym (take_more xs at d lt))
+
+pub wrote_line : {A : Type 0} (f : A → Text) (head : Text) (xs ys : List A) (at : ℕ) (d : A) (a b c : Option (List ℕ))
+    (was mid room line : Text) → Gathers a b was mid (head ++ flat_map f (take at xs)) → Gathers b c mid room line
+    → ys ≡ xs → at < length ys → line ≡ f (get_or ys at d) → Gathers a c was room (head ++ flat_map f (take (at + 1) xs))
+wrote_line f head xs ys at d a b c was mid room line before now same lt is =
+    let long = ap (λ l. length l) same in
+    subst (λ t. Gathers a c was room t)
+    (ap (λ (t : Text). (head ++ flat_map f (take at xs)) ++ t) (is ∙ ap (λ l. f (get_or l at d)) same)
+    ∙ line_more f head xs at d (omega (arith, lt, long)))
+    (gathers-trans a b c was mid room (head ++ flat_map f (take at xs)) line before now)
+
+pub wrote_part : {A : Type 0} (f : A → Text) (head : Text) (xs ys : List A) (at : ℕ) (d : A) (a b c : Option (List ℕ))
+    (was mid line : Text) → Gathers a b was mid (head ++ flat_map f (take at xs)) → AppendsPart b c (mid ++ line)
+    → ys ≡ xs → at < length ys → line ≡ f (get_or ys at d) → AppendsPart a c (was ++ (head ++ flat_map f xs))
+wrote_part f head xs ys at d a b c was mid line before part same lt is =
+    let long = ap (λ l. length l) same in
+    let front = flat_map f (take (at + 1) xs) in
+    let rest = flat_map f (drop (at + 1) xs) in
+    let all : front ++ rest ≡ flat_map f xs =
+    sym (flat_map-append f (take (at + 1) xs) (drop (at + 1) xs))
+    ∙ ap (λ ys. flat_map f ys) (take-append-drop (at + 1) xs) in
+    let first : AppendsPart a c (was ++ (head ++ front)) =
+    subst (λ t. AppendsPart a c (was ++ t))
+    (ap (λ (t : Text). (head ++ flat_map f (take at xs)) ++ t) (is ∙ ap (λ l. f (get_or l at d)) same)
+    ∙ line_more f head xs at d (omega (arith, lt, long)))
+    (gathers-part a b c was mid (head ++ flat_map f (take at xs)) line before part) in
+    subst (λ t. AppendsPart a c t)
+    (append_assoc was (head ++ front) rest ∙ ap (λ t. was ++ t) (append_assoc head front rest)
+    ∙ ap (λ t. was ++ (head ++ t)) all)
+    (part-more a c (was ++ (head ++ front)) rest first)
+
+pub wrote_all : {A : Type 0} (f : A → Text) (head : Text) (xs ys : List A) (at : ℕ) (a b : Option (List ℕ))
+    (was room : Text) → Gathers a b was room (head ++ flat_map f (take at xs)) → ys ≡ xs → length ys ≤ at
+    → Gathers a b was room (head ++ flat_map f xs)
+wrote_all f head xs ys at a b was room before same le =
+    let long = ap (λ l. length l) same in
+    subst (λ l. Gathers a b was room (head ++ flat_map f l)) (take_all at xs (omega (arith, le, long))) before
+
+-- a part of the first bytes
+pub wrote_head : (a c : Option (List ℕ)) (was head rest : Text) → AppendsPart a c (was ++ head)
+    → AppendsPart a c (was ++ (head ++ rest))
+wrote_head a c was head rest part =
+    subst (λ t. AppendsPart a c t) (append_assoc was head rest) (part-more a c (was ++ head) rest part)
+
+-- ---- a span and what is behind it
+
+pub both_went : {T E : Type 0} (a b c : Option (List ℕ)) (was mid room one two span : Text) (r : Result T E)
+    → Gathers a b was mid one → one ≡ span → OnOk r (Gathers b c mid room two)
+    → OnOk r (Gathers a c was room (span ++ two))
+both_went a b c was mid room one two span (Ok x) before is now =
+    subst (λ t. Gathers a c was room (t ++ two)) is (gathers-trans a b c was mid room one two before now)
+both_went a b c was mid room one two span (Err e) before is now = tt
+
+pub one_went : {T E : Type 0} (a b c : Option (List ℕ)) (was mid one two span : Text) (r : Result T E)
+    → Gathers a b was mid one → one ≡ span → OnErr r (AppendsPart b c (mid ++ two))
+    → OnErr r (AppendsPart a c (was ++ (span ++ two)))
+one_went a b c was mid one two span (Ok x) before is part = tt
+one_went a b c was mid one two span (Err e) before is part =
+    subst (λ t. AppendsPart a c (was ++ (t ++ two))) is (gathers-part a b c was mid one two before part)
+
+pub on_err : {T E P : Type 0} (r : Result T E) → P → OnErr r P
+on_err (Ok x) h = tt
+on_err (Err e) h = h
