@@ -1,9 +1,8 @@
 // What is read of a core between its commands: the tree as it stands, and what a request would be answered.
 ghost use Rattle.std.specs.Prelude.{◌≡◌, IfOk};
-ghost use Rattle.hls_scenario.specs.declared.scenario.Scenario.{Scenario};
 ghost use Rattle.hls_scenario.specs.Grammar.{IsCommand};
 ghost use Rattle.hls_report_text.specs.WellFormed.{MayAnswer as IsWellFormed};
-ghost use Rattle.hls_legal.specs.Moment.{Boxes, Moment};
+ghost use Rattle.hls_legal.specs.Moment.{Moment};
 ghost use Rattle.hls_legal.specs.Answers.{IsAnswer};
 ghost use Rattle.hls_manager.specs.Outcomes.{IsRequest};
 

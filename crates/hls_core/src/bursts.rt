@@ -1,6 +1,6 @@
 // What is left of bursts, and the releases that are still to come.
-ghost use Rattle.std.specs.Prelude.{◌≡◌, ◌≢◌, ◌<◌, ◌+◌, ◌^◌, ℕ, Option, Some, None, Bool, true, false, OnOk, OnErr};
-ghost use Rattle.std.specs.Prelude.{List, get_or, vec_len, slice_index, if◌then◌else◌};
+ghost use Rattle.std.specs.Prelude.{◌≡◌, ◌≢◌, ◌<◌, ◌+◌, ◌^◌, ℕ, Option, Some, None, true, false, OnOk, OnErr};
+ghost use Rattle.std.specs.Prelude.{get_or, vec_len, if◌then◌else◌};
 ghost use Rattle.hls_core.specs.declared.begun.Release.{Release};
 ghost use Rattle.hls_core.specs.Begun.{left_by, next_by, used, ends_within, released, is_due, sooner, first_of};
 

@@ -1,7 +1,7 @@
 // A scenario is told in the text of its report while it is carried out: what was told is not kept.
-ghost use Rattle.std.specs.Prelude.{◌≡◌, ◌≤◌, ◌<◌, ◌+◌, ◌++◌, true, false, IfOk, OnOk, codes, flat_map};
+ghost use Rattle.std.specs.Prelude.{◌≡◌, ◌≤◌, ◌<◌, ◌+◌, ◌++◌, true, false, IfOk, OnOk};
 ghost use Rattle.hls_scenario.specs.Grammar.{IsScenario};
-ghost use Rattle.hls_report_text.specs.ReportText.{head_lines, ended};
+ghost use Rattle.hls_report_text.specs.ReportText.{ended};
 ghost use Rattle.hls_sched.specs.GoodKit.{IsGood};
 ghost use Rattle.hls_sched.specs.Boxed.{boxed};
 ghost use Rattle.hls_manager.specs.Outcomes.{boxes_in};

@@ -6,7 +6,7 @@ ghost use Rattle.hls_machine.specs.Hierarchy.{Hierarchy, Thread, Admitted, is_ju
 ghost use Rattle.hls_machine.specs.Legal.{IsThread};
 ghost use Rattle.hls_machine.specs.Lists.{IsListed};
 ghost use Rattle.hls_machine.specs.Steps.{Path as Way};
-ghost use Rattle.hls_tree_nodes.specs.Leapt.{StandsIn, StandsJust, stands_in, later, MayLeap};
+ghost use Rattle.hls_tree_nodes.specs.Leapt.{StandsIn, StandsJust, stands_in, MayLeap};
 ghost use Rattle.hls_sched.specs.Boxed.{boxed};
 ghost use Rattle.hls_tree_nodes.specs.Views.{shown_at, choice_at};
 ghost use Rattle.hls_tree.specs.Trees.{IsTreeOf, Any, HasPassed, PassesBy, Stands, ready_of};

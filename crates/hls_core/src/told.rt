@@ -61,7 +61,7 @@ impl Told {
             mut room,
         } = self;
         room.clear();
-        write_all(sink, &front)?;
+        gather(sink, &mut room, &front)?;
         schedule.write(sink, &mut room)?;
         gather(sink, &mut room, &back)?;
         write_all(sink, &room)

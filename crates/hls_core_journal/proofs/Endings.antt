@@ -77,15 +77,16 @@ texts_more bytes new text parts next texts from to are grown begins ends push =
     let pushed : next ≡ parts ++ part (length bytes) (length (bytes ++ text)) ∷ [] =
     push ∙ (λ i. parts ++ part (begins i) (ending i) ∷ []) in
     subst (λ (l : List Part). AreTexts new l (texts ++ text ∷ [])) (sym pushed)
-    (subst (λ t. AreTexts t (parts ++ part (length bytes) (length (bytes ++ text)) ∷ []) (texts ++ text ∷ [])) (sym grown)
+    (subst (λ t. AreTexts t (parts ++ part (length bytes) (length (bytes ++ text)) ∷ []) (texts ++ text ∷ []))
+    (sym grown)
     (record {
       within = more_parts bytes text parts are.within;
       same = more_texts bytes text parts are.within ∙ ap (λ (ts : List Text). ts ++ text ∷ []) are.same;
     }))
 
 -- one path more
-pub texts_step : {A : Type 0} (f : A → Text) (ways : List A) (at : ℕ) (d : A) (bytes new : List ℕ) (parts next : List Part)
-    (from to : ℕ) → AreTexts bytes parts (map f (take at ways)) → at < length ways → new ≡ bytes ++ f (get_or ways at d)
+pub texts_step : {A : Type 0} (f : A → Text) (ways : List A) (at : ℕ) (d : A) (bytes new : List ℕ)
+    (parts next : List Part) (from to : ℕ) → AreTexts bytes parts (map f (take at ways)) → at < length ways → new ≡ bytes ++ f (get_or ways at d)
     → from ≡ length bytes → to ≡ length new → next ≡ parts ++ part from to ∷ []
     → AreTexts new next (map f (take (at + 1) ways))
 texts_step f ways at d bytes new parts next from to are lt grown begins ends push =

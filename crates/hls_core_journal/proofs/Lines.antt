@@ -1,5 +1,6 @@
 -- The text of a schedule, line by line.
-use Rattle.std.proofs.Common.{◌≡◌, ℕ, ◌+◌, ◌-◌, ◌^◌, ◌<◌, ◌≤◌, List, [], ◌∷◌, ◌++◌, length, refl, sym, ap, ◌∙◌, subst, arith}
+use Rattle.std.proofs.Common.{◌≡◌, ℕ, ◌+◌, ◌-◌, ◌^◌, ◌<◌, ◌≤◌, List, [], ◌∷◌, ◌++◌, length, refl, sym, ap, ◌∙◌}
+use Rattle.std.proofs.Common.{subst, arith}
 use Rattle.std.proofs.Common.{map, take, drop, get_or, decimal, append_assoc}
 use Rattle.std.specs.Prelude.{Option, None, Result, Ok, Err, OnOk, OnErr, All, codes, flat_map, slice_set}
 use Rattle.std.proofs.Common.{append-nil}
@@ -33,7 +34,8 @@ line_same names ways row lt =
 
 lines_same : (names : List Text) (ways : List (Option Path)) (rows : List Row)
     → All (λ (row : Row). row.way < length ways) rows
-    → flat_map (line_by (map (tail_text names) ways)) rows ≡ flat_map spelled (map (stretch_of names) (runs_by ways rows))
+    → flat_map (line_by (map (tail_text names) ways)) rows
+    ≡ flat_map spelled (map (stretch_of names) (runs_by ways rows))
 lines_same names ways [] all = refl
 lines_same names ways (row ∷ rows) all =
     let P = λ (r : Row). r.way < length ways in
@@ -42,8 +44,8 @@ lines_same names ways (row ∷ rows) all =
     ∙ ap (λ t. spelled (stretch_of names (run_by ways row)) ++ t) (lines_same names ways rows (All-tail P row rows all))
 
 -- the text by rows and tails is that by runs and names
-pub schedule_same : (names : List Text) (ways : List (Option Path)) (rows : List Row) (runs : List Run) (tails : List Text)
-    → All (λ (row : Row). row.way < length ways) rows → runs_by ways rows ≡ runs → tails ≡ map (tail_text names) ways
+pub schedule_same : (names : List Text) (ways : List (Option Path)) (rows : List Row) (runs : List Run)
+    (tails : List Text) → All (λ (row : Row). row.way < length ways) rows → runs_by ways rows ≡ runs → tails ≡ map (tail_text names) ways
     → codes "schedule\n" ++ flat_map (line_by tails) rows
     ≡ codes "schedule\n" ++ flat_map (λ (s : Stretch). with_end (stretch_text s)) (map (stretch_of names) runs)
 schedule_same names ways rows runs tails known are same =
@@ -107,7 +109,8 @@ line_more f head xs at d lt =
 
 pub wrote_line : {A : Type 0} (f : A → Text) (head : Text) (xs ys : List A) (at : ℕ) (d : A) (a b c : Option (List ℕ))
     (was mid room line : Text) → Gathers a b was mid (head ++ flat_map f (take at xs)) → Gathers b c mid room line
-    → ys ≡ xs → at < length ys → line ≡ f (get_or ys at d) → Gathers a c was room (head ++ flat_map f (take (at + 1) xs))
+    → ys ≡ xs → at < length ys → line ≡ f (get_or ys at d)
+    → Gathers a c was room (head ++ flat_map f (take (at + 1) xs))
 wrote_line f head xs ys at d a b c was mid room line before now same lt is =
     let long = ap (λ l. length l) same in
     subst (λ t. Gathers a c was room t)

@@ -1,10 +1,9 @@
 // A journal.
-ghost use Rattle.std.specs.Prelude.{◌≡◌, ◌↔◌, ◌+◌, ◌-◌, ◌^◌, ◌<◌, ◌≤◌, [], ◌∷◌, ◌++◌, List, Some, true};
-ghost use Rattle.std.specs.Prelude.{IfOk, IfSome, IsNone, IsTrue, false, get_or, length, slice_get};
+ghost use Rattle.std.specs.Prelude.{◌≡◌, ◌↔◌, ◌+◌, ◌-◌, ◌^◌, ◌<◌, ◌≤◌, [], ◌∷◌, ◌++◌, Some, true};
+ghost use Rattle.std.specs.Prelude.{IfOk, IfSome, IsNone, false, get_or, length, slice_get};
 ghost use Rattle.std.specs.Prelude.{option_copied, option_to_list, vec_capacity};
 ghost use Rattle.std.specs.List.{list_any};
 ghost use Rattle.std.specs.Str.{bytes_eq};
-ghost use Rattle.indexmap.specs.IndexSet.{spare};
 ghost use Rattle.hls_report_text.specs.Content.{path_names};
 ghost use Rattle.hls_report_text.specs.WellFormed.{HasShort};
 ghost use Rattle.hls_legal.specs.Commands.{is_done};
@@ -69,7 +68,6 @@ fn is_done(answer: &Answer) -> bool
 
 impl Journal {
     ghost use Rattle.hls_core_journal.specs.Kept.{IsNew, MayNote, MayTick, AreWithin, has_name, IsNoted, AreTicked};
-    ghost use Rattle.hls_core_journal.specs.Ways.{names_by, last_names};
 
     /// A journal of nothing yet, with room for these commands and so many ticks.
     ///

@@ -1,7 +1,7 @@
 // Runs of ticks with one path, in little room.
 ghost use Rattle.std.specs.Prelude.{◌≡◌, ◌↔◌, ◌+◌, ◌-◌, ◌<◌, ◌≤◌, ◌^◌, ◌++◌, ◌∷◌, [], List, Option, Some, All};
 ghost use Rattle.std.specs.Prelude.{IfOk, IsTrue, ℕ, length, option_copied, option_map, slice_get};
-ghost use Rattle.std.specs.Prelude.{map, vec_capacity};
+ghost use Rattle.std.specs.Prelude.{vec_capacity};
 ghost use Rattle.hls_report_text.specs.declared.report.Path.{Path};
 ghost use Rattle.hls_report_text.specs.declared.report.Run.{Run};
 ghost use Rattle.hls_report_text.specs.WellFormed.{HasShort};

@@ -1,5 +1,6 @@
 // The schedule of a journal, written line by line.
-ghost use Rattle.std.specs.Prelude.{◌≡◌, ◌+◌, ◌<◌, ◌≤◌, ◌++◌, ◌∷◌, IfOk, OnOk, OnErr, codes, drop, flat_map, length, All};
+ghost use Rattle.std.specs.Prelude.{◌≡◌, ◌+◌, ◌<◌, ◌≤◌, ◌++◌, ◌∷◌, IfOk, OnOk, OnErr};
+ghost use Rattle.std.specs.Prelude.{codes, drop, flat_map, length, All};
 ghost use Rattle.hls_io.specs.Faults.{CountsFaults};
 ghost use Rattle.hls_io.specs.Bytes.{TellsAlike, AppendsPart, Gathers};
 ghost use Rattle.hls_report_text.specs.ReportText.{span_text, stretch_text, with_end};

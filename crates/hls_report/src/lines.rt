@@ -1,5 +1,5 @@
 // Whole lines of a text, and their numbers.
-ghost use Rattle.std.specs.Prelude.{◌≡◌, ◌+◌, ◌∷◌, ◌++◌, MatchOption, length};
+ghost use Rattle.std.specs.Prelude.{◌≡◌, ◌+◌, ◌∷◌, ◌++◌, MatchOption};
 ghost use Rattle.hls_report_text.specs.WellFormed.{IsOneLine};
 ghost use Rattle.hls_report.specs.Inside.Rests.{CanCount};
 

@@ -1,13 +1,10 @@
 // Reading the runs.
-ghost use Rattle.std.specs.Prelude.{◌≡◌, ◌↔◌, ◌^◌, ◌<◌, ◌≤◌, ◌+◌, ◌++◌, ◌∷◌, [], List, ℕ, length, map, codes};
-ghost use Rattle.std.specs.Prelude.{Option, Some, None, IfOk, OnOk, IfErr, IfSome, MatchOption, IsTrue};
-ghost use Rattle.std.specs.List.{AllByRecursion};
+ghost use Rattle.std.specs.Prelude.{◌≡◌, ◌↔◌, ◌^◌, ◌<◌, ◌≤◌, ◌+◌, ◌++◌, ◌∷◌, [], List, length, map, codes};
+ghost use Rattle.std.specs.Prelude.{Option, Some, None, IfOk, OnOk, IfErr, IfSome, MatchOption};
 ghost use Rattle.hls_text.specs.Lines.{Text};
-ghost use Rattle.hls_chron.specs.Name.{IsName};
-ghost use Rattle.hls_report_text.specs.Content.{stretch_of};
 ghost use Rattle.hls_report_text.specs.ReportText.{two_words, span_text, path_text, stretch_text};
 ghost use Rattle.hls_report.specs.Inside.Rests.{CanCount, Passes, FailsAt, RunRest, AccountRest};
-ghost use Rattle.hls_report.specs.Inside.RunLines.{FitsPath, IsPathTold, IsNextRun, IsRunTold, IsLast, RunPasses};
+ghost use Rattle.hls_report.specs.Inside.RunLines.{FitsPath, IsPathTold, IsNextRun, IsRunTold};
 ghost use Rattle.hls_report.specs.Inside.RunLines.{stretches_of, IsSchedule, AreNames, IsRunRead, RunFails};
 ghost use Rattle.hls_report.specs.Inside.RunLines.{AccountsPass, AccountsFail, AreRecent};
 ghost use Rattle.hls_report_text.specs.declared.stretch.Stretch.{Stretch};

@@ -1,7 +1,8 @@
 use Rattle.std.proofs.Common.{◌≡◌, sym, ◌∙◌, arith, false, true}
 use Rattle.hls_report.proofs.DigitLaws.{count_is, count_again, may_begin_count, pair_parts}
 use Rattle.hls_report.proofs.span_reading.count_before.Goals as goal
-use Rattle.hls_report.proofs.span_reading.count_before.Goals.{in_default-via-in-Some+else-n-lt4294967296, in_default-via-in_default}
+use Rattle.hls_report.proofs.span_reading.count_before.Goals.{in_default-via-in-Some+else-n-lt4294967296}
+use Rattle.hls_report.proofs.span_reading.count_before.Goals.{in_default-via-in_default}
 
 pub returns-then-not-may_begin-clause-exact : goal.returns-then-not-may_begin-clause-exact
 returns-then-not-may_begin-clause-exact c = λ n rest small is.

@@ -11,5 +11,6 @@ returns c = λ f tell on.
     (begun_all f c.args.self.now.spans.items from c.len.result
     (c.len.ensures ∙ c.args.self.now.spans.ok.0) tell) (omega arith) in
     tell_more f c.args.self.now.spans.items c.push.new.self.items
-    (record { from = from; until = c.args.until; idle = from - c.before_at.result }) from c.in_ok-push.ensures.items refl
+    (record { from = from; until = c.args.until; idle = from - c.before_at.result })
+    from c.in_ok-push.ensures.items refl
     (record { some = c.requires.order; on = on; idle = omega (arith, few, is) }) tell

@@ -19,7 +19,8 @@ pub returns-else-last-until : goal.returns-else-last-until
 returns-else-last-until c = λ f end tell le.
     let some = c.if-ticks-eq0.false in
     let order = c.requires.order in
-    reach_late f end c.args.since c.args.ticks c.args.until c.before_at.result c.in-Some.last order (omega (arith, some))
+    reach_late f end c.args.since c.args.ticks c.args.until c.before_at.result c.in-Some.last order
+    (omega (arith, some))
     (c.before_at.ensures.count f end tell c.begun_near-at.ensures
     (omega (arith, order, le))) c.if-last-until.false
     (c.in-Some.ensures f end tell)
