@@ -1,8 +1,9 @@
 // The words of rules that are asked for a conversion.
-ghost use Rattle.std.specs.Prelude.{◌≡◌, ℕ, ◌≤◌, ◌↔◌, IfSome, IsNone, IsTrue, All, length, map};
+ghost use Rattle.std.specs.Prelude.{◌≡◌, ℕ, ◌≤◌, ◌^◌, ◌↔◌, IfSome, IsNone, IsTrue, All, length, map};
 ghost use Rattle.hls_guarantee.specs.Limits.{IsValid};
 ghost use Rattle.hls_guarantee.specs.Conversions.{Converts};
 ghost use Rattle.hls_derive.specs.Answers.{Answers};
+ghost use Rattle.hls_search_laws.specs.Rates.{pace_of, IsFaster};
 ghost use Rattle.hls_search_laws.specs.Words as law;
 ghost use Rattle.hls_search_laws.specs.Words.{Walks, IsFound};
 ghost use Rattle.hls_search.specs.Inside.Chains.{LeadsTo};
@@ -37,13 +38,57 @@ const WORDS: [&[RuleName]; 19] = [
     &[RuleName::R11, RuleName::R7],
 ];
 
-/// At most `room` conversions from one guarantee to another: the first word that leads there.
+/// A rate: so many ticks of so many.
+#[derive(Clone, Copy)]
+struct Rate {
+    ticks: u128,
+    of: u128,
+}
+
+/// The rate at which a guarantee gives ticks.
+fn rate_of(g: &Guarantee) -> Rate
+    requires { IsValid g.now }
+    ensures ticks { result.ticks ≡ (pace_of g.now).num }
+    ensures of { result.of ≡ (pace_of g.now).den }
+    ensures few { result.ticks ≤ 10 ^ 13 }
+    ensures short { result.of ≤ 10 ^ 8 }
+{
+    match *g {
+        Guarantee::All => Rate { ticks: 1, of: 1 },
+        Guarantee::Null => Rate { ticks: 0, of: 1 },
+        Guarantee::Resb { x, y, .. } | Guarantee::Resc { x, y, .. } => Rate {
+            ticks: x as u128,
+            of: y as u128,
+        },
+        Guarantee::Psbe { s, .. } => Rate {
+            ticks: s.num,
+            of: s.den,
+        },
+    }
+}
+
+/// Whether what is wanted comes at a higher rate than what there is, so that no conversions lead there.
+fn is_faster(want: &Guarantee, from: &Guarantee) -> bool
+    requires want { IsValid want.now }
+    requires from { IsValid from.now }
+    ensures { IsTrue result ↔ IsFaster want.now from.now }
+{
+    let wanted = rate_of(want);
+    let there = rate_of(from);
+    there.ticks * wanted.of < wanted.ticks * there.of
+}
+
+/// At most `room` conversions from one guarantee to another: the first word that leads there. No rule is asked
+/// where what is wanted comes at a higher rate.
 pub fn convert(book: &RuleBook, from: &Guarantee, want: &Guarantee, room: usize) -> Option<Chain>
     requires from { IsValid from.now }
     requires want { IsValid want.now }
     ensures found { IfSome result (λ chain. LeadsTo room from.now want.now chain) }
     ensures none { IsNone result → IsFound room from.now want.now → ⊥ }
 {
+    if is_faster(want, from) {
+        return None;
+    }
     first_walk(book, &WORDS, from, want, room)
 }
 

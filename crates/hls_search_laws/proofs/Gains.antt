@@ -1,5 +1,6 @@
 -- Conversions raise no rate and shorten no delay, but to NULL; and words of answers are words of conversions.
-use Rattle.std.proofs.Common.{◌≡◌, ℕ, ◌*◌, ◌≤◌, true, false, List, [], ◌∷◌, length, refl, subst, arith, mul-pos}
+use Rattle.std.proofs.Common.{◌≡◌, ℕ, ◌*◌, ◌≤◌, true, false, List, [], ◌∷◌, length, refl, sym, subst, arith}
+use Rattle.std.proofs.Common.{mul-pos}
 use Rattle.hls_guarantee.specs.declared.Guarantee.{Guarantee}
 use Rattle.hls_guarantee.specs.declared.Guarantee.TheVariants.{All, Null, Resb, Resc, Psbe}
 use Rattle.hls_guarantee.specs.declared.rule.RuleName.{RuleName}
@@ -9,8 +10,8 @@ use Rattle.hls_derive.specs.Derivation.{end_of}
 use Rattle.hls_derive.specs.Derives.{FollowsBy}
 use Rattle.hls_derive.proofs.Derivings.{follow-end}
 use Rattle.hls_rules.proofs.Decided.{answer-sound}
-use Rattle.hls_search_laws.specs.Words.{asked_before, Walks, Reaches, IsWord}
-use Rattle.hls_search_laws.specs.Rates.{Pace, pace_of, IsNoBetter}
+use Rattle.hls_search_laws.specs.Words.{asked_before, Walks, Reaches, IsWord, IsFound}
+use Rattle.hls_search_laws.specs.Rates.{Pace, pace_of, IsFaster, IsNoBetter}
 use Rattle.hls_search_laws.proofs.Numbers.{fraction-trans}
 use Rattle.hls_search_laws.proofs.Quads.{Quad, IsQuad, IsBetter, quad, quad-ok, better-refl, better-windows}
 use Rattle.hls_search_laws.proofs.Quads.{better-blocks}
@@ -19,6 +20,7 @@ use Rattle.hls_search_laws.proofs.Closed.Gives.{share, windows, blocks}
 use Rattle.hls_search_laws.proofs.Closed.Closed.{bound, null, shape, same, rates}
 use Rattle.hls_search_laws.proofs.Shapes.{shape-better}
 use Rattle.hls_search_laws.proofs.Reached.{closed, rates-gives}
+use Rattle.hls_search_laws.proofs.Chains.{reach-steps}
 use Rattle.hls_search_laws.proofs.Finding.{found-chain}
 use Rattle.hls_search_laws.proofs.Ends.{closed-null}
 
@@ -106,3 +108,18 @@ chain-reached g steps vg follow =
     let vh : IsValid h = follow-end g steps follow vg in
     let found = found-chain g steps vg vh follow in
     (found.word, found.known, found.fits, walks-reaches found.word g h vg vh found.walks)
+
+-- so nothing comes at a higher rate, and no word finds it
+pub chain-no-faster : (g : Guarantee) (steps : List Step) → IsValid g → FollowsBy g steps → IsFaster (end_of g steps) g
+    → ⊥
+chain-no-faster g steps vg follow faster =
+    let some : end_of g steps ≡ Null → ⊥ = λ e.
+    let none = subst (λ (v : Guarantee). IsFaster v g) e faster in
+    omega (arith, none) in
+    let better = chain-no-better g steps vg follow some in
+    omega (arith, faster, better.rate)
+
+pub faster-lost : (n : ℕ) (g h : Guarantee) → IsValid g → IsValid h → IsFaster h g → IsFound n g h → ⊥
+faster-lost n g h vg vh faster found =
+    let there = reach-steps found.word g h (walks-reaches found.word g h vg vh found.walks) in
+    chain-no-faster g there.0 vg there.2 (subst (λ (v : Guarantee). IsFaster v g) (sym there.3) faster)

@@ -8,7 +8,7 @@ ghost use Rattle.hls_guarantee.specs.Conversions.{Converts};
 ghost use Rattle.hls_derive.specs.declared.derivation.Step.{Step};
 ghost use Rattle.hls_derive.specs.Derivation.{end_of};
 ghost use Rattle.hls_derive.specs.Derives.{FollowsBy};
-ghost use Rattle.hls_search_laws.specs.Rates.{IsNoBetter};
+ghost use Rattle.hls_search_laws.specs.Rates.{IsFaster, IsNoBetter};
 ghost use Rattle.hls_search_laws.specs.Words.{rules_of, Reaches, IsWord, IsFound, IsNeeded};
 
 use hls_frac::Frac;
@@ -26,6 +26,12 @@ pub fn conversions_gain_nothing(g: Guarantee)
     requires { IsValid g }
     ensures { (steps : List Step) → FollowsBy g steps → end_of g steps ≢ Guarantee.Null →
         IsNoBetter (end_of g steps) g }
+{}
+
+/// No conversions lead to a higher rate than there is.
+pub fn conversions_reach_no_higher_rate(g: Guarantee)
+    requires { IsValid g }
+    ensures { (steps : List Step) → FollowsBy g steps → IsFaster (end_of g steps) g → ⊥ }
 {}
 
 /// Every tick and hard windows are reached from themselves alone, and hard blocks also from hard windows of the same

@@ -30,7 +30,7 @@ write_digits-requires c =
     let one = c.write_digits-behind.auto.buf in (
       omega (arith, short, other, start),
       set_twice c.write_digits-behind.new.buf (c.write_digits-behind.result - 1) (c.write_digits-behind.result - 2)
-      46 46 (c.write_digits-behind.result - 2) (omega (arith, one, c.requires, start)),
+          46 46 (c.write_digits-behind.result - 2) (omega (arith, one, c.requires, start)),
     )
 
 pub returns-clause-written : goal.returns-clause-written
