@@ -1,5 +1,5 @@
 -- The queue of the slots that ask, as calls change it.
-use Rattle.std.proofs.Common.{◌≡◌, ◌≢◌, ℕ, ◌^◌, ◌<◌, zero, suc, List, Some, None, Bool, true, false}
+use Rattle.std.proofs.Common.{◌≡◌, ◌≢◌, ℕ, ◌^◌, ◌<◌, ◌≤◌, zero, suc, List, Some, None, Bool, true, false}
 use Rattle.std.proofs.Common.{refl, sym, ap, ap₂, ◌∙◌, arith, inl, inr, length-set, get_or}
 use Rattle.std.proofs.Common.{get_or-set_same, get_or-set_other}
 use Rattle.std.specs.Prelude.{Option, slice_set, replicate, if◌then◌else◌, is_some, IfSome, MatchOption, min, max, ◌==◌}
@@ -35,7 +35,7 @@ use Rattle.hls_sfq.specs.Tags.{KeepsTags}
 use Rattle.hls_sfq.proofs.TagLaws.{asks_tag}
 use Rattle.hls_sfq.proofs.Calls as calls
 use Rattle.hls_sfq.proofs.Choices.{untagged, silent_slot, same_tests}
-use Rattle.hls_sfq.proofs.Rivals.{least_is, others_turned, rivals_same, ends_same}
+use Rattle.hls_sfq.proofs.Rivals.{least_is, others_turned, rivals_same, ends_same, ends_now}
 
 -- ---- the first of the queue is the choice
 
@@ -280,3 +280,18 @@ rest_by_queue keys quantum turn time seats mask now slot tag step ticks left end
     ∙ ap (λ alone. if alone then always else min always (turn_end quantum (left_by quantum turn slot)
     (to_rivals (tag_asking time seats mask) slot (start_or time (get_or seats slot None))
     (step_of (get_or seats slot None)) 32))) (sym (ap (λ m. without_slot slot m == 0) (sym same) ∙ others))
+
+-- the same where one of the others is before it at the end of its turn
+pub rest_by_rival : (keys : List (Option ℕ)) (quantum : ℕ) (turn : Turn) (time : ℕ) (seats : List (Option FairSeat))
+    (mask now slot tag step left : ℕ) → IsQueue keys time seats mask → turn.ticks < quantum → quantum ≤ 100
+    → now ≡ mask → (without_slot slot now == 0) ≡ false → tag ≡ start_or time (get_or seats slot None)
+    → step ≡ step_of (get_or seats slot None) → left ≡ left_by quantum turn slot
+    → to_rivals (key_of keys) slot tag step 32 ≤ left → left ≡ rest_in quantum turn time seats mask slot
+rest_by_rival keys quantum turn time seats mask now slot tag step left q few most same others tag_is step_is left_is
+    passed =
+    let had = had_few quantum turn slot few in
+    let some : 0 < left = omega (arith, left_is, had) in
+    let ticks = max 1 (to_rivals (key_of keys) slot tag step 32) in
+    let ends = ends_now quantum left ticks (omega (arith, few)) (omega (arith, some, passed)) in
+    rest_by_queue keys quantum turn time seats mask now slot tag step ticks left (turn_end quantum left ticks) left q
+    few same others tag_is step_is refl left_is refl (omega (arith, ends, left_is, most))
