@@ -72,8 +72,7 @@ module _ (s : Seen) (choice : Option ℕ) (n : ℕ) (servers after : List Server
     (seated : (slot : ℕ) → SlotAsks s.mask slot → terms_at s.book slot ≢ None)
     (filled : (slot : ℕ) → slot < 32 → server_in after slot ≡ leap_of (server_in servers slot)
     (is_some (terms_at s.book slot)) (slot_asks s.mask slot) (is_slot to slot) (now_of s.book) n)
-    (calm : AreCalm until after s.book s.mask) (more : uses_up servers s.book s.mask to n ≡ false)
-    (soon : now_of s.book + n < until)
+    (calm : AreCalm until after s.book s.mask) (soon : now_of s.book + n < until)
   where
     seat_asking : (slot : ℕ) → slot_asks s.mask slot ≡ true → is_some (terms_at s.book slot) ≡ true
     seat_asking slot on = some_seat (terms_at s.book slot) (seated slot (eqb-true (bit_at s.mask slot) 1 on))
@@ -94,10 +93,15 @@ module _ (s : Seen) (choice : Option ℕ) (n : ℕ) (servers after : List Server
         ap (replenished all_parts (server_in after slot) (slot_asks s.mask slot)) (now_leapt s choice n)
         ∙ kept_taken (server_in after slot) (slot_asks s.mask slot) (now_of s.book + n) here
 
-    key_same : (need : Need) (slot : ℕ) → slot < 32
+    charged_many : (slot : ℕ) → slot < 32 → slot_asks s.mask slot ≡ true
+        → amid_in after (leapt n choice s).book s.mask slot
+        ≡ charged_for (is_slot to slot) n (amid_in servers s.book s.mask slot)
+    charged_many slot lt on = amid_after slot lt on ∙ after_is slot lt on
+
+    key_same : uses_up servers s.book s.mask to n ≡ false → (need : Need) (slot : ℕ) → slot < 32
         → deadline_asking need after (leapt n choice s).book s.mask slot
         ≡ deadline_asking need servers s.book s.mask slot
-    key_same need slot lt = elim (cases_Bool (slot_asks s.mask slot)) [
+    key_same more need slot lt = elim (cases_Bool (slot_asks s.mask slot)) [
       | inl on ↦
           ap (deadline_if need (amid_in after (leapt n choice s).book s.mask slot))
           (terms_at-same (leapt n choice s).book s.book slot refl)
@@ -108,14 +112,15 @@ module _ (s : Seen) (choice : Option ℕ) (n : ℕ) (servers after : List Server
           ∙ sym (silent need servers s.book s.mask slot off)
     ]
 
-    choice_same : choice_of after (leapt n choice s).book s.mask ≡ choice_of servers s.book s.mask
-    choice_same =
+    choice_same : uses_up servers s.book s.mask to n ≡ false
+        → choice_of after (leapt n choice s).book s.mask ≡ choice_of servers s.book s.mask
+    choice_same more =
         ap (λ urgent. first_or urgent (least_of (deadline_asking Soft after (leapt n choice s).book s.mask)))
         (least_same (deadline_asking Budget after (leapt n choice s).book s.mask)
-        (deadline_asking Budget servers s.book s.mask) (key_same Budget))
+        (deadline_asking Budget servers s.book s.mask) (key_same more Budget))
         ∙ ap (first_or (least_of (deadline_asking Budget servers s.book s.mask)))
         (least_same (deadline_asking Soft after (leapt n choice s).book s.mask)
-        (deadline_asking Soft servers s.book s.mask) (key_same Soft))
+        (deadline_asking Soft servers s.book s.mask) (key_same more Soft))
 
 -- after many ticks the choice stays, where the next tick is calm and no budget was used up
 pub choice_leapt : (kind : Kind) (s t : Seen) (servers after : List Server) (choice to : Option ℕ) (n until : ℕ)
@@ -126,5 +131,18 @@ pub choice_leapt : (kind : Kind) (s t : Seen) (servers after : List Server) (cho
     → choice_of after t.book t.mask ≡ choice_of servers s.book s.mask
 choice_leapt kind s t servers after choice to n until sound is filled calm more soon =
     let next : now_of (leapt n choice s).book < until = rw is at soon in
-    rw is (choice_same s choice n servers after to until sound.seated filled calm more
+    rw is (choice_same s choice n servers after to until sound.seated filled calm
+    (rw (now_leapt s choice n) at next) more)
+
+-- after many ticks each server is as before but for what was served, where the next tick is calm
+pub amid_leapt : (kind : Kind) (s t : Seen) (servers after : List Server) (choice to : Option ℕ) (n until : ℕ)
+    → IsSound kind s → t ≡ leapt n choice s
+    → ((slot : ℕ) → slot < 32 → server_in after slot ≡ leap_of (server_in servers slot)
+    (is_some (terms_at s.book slot)) (slot_asks s.mask slot) (is_slot to slot) (now_of s.book) n)
+    → AreCalm until after s.book s.mask → now_of t.book < until
+    → (slot : ℕ) → slot < 32 → slot_asks s.mask slot ≡ true
+    → amid_in after t.book s.mask slot ≡ charged_for (is_slot to slot) n (amid_in servers s.book s.mask slot)
+amid_leapt kind s t servers after choice to n until sound is filled calm soon =
+    let next : now_of (leapt n choice s).book < until = rw is at soon in
+    rw is (charged_many s choice n servers after to until sound.seated filled calm
     (rw (now_leapt s choice n) at next))

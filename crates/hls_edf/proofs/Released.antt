@@ -18,6 +18,7 @@ use Rattle.hls_box.specs.Keys.{better_of, best_below, least_of}
 use Rattle.hls_edf.specs.declared.servers.Need.{Need}
 use Rattle.hls_edf.specs.declared.servers.Need.TheVariants.{Budget, Soft}
 use Rattle.hls_edf.specs.Choice.{server_in, deadline_if, deadline_asking, first_or, choice_of}
+use Rattle.hls_edf.specs.Inside.Outlook.{HasAll}
 use Rattle.hls_edf.proofs.Candidates.{silent}
 
 -- the best is the slot, and without it none is better
@@ -179,3 +180,18 @@ choice_released servers b mask slot best lt chosen miss =
     (least_of (deadline_asking Budget servers b later)) (least_of (deadline_asking Soft servers b mask))
     (least_of (deadline_asking Soft servers b later)) slot (least Budget) (least Soft)
     (sym (ap (λ at. is_slot at slot) chosen) ∙ miss))
+
+-- who may have budget
+pub funded_released : (servers : List Server) (b : Ledger) (mask slot among : ℕ) → slot < 32
+    → HasAll among Budget servers b mask → HasAll among Budget servers b (without_slot slot mask)
+funded_released servers b mask slot among lt all =
+    let later = without_slot slot mask in
+    record {
+      none = λ k within off. elim (cases_eq k slot) [
+        | inl is ↦ silent Budget servers b later k (ap (slot_asks later) is ∙ gone_bit mask slot lt)
+        | inr other ↦
+            ap (λ asks. deadline_if Budget (replenished all_parts (server_in servers k) asks (now_of b))
+            (terms_at b k)) (kept_bit mask slot k lt within other)
+            ∙ all.none k within off
+      ];
+    }
