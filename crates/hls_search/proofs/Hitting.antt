@@ -75,6 +75,13 @@ wholly-narrow : (whole : Guarantee) → IsWholeShare whole → IsNarrow whole
 wholly-narrow (Psbe s d) is = whole-narrow s d is
 wholly-narrow _ is = absurd is
 
+pub best-narrow : (have : Guarantee) (count : ℕ) (best : Guarantee) → IsNarrow have → IsBestShare have count best
+    → IsNarrow best
+best-narrow have count best narrow itself = narrow
+best-narrow have count best narrow (of_blocks c) = blocks-narrow narrow (converts-way R4 _ _ c)
+best-narrow have count best narrow (of_windows c) = windows-narrow narrow (converts-way R5 _ _ c)
+best-narrow have count best narrow (of_all whole) = wholly-narrow best whole
+
 whole-converts : (whole : Guarantee) → IsWholeShare whole → Converts R8 All whole
 whole-converts (Psbe s d) is =
     record { from = tt; to = narrow-valid (Psbe s d) (whole-narrow s d is); leads = tt }

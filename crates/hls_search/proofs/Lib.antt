@@ -6,3 +6,4 @@ pub mod BestShares
 pub mod Completing
 pub mod Deriving
 pub mod Hitting
+pub mod Beyond

@@ -3,6 +3,7 @@
 
 mod chain;
 mod found;
+mod rates;
 mod searching;
 mod sharing;
 mod words;

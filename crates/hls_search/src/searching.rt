@@ -17,6 +17,7 @@ ghost use Rattle.hls_search.specs.Inside.Places.{
 
 use crate::chain::Chain;
 use crate::found::Found;
+use crate::rates::is_beyond;
 use crate::sharing::{Share, best_share, share_for};
 use crate::words::{ask, convert};
 use hls_check::{lends, lent};
@@ -180,6 +181,7 @@ fn converted_after(
 
 /// Where the place lends shares of shares: from the best share, or else of every tick from the share for which
 /// what is wanted is lent.
+/// No rule is asked where that comes at a higher rate than any share that it lends.
 fn shared(
     book: &RuleBook,
     place: &Place,
@@ -193,6 +195,9 @@ fn shared(
     ensures found { IfSome result (λ found. Derives place.now haves.now want.now depth found) }
     ensures none { IsNone result → NoneWithin place.now haves.now want.now depth }
 {
+    if is_beyond(place, want, &have_at(haves, 0)) {
+        return None;
+    }
     match by_best_share(book, place, haves, want, depth) {
         Some(found) => Some(found),
         None => by_goal(book, place, haves, want, depth),

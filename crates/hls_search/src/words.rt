@@ -1,14 +1,14 @@
 // The words of rules that are asked for a conversion.
-ghost use Rattle.std.specs.Prelude.{◌≡◌, ℕ, ◌≤◌, ◌^◌, ◌↔◌, IfSome, IsNone, IsTrue, All, length, map};
+ghost use Rattle.std.specs.Prelude.{◌≡◌, ℕ, ◌≤◌, ◌↔◌, IfSome, IsNone, IsTrue, All, length, map};
 ghost use Rattle.hls_guarantee.specs.Limits.{IsValid};
 ghost use Rattle.hls_guarantee.specs.Conversions.{Converts};
 ghost use Rattle.hls_derive.specs.Answers.{Answers};
-ghost use Rattle.hls_search_laws.specs.Rates.{pace_of, IsFaster};
 ghost use Rattle.hls_search_laws.specs.Words as law;
 ghost use Rattle.hls_search_laws.specs.Words.{Walks, IsFound};
 ghost use Rattle.hls_search.specs.Inside.Chains.{LeadsTo};
 
 use crate::chain::Chain;
+use crate::rates::is_faster;
 use hls_derive::Step;
 use hls_guarantee::{Guarantee, RuleName};
 use hls_rules::{Rule, RuleBook};
@@ -37,46 +37,6 @@ const WORDS: [&[RuleName]; 19] = [
     &[RuleName::R10, RuleName::R7],
     &[RuleName::R11, RuleName::R7],
 ];
-
-/// A rate: so many ticks of so many.
-#[derive(Clone, Copy)]
-struct Rate {
-    ticks: u128,
-    of: u128,
-}
-
-/// The rate at which a guarantee gives ticks.
-fn rate_of(g: &Guarantee) -> Rate
-    requires { IsValid g.now }
-    ensures ticks { result.ticks ≡ (pace_of g.now).num }
-    ensures of { result.of ≡ (pace_of g.now).den }
-    ensures few { result.ticks ≤ 10 ^ 13 }
-    ensures short { result.of ≤ 10 ^ 8 }
-{
-    match *g {
-        Guarantee::All => Rate { ticks: 1, of: 1 },
-        Guarantee::Null => Rate { ticks: 0, of: 1 },
-        Guarantee::Resb { x, y, .. } | Guarantee::Resc { x, y, .. } => Rate {
-            ticks: x as u128,
-            of: y as u128,
-        },
-        Guarantee::Psbe { s, .. } => Rate {
-            ticks: s.num,
-            of: s.den,
-        },
-    }
-}
-
-/// Whether what is wanted comes at a higher rate than what there is, so that no conversions lead there.
-fn is_faster(want: &Guarantee, from: &Guarantee) -> bool
-    requires want { IsValid want.now }
-    requires from { IsValid from.now }
-    ensures { IsTrue result ↔ IsFaster want.now from.now }
-{
-    let wanted = rate_of(want);
-    let there = rate_of(from);
-    there.ticks * wanted.of < wanted.ticks * there.of
-}
 
 /// At most `room` conversions from one guarantee to another: the first word that leads there. No rule is asked
 /// where what is wanted comes at a higher rate.

@@ -23,3 +23,8 @@ pub record IsPart (weight total others : ℕ) (s d p e : Frac) : Type 0 where
 abbrev pub PartOf : (weight total others : ℕ) → (g h : Guarantee) → Type 0
 PartOf weight total others (Psbe s d) (Psbe p e) = IsPart weight total others s d p e
 PartOf weight total others _ _ = ⊥
+
+-- the rate p of the second is such a part of the rate s of the first
+abbrev pub HasPartRate : (weight total : ℕ) → (g h : Guarantee) → Type 0
+HasPartRate weight total (Psbe s d) (Psbe p e) = IsQuotient p (s.num * weight) (s.den * total)
+HasPartRate weight total _ _ = ⊥
