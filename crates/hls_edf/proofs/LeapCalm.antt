@@ -15,7 +15,7 @@ use Rattle.hls_kinds.specs.Asks.{slot_asks}
 use Rattle.hls_book.specs.declared.server.Server.{Server}
 use Rattle.hls_book.specs.Servers.{replenished}
 use Rattle.hls_book.proofs.Replenishing.{replenished-on}
-use Rattle.hls_sched.specs.Seen.{Seen, leapt}
+use Rattle.hls_sched.specs.Seen.{Seen, turned, leapt}
 use Rattle.hls_box.specs.Keys.{least_of}
 use Rattle.hls_box.specs.Inside.Sound.{IsSound}
 use Rattle.hls_box.proofs.LeastLaws.{least_same}
@@ -146,3 +146,7 @@ amid_leapt kind s t servers after choice to n until sound is filled calm soon =
     let next : now_of (leapt n choice s).book < until = rw is at soon in
     rw is (charged_many s choice n servers after to until sound.seated filled calm
     (rw (now_leapt s choice n) at next))
+
+-- a tick is a leap of one
+pub one_tick : (s : Seen) (choice : Option ℕ) → turned choice s ≡ leapt 1 choice s
+one_tick s choice = refl

@@ -2,15 +2,13 @@
 use Rattle.std.proofs.Common.{◌≡◌, ◌≢◌, ℕ, zero, suc, ◌<◌, ◌≤◌, List, Option, Some, None, Bool, true, false}
 use Rattle.std.proofs.Common.{refl, sym, ap, ◌∙◌, arith, inl, inr}
 use Rattle.std.specs.Prelude.{nat_le, ◌⊎◌, IfSome, if◌then◌else◌, unwrap_or}
-use Rattle.std.specs.Int.{bit_at}
 use Rattle.std.specs.Option.{option_map}
-use Rattle.std.proofs.lemmas.Bool.{cases_Bool, cases_eq, eqb-true, eqb-false, eq-eqb, leb-true, leb-false}
+use Rattle.std.proofs.lemmas.Bool.{cases_eq, eqb-false, leb-true, leb-false}
 use Rattle.std.proofs.lemmas.Bool.Decides.{nat_tests}
 use Rattle.hls_chron.specs.Ledger.{Ledger, now_of}
 use Rattle.hls_chron.specs.Parts.{all_parts}
 use Rattle.hls_chron.specs.Seats.{terms_at, is_slot}
 use Rattle.hls_kinds.specs.Asks.{slot_asks, without_slot}
-use Rattle.hls_sched.proofs.Masks.{asks_without, silent_without, still_asks_without}
 use Rattle.hls_book.specs.declared.server.Server.{Server}
 use Rattle.hls_book.specs.Servers.{replenished}
 use Rattle.hls_box.specs.declared.least.SlotKey.{SlotKey}
@@ -19,16 +17,17 @@ use Rattle.hls_edf.specs.declared.servers.Need.{Need}
 use Rattle.hls_edf.specs.declared.servers.Need.TheVariants.{Budget, Soft}
 use Rattle.hls_edf.specs.Choice.{server_in, deadline_if, deadline_asking, first_or, choice_of}
 use Rattle.hls_edf.specs.Inside.Outlook.{HasAll}
+use Rattle.hls_edf.proofs.Bits.{kept_bit, gone_bit}
 use Rattle.hls_edf.proofs.Candidates.{silent}
 
 -- the best is the slot, and without it none is better
-record Beaten (slot : ℕ) (best after : Option SlotKey) : Type 0 where
+pub record Beaten (slot : ℕ) (best after : Option SlotKey) : Type 0 where
   pub key : ℕ
   pub is : best ≡ Some (record { slot = slot; key = key })
   pub behind : IfSome after (λ held. key ≤ held.key)
 
 -- without the slot the best is the same, or the slot was the best
-abbrev Without : (slot : ℕ) → (best after : Option SlotKey) → Type 0
+abbrev pub Without : (slot : ℕ) → (best after : Option SlotKey) → Type 0
 Without slot best after = (after ≡ best) ⊎ Beaten slot best after
 
 abbrev key_at_slot : (slot key : ℕ) → Option SlotKey
@@ -112,7 +111,7 @@ without_other slot n best after (Some key) was = elim was [
 -- slot by slot
 module _ (keys later : ℕ → Option ℕ) (slot : ℕ) (same : (k : ℕ) → k < 32 → k ≢ slot → later k ≡ keys k)
     (gone : later slot ≡ None) where
-  without_below : (n : ℕ) → n ≤ 32 → Without slot (best_below keys n) (best_below later n)
+  pub without_below : (n : ℕ) → n ≤ 32 → Without slot (best_below keys n) (best_below later n)
   unfolding best_below
   without_below zero le = inl refl
   without_below (suc n) le = elim (cases_eq n slot) [
@@ -126,32 +125,11 @@ module _ (keys later : ℕ → Option ℕ) (slot : ℕ) (same : (k : ℕ) → k 
         (without_below n (omega (arith, le))))
   ]
 
-  least_without : least_of keys ≢ Some slot → least_of later ≡ least_of keys
+  pub least_without : least_of keys ≢ Some slot → least_of later ≡ least_of keys
   least_without other = elim (without_below 32 (omega arith)) [
     | inl is ↦ ap (option_map (λ (best : SlotKey). best.slot)) is
     | inr beaten ↦ absurd (other (ap (option_map (λ (best : SlotKey). best.slot)) beaten.is))
   ]
-
--- the mask
-kept_bit : (mask slot k : ℕ) → slot < 32 → k < 32 → k ≢ slot → slot_asks (without_slot slot mask) k ≡ slot_asks mask k
-kept_bit mask slot k lt within other =
-    let later = without_slot slot mask in
-    elim (cases_Bool (slot_asks mask k)) [
-      | inl on ↦
-          eq-eqb (bit_at later k) 1
-          (still_asks_without mask slot k lt within other (eqb-true (bit_at mask k) 1 on)) ∙ sym on
-      | inr off ↦ elim (cases_Bool (slot_asks later k)) [
-        | inl on ↦
-            absurd (eqb-false (bit_at mask k) 1 off (asks_without mask slot k (eqb-true (bit_at later k) 1 on)))
-        | inr none ↦ none ∙ sym off
-      ]
-    ]
-
-gone_bit : (mask slot : ℕ) → slot < 32 → slot_asks (without_slot slot mask) slot ≡ false
-gone_bit mask slot lt = elim (cases_Bool (slot_asks (without_slot slot mask) slot)) [
-  | inl on ↦ absurd (silent_without mask slot lt (eqb-true (bit_at (without_slot slot mask) slot) 1 on))
-  | inr off ↦ off
-]
 
 -- the choice
 not_slot : (to : Option ℕ) (slot : ℕ) → is_slot to slot ≡ false → to ≢ Some slot

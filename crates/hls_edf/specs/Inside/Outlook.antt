@@ -41,3 +41,8 @@ pub record IsOutlook (o : Outlook) (servers : List Server) (b : Ledger) (mask : 
   pub chosen : o.best ≡ choice_of servers b mask
   pub soonest : 0 < o.soonest → o.soonest ≡ soonest_of servers b mask 32
   pub funded : HasAll o.funded Budget servers b mask
+
+-- one slot asks besides those that did
+pub record IsJoined (slot mask later : ℕ) : Type 0 where
+  pub joined : later ≡ with_slot slot mask
+  pub silent : slot_asks mask slot ≡ false
