@@ -204,7 +204,8 @@ module _ (servers : List Server) (b : Ledger) (mask later slot : ℕ) (lt : slot
   deadline_same k other =
       ap (λ asks. (replenished all_parts (server_in servers k) asks (now_of b)).deadline) (bit_same k other)
 
-  step_same : (asks : Bool) (x y d e : ℕ) → x ≡ y → d ≡ e → (if asks then min x d else x) ≡ (if asks then min y e else y)
+  step_same : (asks : Bool) (x y d e : ℕ) → x ≡ y → d ≡ e
+      → (if asks then min x d else x) ≡ (if asks then min y e else y)
   step_same asks x y d e first second = rw (first, second) refl
 
   soonest_other : (n x : ℕ) → n ≢ slot → soonest_of servers b later n ≡ x

@@ -3,7 +3,7 @@ use Rattle.std.proofs.Common.{refl, sym, ap, ◌∙◌, subst, get_or-set_same, 
 use Rattle.std.specs.Prelude.{slice_set, ◌⊎◌}
 use Rattle.std.proofs.lemmas.Bool.{cases_lt, cases_eq}
 use Rattle.hls_chron.specs.Ledger.{now_of}
-use Rattle.hls_chron.specs.Seats.{terms_at, is_slot}
+use Rattle.hls_chron.specs.Seats.{terms_at}
 use Rattle.hls_kinds.specs.Asks.{slot_asks}
 use Rattle.hls_book.specs.declared.server.Server.{Server}
 use Rattle.hls_book.specs.Servers.{vacant}
@@ -62,7 +62,7 @@ loop-slot-preserved c =
     λ k ne. get_or-set_other now_servers slot k server vacant ne in
     let on_here : slot_asks due slot ≡ true = c.loop-slot.invariant.asks (search rules) in
     let its : server ≡ leap_of (server_in servers slot) (is_some (terms_at state.book slot))
-    (slot_asks state.mask slot) (is_slot c.args.run.served slot) (now_of state.book) c.args.run.ticks =
+    (slot_asks state.mask slot) false (now_of state.book) c.args.ticks =
     rw (← here) (search rules) in
     let first : (t : ℕ) → t < c.min-until.result → t < c.loop-slot.until =
     λ t lt. omega (arith, lt, c.min-until.ensures) in
@@ -74,7 +74,7 @@ loop-slot-preserved c =
         | inl less ↦ other k (λ e. absurd (omega (arith, less, e))) ∙ c.loop-slot.invariant.past k less on
         | inr is ↦ subst (λ j. server_in (slice_set now_servers slot server) j
             ≡ leap_of (server_in servers j) (is_some (terms_at state.book j)) (slot_asks state.mask j)
-            (is_slot c.args.run.served j) (now_of state.book) c.args.run.ticks) (sym is) (set ∙ its)
+            false (now_of state.book) c.args.ticks) (sym is) (set ∙ its)
       ];
       others = λ k off.
           other k (λ e. let both = sym on_here ∙ ap (slot_asks due) (sym e) ∙ off in cc)

@@ -1,6 +1,6 @@
 use Rattle.std.proofs.Common.{◌≡◌, ℕ, ◌<◌, ◌≤◌, ◌-◌, true, false, is_some, length}
 use Rattle.hls_chron.specs.Ledger.{now_of}
-use Rattle.hls_chron.specs.Seats.{terms_at, is_slot}
+use Rattle.hls_chron.specs.Seats.{terms_at}
 use Rattle.hls_kinds.specs.Asks.{slot_asks}
 use Rattle.hls_edf.specs.Choice.{server_in}
 use Rattle.hls_edf.specs.Changes.{leap_of}
@@ -12,7 +12,7 @@ invariant-loop-slot l = record {
   length : length l.servers ≡ 32;
   past : (k : ℕ) → k < l.slot → slot_asks l.calm.due k ≡ true → server_in l.servers k
       ≡ leap_of (server_in l.fn.servers k) (is_some (terms_at l.state.book k)) (slot_asks l.state.mask k)
-      (is_slot l.run.served k) (now_of l.state.book) l.run.ticks;
+      false (now_of l.state.book) l.ticks;
   others : (k : ℕ) → slot_asks l.calm.due k ≡ false → server_in l.servers k ≡ server_in l.fn.servers k;
   rest : (k : ℕ) → l.slot ≤ k → server_in l.servers k ≡ server_in l.fn.servers k;
   calm : (k t : ℕ) → k < l.slot → t < l.until → slot_asks l.calm.due k ≡ true

@@ -1,7 +1,5 @@
-use Rattle.std.proofs.Common.{rules, ◌≡◌, true}
-use Rattle.hls_edf.specs.Changes.{leap_of}
+use Rattle.std.proofs.Common.{false}
 use Rattle.hls_edf.proofs.LeapCalm.{calm_leapt}
-use Rattle.hls_edf.proofs.servers.leap.Goals.{then-served, else-served}
 use Rattle.hls_edf.proofs.servers.leap.Goals as goal
 
 pub returns-then-not-taken-clause-calm : goal.returns-then-not-taken-clause-calm
@@ -10,18 +8,10 @@ returns-then-not-taken-clause-calm c = λ t before.
 
 pub returns-then-asks-clause-calm : goal.returns-then-asks-clause-calm
 returns-then-asks-clause-calm c = λ t before.
-    let next : c.if-served.server ≡ leap_of c.args.server.now true c.args.asks c.args.served c.args.now
-    c.args.ticks =
-    elim c.if-served.branch [ then-served w ↦ search rules | else-served w ↦ search rules ] in
-    calm_leapt c.args.server.now c.if-served.server c.args.taken c.args.asks c.args.served c.args.now
-    c.args.ticks t
-    c.if-not-taken.false next (λ on. before)
+    calm_leapt c.args.server.now c.replenish.new.server c.args.taken c.args.asks false c.args.now c.args.ticks t
+    c.if-not-taken.false c.replenish.ensures (λ on. before)
 
 pub returns-else-asks-clause-calm : goal.returns-else-asks-clause-calm
 returns-else-asks-clause-calm c = λ t before.
-    let next : c.if-served.server ≡ leap_of c.args.server.now true c.args.asks c.args.served c.args.now
-    c.args.ticks =
-    elim c.if-served.branch [ then-served w ↦ search rules | else-served w ↦ search rules ] in
-    calm_leapt c.args.server.now c.if-served.server c.args.taken c.args.asks c.args.served c.args.now
-    c.args.ticks t
-    c.if-not-taken.false next (λ on. absurd (let off = c.if-asks.false in cc))
+    calm_leapt c.args.server.now c.replenish.new.server c.args.taken c.args.asks false c.args.now c.args.ticks t
+    c.if-not-taken.false c.replenish.ensures (λ on. absurd (let off = c.if-asks.false in cc))
