@@ -117,10 +117,11 @@ pub stretch_always : (owners : List (Option ℕ)) (frame now before k : ℕ) (st
     → frame ≤ 1000 → now ≡ before + k → stretch.ticks ≡ always → IsStretch owners frame before stretch
     → IsStretch owners frame now stretch
 stretch_always owners frame now before k stretch some few is all was =
-    let none : owned_for (owner_in owners) frame before frame ≡ always = sym was.ticks ∙ all in
+    let known : stretch.ticks ≢ 0 = λ zero. absurd (omega (arith, all, zero)) in
+    let none : owned_for (owner_in owners) frame before frame ≡ always = sym (was.ticks known) ∙ all in
     rw is (record {
       owner = was.owner ∙ sym (owner_always (owner_in owners) frame before k some few none);
-      ticks = all ∙ sym (owned_always (owner_in owners) frame before k some few none);
+      ticks = λ _. all ∙ sym (owned_always (owner_in owners) frame before k some few none);
       runs = was.runs;
     })
 
@@ -128,11 +129,13 @@ pub stretch_within : (owners : List (Option ℕ)) (frame now before k : ℕ) (st
     → now ≡ before + k → stretch.ticks ≢ always → k < stretch.ticks → IsStretch owners frame before stretch
     → IsStretch owners frame now (record stretch { ticks = stretch.ticks - k })
 stretch_within owners frame now before k stretch few is other less was =
-    let more : owned_for (owner_in owners) frame before frame ≢ always = λ e. other (was.ticks ∙ e) in
-    let lt : k < owned_for (owner_in owners) frame before frame = rw (was.ticks) at less in
+    let known : stretch.ticks ≢ 0 = λ zero. absurd (omega (arith, less, zero)) in
+    let its = was.ticks known in
+    let more : owned_for (owner_in owners) frame before frame ≢ always = λ e. other (its ∙ e) in
+    let lt : k < owned_for (owner_in owners) frame before frame = rw its at less in
     rw is (record {
       owner = was.owner ∙ sym (owner_within (owner_in owners) frame before k few more lt);
-      ticks = ap (λ ticks. ticks - k) was.ticks ∙ owned_within (owner_in owners) frame before k few more lt;
+      ticks = λ _. ap (λ ticks. ticks - k) its ∙ owned_within (owner_in owners) frame before k few more lt;
       runs = was.runs;
     })
 
@@ -178,7 +181,7 @@ pub stretch_unowned : (frame now n : ℕ)
     (record { owner = None; ticks = always; runs = replicate n unknown })
 stretch_unowned frame now n = record {
   owner = sym (unowned_place (now % frame));
-  ticks = sym (all_alike (owner_in (replicate 1000 None)) frame now frame (λ k lt.
+  ticks = λ _. sym (all_alike (owner_in (replicate 1000 None)) frame now frame (λ k lt.
       unowned_place ((now + k) % frame) ∙ sym (unowned_place (now % frame))));
   runs = runs_unknown (replicate 1000 None) frame n;
 }

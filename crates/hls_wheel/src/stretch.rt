@@ -1,6 +1,8 @@
 // The owner of the present tick's place, and for how long the places are its.
 ghost use Rattle.std.specs.Prelude.{◌≡◌, ℕ, List, Option, None, ◌-◌, ◌<◌, ◌≤◌, replicate};
 ghost use Rattle.hls_chron.specs.Ledger.{now_of};
+ghost use Rattle.hls_kinds.specs.Frames.{owner_in};
+ghost use Rattle.hls_kinds.specs.Stands.{owned_for};
 ghost use Rattle.hls_wheel.specs.Owners.{AreRuns, IsStretch};
 
 use crate::ahead::owned_ahead;
@@ -18,8 +20,8 @@ pub struct Run {
 /// The run that was found last of each slot, and behind these of nobody.
 pub type Runs = [Run; 33];
 
-/// The owner of a tick's place, for how many ticks from that one on the owner of the places is the same, and
-/// the runs that are known.
+/// The owner of a tick's place, for how many ticks from that one on the owner of the places is the same, or 0
+/// where that is not known, and the runs that are known.
 #[derive(Clone, Copy)]
 pub struct Stretch {
     owner: Option<u8>,
@@ -54,15 +56,18 @@ impl Stretch {
         }
     }
 
-    /// The stretch of the present tick of a book.
-    pub fn found(owners: &Owners, frame: u32, book: &Book) -> Stretch
+    /// The owner of the present tick's place by a book, and no more.
+    pub fn owned(owners: &Owners, frame: u32, book: &Book) -> Stretch
         requires some { 0 < frame }
         requires most { frame ≤ 1000 }
         ensures { IsStretch owners.now frame (now_of book.now) result }
     {
-        let mut found = Stretch::unowned();
-        found.begin(owners, frame, book);
-        found
+        let place = book.now() % frame;
+        Stretch {
+            owner: owners[place as usize],
+            ticks: 0,
+            ..Stretch::unowned()
+        }
     }
 
     /// The owner.
@@ -72,11 +77,18 @@ impl Stretch {
         self.owner
     }
 
-    /// The ticks.
-    pub fn ticks(&self) -> u32
-        ensures { result ≡ self.now.ticks }
+    /// For how many ticks from the present one on, by a book, the owner of the places is the same.
+    pub fn ticks(&self, owners: &Owners, frame: u32, book: &Book) -> u32
+        requires some { 0 < frame }
+        requires most { frame ≤ 1000 }
+        requires here { IsStretch owners.now frame (now_of book.now) self.now }
+        ensures { result ≡ owned_for (owner_in owners.now) frame (now_of book.now) frame }
     {
-        self.ticks
+        if self.ticks == 0 {
+            owned_ahead(owners, frame, book.now())
+        } else {
+            self.ticks
+        }
     }
 
     /// Goes on from so many ticks ago to the present tick of a book.

@@ -15,7 +15,7 @@ returns-then-from-place c =
     let here = c.now-now.ensures.now in
     record {
       owner = ap (λ n. owner_in owners (n % frame)) here;
-      ticks = c.from-self.ensures
+      ticks = λ _. c.from-self.ensures
           ∙ run_known owners frame now c.run_of-at.result (now % frame)
           (slice_index_or runs c.run_of-at.result unknown) runs c.requires.runs refl c.if-run-ne0.true
           (sym c.from.ensures ∙ c.if-from-place.true) refl
@@ -32,7 +32,7 @@ returns c =
     let here = c.now-now.ensures.now in
     record {
       owner = ap (λ n. owner_in owners (n % frame)) here;
-      ticks = c.owned_ahead-self.ensures.value ∙ ap (λ n. owned_for (owner_in owners) frame n frame) here;
+      ticks = λ _. c.owned_ahead-self.ensures.value ∙ ap (λ n. owned_for (owner_in owners) frame n frame) here;
       runs = runs_noted owners frame c.run_of-at.result now (now % frame) c.owned_ahead-self.result runs
           (search rules) c.requires.runs refl c.owned_ahead-self.ensures.value;
     }
