@@ -1,6 +1,6 @@
 -- The queue of the slots that ask, as calls change it.
 use Rattle.std.proofs.Common.{◌≡◌, ◌≢◌, ℕ, ◌^◌, ◌<◌, ◌≤◌, zero, suc, List, Some, None, Bool, true, false}
-use Rattle.std.proofs.Common.{refl, sym, ap, ap₂, ◌∙◌, arith, inl, inr, length-set, get_or}
+use Rattle.std.proofs.Common.{refl, sym, ap, ap₂, ◌∙◌, arith, inl, inr, length, length-set, get_or}
 use Rattle.std.proofs.Common.{get_or-set_same, get_or-set_other}
 use Rattle.std.specs.Prelude.{Option, slice_set, replicate, if◌then◌else◌, is_some, IfSome, MatchOption, min, max, ◌==◌}
 use Rattle.std.specs.Int.{bit_at}
@@ -81,6 +81,18 @@ module _ (keys : List (Option ℕ)) (time : ℕ) (seats : List (Option FairSeat)
       sym (no_first empty (first_of time seats mask) refl (least_first (tag_asking time seats mask)))
   first_of_queue (Some slot) l = sym (least_is (tag_asking time seats mask) slot (is_first slot l))
 
+pub least_below : (keys : List (Option ℕ)) (result : Option ℕ) → length keys ≡ 32
+    → MatchOption result (IsEmpty keys) (IsLeast keys) → (slot : ℕ) → result ≡ Some slot → slot < 32
+least_below keys None size empty slot is = cc
+least_below keys (Some it) size l slot is =
+    let within : it < length keys = present_within keys it l.key l.present in
+    let same : it ≡ slot = cc in
+    omega (arith, within, size, same)
+
+pub some_below : (choice : Option ℕ) → ((slot : ℕ) → choice ≡ Some slot → slot < 32) → IfSome choice (λ slot. slot < 32)
+some_below None below = record {}
+some_below (Some slot) below = below slot refl
+
 -- the choice, by whether the turn goes on
 pub chosen_on : (time mask now : ℕ) (on : Bool) (seats : List (Option FairSeat)) (turn : Turn) → now ≡ mask
     → on ≡ goes_on_by now turn → on ≡ true → Some turn.slot ≡ choice_of turn time seats mask
@@ -96,6 +108,12 @@ chosen_off time mask now on seats turn same is off_is first first_is =
     ∙ ap (λ on. if on then Some turn.slot else first_of time seats mask)
     (sym off_is ∙ is ∙ ap (λ m. goes_on_by m turn) same)
 
+pub chosen_next : (keys : List (Option ℕ)) (time mask now : ℕ) (seats : List (Option FairSeat)) (turn : Turn)
+    (next : Option ℕ) → ((time : ℕ) (seats : List (Option FairSeat)) → IsQueue keys time seats now
+    → next ≡ choice_of turn time seats now) → now ≡ mask → IsQueue keys time seats mask
+    → next ≡ choice_of turn time seats mask
+chosen_next keys time mask now seats turn next is same q = (rw same at is) time seats q
+
 -- ---- an empty queue
 
 none_in : (n k : ℕ) → key_of (replicate n None) k ≡ None
@@ -109,6 +127,13 @@ queue_new seats mask silent = record {
   tags = λ slot lt. none_in 32 slot ∙ sym (ap (λ m. tag_asking 0 seats m slot) silent
       ∙ untagged 0 seats 0 slot (silent_slot slot));
 }
+
+pub none_chosen : (seats : List (Option FairSeat)) (mask : ℕ) → mask ≡ 0
+    → None ≡ choice_of (record { slot = 31; ticks = 0 }) 0 seats mask
+none_chosen seats mask silent =
+    let off : false ≡ goes_on_by 0 (record { slot = 31; ticks = 0 }) = refl in
+    chosen_off 0 mask 0 false seats (record { slot = 31; ticks = 0 }) (sym silent) off refl None
+    (first_of_queue (replicate 32 None) 0 seats mask (queue_new seats mask silent) None (λ slot. none_in 32 slot))
 
 -- ---- one slot is placed anew
 
