@@ -1,6 +1,6 @@
 -- The owner of the places, and for how long it stays, some ticks later.
 use Rattle.std.proofs.Common.{◌≡◌, ◌≢◌, ℕ, zero, suc, ◌+◌, ◌-◌, ◌%◌, ◌<◌, ◌≤◌, Some, None, Bool, true, false, refl}
-use Rattle.std.proofs.Common.{sym, ap, ◌∙◌, arith, inl, inr, subst}
+use Rattle.std.proofs.Common.{sym, ap, ◌∙◌, ◌^◌, arith, inl, inr, subst}
 use Rattle.std.specs.Prelude.{List, Option, ◌==◌, if◌then◌else◌, replicate, length, slice_set, slice_index_or}
 use Rattle.std.proofs.Math.Nat.{mod-lt}
 use Rattle.std.proofs.lemmas.Bool.{cases_lt, cases_eq, eq-eqb}
@@ -8,14 +8,15 @@ use Rattle.std.proofs.lemmas.List.{get_or-replicate, get_or_past, length-replica
 use Rattle.hls_chron.specs.Ledger.{Ledger, now_of}
 use Rattle.hls_chron.specs.Kinds.{frame_of}
 use Rattle.hls_chron.specs.declared.plain.Kind.TheVariants as kinds
+use Rattle.hls_kinds.specs.Asks.{slot_asks}
 use Rattle.hls_kinds.specs.Frames.{owner_in}
 use Rattle.hls_kinds.specs.Stands.{always, same_slot, owned_for}
-use Rattle.hls_sched.specs.Seen.{Seen, IsConfigured, config_of}
+use Rattle.hls_sched.specs.Seen.{Seen, IsConfigured, config_of, leapt}
 use Rattle.hls_box.specs.Inside.Sound.{IsSound}
 use Rattle.hls_wheel.specs.declared.stretch.Run.{Run}
 use Rattle.hls_wheel.specs.declared.stretch.Stretch.{Stretch}
-use Rattle.hls_wheel.specs.Owners.{IsRun, AreRuns, unknown, IsStretch, IsTable, where_asking, choice_of}
-use Rattle.hls_wheel.proofs.Owning.{owned_none, owned_more, owned_first, owned_same, found, round_again, ranges_here}
+use Rattle.hls_wheel.specs.Owners.{IsRun, AreRuns, unknown, IsStretch, IsTable, never, where_asking, choice_of}
+use Rattle.hls_wheel.proofs.Owning.{owned_none, owned_more, owned_first, owned_same, found, round_again, ranges_here, now_leapt}
 use Rattle.hls_wheel.proofs.Seating.{owner_of_table}
 
 same_itself : (slot : Option ℕ) → same_slot slot slot ≡ true
@@ -23,7 +24,7 @@ same_itself None = refl
 same_itself (Some slot) = eq-eqb slot slot refl
 
 -- none of n ticks has another owner
-all_alike : (owner : ℕ → Option ℕ) (frame now n : ℕ)
+pub all_alike : (owner : ℕ → Option ℕ) (frame now n : ℕ)
     → ((k : ℕ) → k < n → owner ((now + k) % frame) ≡ owner (now % frame))
     → owned_for owner frame now n ≡ always
 all_alike owner frame now zero alike = owned_none owner frame now
@@ -97,7 +98,7 @@ owned_alike owner frame now other (suc n) first alike =
     owned_more owner frame now n ∙ rw (owned_alike owner frame now other n first alike, alike n, first) refl
     ∙ sym (owned_more owner frame other n)
 
-same_round : (frame now k : ℕ) → (now + k) % frame ≡ (now % frame + k) % frame
+pub same_round : (frame now k : ℕ) → (now + k) % frame ≡ (now % frame + k) % frame
 same_round frame now k =
     let before : now + k ≡ k + now = omega arith in
     let after : k + now % frame ≡ now % frame + k = omega arith in
@@ -112,46 +113,84 @@ owned_round owner frame now n =
     ap (λ k. k % frame) (sym none) ∙ same_round frame now 0 ∙ ap (λ k. k % frame) none_there in
     owned_alike owner frame now (now % frame) n (ap owner here) (λ k. ap owner (same_round frame now k))
 
--- the stretch some ticks later
-pub stretch_always : (owners : List (Option ℕ)) (frame now before k : ℕ) (stretch : Stretch) → 0 < frame
-    → frame ≤ 1000 → now ≡ before + k → stretch.ticks ≡ always → IsStretch owners frame before stretch
-    → IsStretch owners frame now stretch
-stretch_always owners frame now before k stretch some few is all was =
-    let known : stretch.ticks ≢ 0 = λ zero. absurd (omega (arith, all, zero)) in
-    let none : owned_for (owner_in owners) frame before frame ≡ always = sym (was.ticks known) ∙ all in
-    rw is (record {
-      owner = was.owner ∙ sym (owner_always (owner_in owners) frame before k some few none);
-      ticks = λ _. all ∙ sym (owned_always (owner_in owners) frame before k some few none);
-      runs = was.runs;
-    })
+-- the stretch some ticks later, while it lasts
+lasts_always : (owner : ℕ → Option ℕ) (frame before now : ℕ) → 0 < frame → frame ≤ 1000 → before ≤ now
+    → owned_for owner frame before frame ≡ always
+    → (owner (before % frame) ≡ owner (now % frame)) × (owned_for owner frame now frame ≡ always)
+lasts_always owner frame before now some few le all =
+    let later : before + (now - before) ≡ now = omega (arith, le) in (
+      sym (subst (λ n. owner (n % frame) ≡ owner (before % frame)) later
+          (owner_always owner frame before (now - before) some few all)),
+      subst (λ n. owned_for owner frame n frame ≡ always) later
+          (owned_always owner frame before (now - before) some few all),
+    )
 
-pub stretch_within : (owners : List (Option ℕ)) (frame now before k : ℕ) (stretch : Stretch) → frame ≤ 1000
-    → now ≡ before + k → stretch.ticks ≢ always → k < stretch.ticks → IsStretch owners frame before stretch
-    → IsStretch owners frame now (record stretch { ticks = stretch.ticks - k })
-stretch_within owners frame now before k stretch few is other less was =
-    let known : stretch.ticks ≢ 0 = λ zero. absurd (omega (arith, less, zero)) in
-    let its = was.ticks known in
-    let more : owned_for (owner_in owners) frame before frame ≢ always = λ e. other (its ∙ e) in
-    let lt : k < owned_for (owner_in owners) frame before frame = rw its at less in
-    rw is (record {
-      owner = was.owner ∙ sym (owner_within (owner_in owners) frame before k few more lt);
-      ticks = λ _. ap (λ ticks. ticks - k) its ∙ owned_within (owner_in owners) frame before k few more lt;
+lasts_within : (owner : ℕ → Option ℕ) (frame before now : ℕ) → frame ≤ 1000 → before ≤ now
+    → owned_for owner frame before frame ≢ always → now < before + owned_for owner frame before frame
+    → (owner (before % frame) ≡ owner (now % frame))
+    × (owned_for owner frame before frame - (now - before) ≡ owned_for owner frame now frame)
+lasts_within owner frame before now few le other less =
+    let later : before + (now - before) ≡ now = omega (arith, le) in
+    let within : now - before < owned_for owner frame before frame = omega (arith, le, less) in (
+      sym (subst (λ n. owner (n % frame) ≡ owner (before % frame)) later
+          (owner_within owner frame before (now - before) few other within)),
+      subst (λ n. owned_for owner frame before frame - (now - before) ≡ owned_for owner frame n frame) later
+          (owned_within owner frame before (now - before) few other within),
+    )
+
+still_known : (owners : List (Option ℕ)) (frame before now : ℕ) (stretch : Stretch) → frame ≤ 1000
+    → before ≤ now → now < stretch.until → stretch.until ≢ never → IsStretch owners frame before stretch
+    → IsStretch owners frame now stretch
+still_known owners frame before now stretch few le less finite was =
+    let known = was.some (omega (arith, le, less)) finite in
+    let less_here : now < before + owned_for (owner_in owners) frame before frame = omega (arith, less, known.1) in
+    let on = lasts_within (owner_in owners) frame before now few le known.0 less_here in
+    let found_before = found (owner_in owners) frame before frame known.0 in
+    let its = known.1 in
+    let rest = on.1 in
+    record {
+      owner = was.owner ∙ on.0;
+      all = λ ever. absurd (finite ever);
+      some = λ _ _. (
+        λ all. omega (arith, all, rest, found_before, few),
+        omega (arith, its, rest, le, less_here),
+      );
       runs = was.runs;
-    })
+    }
+
+pub stretch_lasts : (owners : List (Option ℕ)) (frame before now : ℕ) (stretch : Stretch) → 0 < frame
+    → frame ≤ 1000 → before ≤ now → now < stretch.until → IsStretch owners frame before stretch
+    → IsStretch owners frame now stretch
+stretch_lasts owners frame before now stretch some few le less was = elim (cases_eq stretch.until never) [
+  | inl ever ↦
+      let on = lasts_always (owner_in owners) frame before now some few le (was.all ever) in
+      record {
+        owner = was.owner ∙ on.0;
+        all = λ _. on.1;
+        some = λ _ finite. absurd (finite ever);
+        runs = was.runs;
+      }
+  | inr finite ↦ still_known owners frame before now stretch few le less finite was
+]
 
 -- a run more that is known
 pub runs_noted : (owners : List (Option ℕ)) (frame at now place places : ℕ) (runs : List Run) → at < length runs
     → AreRuns owners frame runs → place ≡ now % frame → places ≡ owned_for (owner_in owners) frame now frame
-    → AreRuns owners frame (slice_set runs at (record { place = place; places = places }))
-runs_noted owners frame at now place places runs within known is found = λ other. elim (cases_eq other at) [
+    → places ≤ 1000 → AreRuns owners frame (slice_set runs at (record { place = place; places = places }))
+runs_noted owners frame at now place places runs within known is its few = λ other. elim (cases_eq other at) [
   | inl same ↦ rw (same, get_or-set_same runs at (record { place = place; places = places }) unknown within)
       (record {
-        places = λ _. found ∙ owned_round (owner_in owners) frame now frame
+        places = λ _. its ∙ owned_round (owner_in owners) frame now frame
             ∙ ap (λ n. owned_for (owner_in owners) frame n frame) (sym is);
+        few = few;
       })
   | inr differs ↦
       rw (get_or-set_other runs at other (record { place = place; places = places }) unknown differs) (known other)
 ]
+
+pub run_few : (owners : List (Option ℕ)) (frame at : ℕ) (runs : List Run) → AreRuns owners frame runs
+    → (slice_index_or runs at unknown).places ≤ 1000
+run_few owners frame at runs known = (known at).few
 
 pub run_known : (owners : List (Option ℕ)) (frame now at place : ℕ) (run : Run) (runs : List Run)
     → AreRuns owners frame runs → run ≡ slice_index_or runs at unknown → run.places ≢ 0 → run.place ≡ place
@@ -161,16 +200,42 @@ run_known owners frame now at place run runs known is some here there =
     here_known.places some ∙ ap (λ n. owned_for (owner_in owners) frame n frame) (here ∙ there)
     ∙ sym (owned_round (owner_in owners) frame now frame)
 
+-- a stretch that begins
+pub begun_here : (owners : List (Option ℕ)) (frame now ticks until : ℕ) (owner : Option ℕ) (runs : List Run)
+    → now < 2 ^ 32 → ticks < 2 ^ 16 → until ≡ now + ticks → owner ≡ owner_in owners (now % frame)
+    → ticks ≡ owned_for (owner_in owners) frame now frame → AreRuns owners frame runs
+    → IsStretch owners frame now (record { owner = owner; until = until; runs = runs })
+begun_here owners frame now ticks until owner runs early few is its found known = record {
+  owner = its;
+  all = λ ever. absurd (omega (arith, ever, is, early, few));
+  some = λ _ _. (λ all. omega (arith, all, found, few), omega (arith, is, found));
+  runs = known;
+}
+
+pub begun_for_ever : (owners : List (Option ℕ)) (frame now ticks : ℕ) (owner : Option ℕ) (runs : List Run)
+    → frame ≤ ticks → owner ≡ owner_in owners (now % frame)
+    → ticks ≡ owned_for (owner_in owners) frame now frame → AreRuns owners frame runs
+    → IsStretch owners frame now (record { owner = owner; until = never; runs = runs })
+begun_for_ever owners frame now ticks owner runs le its is known = record {
+  owner = its;
+  all = λ _. elim (cases_eq (owned_for (owner_in owners) frame now frame) always) [
+    | inl all ↦ all
+    | inr other ↦ absurd (let lt = found (owner_in owners) frame now frame other in omega (arith, lt, le, is))
+  ];
+  some = λ _ finite. absurd (finite refl);
+  runs = known;
+}
+
 -- none is known
 pub runs_unknown : (owners : List (Option ℕ)) (frame n : ℕ) → AreRuns owners frame (replicate n unknown)
 runs_unknown owners frame n = λ at. elim (cases_lt at n) [
-  | inl within ↦ rw (get_or-replicate n at unknown unknown within) (record { places = λ some. absurd (some refl) })
+  | inl within ↦ rw (get_or-replicate n at unknown unknown within) (record { places = λ some. absurd (some refl); few = omega arith })
   | inr past ↦ rw (get_or_past (replicate n unknown) at unknown (rw length-replicate past))
-      (record { places = λ some. absurd (some refl) })
+      (record { places = λ some. absurd (some refl); few = omega arith })
 ]
 
 -- nobody owns a place
-unowned_place : (place : ℕ) → owner_in (replicate 1000 None) place ≡ None
+pub unowned_place : (place : ℕ) → owner_in (replicate 1000 None) place ≡ None
 unowned_place place = elim (cases_lt place 1000) [
   | inl within ↦ get_or-replicate 1000 place None None within
   | inr past ↦ get_or_past (replicate 1000 None) place None (rw length-replicate past)
@@ -178,11 +243,12 @@ unowned_place place = elim (cases_lt place 1000) [
 
 pub stretch_unowned : (frame now n : ℕ)
     → IsStretch (replicate 1000 None) frame now
-    (record { owner = None; ticks = always; runs = replicate n unknown })
+    (record { owner = None; until = never; runs = replicate n unknown })
 stretch_unowned frame now n = record {
   owner = sym (unowned_place (now % frame));
-  ticks = λ _. sym (all_alike (owner_in (replicate 1000 None)) frame now frame (λ k lt.
-      unowned_place ((now + k) % frame) ∙ sym (unowned_place (now % frame))));
+  all = λ _. all_alike (owner_in (replicate 1000 None)) frame now frame (λ k lt.
+      unowned_place ((now + k) % frame) ∙ sym (unowned_place (now % frame)));
+  some = λ _ finite. absurd (finite refl);
   runs = runs_unknown (replicate 1000 None) frame n;
 }
 
@@ -192,11 +258,22 @@ pub stretch_found : (owners : List (Option ℕ)) (frame : ℕ) (b : Ledger) (s t
     → IsStretch owners frame (now_of b) stretch → IsStretch owners (frame_of (config_of t)) (now_of t.book) stretch
 stretch_found owners frame b s t stretch is same here found = rw (same, ← is, ← here) found
 
-pub stretch_ago : (owners : List (Option ℕ)) (frame now ticks : ℕ) (s : Seen) (stretch : Stretch)
-    → frame ≡ frame_of (config_of s) → now ≡ now_of s.book + ticks
-    → IsStretch owners (frame_of (config_of s)) (now_of s.book) stretch → IsStretch owners frame (now - ticks) stretch
-stretch_ago owners frame now ticks s stretch is later present =
-    let ago : now - ticks ≡ now_of s.book = omega (arith, later) in rw (is, ago) present
+-- after ticks, where it lasted or began anew
+pub stretch_renewed : (owners : List (Option ℕ)) (n : ℕ) (choice : Option ℕ) (s t : Seen) (was new : Stretch)
+    → IsSound kinds.Wheel s → IsConfigured s → t ≡ leapt n choice s
+    → IsStretch owners (frame_of (config_of s)) (now_of s.book) was
+    → (now_of t.book < was.until → new ≡ was)
+    → (was.until ≤ now_of t.book → IsStretch owners (frame_of (config_of t)) (now_of t.book) new)
+    → IsStretch owners (frame_of (config_of t)) (now_of t.book) new
+stretch_renewed owners n choice s t was new sound configured is before lasts begun =
+    let range = ranges_here s sound configured in
+    let same : config_of t ≡ config_of s = ap config_of is in
+    let later : now_of t.book ≡ now_of s.book + n = ap (λ (s : Seen). now_of s.book) is ∙ now_leapt s choice n in
+    elim (cases_lt (now_of t.book) was.until) [
+      | inl on ↦ rw (same, lasts on) (stretch_lasts owners (frame_of (config_of s)) (now_of s.book) (now_of t.book) was
+          range.0 range.1 (omega (arith, later)) on before)
+      | inr over ↦ begun over
+    ]
 
 -- who is served
 pub choice_from : (s : Seen) (owners : List (Option ℕ)) (stretch : Stretch) → IsSound kinds.Wheel s → IsConfigured s
@@ -207,3 +284,11 @@ choice_from s owners stretch sound configured table present =
     ap (λ owner. where_asking owner s.mask) (present.owner
     ∙ owner_of_table owners s.book (frame_of (config_of s)) (now_of s.book % frame_of (config_of s)) table range.0
     range.1 refl)
+
+pub owner_asks : (owner : Option ℕ) (mask slot : ℕ) → owner ≡ Some slot → slot_asks mask slot ≡ true
+    → Some slot ≡ where_asking owner mask
+owner_asks owner mask slot is on = rw (is, on) refl
+
+pub owner_silent : (owner : Option ℕ) (mask slot : ℕ) → owner ≡ Some slot → slot_asks mask slot ≡ false
+    → None ≡ where_asking owner mask
+owner_silent owner mask slot is off = rw (is, off) refl

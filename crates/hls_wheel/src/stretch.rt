@@ -1,14 +1,17 @@
 // The owner of the present tick's place, and for how long the places are its.
-ghost use Rattle.std.specs.Prelude.{◌≡◌, ℕ, List, Option, None, ◌-◌, ◌<◌, ◌≤◌, replicate};
+ghost use Rattle.std.specs.Prelude.{◌≡◌, ℕ, List, Option, None, ◌-◌, ◌<◌, ◌≤◌, nat_lt, replicate};
 ghost use Rattle.hls_chron.specs.Ledger.{now_of};
 ghost use Rattle.hls_kinds.specs.Frames.{owner_in};
 ghost use Rattle.hls_kinds.specs.Stands.{owned_for};
 ghost use Rattle.hls_wheel.specs.Owners.{AreRuns, IsStretch};
 
 use crate::ahead::owned_ahead;
+use crate::places::Places;
 use hls_chron::Book;
 use hls_sched::ALWAYS;
-use hls_wheel_owners::Owners;
+
+/// A tick that never comes.
+const NEVER: u64 = 1 << 33;
 
 /// A place, and how many places from it on are of its owner; 0 where that is not known.
 #[derive(Clone, Copy, Debug, PartialEq, Eq)]
@@ -20,12 +23,12 @@ pub struct Run {
 /// The run that was found last of each slot, and behind these of nobody.
 pub type Runs = [Run; 33];
 
-/// The owner of a tick's place, for how many ticks from that one on the owner of the places is the same, or 0
+/// The owner of a tick's place, the tick before which the places are its, `NEVER` where all are, or one that is over
 /// where that is not known, and the runs that are known.
 #[derive(Clone, Copy)]
 pub struct Stretch {
     owner: Option<u8>,
-    ticks: u32,
+    until: u64,
     runs: Runs,
 }
 
@@ -51,21 +54,21 @@ impl Stretch {
         };
         Stretch {
             owner: None,
-            ticks: ALWAYS,
+            until: NEVER,
             runs: [run; 33],
         }
     }
 
     /// The owner of the present tick's place by a book, and no more.
-    pub fn owned(owners: &Owners, frame: u32, book: &Book) -> Stretch
+    pub fn owned(places: &Places, frame: u32, book: &Book) -> Stretch
         requires some { 0 < frame }
         requires most { frame ≤ 1000 }
-        ensures { IsStretch owners.now frame (now_of book.now) result }
+        ensures { IsStretch places.now frame (now_of book.now) result }
     {
         let place = book.now() % frame;
         Stretch {
-            owner: owners[place as usize],
-            ticks: 0,
+            owner: places.owner(place),
+            until: 0,
             ..Stretch::unowned()
         }
     }
@@ -77,62 +80,56 @@ impl Stretch {
         self.owner
     }
 
-    /// For how many ticks from the present one on, by a book, the owner of the places is the same.
-    pub fn ticks(&self, owners: &Owners, frame: u32, book: &Book) -> u32
-        requires some { 0 < frame }
-        requires most { frame ≤ 1000 }
-        requires here { IsStretch owners.now frame (now_of book.now) self.now }
-        ensures { result ≡ owned_for (owner_in owners.now) frame (now_of book.now) frame }
+    /// Whether the places up to the present tick's, by a book, are known to be the owner's.
+    pub fn lasts(&self, book: &Book) -> bool
+        ensures { result ≡ nat_lt (now_of book.now) self.now.until }
     {
-        if self.ticks == 0 {
-            owned_ahead(owners, frame, book.now())
-        } else {
-            self.ticks
-        }
+        u64::from(book.now()) < self.until
     }
 
-    /// Goes on from so many ticks ago to the present tick of a book.
-    pub fn pass(&mut self, ticks: u32, owners: &Owners, frame: u32, book: &Book)
+    /// For how many ticks from the present one on, by a book, the owner of the places is the same.
+    pub fn ticks(&self, places: &Places, frame: u32, book: &Book) -> u32
         requires some { 0 < frame }
         requires most { frame ≤ 1000 }
-        requires passed { ticks ≤ now_of book.now }
-        requires before { IsStretch owners.now frame (now_of book.now - ticks) self.old }
-        ensures { IsStretch owners.now frame (now_of book.now) self.new }
+        requires here { IsStretch places.now frame (now_of book.now) self.now }
+        ensures { result ≡ owned_for (owner_in places.now) frame (now_of book.now) frame }
     {
-        if self.ticks == ALWAYS {
-            return;
+        if !self.lasts(book) {
+            return owned_ahead(places, frame, book.now());
         }
-        if ticks < self.ticks {
-            self.ticks -= ticks;
-            return;
+        if self.until == NEVER {
+            ALWAYS
+        } else {
+            (self.until - u64::from(book.now())) as u32
         }
-        self.begin(owners, frame, book);
     }
 
     /// Begins at the present tick of a book. The places are looked at where the run is not known, which is then
     /// noted.
-    fn begin(&mut self, owners: &Owners, frame: u32, book: &Book)
+    pub fn begin(&mut self, places: &Places, frame: u32, book: &Book)
         requires some { 0 < frame }
         requires most { frame ≤ 1000 }
-        requires runs { AreRuns owners.now frame self.old.runs }
-        ensures { IsStretch owners.now frame (now_of book.now) self.new }
+        requires runs { AreRuns places.now frame self.old.runs }
+        ensures { IsStretch places.now frame (now_of book.now) self.new }
     {
         let now = book.now();
         let place = now % frame;
-        self.owner = owners[place as usize];
+        self.owner = places.owner(place);
         let at = run_of(self.owner);
         let run = self.runs[at];
         if run.places != 0 && u32::from(run.place) == place {
-            self.ticks = u32::from(run.places);
+            self.until = u64::from(now) + u64::from(run.places);
             return;
         }
-        self.ticks = owned_ahead(owners, frame, now);
-        if frame <= self.ticks {
+        let ticks = owned_ahead(places, frame, now);
+        if frame <= ticks {
+            self.until = NEVER;
             return;
         }
+        self.until = u64::from(now) + u64::from(ticks);
         self.runs[at] = Run {
             place: place as u16,
-            places: self.ticks as u16,
+            places: ticks as u16,
         };
     }
 }
