@@ -28,7 +28,7 @@ use Rattle.hls_order.specs.Order.{key_of, IsEmpty, IsLeast}
 use Rattle.hls_order.proofs.Winning.{present_within}
 use Rattle.hls_sfq.specs.declared.shares.FairSeat.{FairSeat}
 use Rattle.hls_sfq.specs.Choice.{tag_of, tag_asking, first_of, choice_of, fair_quantum}
-use Rattle.hls_sfq.specs.Changes.{time_after, seats_after, served_seat, time_leapt, seats_leapt, placed}
+use Rattle.hls_sfq.specs.Changes.{time_after, seats_after, served_seat, leapt_seat, time_leapt, seats_leapt, placed}
 use Rattle.hls_sfq.specs.Changes.{start_or, step_of, rest_in}
 use Rattle.hls_sfq.specs.Queue.{IsQueue, QueuesTags}
 use Rattle.hls_sfq.specs.Tags.{KeepsTags}
@@ -320,3 +320,14 @@ rest_by_rival keys quantum turn time seats mask now slot tag step left q few mos
     let ends = ends_now quantum left ticks (omega (arith, few)) (omega (arith, some, passed)) in
     rest_by_queue keys quantum turn time seats mask now slot tag step ticks left (turn_end quantum left ticks) left q
     few same others tag_is step_is refl left_is refl (omega (arith, ends, left_is, most))
+
+-- the seats stay as many
+pub length_after : (time : ℕ) (seats : List (Option FairSeat)) (slot : Option ℕ)
+    → length (seats_after time seats slot) ≡ length seats
+length_after time seats None = refl
+length_after time seats (Some slot) = length-set seats slot (served_seat time (get_or seats slot None))
+
+pub length_leapt : (time : ℕ) (seats : List (Option FairSeat)) (slot : Option ℕ) (n : ℕ)
+    → length (seats_leapt time seats slot n) ≡ length seats
+length_leapt time seats None n = refl
+length_leapt time seats (Some slot) n = length-set seats slot (leapt_seat time n (get_or seats slot None))

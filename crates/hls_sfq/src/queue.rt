@@ -5,7 +5,8 @@ ghost use Rattle.hls_sfq.specs.Changes.{placed};
 ghost use Rattle.hls_sfq.specs.Choice.{choice_of};
 ghost use Rattle.hls_sfq.specs.declared.shares.FairSeat.{FairSeat};
 
-use crate::shares::{SLOTS, Seats, tag_where};
+use crate::seats::{SLOTS, Seats};
+use crate::shares::tag_where;
 use hls_box::{Turn, turn_goes_on};
 use hls_order::Order;
 
@@ -22,6 +23,7 @@ pub fn place(queue: &mut Order, slot: u32, tag: Option<u128>)
 
 /// Gives the slot that was served its new place.
 pub fn place_served(queue: &mut Order, slot: Option<u32>, time: u128, seats: &Seats, mask: u32)
+    requires seats { length seats.now ≡ 32 }
     requires within { IfSome slot (λ slot. slot < 32) }
     ensures { queue.new ≡ placed queue.old slot time seats.now mask }
 {
@@ -32,7 +34,8 @@ pub fn place_served(queue: &mut Order, slot: Option<u32>, time: u128, seats: &Se
 
 /// Gives each slot its place anew.
 pub fn place_all(queue: &mut Order, time: u128, seats: &Seats, mask: u32)
-    requires { length queue.old ≡ 32 }
+    requires size { length queue.old ≡ 32 }
+    requires seats { length seats.now ≡ 32 }
     ensures { IsQueue queue.new time seats.now mask }
 {
     for slot in 0..SLOTS {
