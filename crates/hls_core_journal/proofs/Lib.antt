@@ -1,5 +1,6 @@
 pub mod Places
 pub mod Rows
+pub mod Shorts
 pub mod Covers
 pub mod Lists
 pub mod Keeps

@@ -1,11 +1,10 @@
 -- The text of a schedule, line by line.
 use Rattle.std.proofs.Common.{◌≡◌, ℕ, ◌+◌, ◌-◌, ◌^◌, ◌<◌, ◌≤◌, List, [], ◌∷◌, ◌++◌, length, refl, sym, ap, ◌∙◌}
 use Rattle.std.proofs.Common.{subst, arith}
-use Rattle.std.proofs.Common.{map, take, drop, get_or, decimal, append_assoc}
+use Rattle.std.proofs.Common.{map, take, drop, decimal, append_assoc}
 use Rattle.std.specs.Prelude.{Option, None, Result, Ok, Err, OnOk, OnErr, All, codes, flat_map, slice_set}
 use Rattle.std.proofs.Common.{append-nil}
-use Rattle.std.proofs.lemmas.List.{get_or-map, drop-set, drop_all, length-drop, length-set, take_all, take-append-drop}
-use Rattle.std.proofs.lemmas.List.{take_more}
+use Rattle.std.proofs.lemmas.List.{get_or-map, drop-set, drop_all, length-drop, length-set, take_all}
 use Rattle.std.proofs.lemmas.Fmt.{length-decimal-le}
 use Rattle.std.proofs.lemmas.List.Elements.{All-head, All-tail}
 use Rattle.std.proofs.lemmas.Grind.{flat_map-append}
@@ -17,7 +16,7 @@ use Rattle.hls_report_text.specs.declared.report.Run.{Run}
 use Rattle.hls_report_text.specs.declared.stretch.Stretch.{Stretch}
 use Rattle.hls_report_text.specs.Content.{stretch_of}
 use Rattle.hls_report_text.specs.ReportText.{path_text, span_text, stretch_text, with_end}
-use Rattle.hls_core_journal.specs.declared.runs.Row.{Row}
+use Rattle.hls_core_journal.specs.declared.kept_rows.Row.{Row}
 use Rattle.hls_core_journal.specs.Inside.Rows.{way_at, run_by, runs_by}
 use Rattle.hls_core_journal.specs.Ways.{names_by}
 use Rattle.hls_core_journal.specs.Schedule.{tail_text, line_by}
@@ -99,51 +98,54 @@ pub record Wrote (old new : Option (List ℕ)) (was room front : Text) (before n
   pub told : TellsAlike old new
   pub quiet : now ≡ before
 
-line_more : {A : Type 0} (f : A → Text) (head : Text) (xs : List A) (at : ℕ) (d : A) → at < length xs
-    → (head ++ flat_map f (take at xs)) ++ f (get_or xs at d) ≡ head ++ flat_map f (take (at + 1) xs)
-line_more f head xs at d lt =
-    append_assoc head (flat_map f (take at xs)) (f (get_or xs at d))
-    ∙ ap (λ (t : Text). head ++ (flat_map f (take at xs) ++ t)) (sym (append-nil (f (get_or xs at d))))
-    ∙ ap (λ (t : Text). head ++ t) (sym (flat_map-append f (take at xs) (get_or xs at d ∷ [])))
-    ∙ ap (λ ys. head ++ flat_map f ys) (sym (take_more xs at d lt))
+-- the lines of these rows went, and those of the others are left
+pub record WroteRows (tails : List Text) (items left : List Row) (old new : Option (List ℕ)) (was room : Text)
+    (before now : ℕ) : Type 0 where
+  pub done : List Row
+  pub all : done ++ left ≡ items
+  pub known : All (λ (row : Row). row.way < length tails) left
+  pub wrote : Wrote old new was room (codes "schedule\n" ++ flat_map (line_by tails) done) before now
 
-pub wrote_line : {A : Type 0} (f : A → Text) (head : Text) (xs ys : List A) (at : ℕ) (d : A) (a b c : Option (List ℕ))
-    (was mid room line : Text) → Gathers a b was mid (head ++ flat_map f (take at xs)) → Gathers b c mid room line
-    → ys ≡ xs → at < length ys → line ≡ f (get_or ys at d)
-    → Gathers a c was room (head ++ flat_map f (take (at + 1) xs))
-wrote_line f head xs ys at d a b c was mid room line before now same lt is =
-    let long = ap (λ l. length l) same in
+line_more : {A : Type 0} (f : A → Text) (head : Text) (done : List A) (x : A)
+    → (head ++ flat_map f done) ++ f x ≡ head ++ flat_map f (done ++ x ∷ [])
+line_more f head done x =
+    append_assoc head (flat_map f done) (f x)
+    ∙ ap (λ (t : Text). head ++ (flat_map f done ++ t)) (sym (append-nil (f x)))
+    ∙ ap (λ (t : Text). head ++ t) (sym (flat_map-append f done (x ∷ [])))
+
+pub wrote_line : {A : Type 0} (f : A → Text) (head : Text) (done : List A) (x : A) (a b c : Option (List ℕ))
+    (was mid room line : Text) → Gathers a b was mid (head ++ flat_map f done) → Gathers b c mid room line
+    → line ≡ f x → Gathers a c was room (head ++ flat_map f (done ++ x ∷ []))
+wrote_line f head done x a b c was mid room line before now is =
     subst (λ t. Gathers a c was room t)
-    (ap (λ (t : Text). (head ++ flat_map f (take at xs)) ++ t) (is ∙ ap (λ l. f (get_or l at d)) same)
-    ∙ line_more f head xs at d (omega (arith, lt, long)))
-    (gathers-trans a b c was mid room (head ++ flat_map f (take at xs)) line before now)
+    (ap (λ (t : Text). (head ++ flat_map f done) ++ t) is ∙ line_more f head done x)
+    (gathers-trans a b c was mid room (head ++ flat_map f done) line before now)
 
-pub wrote_part : {A : Type 0} (f : A → Text) (head : Text) (xs ys : List A) (at : ℕ) (d : A) (a b c : Option (List ℕ))
-    (was mid line : Text) → Gathers a b was mid (head ++ flat_map f (take at xs)) → AppendsPart b c (mid ++ line)
-    → ys ≡ xs → at < length ys → line ≡ f (get_or ys at d) → AppendsPart a c (was ++ (head ++ flat_map f xs))
-wrote_part f head xs ys at d a b c was mid line before part same lt is =
-    let long = ap (λ l. length l) same in
-    let front = flat_map f (take (at + 1) xs) in
-    let rest = flat_map f (drop (at + 1) xs) in
-    let all : front ++ rest ≡ flat_map f xs =
-    sym (flat_map-append f (take (at + 1) xs) (drop (at + 1) xs))
-    ∙ ap (λ ys. flat_map f ys) (take-append-drop (at + 1) xs) in
+pub wrote_part : {A : Type 0} (f : A → Text) (head : Text) (done old new items : List A) (x : A)
+    (a b c : Option (List ℕ)) (was mid line : Text) → Gathers a b was mid (head ++ flat_map f done)
+    → AppendsPart b c (mid ++ line) → line ≡ f x → done ++ old ≡ items → old ≡ x ∷ new
+    → AppendsPart a c (was ++ (head ++ flat_map f items))
+wrote_part {A = A} f head done old new items x a b c was mid line before part is all e =
+    let front = flat_map f (done ++ x ∷ []) in
+    let whole : front ++ flat_map f new ≡ flat_map f items =
+    sym (flat_map-append f (done ++ x ∷ []) new)
+    ∙ ap (λ (ys : List A). flat_map f ys)
+    (append_assoc done (x ∷ []) new ∙ ap (λ (ys : List A). done ++ ys) (sym e) ∙ all) in
     let first : AppendsPart a c (was ++ (head ++ front)) =
     subst (λ t. AppendsPart a c (was ++ t))
-    (ap (λ (t : Text). (head ++ flat_map f (take at xs)) ++ t) (is ∙ ap (λ l. f (get_or l at d)) same)
-    ∙ line_more f head xs at d (omega (arith, lt, long)))
-    (gathers-part a b c was mid (head ++ flat_map f (take at xs)) line before part) in
+    (ap (λ (t : Text). (head ++ flat_map f done) ++ t) is ∙ line_more f head done x)
+    (gathers-part a b c was mid (head ++ flat_map f done) line before part) in
     subst (λ t. AppendsPart a c t)
-    (append_assoc was (head ++ front) rest ∙ ap (λ t. was ++ t) (append_assoc head front rest)
-    ∙ ap (λ t. was ++ (head ++ t)) all)
-    (part-more a c (was ++ (head ++ front)) rest first)
+    (append_assoc was (head ++ front) (flat_map f new) ∙ ap (λ t. was ++ t) (append_assoc head front (flat_map f new))
+    ∙ ap (λ t. was ++ (head ++ t)) whole)
+    (part-more a c (was ++ (head ++ front)) (flat_map f new) first)
 
-pub wrote_all : {A : Type 0} (f : A → Text) (head : Text) (xs ys : List A) (at : ℕ) (a b : Option (List ℕ))
-    (was room : Text) → Gathers a b was room (head ++ flat_map f (take at xs)) → ys ≡ xs → length ys ≤ at
-    → Gathers a b was room (head ++ flat_map f xs)
-wrote_all f head xs ys at a b was room before same le =
-    let long = ap (λ l. length l) same in
-    subst (λ l. Gathers a b was room (head ++ flat_map f l)) (take_all at xs (omega (arith, le, long))) before
+pub wrote_all : {A : Type 0} (f : A → Text) (head : Text) (done left items : List A) (a b : Option (List ℕ))
+    (was room : Text) → Gathers a b was room (head ++ flat_map f done) → done ++ left ≡ items → left ≡ []
+    → Gathers a b was room (head ++ flat_map f items)
+wrote_all {A = A} f head done left items a b was room before all none =
+    subst (λ (l : List A). Gathers a b was room (head ++ flat_map f l))
+    (sym (append-nil done) ∙ ap (λ (l : List A). done ++ l) (sym none) ∙ all) before
 
 -- a part of the first bytes
 pub wrote_head : (a c : Option (List ℕ)) (was head rest : Text) → AppendsPart a c (was ++ head)

@@ -1,6 +1,6 @@
 -- Lists by their last item.
 use Rattle.std.proofs.Common.{◌≡◌, ℕ, inl, inr, ◌-◌, ◌⊎◌, List, [], ◌∷◌, ◌++◌, length}
-use Rattle.std.proofs.Common.{get_or, refl, ap, ◌∙◌, arith}
+use Rattle.std.proofs.Common.{get_or, refl, sym, ap, ◌∙◌, arith}
 use Rattle.std.specs.Prelude.{Some, slice_get, slice_set, zip, All}
 use Rattle.std.proofs.lemmas.List.{length-append}
 use Rattle.std.proofs.lemmas.List.Elements.{All-nil, All-cons, All-head, All-tail}
@@ -65,3 +65,16 @@ all_front P [] x all = (All-nil P, All-head P x [] all)
 all_front P (y ∷ front) x all =
     let rest = all_front P front x (All-tail P y (front ++ x ∷ []) all) in
     (All-cons P y front (All-head P y (front ++ x ∷ []) all) rest.0, rest.1)
+
+-- a last item that is changed stands where it stood
+pub changed_last : {A : Type 0} (f : A → A) (one front : List A) (x y : A) → one ++ x ∷ [] ≡ front ++ y ∷ []
+    → one ++ f x ∷ [] ≡ front ++ f y ∷ []
+changed_last {A = A} f one front x y e =
+    let same : x ≡ y =
+    sym (get_or_last (one ++ x ∷ []) one x x refl) ∙ get_or_last (one ++ x ∷ []) front y x e in
+    sym (set_last (one ++ x ∷ []) one x (f x) refl) ∙ set_last (one ++ x ∷ []) front y (f x) e
+    ∙ ap (λ (z : A). front ++ f z ∷ []) same
+
+pub no_last : {A : Type 0} (front : List A) (x : A) → [] ≡ front ++ x ∷ [] → ⊥
+no_last {A = A} front x e =
+    let all = ap (λ (l : List A). length l) e ∙ length-append front (x ∷ []) in absurd (omega (arith, all))

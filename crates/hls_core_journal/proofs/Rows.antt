@@ -1,19 +1,19 @@
 -- Runs that are kept in rows.
-use Rattle.std.proofs.Common.{◌≡◌, ℕ, ◌+◌, ◌-◌, ◌<◌, ◌≤◌, List, [], ◌∷◌, ◌++◌, length, refl, sym, ap, ◌∙◌, arith}
-use Rattle.std.proofs.Common.{get_or, Bool, true, false, nat_eq}
+use Rattle.std.proofs.Common.{◌≡◌, ℕ, ◌+◌, ◌<◌, ◌≤◌, List, [], ◌∷◌, ◌++◌, length, refl, sym, ap, ◌∙◌, arith, subst, inl, inr, ◌⊎◌}
+use Rattle.std.proofs.Common.{append_assoc, append-nil, Bool, true, false, nat_eq}
 use Rattle.std.specs.Option.{option_eq}
-use Rattle.std.specs.Prelude.{◌&&◌, Option, Some, None, All, slice_get, slice_set}
+use Rattle.std.specs.Prelude.{◌&&◌, Option, Some, None, All, slice_get}
 use Rattle.std.specs.Cmp.Lexicographic.{pointwise, same_text}
 use Rattle.std.proofs.lemmas.Bool.{eqb-true}
-use Rattle.std.proofs.lemmas.List.{get_or-map, length-append, length-map, map-set, map_push}
-use Rattle.std.proofs.lemmas.List.Elements.{All-head, All-tail, All-push, All-weaker}
+use Rattle.std.proofs.lemmas.List.{length-append, map_push}
+use Rattle.std.proofs.lemmas.List.Elements.{All-nil, All-head, All-tail, All-push, All-weaker}
 use Rattle.std.proofs.lemmas.Option.{get_or_from_slice_get, slice_get_within}
 use Rattle.hls_report_text.specs.declared.report.Path.{Path}
 use Rattle.hls_report_text.specs.declared.report.Run.{Run}
 use Rattle.hls_report_text.specs.contracts.report.PathPartialEq.TheImpl.{eq-value}
 use Rattle.hls_core_journal.specs.Inside.Rows.{way_at, run_by, runs_by, AreRows}
-use Rattle.hls_core_journal.specs.declared.runs.Row.{Row}
-use Rattle.hls_core_journal.proofs.Lists.{set_last, get_or_last}
+use Rattle.hls_core_journal.specs.declared.kept_rows.Row.{Row}
+use Rattle.hls_core_journal.proofs.Lists.{HasLast, last_or_none, changed_last, no_last, all_front}
 
 abbrev run : (from to : ℕ) → Option Path → Run
 run from to path = record { from = from; to = to; path = path }
@@ -39,33 +39,47 @@ way_same (Some p) None e = absurd (let no : false ≡ true = e in cc)
 
 -- ---- the last row
 
-pub longer_row : (ways : List (Option Path)) (rows : List Row) (items : List Run) (row : Row) (last tick : ℕ)
-    → runs_by ways rows ≡ items → last < length rows → last ≡ length rows - 1 → row ≡ get_or rows last row
-    → (front : List Run) (one : Run) → items ≡ front ++ one ∷ []
-    → runs_by ways (slice_set rows last (record row { to = tick })) ≡ front ++ (record one { to = tick }) ∷ []
-longer_row ways rows items row last tick is within end at front one e =
-    let f = run_by ways in
-    let longer : Run = record (f row) { to = tick } in
-    let long = length-map rows f in
-    let count = ap length is in
-    let same : last ≡ length items - 1 = omega (arith, end, long, count) in
-    let here : f row ≡ one =
-    ap f at ∙ sym (get_or-map f rows last row one within) ∙ ap (λ (l : List Run). get_or l last one) is
-    ∙ ap (λ n. get_or items n one) same ∙ get_or_last items front one one e in
-    map-set f rows last (record row { to = tick })
-    ∙ ap (λ (l : List Run). slice_set l last longer) is
-    ∙ ap (λ n. slice_set items n longer) same
-    ∙ set_last items front one longer e
-    ∙ ap (λ (r : Run). front ++ (record r { to = tick }) ∷ []) here
+length_zero : {A : Type 0} (xs : List A) → length xs ≡ 0 → xs ≡ []
+length_zero [] e = refl
+length_zero (x ∷ xs) e = absurd (omega (arith, e))
 
--- there is a row where there is a run
-pub no_row : (ways : List (Option Path)) (rows : List Row) (items : List Run) → runs_by ways rows ≡ items
-    → (0 < length rows → false ≡ true) → (front : List Run) (one : Run) → items ≡ front ++ one ∷ [] → ⊥
-no_row ways rows items is none front one e =
-    let long = length-map rows (run_by ways) in
-    let count = ap length is in
-    let some = ap length e ∙ length-append front (one ∷ []) in
-    let no = none (omega (arith, long, count, some)) in absurd (cc)
+abbrev IsLongerRow : (rows next : List Row) (tick : ℕ) → Type 0
+IsLongerRow rows next tick =
+    (front : List Row) (row : Row) → rows ≡ front ++ row ∷ [] → next ≡ front ++ (record row { to = tick }) ∷ []
+
+pub longer_runs : (ways : List (Option Path)) (rows next : List Row) (items : List Run) (tick : ℕ)
+    → runs_by ways rows ≡ items → IsLongerRow rows next tick
+    → (front : List Run) (one : Run) → items ≡ front ++ one ∷ []
+    → runs_by ways next ≡ front ++ (record one { to = tick }) ∷ []
+longer_runs ways rows next items tick is longer front one e = by (last_or_none rows)
+  where
+    longer_run : Run → Run
+    longer_run r = record r { to = tick }
+
+    by : (rows ≡ []) ⊎ HasLast rows → runs_by ways next ≡ front ++ (record one { to = tick }) ∷ []
+    by (inl none) = absurd (no_last front one (sym (ap (runs_by ways) none) ∙ is ∙ e))
+    by (inr l) =
+        ap (runs_by ways) (longer l.front l.last l.is)
+        ∙ map_push (run_by ways) l.front (record l.last { to = tick })
+        ∙ changed_last longer_run (runs_by ways l.front) front (run_by ways l.last) one
+        (sym (map_push (run_by ways) l.front l.last) ∙ sym (ap (runs_by ways) l.is) ∙ is ∙ e)
+
+pub longer_rows : (ways : List (Option Path)) (rows next : List Row) (tick : ℕ) → AreRows ways rows
+    → IsLongerRow rows next tick → length next ≡ length rows → AreRows ways next
+longer_rows ways rows next tick are longer count = record {
+  known = by (last_or_none rows);
+  few = (let fewer = are.few in omega (arith, fewer, count));
+}
+  where
+    Known : Row → Type 0
+    Known row = row.way < length ways
+
+    by : (rows ≡ []) ⊎ HasLast rows → All (λ (row : Row). row.way < length ways) next
+    by (inl none) = subst (All Known) (sym (length_zero next (count ∙ ap length none))) (All-nil Known)
+    by (inr l) =
+        let all = all_front Known l.front l.last (subst (All Known) l.is are.known) in
+        subst (All Known) (sym (longer l.front l.last l.is))
+        (All-push Known l.front (record l.last { to = tick }) all.0 all.1)
 
 -- ---- a row more
 
@@ -105,3 +119,27 @@ pushed_rows ways new rows place tick path are more few there = record {
       (let count = length-append rows (row_of tick place ∷ []) in
       let fewer = are.few in omega (arith, count, fewer, few));
 }
+
+-- ---- a row that was read
+
+pub read_row : (ways : List (Option Path)) (done all : List Run) (old new : List Row) (row : Row)
+    → done ++ runs_by ways old ≡ all → old ≡ row ∷ new
+    → (done ++ run_by ways row ∷ []) ++ runs_by ways new ≡ all
+read_row ways done all old new row is e =
+    append_assoc done (run_by ways row ∷ []) (runs_by ways new)
+    ∙ ap (λ (rows : List Row). done ++ runs_by ways rows) (sym e) ∙ is
+
+pub read_all : (ways : List (Option Path)) (done all : List Run) (left : List Row)
+    → done ++ runs_by ways left ≡ all → left ≡ [] → done ≡ all
+read_all ways done all left is e =
+    sym (append-nil done) ∙ ap (λ (rows : List Row). done ++ runs_by ways rows) (sym e) ∙ is
+
+pub known_first : (count : ℕ) (old new : List Row) (row : Row) → All (λ (row : Row). row.way < count) old
+    → old ≡ row ∷ new → row.way < count
+known_first count old new row all e =
+    let P = λ (r : Row). r.way < count in All-head P row new (subst (All P) e all)
+
+pub known_rest : (count : ℕ) (old new : List Row) (row : Row) → All (λ (row : Row). row.way < count) old
+    → old ≡ row ∷ new → All (λ (row : Row). row.way < count) new
+known_rest count old new row all e =
+    let P = λ (r : Row). r.way < count in All-tail P row new (subst (All P) e all)

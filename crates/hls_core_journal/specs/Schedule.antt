@@ -3,7 +3,7 @@ use Rattle.std.specs.Prelude.{List, [], ◌∷◌, ◌++◌, Option, codes, flat
 use Rattle.hls_text.specs.Lines.{Text}
 use Rattle.hls_report_text.specs.declared.report.Path.{Path}
 use Rattle.hls_report_text.specs.ReportText.{path_text, span_text, with_end}
-use Rattle.hls_core_journal.specs.declared.runs.Row.{Row}
+use Rattle.hls_core_journal.specs.declared.kept_rows.Row.{Row}
 use Rattle.hls_core_journal.specs.declared.schedule.Schedule.{Schedule}
 use Rattle.hls_core_journal.specs.Ways.{names_by}
 

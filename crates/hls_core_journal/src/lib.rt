@@ -3,6 +3,7 @@
 
 mod answered;
 mod journal;
+mod kept_rows;
 mod report;
 mod runs;
 mod schedule;

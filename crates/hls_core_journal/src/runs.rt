@@ -5,10 +5,11 @@ ghost use Rattle.std.specs.Prelude.{vec_capacity};
 ghost use Rattle.hls_report_text.specs.declared.report.Path.{Path};
 ghost use Rattle.hls_report_text.specs.declared.report.Run.{Run};
 ghost use Rattle.hls_report_text.specs.WellFormed.{HasShort};
-ghost use Rattle.hls_core_journal.specs.declared.runs.Row.{Row as RowSeen};
+ghost use Rattle.hls_core_journal.specs.declared.kept_rows.Row.{Row as RowSeen};
 ghost use Rattle.hls_core_journal.specs.Ways.{names_by, last_names, IsLonger};
 ghost use Rattle.hls_core_journal.specs.Inside.Rows.{way_at, run_by, runs_by};
 
+use crate::kept_rows::{Row, Rows};
 use crate::sums::{WAYS, sum_of_way};
 use crate::ways::same_way;
 use hls_chron::Name;
@@ -18,24 +19,14 @@ use indexmap::IndexSet;
 use std::alloc::{AllocError, Global};
 use std::marker::Model;
 
-/// A run whose path stands among others.
-#[derive(Clone, Copy, Debug)]
-pub(crate) struct Row {
-    pub(crate) from: u32,
-    pub(crate) to: u32,
-    pub(crate) way: u32,
-}
-
-// There may be a million of each.
-const _: () = prove!(size_of::<Row>() == 12);
-
+// There may be a million.
 const _: () = prove!(size_of::<Option<Path>>() == 22);
 
 /// Runs in their order. A path is kept once for runs that share it. Contracts see the runs, and how many there
 /// may be.
 #[derive(Debug, Drop)]
 pub(crate) struct Runs {
-    rows: Vec<Row>,
+    rows: Rows,
     ways: Vec<Option<Path>>,
     guesses: Guesses,
 }
@@ -64,13 +55,14 @@ fn run_of(ways: &[Option<Path>], row: &Row) -> Run
 }
 
 /// The runs of rows.
-fn runs_of(alloc: Global, ways: &[Option<Path>], rows: &[Row]) -> Result<Vec<Run>, AllocError>
-    requires { All (λ row. row.way < length ways.now) rows.now }
-    ensures { IfOk result (λ runs. runs.items ≡ runs_by ways.now rows.now) }
+fn runs_of(alloc: Global, ways: &[Option<Path>], rows: &Rows) -> Result<Vec<Run>, AllocError>
+    requires { All (λ row. row.way < length ways.now) rows.now.items }
+    ensures { IfOk result (λ runs. runs.items ≡ runs_by ways.now rows.now.items) }
 {
-    let mut runs = Vec::with_capacity(alloc, rows.len())?;
-    for row in rows {
-        runs.push(run_of(ways, row))?;
+    let mut runs = Vec::with_capacity(alloc, rows.most())?;
+    let mut left = rows.left();
+    while let Some(row) = left.next() {
+        runs.push(run_of(ways, &row))?;
     }
     Ok(runs)
 }
@@ -110,7 +102,7 @@ impl Runs {
         let mut guesses = Guesses::new(alloc);
         guesses.reserve(WAYS)?;
         Ok(Runs {
-            rows: Vec::with_capacity(alloc, count as usize)?,
+            rows: Rows::with_capacity(alloc, count)?,
             ways: Vec::with_capacity(alloc, count as usize)?,
             guesses,
         })
@@ -133,9 +125,7 @@ impl Runs {
             self.new.items ≡ front ++ (record run { to = tick }) ∷ [] }
         ensures capacity { self.new.capacity ≡ self.old.capacity }
     {
-        if let Some(row) = self.rows.last_mut() {
-            row.to = tick;
-        }
+        self.rows.lengthen(tick);
     }
 
     /// Appends a run of one tick, into room that is there.
@@ -148,7 +138,7 @@ impl Runs {
         let guess = self.guesses.at(sum);
         let way = keep_way(&mut self.ways, guess, path);
         self.guesses.note(sum, way);
-        self.rows.push_reserved(Row {
+        self.rows.push(Row {
             from: tick,
             to: tick,
             way: way as u32,
@@ -156,7 +146,7 @@ impl Runs {
     }
 
     /// The runs as they are kept: rows, and the paths that they share.
-    pub(crate) fn into_rows(self) -> (Vec<Row>, Vec<Option<Path>>)
+    pub(crate) fn into_rows(self) -> (Rows, Vec<Option<Path>>)
         ensures known { All (λ (row : RowSeen). row.way < length result.1.items) result.0.items }
         ensures runs { runs_by result.1.items result.0.items ≡ self.items }
     {

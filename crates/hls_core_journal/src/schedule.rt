@@ -4,10 +4,10 @@ ghost use Rattle.std.specs.Prelude.{codes, drop, flat_map, length, All};
 ghost use Rattle.hls_io.specs.Faults.{CountsFaults};
 ghost use Rattle.hls_io.specs.Bytes.{TellsAlike, AppendsPart, Gathers};
 ghost use Rattle.hls_report_text.specs.ReportText.{span_text, stretch_text, with_end};
-ghost use Rattle.hls_core_journal.specs.declared.runs.Row.{Row as RowSeen};
+ghost use Rattle.hls_core_journal.specs.declared.kept_rows.Row.{Row as RowSeen};
 
 use crate::journal::Journal;
-use crate::runs::Row;
+use crate::kept_rows::{Row, Rows};
 use crate::tails::{Tails, tails_of};
 use hls_io::{Failed, Sink, gather};
 use itoa::write_digits;
@@ -19,7 +19,7 @@ const SPAN: usize = 22;
 /// The schedule of a journal, ready to be written.
 #[derive(Debug, Drop)]
 pub struct Schedule {
-    rows: Vec<Row>,
+    rows: Rows,
     tails: Tails,
     ghost known: { All (λ (row : RowSeen). row.way < length tails) rows.items },
 }
@@ -72,8 +72,9 @@ impl Schedule {
         ensures faults { CountsFaults (K.faults sink.old) (K.faults sink.new) result }
     {
         gather(sink, room, b"schedule\n")?;
-        for row in &self.rows {
-            gather_line(sink, room, row, self.tails.at(row.way as usize))?;
+        let mut left = self.rows.left();
+        while let Some(row) = left.next() {
+            gather_line(sink, room, &row, self.tails.at(row.way as usize))?;
         }
         Ok(())
     }

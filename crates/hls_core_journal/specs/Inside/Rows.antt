@@ -5,7 +5,8 @@ use Rattle.std.specs.Vec.{vec_capacity}
 use Rattle.hls_report_text.specs.declared.report.Path.{Path}
 use Rattle.hls_report_text.specs.declared.report.Run.{Run}
 use Rattle.hls_core_journal.specs.Store.{Store}
-use Rattle.hls_core_journal.specs.declared.runs.Row.{Row}
+use Rattle.hls_core_journal.specs.declared.kept_rows.Row.{Row}
+use Rattle.hls_core_journal.specs.Inside.Shorts.{RowStore}
 
 -- the path at a place
 abbrev pub way_at : List (Option Path) → (at : ℕ) → Option Path
@@ -24,8 +25,8 @@ pub record AreRows (ways : List (Option Path)) (rows : List Row) : Type 0 where
   pub few : length ways ≤ length rows
 
 -- a row has 32 bits for the place of its path
-abbrev pub store_of : Vec Row → Vec (Option Path) → Store
+abbrev pub store_of : RowStore → Vec (Option Path) → Store
 store_of rows ways = record {
   items = runs_by ways.items rows.items;
-  capacity = min (min (vec_capacity rows) (vec_capacity ways)) (2 ^ 32);
+  capacity = min (min rows.capacity (vec_capacity ways)) (2 ^ 32);
 }

@@ -1,10 +1,12 @@
-use Rattle.std.proofs.Common.{◌++◌, take, flat_map, codes}
-use Rattle.hls_core_journal.specs.Schedule.{line_by}
-use Rattle.hls_core_journal.proofs.Lines.{Wrote}
+use Rattle.std.proofs.Common.{length}
+use Rattle.hls_core_journal.specs.Inside.Left.{left_rows}
+use Rattle.hls_core_journal.proofs.Lines.{WroteRows}
 use Rattle.hls_core_journal.proofs.schedule.Schedule.write.Given as goal
 
 abbrev pub invariant-loop-row : goal.invariant-loop-row
 invariant-loop-row g l =
-    Wrote (g.K.Sink.written l.fn.sink) (g.K.Sink.written l.sink) l.fn.room.items l.room.items
-    (codes "schedule\n" ++ flat_map (line_by l.self.tails) (take l.row-index l.self.rows.items))
-    (g.K.Sink.faults l.fn.sink) (g.K.Sink.faults l.sink)
+    WroteRows l.self.tails l.self.rows.items (left_rows l.left) (g.K.Sink.written l.fn.sink) (g.K.Sink.written l.sink)
+    l.fn.room.items l.room.items (g.K.Sink.faults l.fn.sink) (g.K.Sink.faults l.sink)
+
+abbrev pub decreases-loop-row : goal.decreases-loop-row
+decreases-loop-row g l = length (left_rows l.left)
