@@ -4,10 +4,11 @@ use Rattle.std.proofs.Common.{subst, arith}
 use Rattle.std.proofs.Common.{map, take, drop, decimal, append_assoc}
 use Rattle.std.specs.Prelude.{Option, None, Result, Ok, Err, OnOk, OnErr, All, codes, flat_map, slice_set}
 use Rattle.std.proofs.Common.{append-nil}
-use Rattle.std.proofs.lemmas.List.{get_or-map, drop-set, drop_all, length-drop, length-set, take_all}
+use Rattle.std.proofs.lemmas.List.{get_or-map, drop-set, drop_all, length-append, length-drop, length-set, length-take-le, take_all}
 use Rattle.std.proofs.lemmas.Fmt.{length-decimal-le}
 use Rattle.std.proofs.lemmas.List.Elements.{All-head, All-tail}
 use Rattle.std.proofs.lemmas.Grind.{flat_map-append}
+use Rattle.std.proofs.Math.Seq.{drop-append_seam}
 use Rattle.hls_io.specs.Bytes.{AppendsPart, Gathers, TellsAlike}
 use Rattle.hls_io.proofs.Steps.{gathers-part, gathers-trans, part-more}
 use Rattle.hls_text.specs.Lines.{Text}
@@ -64,31 +65,59 @@ set_twice bytes i j x y n le =
     let two = length-set bytes i x in
     let three = length-set (slice_set bytes i x) j y in omega (arith, le, two, three)
 
-pub span_written : (old one new : List ℕ) (from to one_number other behind start : ℕ) → one_number ≡ from → other ≡ to
-    → length old ≡ 22 → length one ≡ 22 → behind + length (decimal other) ≡ 22 → length (decimal other) ≤ 10
-    → drop behind one ≡ decimal other ++ drop 22 old
+pub span_written : (old one new : List ℕ) (from to one_number other behind start end : ℕ) → one_number ≡ from
+    → other ≡ to → 22 ≤ end → end ≤ length one → behind + length (decimal other) ≡ end
+    → length (decimal other) ≤ 10 → drop behind one ≡ decimal other ++ drop end old
     → drop start new ≡ decimal one_number
     ++ drop (behind - 2) (slice_set (slice_set one (behind - 1) 46) (behind - 2) 46)
-    → drop start new ≡ span_text from to
-span_written old one new from to one_number other behind start is_from is_to whole long fits short second first =
+    → drop start new ≡ span_text from to ++ drop end old
+span_written old one new from to one_number other behind start end is_from is_to enough within fits short second first =
     let two = slice_set one (behind - 1) 46 in
     let three = slice_set two (behind - 2) 46 in
-    let long_two : length two ≡ 22 = length-set one (behind - 1) 46 ∙ long in
-    let after_far : behind - 2 + 1 ≡ behind - 1 = omega (arith, fits, short) in
-    let after_near : behind - 1 + 1 ≡ behind = omega (arith, fits, short) in
+    let rest = drop end old in
+    let long_two : length two ≡ length one = length-set one (behind - 1) 46 in
+    let after_far : behind - 2 + 1 ≡ behind - 1 = omega (arith, enough, fits, short) in
+    let after_near : behind - 1 + 1 ≡ behind = omega (arith, enough, fits, short) in
     let nearer : drop (behind - 1) two ≡ 46 ∷ drop behind one =
-    drop-set one (behind - 1) 46 (omega (arith, long, fits, short)) ∙ ap (λ n. 46 ∷ drop n one) after_near in
+    drop-set one (behind - 1) 46 (omega (arith, enough, within, fits, short)) ∙ ap (λ n. 46 ∷ drop n one) after_near in
     let farther : drop (behind - 2) three ≡ 46 ∷ drop (behind - 1) two =
-    drop-set two (behind - 2) 46 (omega (arith, long_two, fits, short)) ∙ ap (λ n. 46 ∷ drop n two) after_far in
-    let last : drop behind one ≡ decimal to =
-    second ∙ ap (λ t. decimal other ++ t) (drop_all 22 old (omega (arith, whole))) ∙ append-nil (decimal other)
-    ∙ ap decimal is_to in
+    drop-set two (behind - 2) 46 (omega (arith, long_two, enough, within, fits, short))
+    ∙ ap (λ n. 46 ∷ drop n two) after_far in
+    let last : drop behind one ≡ decimal to ++ rest = second ∙ ap (λ n. decimal n ++ rest) is_to in
     first ∙ ap (λ t. decimal one_number ++ t) (farther ∙ ap (λ t. 46 ∷ t) (nearer ∙ ap (λ t. 46 ∷ t) last))
-    ∙ ap (λ n. span_text n to) is_from
+    ∙ ap (λ n. decimal n ++ (46 ∷ 46 ∷ (decimal to ++ rest))) is_from
+    ∙ sym (append_assoc (decimal from) (46 ∷ 46 ∷ decimal to) rest)
 
-pub rest_of : (bytes : List ℕ) (start : ℕ) → length bytes ≡ 22 → take (22 - start) (drop start bytes) ≡ drop start bytes
-rest_of bytes start whole =
-    let long = length-drop start bytes in take_all (22 - start) (drop start bytes) (omega (arith, long, whole))
+pub rest_of : (bytes : List ℕ) (start count : ℕ) → length bytes ≡ count
+    → take (count - start) (drop start bytes) ≡ drop start bytes
+rest_of bytes start count whole =
+    let long = length-drop start bytes in take_all (count - start) (drop start bytes) (omega (arith, long, whole))
+
+-- a tail that was written at the end of some bytes, and a span before it
+abbrev pub with_tail : (zeros tail : List ℕ) (end count : ℕ) → List ℕ
+with_tail zeros tail end count = take end zeros ++ (tail ++ drop (count - end) (drop end zeros))
+
+tail_alone : (zeros tail : List ℕ) (end count : ℕ) → length zeros ≡ count
+    → with_tail zeros tail end count ≡ take end zeros ++ tail
+tail_alone zeros tail end count whole =
+    let long = length-drop end zeros in
+    ap (λ (t : List ℕ). take end zeros ++ (tail ++ t)) (drop_all (count - end) (drop end zeros) (omega (arith, long, whole)))
+    ∙ ap (λ (t : List ℕ). take end zeros ++ t) (append-nil tail)
+
+pub line_written : (zeros given bytes : List ℕ) (span tail : Text) (start end count : ℕ) → length zeros ≡ count
+    → length bytes ≡ length (with_tail zeros given end count)
+    → drop start bytes ≡ span ++ drop end (with_tail zeros given end count)
+    → end + length tail ≡ count → given ≡ tail → take (count - start) (drop start bytes) ≡ span ++ tail
+line_written zeros given bytes span tail start end count room same written fits is =
+    let alone = tail_alone zeros given end count room in
+    let front = length-take-le end zeros (omega (arith, room, fits)) in
+    let all = ap length alone ∙ length-append (take end zeros) given in
+    let long = ap length is in
+    let whole : length bytes ≡ count = omega (arith, same, front, all, long, fits) in
+    let behind : drop end (take end zeros ++ given) ≡ given =
+    ap (λ n. drop n (take end zeros ++ given)) (sym front) ∙ drop-append_seam (take end zeros) given in
+    rest_of bytes start count whole ∙ written
+    ∙ ap (λ t. span ++ t) (ap (λ (t : List ℕ). drop end t) alone ∙ behind ∙ is)
 
 -- ---- a line more
 

@@ -16,6 +16,9 @@ use std::alloc::AllocError;
 /// How many bytes a span has at most: two numbers of 32 bits, and two dots.
 const SPAN: usize = 22;
 
+/// How many bytes a line has at most that is handed on as one.
+const LINE: usize = 96;
+
 /// The schedule of a journal, ready to be written.
 #[derive(Debug, Drop)]
 pub struct Schedule {
@@ -24,20 +27,23 @@ pub struct Schedule {
     ghost known: { All (λ (row : RowSeen). row.way < length tails) rows.items },
 }
 
-/// Writes a span at the end of some bytes, and tells where it begins.
-fn write_span(bytes: &mut [u8], from: u32, to: u32) -> usize
-    requires { length bytes.old ≡ 22 }
-    ensures within { result ≤ 22 }
-    ensures written { drop result bytes.new ≡ span_text from to }
+/// Writes a span before a place among some bytes, and tells where it begins.
+fn write_span(bytes: &mut [u8], end: usize, from: u32, to: u32) -> usize
+    requires enough { 22 ≤ end }
+    requires within { end ≤ length bytes.old }
+    ensures within { result ≤ end }
+    ensures written { drop result bytes.new ≡ span_text from to ++ drop end bytes.old }
 {
-    let behind = write_digits(u64::from(to), bytes, SPAN);
+    let behind = write_digits(u64::from(to), bytes, end);
     bytes[behind - 1] = b'.';
     bytes[behind - 2] = b'.';
     write_digits(u64::from(from), bytes, behind - 2)
 }
 
-/// Hands a line on: the span of a row, and what its line ends with.
-fn gather_line<K: Sink>(
+/// Hands a long line on, part by part.
+#[cold]
+#[inline(never)]
+fn gather_long<K: Sink>(
     sink: &mut K,
     room: &mut Vec<u8>,
     row: &Row,
@@ -51,9 +57,34 @@ fn gather_line<K: Sink>(
     ensures faults { CountsFaults (K.faults sink.old) (K.faults sink.new) result }
 {
     let mut bytes = [0u8; SPAN];
-    let from = write_span(&mut bytes, row.from, row.to);
+    let from = write_span(&mut bytes, SPAN, row.from, row.to);
     gather(sink, room, &bytes[from..])?;
     gather(sink, room, tail)
+}
+
+/// Hands a line on: the span of a row, and what its line ends with. One piece goes through the room quicker than
+/// two.
+fn gather_line<K: Sink>(
+    sink: &mut K,
+    room: &mut Vec<u8>,
+    row: &Row,
+    tail: &[u8],
+) -> Result<(), Failed>
+    ensures whole { OnOk result (Gathers (K.written sink.old) (K.written sink.new)
+        room.old.items room.new.items (span_text row.now.from row.now.to ++ tail.now)) }
+    ensures part { OnErr result (AppendsPart (K.written sink.old) (K.written sink.new)
+        (room.old.items ++ (span_text row.now.from row.now.to ++ tail.now))) }
+    ensures told { TellsAlike (K.written sink.old) (K.written sink.new) }
+    ensures faults { CountsFaults (K.faults sink.old) (K.faults sink.new) result }
+{
+    if tail.len() > LINE - SPAN {
+        return gather_long(sink, room, row, tail);
+    }
+    let mut bytes = [0u8; LINE];
+    let end = LINE - tail.len();
+    bytes[end..].copy_from_slice(tail);
+    let from = write_span(&mut bytes, end, row.from, row.to);
+    gather(sink, room, &bytes[from..])
 }
 
 impl Schedule {
