@@ -10,15 +10,17 @@ ghost use Rattle.hls_legal.specs.Commands.{is_done};
 ghost use Rattle.hls_legal.specs.Moment.{new_name};
 ghost use Rattle.hls_core_journal.specs.Kept.{naming};
 
-use crate::runs::{Runs, last_place, put_tick};
-use crate::sums::{NAMES, sum_of_name};
-use crate::ways::{insert, is_at, place_of, push};
+use crate::runs::{Runs, put_tick};
+use crate::ways::{insert, place_of, push};
 use hls_chron::Name;
 use hls_core_guesses::Guesses;
 use hls_report_text::{Answer, Path};
 use hls_scenario::{Command, Item};
 use indexmap::IndexSet;
 use std::alloc::{AllocError, Global};
+
+/// Of how many nodes the place of the name is kept: of those with the first keys.
+const NODES: usize = 4096;
 
 /// What became of the first commands of a scenario and of the ticks that have passed. It has all the
 /// room that the scenario needs: no call but the first and the last takes memory.
@@ -77,7 +79,7 @@ impl Journal {
         ensures { IfOk result (IsNew items.now horizon) }
     {
         let mut guesses = Guesses::new(alloc);
-        guesses.reserve(NAMES)?;
+        guesses.reserve(NODES)?;
         Ok(Journal {
             ticks: 0,
             answers: Vec::with_capacity(alloc, items.len())?,
@@ -111,36 +113,22 @@ impl Journal {
         self.answers.pop()
     }
 
-    /// Notes the answer to the next command.
-    pub fn note(&mut self, command: &Command, answer: Answer)
+    /// Notes the answer to the next command. Where it gives a new node a name, `key` is likely to be that node's.
+    pub fn note(&mut self, command: &Command, answer: Answer, key: usize)
         requires { MayNote command.now self.old }
         ensures { IsNoted command.now answer self.old self.new }
     {
         if is_done(&answer) {
             if let Some(name) = new_name(command) {
                 let place = insert(&mut self.names, name);
-                self.guesses.note(sum_of_name(&name), place);
+                self.guesses.note(key, place);
             }
         }
         self.answers.push_reserved(answer);
     }
 
-    /// The place of a name, if it is there, which is to stand at this position of a path.
-    fn place_at(&self, at: u8, name: &Name) -> Option<usize>
-        requires { at < 9 }
-        ensures found { IfSome result (λ place. (place < length self.now.names.keys)
-            × (get_or self.now.names.keys place [] ≡ name.now)) }
-        ensures none { IsNone result → list_any (bytes_eq name.now) self.now.names.keys ≡ false }
-    {
-        let last = last_place(&self.runs, at);
-        if is_at(&self.names, last, name) {
-            return Some(last);
-        }
-        place_of(&self.names, self.guesses.at(sum_of_name(name)), name)
-    }
-
-    /// Goes on along a path to a node with a name that was noted.
-    pub fn extend(&self, path: &mut Path, name: &Name)
+    /// Goes on along a path to a node with a name that was noted. The name is likely to have been noted with `key`.
+    pub fn extend(&self, path: &mut Path, name: &Name, key: usize)
         requires known { has_name self.now name.now ≡ true }
         requires few { length self.now.names.keys ≤ 2 ^ 16 }
         requires short { path.old.len < 9 }
@@ -150,7 +138,7 @@ impl Journal {
         ensures within { AreWithin (length self.now.names.keys) (Some path.old) →
             AreWithin (length self.now.names.keys) (Some path.new) }
     {
-        match self.place_at(path.len, name) {
+        match place_of(&self.names, self.guesses.at(key), name) {
             Some(place) => push(path, place as u16),
             None => unreachable!(),
         }
