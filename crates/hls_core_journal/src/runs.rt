@@ -169,16 +169,6 @@ impl Runs {
     }
 }
 
-/// The place that the path of the last run has at a position. A path is likely to have it there again.
-pub(crate) fn last_place(runs: &Runs, at: u8) -> usize
-    requires { at < 9 }
-{
-    match runs.last_path() {
-        Some(Some(path)) => usize::from(path.names[usize::from(at)]),
-        _ => 0,
-    }
-}
-
 /// Whether the last run has the same path.
 fn goes_on(names: &IndexSet<Name>, runs: &Runs, path: &Option<Path>) -> bool
     requires path { HasShort path.now }
