@@ -4,8 +4,21 @@ ghost use Rattle.std.specs.Prelude.{◌≡◌, ◌<◌, ◌≤◌, ◌+◌, true
 use crate::Core;
 use crate::commands::carry_along;
 use crate::ticks::{Leap, elapse};
+use hls_scenario::Command;
 use hls_sched::Scheduler;
+use hls_tree::Tree;
 use std::alloc::AllocError;
+
+/// The key of the node that a command gave its name to, where it did: the place of the name is guessed by it.
+fn new_key(tree: &Tree, command: &Command) -> usize {
+    match command {
+        Command::Load { name, .. } | Command::Thread { name, .. } => match tree.find(name) {
+            Some(id) => id.key(),
+            None => 0,
+        },
+        _ => 0,
+    }
+}
 
 impl Core {
     ghost use Rattle.hls_machine.specs.Hierarchy.{Hierarchy};
@@ -43,7 +56,8 @@ impl Core {
             commands,
             command,
         )?;
-        self.journal.note(command, answer);
+        let key = new_key(&self.tree, command);
+        self.journal.note(command, answer, key);
         self.agenda.advance();
         Ok(true)
     }

@@ -20,8 +20,9 @@ fn path_of(tree: &Tree, journal: &Journal, ids: &[NodeId]) -> Path
         names: [0; 9],
     };
     for i in 0..ids.len() {
-        let name = tree.name(ids[i]);
-        journal.extend(&mut path, &name);
+        let id = ids[i];
+        let name = tree.name(id);
+        journal.extend(&mut path, &name, id.key());
     }
     path
 }
