@@ -1,12 +1,9 @@
 // The table of servers.
-ghost use Rattle.std.specs.Prelude.{◌≡◌, ℕ, ◌<◌, [], false, length, replicate, slice_set, IfOk};
+ghost use Rattle.std.specs.Prelude.{◌≡◌, ◌<◌, [], length, replicate, slice_set, IfOk};
 ghost use Rattle.hls_book.specs.Servers as laws;
 ghost use Rattle.hls_edf.specs.Choice.{server_in};
-ghost use Rattle.hls_edf.specs.Changes.{charged_by, leap_of};
-ghost use Rattle.hls_edf.specs.Inside.Calm.{IsCalm};
 
-use crate::server::{charge_by, vacant};
-use crate::servers::leap;
+use crate::server::vacant;
 use hls_book::Server;
 use std::alloc::{AllocError, Global};
 use std::marker::Model;
@@ -71,24 +68,5 @@ impl Servers {
         ensures { self.new ≡ slice_set self.old slot server }
     {
         self.places[slot as usize] = server;
-    }
-
-    /// Lets so many ticks pass over the server of a slot, as `leap` does.
-    pub fn leap(&mut self, slot: u32, taken: bool, asks: bool, now: u32, ticks: u32) -> u64
-        requires { slot < length self.old }
-        ensures next { self.new
-            ≡ slice_set self.old slot (leap_of (server_in self.old slot) taken asks false now ticks) }
-        ensures calm { (t : ℕ) → t < result
-            → IsCalm (leap_of (server_in self.old slot) taken asks false now ticks) taken asks t }
-    {
-        leap(&mut self.places[slot as usize], taken, asks, now, ticks)
-    }
-
-    /// Takes so many ticks off the budget of a slot that they served.
-    pub fn charge(&mut self, slot: u32, ticks: u32)
-        requires { slot < length self.old }
-        ensures { self.new ≡ slice_set self.old slot (charged_by ticks (server_in self.old slot)) }
-    {
-        charge_by(&mut self.places[slot as usize], ticks);
     }
 }

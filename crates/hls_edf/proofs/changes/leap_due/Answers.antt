@@ -49,19 +49,18 @@ loop-slot-preserved c =
     let due = c.args.calm.due in
     let slot = c.loop-slot.slot in
     let now_servers = c.loop-slot.servers in
-    let server : Server = leap_of (server_in now_servers slot) c.is_some-taken.result c.has_slot-asks.result
-    false c.now-now.result c.args.ticks in
+    let server : Server = c.leap-next.new.server in
     let next = c.next_slot-slot-in-loop-slot in
     let within : slot < length now_servers = search rules in
     let here : server_in now_servers slot ≡ server_in servers slot =
     c.loop-slot.invariant.rest slot (omega arith) in
     let taken : c.is_some-taken.result ≡ is_some (terms_at state.book slot) = search rules in
     let asks : c.has_slot-asks.result ≡ slot_asks state.mask slot = search rules in
-    let after = c.leap-next.new.self in
+    let after = c.set.new.self in
     let set : server_in after slot ≡ server =
-    rw c.leap-next.ensures.next (get_or-set_same now_servers slot server vacant within) in
+    rw c.set.ensures (get_or-set_same now_servers slot server vacant within) in
     let other : (k : ℕ) → k ≢ slot → server_in after k ≡ server_in now_servers k =
-    λ k ne. rw c.leap-next.ensures.next (get_or-set_other now_servers slot k server vacant ne) in
+    λ k ne. rw c.set.ensures (get_or-set_other now_servers slot k server vacant ne) in
     let on_here : slot_asks due slot ≡ true = c.loop-slot.invariant.asks (search rules) in
     let its : server ≡ leap_of (server_in servers slot) (is_some (terms_at state.book slot))
     (slot_asks state.mask slot) false (now_of state.book) c.args.ticks =
