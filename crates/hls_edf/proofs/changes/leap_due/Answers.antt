@@ -1,6 +1,6 @@
 use Rattle.std.proofs.Common.{rules, ◌≡◌, ◌≢◌, ◌<◌, ◌≤◌, ◌+◌, ℕ, true, false, length, is_some, arith, inl, inr}
 use Rattle.std.proofs.Common.{refl, sym, ap, ◌∙◌, subst, get_or-set_same, get_or-set_other}
-use Rattle.std.specs.Prelude.{◌⊎◌}
+use Rattle.std.specs.Prelude.{slice_set, ◌⊎◌}
 use Rattle.std.proofs.lemmas.Bool.{cases_lt, cases_eq}
 use Rattle.hls_chron.specs.Ledger.{now_of}
 use Rattle.hls_chron.specs.Seats.{terms_at}
@@ -56,11 +56,10 @@ loop-slot-preserved c =
     c.loop-slot.invariant.rest slot (omega arith) in
     let taken : c.is_some-taken.result ≡ is_some (terms_at state.book slot) = search rules in
     let asks : c.has_slot-asks.result ≡ slot_asks state.mask slot = search rules in
-    let after = c.set.new.self in
-    let set : server_in after slot ≡ server =
-    rw c.set.ensures (get_or-set_same now_servers slot server vacant within) in
-    let other : (k : ℕ) → k ≢ slot → server_in after k ≡ server_in now_servers k =
-    λ k ne. rw c.set.ensures (get_or-set_other now_servers slot k server vacant ne) in
+    let set : server_in (slice_set now_servers slot server) slot ≡ server =
+    get_or-set_same now_servers slot server vacant within in
+    let other : (k : ℕ) → k ≢ slot → server_in (slice_set now_servers slot server) k ≡ server_in now_servers k =
+    λ k ne. get_or-set_other now_servers slot k server vacant ne in
     let on_here : slot_asks due slot ≡ true = c.loop-slot.invariant.asks (search rules) in
     let its : server ≡ leap_of (server_in servers slot) (is_some (terms_at state.book slot))
     (slot_asks state.mask slot) false (now_of state.book) c.args.ticks =
@@ -73,7 +72,7 @@ loop-slot-preserved c =
       length = search rules;
       past = λ k lt on. elim (sides due slot next.result k next.ensures.silent lt on) [
         | inl less ↦ other k (λ e. absurd (omega (arith, less, e))) ∙ c.loop-slot.invariant.past k less on
-        | inr is ↦ subst (λ j. server_in after j
+        | inr is ↦ subst (λ j. server_in (slice_set now_servers slot server) j
             ≡ leap_of (server_in servers j) (is_some (terms_at state.book j)) (slot_asks state.mask j)
             false (now_of state.book) c.args.ticks) (sym is) (set ∙ its)
       ];
@@ -88,7 +87,7 @@ loop-slot-preserved c =
             subst (λ (at : Server). IsCalm at (is_some (terms_at state.book k)) (slot_asks state.mask k) t)
             (sym (other k (λ e. absurd (omega (arith, less, e)))))
             (c.loop-slot.invariant.calm k t less (first t before) on)
-        | inr is ↦ subst (λ j. IsCalm (server_in after j)
+        | inr is ↦ subst (λ j. IsCalm (server_in (slice_set now_servers slot server) j)
             (is_some (terms_at state.book j)) (slot_asks state.mask j) t) (sym is)
             (subst (λ (at : Server). IsCalm at (is_some (terms_at state.book slot)) (slot_asks state.mask slot) t)
             (sym set) (rw (← taken, ← asks) (c.leap-next.ensures.calm t (second t before))))

@@ -5,11 +5,11 @@ pub returns-clause-next : goal.returns-clause-next
 returns-clause-next c =
     let state = c.args.state.now in
     served_next c.args.servers.now c.leap_slots-until.new.servers c.charge_run.new.servers state.book state.mask
-    c.args.run.ticks c.args.run.served c.requires.seated c.charge_run.ensures.next c.leap_slots-until.ensures.next
+    c.args.run.ticks c.args.run.served c.requires.seated c.charge_run.ensures c.leap_slots-until.ensures.next
 
 pub returns-clause-calm : goal.returns-clause-calm
 returns-clause-calm c =
     let state = c.args.state.now in
     served_calm c.args.servers.now c.leap_slots-until.new.servers c.charge_run.new.servers state.book state.mask
-    c.args.run.ticks c.args.run.served c.requires.seated c.charge_run.ensures.next c.leap_slots-until.result
+    c.args.run.ticks c.args.run.served c.requires.seated c.charge_run.ensures c.leap_slots-until.result
     c.leap_slots-until.ensures.calm
