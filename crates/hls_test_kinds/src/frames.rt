@@ -4,15 +4,15 @@ ghost use Rattle.hls_kinds.specs.Frames.{owner_in, owner_at};
 ghost use Rattle.hls_kinds.specs.Frames.{owner_now as owner_at_present, owned_places as owned};
 
 use hls_chron::Book;
-use hls_wheel_owners::{Owners, PLACES, after_event, owned_below};
+use hls_wheel_owners::{PLACES, apply, owned_below};
 
 /// The owners of the places.
-fn owners(book: &Book) -> Owners
+fn owners(book: &Book) -> [Option<u8>; PLACES]
     ensures { (place : ℕ) → place < 1000 → owner_in result place ≡ owner_at book.now place }
 {
     let mut owners = [None; PLACES];
     for mark in book.marks() {
-        owners = after_event(&owners, mark.event);
+        apply(&mut owners, mark.event);
     }
     owners
 }

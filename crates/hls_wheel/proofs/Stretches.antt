@@ -1,6 +1,6 @@
 -- The owner of the places, and for how long it stays, some ticks later.
 use Rattle.std.proofs.Common.{◌≡◌, ◌≢◌, ℕ, zero, suc, ◌+◌, ◌-◌, ◌%◌, ◌<◌, ◌≤◌, Some, None, Bool, true, false, refl}
-use Rattle.std.proofs.Common.{sym, ap, ◌∙◌, ◌^◌, arith, inl, inr, subst}
+use Rattle.std.proofs.Common.{[], sym, ap, ◌∙◌, ◌^◌, arith, inl, inr, subst}
 use Rattle.std.specs.Prelude.{List, Option, ◌==◌, if◌then◌else◌, replicate, length, slice_set, slice_index_or}
 use Rattle.std.proofs.Math.Nat.{mod-lt}
 use Rattle.std.proofs.lemmas.Bool.{cases_lt, cases_eq, eq-eqb}
@@ -250,6 +250,15 @@ stretch_unowned frame now n = record {
       unowned_place ((now + k) % frame) ∙ sym (unowned_place (now % frame)));
   some = λ _ finite. absurd (finite refl);
   runs = runs_unknown (replicate 1000 None) frame n;
+}
+
+pub stretch_placeless : (frame now n : ℕ)
+    → IsStretch [] frame now (record { owner = None; until = never; runs = replicate n unknown })
+stretch_placeless frame now n = record {
+  owner = refl;
+  all = λ _. all_alike (owner_in []) frame now frame (λ k lt. refl);
+  some = λ _ finite. absurd (finite refl);
+  runs = runs_unknown [] frame n;
 }
 
 -- of a box

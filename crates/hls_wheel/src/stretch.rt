@@ -1,5 +1,5 @@
 // The owner of the present tick's place, and for how long the places are its.
-ghost use Rattle.std.specs.Prelude.{◌≡◌, ℕ, List, Option, None, ◌-◌, ◌<◌, ◌≤◌, nat_lt, replicate};
+ghost use Rattle.std.specs.Prelude.{◌≡◌, ℕ, List, Option, [], None, ◌-◌, ◌<◌, ◌≤◌, nat_lt, replicate};
 ghost use Rattle.hls_chron.specs.Ledger.{now_of};
 ghost use Rattle.hls_kinds.specs.Frames.{owner_in};
 ghost use Rattle.hls_kinds.specs.Stands.{owned_for};
@@ -43,8 +43,9 @@ fn run_of(owner: Option<u8>) -> usize
 }
 
 impl Stretch {
-    /// Of a frame where nobody owns a place.
+    /// Of a frame where nobody owns a place, or of no places.
     pub fn unowned() -> Stretch
+        ensures none { (frame now : ℕ) → IsStretch [] frame now result }
         ensures stretch { (frame now : ℕ) → IsStretch (replicate 1000 None) frame now result }
         ensures runs { (owners : List (Option ℕ)) (frame : ℕ) → AreRuns owners frame result.runs }
     {

@@ -3,4 +3,4 @@
 
 mod owners;
 
-pub use owners::{Owners, PLACES, after_event, owned_below};
+pub use owners::{PLACES, apply, owned_below};

@@ -9,7 +9,7 @@ loop-mark-init c = λ p lt. get_or-replicate 1000 p None None lt
 
 pub loop-mark-preserved : goal.loop-mark-preserved
 loop-mark-preserved c = λ p lt.
-    c.after_event-owners.ensures p lt
+    c.apply.ensures.applied p lt
     ∙ owners-more (owner_in c.loop-mark.owners) c.marks-mark-items.result.now c.loop-mark.mark-index _ p
     c.loop-mark-test.true c.loop-mark.invariant lt
 
