@@ -18,9 +18,9 @@ pub(crate) struct Row {
 /// A row of few ticks that begins behind the one before it, and whose path is one of the first. It has no ticks
 /// where it stands for a row that is not so.
 #[derive(Clone, Copy, Debug)]
-pub(crate) struct Short {
-    pub(crate) way: u8,
-    pub(crate) ticks: u8,
+struct Short {
+    way: u8,
+    ticks: u8,
 }
 
 // There may be a million.
