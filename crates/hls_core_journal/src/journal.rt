@@ -1,9 +1,7 @@
 // A journal.
 ghost use Rattle.std.specs.Prelude.{◌≡◌, ◌↔◌, ◌+◌, ◌-◌, ◌^◌, ◌<◌, ◌≤◌, [], ◌∷◌, ◌++◌, Some, true};
-ghost use Rattle.std.specs.Prelude.{IfOk, IfSome, IsNone, false, get_or, length, slice_get};
+ghost use Rattle.std.specs.Prelude.{IfOk, length, slice_get};
 ghost use Rattle.std.specs.Prelude.{option_copied, option_to_list, vec_capacity};
-ghost use Rattle.std.specs.List.{list_any};
-ghost use Rattle.std.specs.Str.{bytes_eq};
 ghost use Rattle.hls_report_text.specs.Content.{path_names};
 ghost use Rattle.hls_report_text.specs.WellFormed.{HasShort};
 ghost use Rattle.hls_legal.specs.Commands.{is_done};

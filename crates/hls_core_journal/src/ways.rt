@@ -23,7 +23,7 @@ pub fn push(path: &mut Path, place: u16)
 }
 
 /// Whether a name stands at a place.
-pub fn is_at(names: &IndexSet<Name>, place: usize, name: &Name) -> bool
+fn is_at(names: &IndexSet<Name>, place: usize, name: &Name) -> bool
     ensures yes { IsTrue result → (place < length names.now.keys) × (get_or names.now.keys place [] ≡ name.now) }
     ensures no { slice_get names.now.keys place ≡ Some name.now → IsTrue result }
 {
