@@ -45,6 +45,13 @@ impl Seats {
         Ok(Seats { places })
     }
 
+    /// All places, by slot.
+    pub fn places(&self) -> &[Option<FairSeat>]
+        ensures { result.now ≡ self.now }
+    {
+        &self.places
+    }
+
     /// The seat of a slot.
     pub fn get(&self, slot: u32) -> Option<FairSeat>
         ensures { result ≡ slice_index_or self.now slot None }

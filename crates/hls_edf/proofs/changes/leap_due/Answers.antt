@@ -54,7 +54,7 @@ loop-slot-preserved c =
     let within : slot < length now_servers = search rules in
     let here : server_in now_servers slot ≡ server_in servers slot =
     c.loop-slot.invariant.rest slot (omega arith) in
-    let taken : c.is_some-taken.result ≡ is_some (terms_at state.book slot) = search rules in
+    let taken : c.is_taken-taken.result ≡ is_some (terms_at state.book slot) = search rules in
     let asks : c.has_slot-asks.result ≡ slot_asks state.mask slot = search rules in
     let set : server_in (slice_set now_servers slot server) slot ≡ server =
     get_or-set_same now_servers slot server vacant within in
