@@ -2,7 +2,7 @@
 use Rattle.std.proofs.Common.{◌≡◌, ◌≢◌, ℕ, ◌^◌, ◌<◌, ◌≤◌, zero, suc, List, Some, None, Bool, true, false}
 use Rattle.std.proofs.Common.{refl, sym, ap, ap₂, ◌∙◌, arith, inl, inr, length, length-set, get_or}
 use Rattle.std.proofs.Common.{get_or-set_same, get_or-set_other}
-use Rattle.std.specs.Prelude.{Option, slice_set, replicate, if◌then◌else◌, is_some, IfSome, MatchOption, min, max, ◌==◌}
+use Rattle.std.specs.Prelude.{Option, slice_set, replicate, if◌then◌else◌, is_some, IfSome, MatchOption, min, max, ◌==◌, ◌&&◌}
 use Rattle.std.specs.Int.{bit_at}
 use Rattle.std.proofs.lemmas.Bool.{cases_eq, eqb-true, eq-eqb}
 use Rattle.hls_chron.specs.declared.plain.Kind.TheVariants as kinds
@@ -30,7 +30,7 @@ use Rattle.hls_sfq.specs.declared.shares.FairSeat.{FairSeat}
 use Rattle.hls_sfq.specs.Choice.{tag_of, tag_asking, first_of, choice_of, fair_quantum}
 use Rattle.hls_sfq.specs.Changes.{time_after, seats_after, served_seat, leapt_seat, time_leapt, seats_leapt, placed}
 use Rattle.hls_sfq.specs.Changes.{start_or, step_of, rest_in}
-use Rattle.hls_sfq.specs.Queue.{IsQueue, QueuesTags}
+use Rattle.hls_sfq.specs.Queue.{IsNext, IsQueue, QueuesTags}
 use Rattle.hls_sfq.specs.Tags.{KeepsTags}
 use Rattle.hls_sfq.proofs.TagLaws.{asks_tag}
 use Rattle.hls_sfq.proofs.Calls as calls
@@ -108,11 +108,9 @@ chosen_off time mask now on seats turn same is off_is first first_is =
     ∙ ap (λ on. if on then Some turn.slot else first_of time seats mask)
     (sym off_is ∙ is ∙ ap (λ m. goes_on_by m turn) same)
 
-pub chosen_next : (keys : List (Option ℕ)) (time mask now : ℕ) (seats : List (Option FairSeat)) (turn : Turn)
-    (next : Option ℕ) → ((time : ℕ) (seats : List (Option FairSeat)) → IsQueue keys time seats now
-    → next ≡ choice_of turn time seats now) → now ≡ mask → IsQueue keys time seats mask
-    → next ≡ choice_of turn time seats mask
-chosen_next keys time mask now seats turn next is same q = (rw same at is) time seats q
+pub next_where : (keys : List (Option ℕ)) (mask now : ℕ) (turn : Turn) (next : Option ℕ) → IsNext keys turn now next
+    → now ≡ mask → IsNext keys turn mask next
+next_where keys mask now turn next is same = rw same at is
 
 -- ---- an empty queue
 
@@ -128,12 +126,15 @@ queue_new seats mask silent = record {
       ∙ untagged 0 seats 0 slot (silent_slot slot));
 }
 
-pub none_chosen : (seats : List (Option FairSeat)) (mask : ℕ) → mask ≡ 0
-    → None ≡ choice_of (record { slot = 31; ticks = 0 }) 0 seats mask
-none_chosen seats mask silent =
-    let off : false ≡ goes_on_by 0 (record { slot = 31; ticks = 0 }) = refl in
-    chosen_off 0 mask 0 false seats (record { slot = 31; ticks = 0 }) (sym silent) off refl None
-    (first_of_queue (replicate 32 None) 0 seats mask (queue_new seats mask silent) None (λ slot. none_in 32 slot))
+and_off : (on : Bool) → false ≡ (on && false)
+and_off true = refl
+and_off false = refl
+
+pub none_next : (mask : ℕ) → IsNext (replicate 32 None) (record { slot = 31; ticks = 0 }) mask None
+none_next mask = λ time seats q.
+    let off : false ≡ goes_on_by mask (record { slot = 31; ticks = 0 }) = and_off (slot_asks mask 31) in
+    chosen_off time mask mask false seats (record { slot = 31; ticks = 0 }) refl off refl None
+    (first_of_queue (replicate 32 None) time seats mask q None (λ slot. none_in 32 slot))
 
 -- ---- one slot is placed anew
 

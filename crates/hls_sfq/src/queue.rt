@@ -1,9 +1,7 @@
 // The queue of the slots that ask, by their start tags.
-ghost use Rattle.std.specs.Prelude.{◌≡◌, ◌<◌, ℕ, List, Option, Some, IfSome, length, slice_set};
-ghost use Rattle.hls_sfq.specs.Queue.{IsQueue};
+ghost use Rattle.std.specs.Prelude.{◌≡◌, ◌<◌, ℕ, Some, IfSome, length, slice_set};
+ghost use Rattle.hls_sfq.specs.Queue.{IsNext, IsQueue};
 ghost use Rattle.hls_sfq.specs.Changes.{placed};
-ghost use Rattle.hls_sfq.specs.Choice.{choice_of};
-ghost use Rattle.hls_sfq.specs.declared.shares.FairSeat.{FairSeat};
 
 use crate::seats::{SLOTS, Seats};
 use crate::shares::tag_where;
@@ -45,8 +43,7 @@ pub fn place_all(queue: &mut Order, time: u128, seats: &Seats, mask: u32)
 
 /// The slot of the turn where it goes on, else the first of the queue: the asking slot of least start tag.
 pub fn next_of(queue: &Order, turn: Turn, mask: u32) -> Option<u32>
-    ensures value { (time : ℕ) (seats : List (Option FairSeat)) → IsQueue queue.now time seats mask
-        → result ≡ choice_of turn time seats mask }
+    ensures value { IsNext queue.now turn mask result }
     ensures within { length queue.now ≡ 32 → (slot : ℕ) → result ≡ Some slot → slot < 32 }
 {
     if turn_goes_on(mask, turn) {
