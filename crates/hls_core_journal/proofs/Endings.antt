@@ -86,7 +86,8 @@ texts_more bytes new text parts next texts from to are grown begins ends push =
 
 -- one path more
 pub texts_step : {A : Type 0} (f : A → Text) (ways : List A) (at : ℕ) (d : A) (bytes new : List ℕ)
-    (parts next : List Part) (from to : ℕ) → AreTexts bytes parts (map f (take at ways)) → at < length ways → new ≡ bytes ++ f (get_or ways at d)
+    (parts next : List Part) (from to : ℕ) → AreTexts bytes parts (map f (take at ways)) → at < length ways
+    → new ≡ bytes ++ f (get_or ways at d)
     → from ≡ length bytes → to ≡ length new → next ≡ parts ++ part from to ∷ []
     → AreTexts new next (map f (take (at + 1) ways))
 texts_step f ways at d bytes new parts next from to are lt grown begins ends push =

@@ -4,7 +4,8 @@ use Rattle.std.proofs.Common.{subst, arith}
 use Rattle.std.proofs.Common.{map, take, drop, decimal, append_assoc}
 use Rattle.std.specs.Prelude.{Option, None, Result, Ok, Err, OnOk, OnErr, All, codes, flat_map, slice_set}
 use Rattle.std.proofs.Common.{append-nil}
-use Rattle.std.proofs.lemmas.List.{get_or-map, drop-set, drop_all, length-append, length-drop, length-set, length-take-le, take_all}
+use Rattle.std.proofs.lemmas.List.{get_or-map, drop-set, drop_all, length-append, length-drop, length-set}
+use Rattle.std.proofs.lemmas.List.{length-take-le, take_all}
 use Rattle.std.proofs.lemmas.Fmt.{length-decimal-le}
 use Rattle.std.proofs.lemmas.List.Elements.{All-head, All-tail}
 use Rattle.std.proofs.lemmas.Grind.{flat_map-append}
@@ -45,7 +46,8 @@ lines_same names ways (row ∷ rows) all =
 
 -- the text by rows and tails is that by runs and names
 pub schedule_same : (names : List Text) (ways : List (Option Path)) (rows : List Row) (runs : List Run)
-    (tails : List Text) → All (λ (row : Row). row.way < length ways) rows → runs_by ways rows ≡ runs → tails ≡ map (tail_text names) ways
+    (tails : List Text) → All (λ (row : Row). row.way < length ways) rows → runs_by ways rows ≡ runs
+    → tails ≡ map (tail_text names) ways
     → codes "schedule\n" ++ flat_map (line_by tails) rows
     ≡ codes "schedule\n" ++ flat_map (λ (s : Stretch). with_end (stretch_text s)) (map (stretch_of names) runs)
 schedule_same names ways rows runs tails known are same =
@@ -101,7 +103,8 @@ tail_alone : (zeros tail : List ℕ) (end count : ℕ) → length zeros ≡ coun
     → with_tail zeros tail end count ≡ take end zeros ++ tail
 tail_alone zeros tail end count whole =
     let long = length-drop end zeros in
-    ap (λ (t : List ℕ). take end zeros ++ (tail ++ t)) (drop_all (count - end) (drop end zeros) (omega (arith, long, whole)))
+    ap (λ (t : List ℕ). take end zeros ++ (tail ++ t))
+    (drop_all (count - end) (drop end zeros) (omega (arith, long, whole)))
     ∙ ap (λ (t : List ℕ). take end zeros ++ t) (append-nil tail)
 
 pub line_written : (zeros given bytes : List ℕ) (span tail : Text) (start end count : ℕ) → length zeros ≡ count

@@ -63,7 +63,8 @@ count_put : (shorts : List Short) (short : Short)
 count_put [] short = omega arith
 count_put (s ∷ shorts) short = let e = count_put shorts short in omega (arith, e)
 
-length_rows : (before : ℕ) (shorts : List Short) (longs : List Row) → length (rows_by before shorts longs) ≡ length shorts
+length_rows : (before : ℕ) (shorts : List Short) (longs : List Row)
+    → length (rows_by before shorts longs) ≡ length shorts
 length_rows before [] longs = refl
 length_rows before (s ∷ shorts) longs =
     let row = row_next s.ticks before s longs in

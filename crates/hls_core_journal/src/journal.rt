@@ -18,7 +18,7 @@ use indexmap::IndexSet;
 use std::alloc::{AllocError, Global};
 
 /// Of how many nodes the place of the name is kept: of those with the first keys.
-const NODES: usize = 4096;
+const NODES: usize = 1024;
 
 /// What became of the first commands of a scenario and of the ticks that have passed. It has all the
 /// room that the scenario needs: no call but the first and the last takes memory.

@@ -10,7 +10,7 @@ ghost use Rattle.hls_core_journal.specs.Ways.{names_by, last_names, IsLonger};
 ghost use Rattle.hls_core_journal.specs.Inside.Rows.{way_at, run_by, runs_by};
 
 use crate::kept_rows::{Row, Rows};
-use crate::sums::{WAYS, sum_of_way};
+use crate::sums::{WAYS, sum_of_all, sum_of_last};
 use crate::ways::same_way;
 use hls_chron::Name;
 use hls_core_guesses::Guesses;
@@ -94,6 +94,27 @@ fn keep_way(ways: &mut Vec<Option<Path>>, guess: usize, path: Option<Path>) -> u
     place
 }
 
+/// The place of a path: where its last place or, below a join, all of them let guess it, or else one that is appended.
+fn place_way(guesses: &mut Guesses, ways: &mut Vec<Option<Path>>, path: Option<Path>) -> usize
+    requires { length ways.old.items < vec_capacity ways.old }
+    ensures kept { slice_get ways.new.items result ≡ Some path }
+    ensures before { (at : ℕ) → at < length ways.old.items → way_at ways.new.items at ≡ way_at ways.old.items at }
+    ensures more { length ways.old.items ≤ length ways.new.items }
+    ensures few { length ways.new.items ≤ length ways.old.items + 1 }
+    ensures capacity { vec_capacity ways.new ≡ vec_capacity ways.old }
+{
+    let last = sum_of_last(&path);
+    let guess = guesses.at(last);
+    if is_way_at(ways, guess, &path) {
+        return guess;
+    }
+    let all = sum_of_all(&path);
+    let place = keep_way(ways, guesses.at(all), path);
+    guesses.note(all, place);
+    guesses.note(last, place);
+    place
+}
+
 impl Runs {
     /// No runs, with room for so many.
     pub(crate) fn with_capacity(alloc: Global, count: u32) -> Result<Runs, AllocError>
@@ -134,10 +155,7 @@ impl Runs {
         ensures items { self.new.items ≡ self.old.items ++ (record { from = tick; to = tick; path = path }) ∷ [] }
         ensures capacity { self.new.capacity ≡ self.old.capacity }
     {
-        let sum = sum_of_way(&path);
-        let guess = self.guesses.at(sum);
-        let way = keep_way(&mut self.ways, guess, path);
-        self.guesses.note(sum, way);
+        let way = place_way(&mut self.guesses, &mut self.ways, path);
         self.rows.push(Row {
             from: tick,
             to: tick,

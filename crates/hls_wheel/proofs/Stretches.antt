@@ -16,7 +16,8 @@ use Rattle.hls_box.specs.Inside.Sound.{IsSound}
 use Rattle.hls_wheel.specs.declared.stretch.Run.{Run}
 use Rattle.hls_wheel.specs.declared.stretch.Stretch.{Stretch}
 use Rattle.hls_wheel.specs.Owners.{IsRun, AreRuns, unknown, IsStretch, IsTable, never, where_asking, choice_of}
-use Rattle.hls_wheel.proofs.Owning.{owned_none, owned_more, owned_first, owned_same, found, round_again, ranges_here, now_leapt}
+use Rattle.hls_wheel.proofs.Owning.{owned_none, owned_more, owned_first, owned_same, found, round_again, ranges_here}
+use Rattle.hls_wheel.proofs.Owning.{now_leapt}
 use Rattle.hls_wheel.proofs.Seating.{owner_of_table}
 
 same_itself : (slot : Option ℕ) → same_slot slot slot ≡ true
@@ -229,7 +230,8 @@ begun_for_ever owners frame now ticks owner runs le its is known = record {
 -- none is known
 pub runs_unknown : (owners : List (Option ℕ)) (frame n : ℕ) → AreRuns owners frame (replicate n unknown)
 runs_unknown owners frame n = λ at. elim (cases_lt at n) [
-  | inl within ↦ rw (get_or-replicate n at unknown unknown within) (record { places = λ some. absurd (some refl); few = omega arith })
+  | inl within ↦ rw (get_or-replicate n at unknown unknown within)
+      (record { places = λ some. absurd (some refl); few = omega arith })
   | inr past ↦ rw (get_or_past (replicate n unknown) at unknown (rw length-replicate past))
       (record { places = λ some. absurd (some refl); few = omega arith })
 ]
