@@ -1,8 +1,9 @@
 -- The queue of the slots that ask, as calls change it.
 use Rattle.std.proofs.Common.{◌≡◌, ◌≢◌, ℕ, ◌^◌, ◌<◌, ◌≤◌, zero, suc, List, Some, None, Bool, true, false}
-use Rattle.std.proofs.Common.{refl, sym, ap, ap₂, ◌∙◌, arith, inl, inr, length, length-set, get_or}
+use Rattle.std.proofs.Common.{refl, sym, ap, ap₂, ◌∙◌, arith, inl, inr, length, length-set, get_or, []}
 use Rattle.std.proofs.Common.{get_or-set_same, get_or-set_other}
-use Rattle.std.specs.Prelude.{Option, slice_set, replicate, if◌then◌else◌, is_some, IfSome, MatchOption, min, max, ◌==◌, ◌&&◌}
+use Rattle.std.specs.Prelude.{Option, slice_set, replicate, if◌then◌else◌, is_some, IfSome, MatchOption, min, max}
+use Rattle.std.specs.Prelude.{◌==◌, ◌&&◌}
 use Rattle.std.specs.Int.{bit_at}
 use Rattle.std.proofs.lemmas.Bool.{cases_eq, eqb-true, eq-eqb}
 use Rattle.hls_chron.specs.declared.plain.Kind.TheVariants as kinds
@@ -135,6 +136,10 @@ none_next mask = λ time seats q.
     let off : false ≡ goes_on_by mask (record { slot = 31; ticks = 0 }) = and_off (slot_asks mask 31) in
     chosen_off time mask mask false seats (record { slot = 31; ticks = 0 }) refl off refl None
     (first_of_queue (replicate 32 None) time seats mask q None (λ slot. none_in 32 slot))
+
+-- without places nothing is in order
+pub none_blank : (mask : ℕ) → IsNext [] (record { slot = 31; ticks = 0 }) mask None
+none_blank mask = λ time seats q. absurd (let no : 0 ≡ 32 = q.size in cc)
 
 -- ---- one slot is placed anew
 

@@ -34,6 +34,11 @@ impl Seats {
         }
     }
 
+    /// Where its places come from.
+    pub fn allocator(&self) -> Global {
+        *self.places.allocator()
+    }
+
     /// Others, with a place for each slot, where no slot is taken.
     ///
     /// # Errors
@@ -41,7 +46,7 @@ impl Seats {
     pub fn vacant(&self) -> Result<Seats, AllocError>
         ensures { IfOk result (λ seats. seats ≡ replicate 32 None) }
     {
-        let places = vec![in *self.places.allocator(); None; SLOTS as usize]?;
+        let places = vec![in self.allocator(); None; SLOTS as usize]?;
         Ok(Seats { places })
     }
 

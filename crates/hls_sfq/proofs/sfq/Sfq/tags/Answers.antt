@@ -4,4 +4,5 @@ use Rattle.hls_sfq.proofs.sfq.Sfq.tags.Goals as goal
 pub returns : goal.returns
 returns c =
     let self = c.args.self.now in
-    queue_lent self.state self.queue self.time self.seats self.sound c.requires self.held self.queued
+    rw c.order.ensures
+    (queue_lent self.state self.queue self.time self.seats self.sound c.requires self.held (self.queued c.requires))
