@@ -1,6 +1,6 @@
 -- A slot that does not ask changes nothing of what a box comes to.
 use Rattle.std.proofs.Common.{◌≡◌, ◌≢◌, ℕ, zero, suc, ◌<◌, ◌≤◌, List, Bool, false}
-use Rattle.std.proofs.Common.{refl, sym, ap, ◌∙◌, arith, inl, inr, get_or-set_other}
+use Rattle.std.proofs.Common.{None, refl, sym, ap, ◌∙◌, arith, inl, inr, get_or-set_other}
 use Rattle.std.specs.Prelude.{min, if◌then◌else◌, slice_set}
 use Rattle.std.specs.Int.{bit_at}
 use Rattle.std.proofs.lemmas.Bool.{cases_Bool, cases_eq, eqb-true}
@@ -11,15 +11,15 @@ use Rattle.hls_kinds.specs.Asks.{slot_asks}
 use Rattle.hls_book.specs.declared.server.Server.{Server}
 use Rattle.hls_book.specs.Servers.{vacant}
 use Rattle.hls_box.specs.Keys.{least_of}
-use Rattle.hls_box.proofs.LeastLaws.{least_same}
+use Rattle.hls_box.proofs.LeastLaws.{least_none, least_same}
 use Rattle.hls_box.proofs.Sounds.{seat_other, leave_other}
 use Rattle.hls_sched.specs.Seen.{Seen, seated, left}
 use Rattle.hls_edf.specs.declared.choosing.Outlook.{Outlook}
 use Rattle.hls_edf.specs.declared.servers.Need.{Need}
 use Rattle.hls_edf.specs.declared.servers.Need.TheVariants.{Budget, Soft}
 use Rattle.hls_edf.specs.Choice.{server_in, amid_in, deadline_if, deadline_asking, first_or, choice_of}
-use Rattle.hls_edf.specs.Inside.Outlook.{IsOutlook, soonest_of}
-use Rattle.hls_edf.proofs.Bits.{kept_bit, gone_bit}
+use Rattle.hls_edf.specs.Inside.Outlook.{IsOutlook, far, soonest_of}
+use Rattle.hls_edf.proofs.Bits.{kept_bit, gone_bit, none_asks}
 use Rattle.hls_edf.proofs.Candidates.{silent}
 use Rattle.hls_edf.proofs.Outlooks.{soonest_none, soonest_more}
 
@@ -106,3 +106,21 @@ outlook_left o s t servers slot server within is off was =
     (λ k other. get_or-set_other servers slot k server vacant other)
     (λ k other. leave_other s.book slot k (λ e. other (sym e)))
     (λ k lt other. kept_bit s.mask slot k within lt other) off (gone_bit s.mask slot within) o was)
+
+-- where nobody asks
+soonest_silent : (servers : List Server) (b : Ledger) (n : ℕ) → soonest_of servers b 0 n ≡ far
+soonest_silent servers b zero = soonest_none servers b 0
+soonest_silent servers b (suc n) = soonest_more servers b 0 n ∙ rw (none_asks n) (soonest_silent servers b n)
+
+least_silent : (need : Need) (servers : List Server) (b : Ledger) → least_of (deadline_asking need servers b 0) ≡ None
+least_silent need servers b =
+    least_none (deadline_asking need servers b 0) (λ slot. silent need servers b 0 slot (none_asks slot))
+
+pub outlook_silent : (servers : List Server) (b : Ledger) (mask : ℕ) → mask ≡ 0
+    → IsOutlook (record { best = None; soonest = far; funded = 0 }) servers b mask
+outlook_silent servers b mask is = rw is (record {
+  chosen = sym (ap (λ urgent. first_or urgent (least_of (deadline_asking Soft servers b 0)))
+      (least_silent Budget servers b) ∙ least_silent Soft servers b);
+  soonest = λ some. sym (soonest_silent servers b 32);
+  funded = record { none = λ slot lt off. silent Budget servers b 0 slot (none_asks slot) };
+})
