@@ -1,129 +1,189 @@
 -- Rows in little room.
-use Rattle.std.proofs.Common.{◌≡◌, ℕ, zero, suc, ◌+◌, ◌≤◌, List, [], ◌∷◌, ◌++◌, length, refl, sym, ap, ◌∙◌}
-use Rattle.std.proofs.Common.{arith, append-nil}
-use Rattle.std.specs.Prelude.{Option, Some, None}
+use Rattle.std.proofs.Common.{◌≡◌, ℕ, ◌+◌, ◌≤◌, List, [], ◌∷◌, ◌++◌, length, refl, sym, ap, ◌∙◌}
+use Rattle.std.proofs.Common.{arith, append-nil, append_assoc}
+use Rattle.std.specs.Prelude.{Option, Some, None, option_to_list}
 use Rattle.std.proofs.lemmas.List.{length-append}
+use Rattle.hls_core_journal.specs.declared.kept_rows.Held.{Held}
+use Rattle.hls_core_journal.specs.declared.kept_rows.Held.TheVariants.{Long, One, Two}
 use Rattle.hls_core_journal.specs.declared.kept_rows.Row.{Row}
 use Rattle.hls_core_journal.specs.declared.kept_rows.Short.{Short}
-use Rattle.hls_core_journal.specs.Inside.Shorts.{row_next, longs_behind, rows_by, end_by, long_count}
-use Rattle.hls_core_journal.specs.Inside.Shorts.{longs_of, all_rows, AreKept, IsPut}
+use Rattle.hls_core_journal.specs.Inside.Shorts.{held, rows_held, end_held, longs_behind, long_count}
+use Rattle.hls_core_journal.specs.Inside.Shorts.{rows_by, end_by, longs_by, rows_closed, IsPut}
 
--- ---- one short row
+-- ---- what one of them holds
 
 -- long rows behind those that are wanted change nothing
-record Alike (ticks before : ℕ) (short : Short) (longs more : List Row) (count : ℕ) : Type 0 where
-  pub row : row_next ticks before short (longs ++ more) ≡ row_next ticks before short longs
-  pub rest : longs_behind ticks (longs ++ more) ≡ longs_behind ticks longs ++ more
-  pub fewer : count ≡ length (longs_behind ticks longs)
+record Alike (holds : Held) (longs more : List Row) (count : ℕ) : Type 0 where
+  pub rows : rows_held holds (longs ++ more) ≡ rows_held holds longs
+  pub ends : end_held holds (longs ++ more) ≡ end_held holds longs
+  pub rest : longs_behind holds (longs ++ more) ≡ longs_behind holds longs ++ more
+  pub fewer : count ≡ length (longs_behind holds longs)
 
-alike : (ticks before : ℕ) (short : Short) (longs more : List Row) (count : ℕ)
-    → long_count ticks + count ≡ length longs → Alike ticks before short longs more count
-alike zero before short [] more count e = absurd (omega (arith, e))
-alike zero before short (long ∷ longs) more count e =
-    record { row = refl; rest = refl; fewer = omega (arith, e) }
-alike (suc ticks) before short longs more count e =
-    record { row = refl; rest = refl; fewer = omega (arith, e) }
+alike : (holds : Held) (longs more : List Row) (count : ℕ)
+    → long_count holds + count ≡ length longs → Alike holds longs more count
+alike Long [] more count e = absurd (omega (arith, e))
+alike Long (long ∷ longs) more count e = record { rows = refl; ends = refl; rest = refl; fewer = omega (arith, e) }
+alike (One row) longs more count e = record { rows = refl; ends = refl; rest = refl; fewer = omega (arith, e) }
+alike (Two row next) longs more count e = record { rows = refl; ends = refl; rest = refl; fewer = omega (arith, e) }
 
-one_at_most : (ticks : ℕ) → long_count ticks ≤ 1
-one_at_most zero = omega arith
-one_at_most (suc ticks) = omega arith
+-- it is a row at least, and a long one at most
+record IsFew (holds : Held) (longs : List Row) : Type 0 where
+  pub some : 1 ≤ length (rows_held holds longs)
+  pub one : long_count holds ≤ 1
 
--- ---- a row more
+few : (holds : Held) (longs : List Row) → IsFew holds longs
+few Long longs = record { some = omega arith; one = omega arith }
+few (One row) longs = record { some = omega arith; one = omega arith }
+few (Two row next) longs = record { some = omega arith; one = omega arith }
+
+-- ---- one more
 
 rows_put : (before : ℕ) (shorts : List Short) (longs more : List Row) (short : Short)
-    → longs_of shorts ≡ length longs
+    → longs_by before shorts longs ≡ length longs
     → rows_by before (shorts ++ short ∷ []) (longs ++ more)
-    ≡ rows_by before shorts longs ++ row_next short.ticks (end_by before shorts longs) short more ∷ []
-rows_put before [] [] more short e = refl
+    ≡ rows_by before shorts longs ++ rows_held (held (end_by before shorts longs) short) more
+rows_put before [] [] more short e = append-nil (rows_held (held before short) more)
 rows_put before [] (long ∷ longs) more short e = absurd (omega (arith, e))
 rows_put before (s ∷ shorts) longs more short e =
-    let same = alike s.ticks before s longs more (longs_of shorts) e in
-    let row = row_next s.ticks before s longs in
+    let holds = held before s in
+    let end = end_held holds longs in
+    let rest = longs_behind holds longs in
+    let same = alike holds longs more (longs_by end shorts rest) e in
     let new = shorts ++ short ∷ [] in
-    ap (λ (r : Row). r ∷ rows_by r.to new (longs_behind s.ticks (longs ++ more))) same.row
-    ∙ ap (λ (ls : List Row). row ∷ rows_by row.to new ls) same.rest
-    ∙ ap (λ (rs : List Row). row ∷ rs) (rows_put row.to shorts (longs_behind s.ticks longs) more short same.fewer)
+    ap (λ (rows : List Row). rows ++ rows_by (end_held holds (longs ++ more)) new (longs_behind holds (longs ++ more)))
+    same.rows
+    ∙ ap (λ at. rows_held holds longs ++ rows_by at new (longs_behind holds (longs ++ more))) same.ends
+    ∙ ap (λ (ls : List Row). rows_held holds longs ++ rows_by end new ls) same.rest
+    ∙ ap (λ (rows : List Row). rows_held holds longs ++ rows) (rows_put end shorts rest more short same.fewer)
+    ∙ sym (append_assoc (rows_held holds longs) (rows_by end shorts rest)
+    (rows_held (held (end_by end shorts rest) short) more))
 
 end_put : (before : ℕ) (shorts : List Short) (longs more : List Row) (short : Short)
-    → longs_of shorts ≡ length longs
+    → longs_by before shorts longs ≡ length longs
     → end_by before (shorts ++ short ∷ []) (longs ++ more)
-    ≡ (row_next short.ticks (end_by before shorts longs) short more).to
+    ≡ end_held (held (end_by before shorts longs) short) more
 end_put before [] [] more short e = refl
 end_put before [] (long ∷ longs) more short e = absurd (omega (arith, e))
 end_put before (s ∷ shorts) longs more short e =
-    let same = alike s.ticks before s longs more (longs_of shorts) e in
-    let row = row_next s.ticks before s longs in
+    let holds = held before s in
+    let end = end_held holds longs in
+    let rest = longs_behind holds longs in
+    let same = alike holds longs more (longs_by end shorts rest) e in
     let new = shorts ++ short ∷ [] in
-    ap (λ (r : Row). end_by r.to new (longs_behind s.ticks (longs ++ more))) same.row
-    ∙ ap (λ (ls : List Row). end_by row.to new ls) same.rest
-    ∙ end_put row.to shorts (longs_behind s.ticks longs) more short same.fewer
+    ap (λ at. end_by at new (longs_behind holds (longs ++ more))) same.ends
+    ∙ ap (λ (ls : List Row). end_by end new ls) same.rest
+    ∙ end_put end shorts rest more short same.fewer
 
-count_put : (shorts : List Short) (short : Short)
-    → longs_of (shorts ++ short ∷ []) ≡ longs_of shorts + long_count short.ticks
-count_put [] short = omega arith
-count_put (s ∷ shorts) short = let e = count_put shorts short in omega (arith, e)
+count_put : (before : ℕ) (shorts : List Short) (longs more : List Row) (short : Short)
+    → longs_by before shorts longs ≡ length longs
+    → longs_by before (shorts ++ short ∷ []) (longs ++ more)
+    ≡ longs_by before shorts longs + long_count (held (end_by before shorts longs) short)
+count_put before [] [] more short e = omega arith
+count_put before [] (long ∷ longs) more short e = absurd (omega (arith, e))
+count_put before (s ∷ shorts) longs more short e =
+    let holds = held before s in
+    let end = end_held holds longs in
+    let rest = longs_behind holds longs in
+    let same = alike holds longs more (longs_by end shorts rest) e in
+    let new = shorts ++ short ∷ [] in
+    let one = ap (λ at. longs_by at new (longs_behind holds (longs ++ more))) same.ends in
+    let two = ap (λ (ls : List Row). longs_by end new ls) same.rest in
+    let three = count_put end shorts rest more short same.fewer in
+    omega (arith, one, two, three)
 
 length_rows : (before : ℕ) (shorts : List Short) (longs : List Row)
-    → length (rows_by before shorts longs) ≡ length shorts
-length_rows before [] longs = refl
+    → length shorts ≤ length (rows_by before shorts longs)
+length_rows before [] longs = omega arith
 length_rows before (s ∷ shorts) longs =
-    let row = row_next s.ticks before s longs in
-    let e = length_rows row.to shorts (longs_behind s.ticks longs) in omega (arith, e)
+    let holds = held before s in
+    let end = end_held holds longs in
+    let rest = longs_behind holds longs in
+    let some = (few holds longs).some in
+    let both = length-append (rows_held holds longs) (rows_by end shorts rest) in
+    let e = length_rows end shorts rest in omega (arith, some, both, e)
 
-few_longs : (shorts : List Short) → longs_of shorts ≤ length shorts
-few_longs [] = omega arith
-few_longs (s ∷ shorts) =
-    let one = one_at_most s.ticks in
-    let rest = few_longs shorts in omega (arith, one, rest)
+few_longs : (before : ℕ) (shorts : List Short) (longs : List Row) → longs_by before shorts longs ≤ length shorts
+few_longs before [] longs = omega arith
+few_longs before (s ∷ shorts) longs =
+    let holds = held before s in
+    let one = (few holds longs).one in
+    let e = few_longs (end_held holds longs) shorts (longs_behind holds longs) in omega (arith, one, e)
 
 -- ---- what is kept
 
-pub shorts_fewer : (before : ℕ) (shorts : List Short) (longs : List Row) (last : Option Row)
-    → length shorts ≤ length (all_rows before shorts longs last)
-shorts_fewer before shorts longs None =
-    let long = length_rows before shorts longs in
-    let all = length-append (rows_by before shorts longs) [] in omega (arith, long, all)
-shorts_fewer before shorts longs (Some last) =
-    let long = length_rows before shorts longs in
-    let all = length-append (rows_by before shorts longs) (last ∷ []) in omega (arith, long, all)
+pub shorts_fewer : (before : ℕ) (shorts : List Short) (longs : List Row) (waiting : Option Row)
+    → length shorts ≤ length (rows_closed before shorts longs waiting)
+shorts_fewer before shorts longs waiting =
+    let fewer = length_rows before shorts longs in
+    let all = length-append (rows_by before shorts longs) (option_to_list waiting) in omega (arith, fewer, all)
 
-pub longs_fewer : (before at : ℕ) (shorts : List Short) (longs : List Row) (last : Option Row)
-    → AreKept shorts longs at last → length longs ≤ length (all_rows before shorts longs last)
-longs_fewer before at shorts longs last are =
-    let fewer = few_longs shorts in
-    let more = shorts_fewer before shorts longs last in
-    let same = are.counted in omega (arith, fewer, more, same)
+pub longs_fewer : (before : ℕ) (shorts : List Short) (longs : List Row) (waiting : Option Row)
+    → longs_by before shorts longs ≡ length longs → length longs ≤ length (rows_closed before shorts longs waiting)
+longs_fewer before shorts longs waiting counted =
+    let fewer = few_longs before shorts longs in
+    let more = shorts_fewer before shorts longs waiting in omega (arith, fewer, more, counted)
 
-pub pushed_all : (start before : ℕ) (shorts new : List Short) (longs longs_new : List Row) (last row : Row)
-    → longs_of shorts ≡ length longs → before ≡ end_by start shorts longs → IsPut before last shorts longs new longs_new
-    → all_rows start new longs_new (Some row) ≡ all_rows start shorts longs (Some last) ++ row ∷ []
-pushed_all start before shorts new longs longs_new last row counted behind put =
-    ap (λ (ss : List Short). rows_by start ss longs_new ++ row ∷ []) put.shorts_are
-    ∙ ap (λ (ls : List Row). rows_by start (shorts ++ put.short ∷ []) ls ++ row ∷ []) put.longs_are
-    ∙ ap (λ (rs : List Row). rs ++ row ∷ []) (rows_put start shorts longs put.more put.short counted)
-    ∙ ap (λ at. (rows_by start shorts longs ++ row_next put.short.ticks at put.short put.more ∷ []) ++ row ∷ [])
-    (sym behind)
-    ∙ ap (λ (r : Row). (rows_by start shorts longs ++ r ∷ []) ++ row ∷ []) put.next
+pub put_rows : (start before : ℕ) (rows : List Row) (end : ℕ) (shorts new : List Short) (longs longs_new : List Row)
+    → longs_by start shorts longs ≡ length longs → before ≡ end_by start shorts longs
+    → IsPut before rows end shorts longs new longs_new
+    → rows_by start new longs_new ≡ rows_by start shorts longs ++ rows
+put_rows start before rows end shorts new longs longs_new counted behind put =
+    ap (λ (ss : List Short). rows_by start ss longs_new) put.shorts_are
+    ∙ ap (λ (ls : List Row). rows_by start (shorts ++ put.short ∷ []) ls) put.longs_are
+    ∙ rows_put start shorts longs put.more put.short counted
+    ∙ ap (λ at. rows_by start shorts longs ++ rows_held (held at put.short) put.more) (sym behind)
+    ∙ ap (λ (rs : List Row). rows_by start shorts longs ++ rs) put.stand
 
-pub pushed_end : (start before : ℕ) (shorts new : List Short) (longs longs_new : List Row) (last : Row)
-    → longs_of shorts ≡ length longs → before ≡ end_by start shorts longs → IsPut before last shorts longs new longs_new
-    → last.to ≡ end_by start new longs_new
-pushed_end start before shorts new longs longs_new last counted behind put =
+pub put_end : (start before : ℕ) (rows : List Row) (end : ℕ) (shorts new : List Short) (longs longs_new : List Row)
+    → longs_by start shorts longs ≡ length longs → before ≡ end_by start shorts longs
+    → IsPut before rows end shorts longs new longs_new → end ≡ end_by start new longs_new
+put_end start before rows end shorts new longs longs_new counted behind put =
     sym (ap (λ (ss : List Short). end_by start ss longs_new) put.shorts_are
     ∙ ap (λ (ls : List Row). end_by start (shorts ++ put.short ∷ []) ls) put.longs_are
     ∙ end_put start shorts longs put.more put.short counted
-    ∙ ap (λ at. (row_next put.short.ticks at put.short put.more).to) (sym behind)
-    ∙ ap (λ (r : Row). r.to) put.next)
+    ∙ ap (λ at. end_held (held at put.short) put.more) (sym behind)
+    ∙ put.ends)
 
-pub pushed_count : (before : ℕ) (shorts new : List Short) (longs longs_new : List Row) (last : Row)
-    → longs_of shorts ≡ length longs → IsPut before last shorts longs new longs_new → longs_of new ≡ length longs_new
-pushed_count before shorts new longs longs_new last counted put =
-    let one = ap longs_of put.shorts_are ∙ count_put shorts put.short in
+pub put_count : (start before : ℕ) (rows : List Row) (end : ℕ) (shorts new : List Short) (longs longs_new : List Row)
+    → longs_by start shorts longs ≡ length longs → before ≡ end_by start shorts longs
+    → IsPut before rows end shorts longs new longs_new → longs_by start new longs_new ≡ length longs_new
+put_count start before rows end shorts new longs longs_new counted behind put =
+    let one = ap (λ (ss : List Short). longs_by start ss longs_new) put.shorts_are
+    ∙ ap (λ (ls : List Row). longs_by start (shorts ++ put.short ∷ []) ls) put.longs_are
+    ∙ count_put start shorts longs put.more put.short counted
+    ∙ ap (λ at. longs_by start shorts longs + long_count (held at put.short)) (sym behind) in
     let two = ap length put.longs_are ∙ length-append longs put.more in
     let three = put.count in omega (arith, counted, one, two, three)
 
-pub first_all : (start : ℕ) (shorts : List Short) (longs : List Row) (last : Option Row) (row : Row)
-    → last ≡ None → all_rows start shorts longs (Some row) ≡ all_rows start shorts longs last ++ row ∷ []
-first_all start shorts longs last row e =
-    ap (λ (rows : List Row). rows ++ row ∷ []) (sym (append-nil (rows_by start shorts longs)))
-    ∙ ap (λ (l : Option Row). all_rows start shorts longs l ++ row ∷ []) (sym e)
+-- a pair leaves the long rows as they are
+pub pair_put : (before : ℕ) (row next : Row) (short : Short) (shorts new : List Short) (longs : List Row)
+    → held before short ≡ Two row next → new ≡ shorts ++ short ∷ []
+    → IsPut before (row ∷ next ∷ []) next.to shorts longs new longs
+pair_put before row next short shorts new longs holds are = record {
+  short = short;
+  more = [];
+  shorts_are = are;
+  longs_are = sym (append-nil longs);
+  count = sym (ap long_count holds);
+  stand = ap (λ (h : Held). rows_held h []) holds;
+  ends = ap (λ (h : Held). end_held h []) holds;
+}
+
+-- the row that waited is put, and another waits
+pub put_all : (start before : ℕ) (waiting row : Row) (shorts new : List Short) (longs longs_new : List Row)
+    → longs_by start shorts longs ≡ length longs → before ≡ end_by start shorts longs
+    → IsPut before (waiting ∷ []) waiting.to shorts longs new longs_new
+    → rows_closed start new longs_new (Some row) ≡ rows_closed start shorts longs (Some waiting) ++ row ∷ []
+put_all start before waiting row shorts new longs longs_new counted behind put =
+    ap (λ (rows : List Row). rows ++ row ∷ [])
+    (put_rows start before (waiting ∷ []) waiting.to shorts new longs longs_new counted behind put)
+
+-- both are put
+pub pair_all : (start before : ℕ) (waiting row : Row) (shorts new : List Short) (longs : List Row)
+    → longs_by start shorts longs ≡ length longs → before ≡ end_by start shorts longs
+    → IsPut before (waiting ∷ row ∷ []) row.to shorts longs new longs
+    → rows_closed start new longs None ≡ rows_closed start shorts longs (Some waiting) ++ row ∷ []
+pair_all start before waiting row shorts new longs counted behind put =
+    append-nil (rows_by start new longs)
+    ∙ put_rows start before (waiting ∷ row ∷ []) row.to shorts new longs longs counted behind put
+    ∙ sym (append_assoc (rows_by start shorts longs) (waiting ∷ []) (row ∷ []))
