@@ -1,5 +1,5 @@
 // The owners of the places of a frame.
-ghost use Rattle.std.specs.Prelude.{◌≡◌, ℕ, ◌<◌, ◌≤◌, ◌&&◌, is_none, is_some, length, nat_lt, if◌then◌else◌};
+ghost use Rattle.std.specs.Prelude.{◌≡◌, ℕ, ◌<◌, ◌≤◌, is_some, length};
 ghost use Rattle.hls_chron.specs.Ticks.{count};
 ghost use Rattle.hls_kinds.specs.Frames.{owner_in, owner_seated, owner_after};
 
@@ -7,17 +7,6 @@ use hls_chron::{Event, Terms};
 
 /// The most places that a frame has.
 pub const PLACES: usize = 1000;
-
-/// The owner of a place after a seating, where so many places below it are free.
-fn taken(owner: Option<u8>, free: u32, slot: u8, places: u32) -> Option<u8>
-    ensures { result ≡ (if is_none owner && nat_lt free places then Some slot else owner) }
-{
-    if owner.is_none() && free < places {
-        Some(slot)
-    } else {
-        owner
-    }
-}
 
 /// A seating takes the least free places.
 #[tactic(auto, using(hls_kinds::proofs::TickLaws::tick_laws))]
@@ -29,9 +18,11 @@ fn seat(owners: &mut [Option<u8>], slot: u8, places: u32)
 {
     let mut free = 0;
     for place in 0..PLACES {
-        let owner = owners[place];
-        owners[place] = taken(owner, free, slot, places);
-        if owner.is_none() {
+        if free == places {
+            return;
+        }
+        if owners[place].is_none() {
+            owners[place] = Some(slot);
             free += 1;
         }
     }
