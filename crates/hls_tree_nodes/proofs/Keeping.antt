@@ -5,7 +5,7 @@ use Rattle.hls_kinds.specs.Asks.{slot_asks}
 use Rattle.hls_machine.specs.Hierarchy.{Seat}
 use Rattle.hls_machine.specs.Steps.{hop_at, hops_of, Hop}
 use Rattle.hls_tree_nodes.specs.Shown.{Post, What, Scheduler, Thread, Shown, level_in, seats_in, place_in, mask_in}
-use Rattle.hls_tree_nodes.specs.Shown.{mask_what, grant_what, is_sched_what, with_ready_what, on_what}
+use Rattle.hls_tree_nodes.specs.Shown.{grant_what, with_ready_what, on_what}
 use Rattle.hls_tree_nodes.specs.Shown.{grant_in, is_sched, on_post, post_revoked, post_turned, post_granted, with_ready}
 use Rattle.hls_tree_nodes.specs.Leapt.{post_leapt}
 use Rattle.hls_tree_nodes.specs.TreeOf.{IsAlike, IsTelling, Each, Ran, granted_by, Passed}

@@ -1,18 +1,18 @@
 -- The processor is taken back along a route.
-use Rattle.std.proofs.Common.{◌≡◌, ◌≢◌, inl, inr, ℕ, suc, ◌+◌, ◌≤◌, Bool, true, false, List, [], ◌∷◌, Option}
+use Rattle.std.proofs.Common.{◌≡◌, ◌≢◌, inl, inr, ℕ, suc, ◌+◌, ◌≤◌, false, List, [], ◌∷◌, Option}
 use Rattle.std.proofs.Common.{Some, None, refl, sym, ap, ◌∙◌, subst, arith, slice_get, length}
 use Rattle.std.specs.Prelude.{is_some}
 use Rattle.std.proofs.lemmas.Bool.{cases_eq, ne_eqb}
 use Rattle.std.proofs.lemmas.Option.{slice_get_within}
 use Rattle.hls_sched.specs.Seen.{revoked}
 use Rattle.hls_machine.specs.Steps.{Hop, hop_at, hops_of, Path}
-use Rattle.hls_tree_nodes.specs.Shown.{What, Scheduler, Thread, Shown, PostedIn, PostedWhat, Post}
+use Rattle.hls_tree_nodes.specs.Shown.{What, Scheduler, Thread, Shown, PostedIn, PostedWhat}
 use Rattle.hls_tree_nodes.specs.Shown.{on_post, on_what, post_revoked, grant_in, grant_what}
 use Rattle.hls_tree_nodes.specs.TreeOf.{IsOn, Ran, nodes_of, route_of, granted_by}
 use Rattle.hls_tree_nodes.specs.Known.{IsOnRoute, IsAlongRoute}
 use Rattle.hls_tree_nodes.proofs.Snapshots as snapshots
 use Rattle.hls_tree_nodes.proofs.Snapshots.{Nodes}
-use Rattle.hls_tree_nodes.proofs.Walks.{before_cases, Before, IsChangedOn}
+use Rattle.hls_tree_nodes.proofs.Walks.{before_cases, IsChangedOn}
 use Rattle.hls_tree_nodes.proofs.Passes.{chosen}
 
 -- twice is once

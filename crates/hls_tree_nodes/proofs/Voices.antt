@@ -1,17 +1,17 @@
 -- What schedulers told, by a bit for each.
-use Rattle.std.proofs.Common.{◌≡◌, ◌≢◌, inl, inr, ℕ, ◌+◌, ◌<◌, ◌≤◌, Bool, true, false, List, Option, Some, None}
+use Rattle.std.proofs.Common.{◌≡◌, ◌≢◌, inl, inr, ℕ, ◌<◌, ◌≤◌, Bool, true, false, List, Some}
 use Rattle.std.proofs.Common.{refl, sym, ap, ◌∙◌, subst, arith, slice_get}
 use Rattle.std.specs.Int.{bit_at}
-use Rattle.std.proofs.lemmas.Bool.{cases_eq, cases_lt, cases_Bool}
+use mathlib.Core.Bool.{not, beq}
+use Rattle.std.proofs.lemmas.Bool.{cases_eq, cases_Bool}
 use Rattle.hls_kinds.specs.Asks.{slot_asks}
 use Rattle.hls_machine.specs.Hierarchy.{At}
-use Rattle.hls_tree_nodes.specs.Shown.{Shown, level_in, place_in, mask_in, asks_in, is_sched, PostedIn}
-use Rattle.hls_tree_nodes.specs.TreeOf.{IsAlike, IsTelling, Tells, TellsThread, IsRoll, AllFrom, AllUpTo, Each, ToldAt}
-use Rattle.hls_tree_nodes.specs.Levels.{IsLevel}
+use Rattle.hls_tree_nodes.specs.Shown.{place_in, mask_in, asks_in, is_sched, PostedIn}
+use Rattle.hls_tree_nodes.specs.TreeOf.{IsAlike, IsLaid, IsTelling, Tells, TellsThread, IsRoll, Each, ToldAt}
 use Rattle.hls_tree_nodes.specs.Known.{HaveTold, AreStill, has_bit}
-use Rattle.hls_tree_nodes.proofs.Snapshots.{Nodes, alike_places, alike_refl}
-use Rattle.hls_tree_nodes.proofs.Tells.{sched_alike, entry_at, tells_fewer}
-use Rattle.hls_tree_nodes.proofs.Levels.{IsAmong, AllBut, among_step}
+use Rattle.hls_tree_nodes.proofs.Snapshots.{Nodes, alike_places}
+use Rattle.hls_tree_nodes.proofs.Tells.{sched_alike, entry_at, roll_alike}
+use Rattle.hls_tree_nodes.proofs.Levels.{IsAmong, among_start, among_step}
 
 pub still_refl : (s : Nodes) → AreStill s s
 still_refl s c port p slot is at = refl
@@ -70,6 +70,12 @@ pub voices_all : (s : Nodes) (l : List ℕ) (voices : ℕ)
 voices_all s l voices asks t at c port p slot lt on is sits =
     t.told c port tt p slot sits ∙ sym (asks at c lt on)
 
+pub agree : (a b : Bool) → not (beq a b) ≡ false → a ≡ b
+agree true true e = refl
+agree true false e = absurd cc
+agree false true e = absurd cc
+agree false false e = refl
+
 -- on the way through the places of a level, by what each one told
 pub record IsAsking (old s : Nodes) (l : List ℕ) (places left told : ℕ) : Type 0 where
   pub among : IsAmong old s l places left
@@ -113,4 +119,31 @@ among_skip old s l places left next at key here others fewer has so = record {
           ]
         ];
       };
+}
+
+pub asking_start : (s : Nodes) (l : List ℕ) (places told : ℕ) → IsRoll s l → IsLaid s → ((k : ℕ) → PostedIn (s k))
+    → HaveTold s l told → IsAsking s s l places places told
+asking_start s l places told roll laid posted voices =
+    record { among = among_start s l places roll laid posted; roll = roll; voices = voices }
+
+pub asking_skip : (old s : Nodes) (l : List ℕ) (places left next at key told : ℕ) → slice_get l at ≡ Some key
+    → at < 64 → ((k : ℕ) → k < 64 → k ≢ at → bit_at next k ≡ bit_at left k)
+    → ((k : ℕ) → bit_at next k ≡ 1 → bit_at left k ≡ 1) → asks_in (s key) ≡ has_bit told at
+    → IsAsking old s l places left told → IsAsking old s l places next told
+asking_skip old s l places left next at key told here lt others fewer same so = record {
+  among = among_skip old s l places left next at key here others fewer
+      (λ is. told_here s l at key told lt here same is so.voices) so.among;
+  roll = so.roll;
+  voices = so.voices;
+}
+
+pub asking_step : (old s new : Nodes) (l : List ℕ) (places left next at key told now : ℕ) → slice_get l at ≡ Some key
+    → bit_at left at ≡ 1 → ((k : ℕ) → k < 64 → k ≢ at → bit_at next k ≡ bit_at left k)
+    → ((k : ℕ) → bit_at next k ≡ 1 → bit_at left k ≡ 1) → has_bit now at ≡ asks_in (s key)
+    → ((k : ℕ) → k < 64 → k ≢ at → has_bit now k ≡ has_bit told k)
+    → IsAsking old s l places left told → Tells key s new → IsAsking old new l places next now
+asking_step old s new l places left next at key told now here on others fewer set kept so by = record {
+  among = among_step old s new l places left next at key here on others fewer so.among by;
+  roll = roll_alike s new l by.alike so.roll;
+  voices = voices_here s new l at key told now so.roll here set kept by so.voices;
 }

@@ -304,7 +304,13 @@ fn tell_news(nodes: &mut Slab<Node>, schedulers: &[NodeId], places: u64, voices:
 }
 
 /// As `tell_level`, where it is known what each of the first 64 told.
-fn tell_level_news(nodes: &mut Slab<Node>, schedulers: &[NodeId], level: u8, places: u64, voices: u64) -> u64
+fn tell_level_news(
+    nodes: &mut Slab<Node>,
+    schedulers: &[NodeId],
+    level: u8,
+    places: u64,
+    voices: u64,
+) -> u64
     requires roll { IsRoll (shown_at seen nodes.old) schedulers.now }
     requires places { IsLevel (shown_at seen nodes.old) level schedulers.now places }
     requires telling { IsTelling (shown_at seen nodes.old) (AllFrom (shown_at seen nodes.old) (level + 1)) }

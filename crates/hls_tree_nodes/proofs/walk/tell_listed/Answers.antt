@@ -1,5 +1,6 @@
 use Rattle.std.proofs.Common.{◌≡◌, Some, refl, arith, slice_get, ap, ◌∙◌, sym}
 use Rattle.std.proofs.lemmas.Option.{slice_get_read}
+use Rattle.hls_tree_nodes.specs.Views.{shown_at}
 use Rattle.hls_tree_nodes.proofs.Snapshots.{alike_refl, alike_then}
 use Rattle.hls_tree_nodes.proofs.Tells.{listed_start, listed_next, listed_end, thread_alike}
 use Rattle.hls_tree_nodes.proofs.Voices.{still_refl, still_then, thread_still}
@@ -21,7 +22,8 @@ loop-id-preserved g c =
       telling = listed_next _ _ _ _ _ (at ∙ ap Some (sym c.key.ensures.key)) c.loop-id.invariant.telling
           c.tell_thread.ensures;
       alike = alike_then _ _ _ c.loop-id.invariant.alike (thread_alike _ _ _ c.tell_thread.ensures);
-      still = still_then _ _ _ c.loop-id.invariant.alike c.loop-id.invariant.still
+      still = still_then _ (shown_at (λ b. (goal.Scheduler-dyn g (b.vtable, b.value)).seen b.value) c.loop-id.nodes) (shown_at (λ b. (goal.Scheduler-dyn g (b.vtable, b.value)).seen b.value) c.tell_thread.new.nodes)
+          c.loop-id.invariant.alike c.loop-id.invariant.still
           (thread_still _ _ _ c.tell_thread.ensures);
     }
 

@@ -10,5 +10,6 @@ returns-then-is_sched_at g c = record {
 pub returns : goal.returns
 returns g c = record {
   thread = λ off. c.tell_ports.ensures;
-  scheduler = λ is. absurd (c.if-is_sched_at.false (c.is_sched_at.ensures ∙ is));
+  scheduler = λ is. absurd (
+      let no = c.if-is_sched_at.false in let on = c.is_sched_at.ensures ∙ is in cc);
 }

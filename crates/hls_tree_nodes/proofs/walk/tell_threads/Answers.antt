@@ -1,5 +1,6 @@
 use Rattle.std.proofs.Common.{◌∙◌, ap, arith}
 use Rattle.hls_tree_nodes.specs.Shown.{seats_in}
+use Rattle.hls_tree_nodes.specs.Views.{shown_at}
 use Rattle.hls_tree_nodes.proofs.Snapshots.{alike_refl, alike_then}
 use Rattle.hls_tree_nodes.proofs.Tells.{all_start, all_next, all_end, thread_alike}
 use Rattle.hls_tree_nodes.proofs.Voices.{still_refl, still_then, thread_still}
@@ -18,7 +19,8 @@ pub loop-key-preserved : goal.loop-key-preserved
 loop-key-preserved g c = record {
   telling = all_next _ _ _ c.loop-key.invariant.telling c.tell_thread.ensures;
   alike = alike_then _ _ _ c.loop-key.invariant.alike (thread_alike _ _ _ c.tell_thread.ensures);
-  still = still_then _ _ _ c.loop-key.invariant.alike c.loop-key.invariant.still
+  still = still_then _ (shown_at (λ b. (goal.Scheduler-dyn g (b.vtable, b.value)).seen b.value) c.loop-key.nodes) (shown_at (λ b. (goal.Scheduler-dyn g (b.vtable, b.value)).seen b.value) c.tell_thread.new.nodes)
+      c.loop-key.invariant.alike c.loop-key.invariant.still
       (thread_still _ _ _ c.tell_thread.ensures);
 }
 
