@@ -1,5 +1,5 @@
 -- What is known since the last pass still holds after what changes no level, no seat, no grant and no telling.
-use Rattle.std.proofs.Common.{◌≡◌, ◌≢◌, ℕ, Bool, List, Option, Some, None, refl, sym, ap, ◌∙◌, subst, slice_get}
+use Rattle.std.proofs.Common.{◌≡◌, ◌≢◌, ℕ, Bool, List, Option, Some, None, refl, sym, ap, ◌∙◌, slice_get}
 use Rattle.std.specs.Prelude.{option_map}
 use Rattle.hls_kinds.specs.Asks.{slot_asks}
 use Rattle.hls_machine.specs.Hierarchy.{Seat}
@@ -198,12 +198,4 @@ pub known_still : (old new : Nodes) (l : List ℕ) (known : Known) → IsAlike o
 known_still old new l known alike still are = record {
   places = by_level_alike old new l known.places alike are.places;
   voices = voices_still old new l known.voices alike still are.voices;
-}
-
--- after schedulers did
-pub known_told : (old new : Nodes) (l : List ℕ) (known next : Known) → IsAlike old new → next.places ≡ known.places
-    → HaveTold new l next.voices → AreKnown old l known → AreKnown new l next
-known_told old new l known next alike same voices are = record {
-  places = subst (AreByLevel new l) (sym same) (by_level_alike old new l known.places alike are.places);
-  voices = voices;
 }

@@ -86,17 +86,6 @@ revoked_listed old new l i posted along le w k = elim (before_cases l i k) [
       not (on.0, omega (arith, lt, le), on.1))))
 ]
 
-pub revoked_none : (old : Nodes) (route : Option (List ℕ)) → route ≡ None → ((k : ℕ) → PostedIn (old k))
-    → IsAlongRoute old route → (k : ℕ) → old k ≡ on_post post_revoked (old k)
-revoked_none old route e posted along k =
-    let none : IsAlongRoute old None = subst (IsAlongRoute old) e along in
-    sym (free_kept (old k) (posted k) (none_or (grant_in (old k)) (λ some. none k some)))
-
-pub along_some : (old : Nodes) (route : Option (List ℕ)) (l nodes : List ℕ) → route ≡ Some l → nodes ≡ l
-    → IsAlongRoute old route → IsAlongRoute old (Some nodes)
-along_some old route l nodes e is along =
-    subst (λ r. IsAlongRoute old (Some r)) (sym is) (subst (IsAlongRoute old) e along)
-
 -- what is granted lies on the route
 on_hops : (hops : List Hop) (thread k : ℕ) → hop_at hops k ≢ None → IsOn (nodes_of hops thread) k
 on_hops [] thread k some = absurd (some refl)
