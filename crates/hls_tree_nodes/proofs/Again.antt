@@ -11,7 +11,7 @@ use Rattle.hls_kinds.specs.Discipline.{Serves}
 use Rattle.hls_machine.specs.Hierarchy.{Hierarchy, Node, Loaded, Admitted, Scheduler, Thread, Place, Processor, At}
 use Rattle.hls_machine.specs.Hierarchy.{is_ready, was_served, seat_of, book_of}
 use Rattle.hls_machine.specs.Steps.{Hop, Path, hop_at, hops_of, row_by, ticked, elapsed, Elapse, after}
-use Rattle.hls_machine.specs.Legal.{Can, IsAsking, MayRun, Walk, Enters, Ends, asks_now}
+use Rattle.hls_machine.specs.Legal.{Can, MayRun, Walk, Enters, Ends, asks_now}
 
 -- after one more such tick each scheduler asks as it does, those of the path serve whom they serve, and each thread is
 -- ready as it is

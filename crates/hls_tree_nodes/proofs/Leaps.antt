@@ -1,27 +1,26 @@
 -- Many ticks of a tree, one after the other, are as many ticks of the hierarchy.
-use Rattle.std.proofs.Common.{◌≡◌, ◌≢◌, ℕ, zero, suc, ◌+◌, ◌<◌, ◌≤◌, Bool, true, List, [], ◌∷◌, ◌++◌, Option}
+use Rattle.std.proofs.Common.{◌≡◌, ◌≢◌, ℕ, zero, suc, ◌+◌, ◌<◌, ◌≤◌, Bool, true, List, Option}
 use Rattle.std.proofs.Common.{Some, None, refl, sym, ap}
 use Rattle.std.proofs.Common.{◌∙◌, subst, arith}
 use Rattle.std.specs.Prelude.{IfSome}
 use Rattle.std.proofs.Math.Path.{fun_ext}
 use Rattle.hls_chron.specs.declared.book.TickRow.{TickRow}
-use Rattle.hls_chron.specs.Ledger.{Ledger, with_row}
+use Rattle.hls_chron.specs.Ledger.{with_row}
 use Rattle.hls_kinds.specs.Asks.{asks}
 use Rattle.hls_kinds.specs.Discipline.{Serves}
-use Rattle.hls_sched.specs.Seen.{Seen, config_of, seen_asks, turned, leapt, tick_row}
+use Rattle.hls_sched.specs.Seen.{Seen, config_of, seen_asks, leapt, tick_row}
 use Rattle.hls_sched.specs.Stands.{Stands}
 use Rattle.hls_sched.proofs.Leaps.{leapt-none, leapt-more}
-use Rattle.hls_machine.specs.Hierarchy.{Hierarchy, Node, Loaded, Admitted, Scheduler as LoadedScheduler, Thread, Seat}
-use Rattle.hls_machine.specs.Hierarchy.{is_ready, was_served}
-use Rattle.hls_machine.specs.Steps.{Hop, Path, hop_at, hops_of, row_by, Step, Elapse, after, state, elapsed}
-use Rattle.hls_machine.specs.Legal.{Can, IsLegal}
+use Rattle.hls_machine.specs.Hierarchy.{Hierarchy, Node, Loaded, Scheduler as LoadedScheduler, Seat}
+use Rattle.hls_machine.specs.Steps.{Hop, Path, hop_at, hops_of, row_by, Elapse}
+use Rattle.hls_machine.specs.Legal.{Can}
 use Rattle.hls_tree_nodes.specs.Shown.{Post, What, Scheduler, Shown, SchedulerNode, bare, bare_in, on_post, post_turned}
 use Rattle.hls_tree_nodes.specs.Shown.{is_sched, name_in, mask_in, grant_in, asks_in, ServesIn, book_in}
 use Rattle.hls_tree_nodes.specs.Shown as shown
 use Rattle.hls_tree_nodes.specs.Leapt.{post_leapt, nodes_by, StandsWhat, StandsIn, later, MayLeap}
 use Rattle.hls_tree_nodes.specs.TreeOf.{IsOf, IsPassing, AreTold}
 use Rattle.hls_tree_nodes.proofs.Snapshots.{Nodes}
-use Rattle.hls_tree_nodes.proofs.Again.{StandsOn, again}
+use Rattle.hls_tree_nodes.proofs.Again.{again}
 use Rattle.hls_tree_nodes.proofs.Ticks.{turn_tree, turn_name, turn_told}
 
 what-none : (choice : Option ℕ) (w : What) → shown.on_what (post_leapt 0 choice) w ≡ w

@@ -11,7 +11,7 @@ use Rattle.std.proofs.lemmas.Nat.Bits.{bit_at-zero, bit_at-lt, bit_at_and, bit_a
 use Rattle.std.proofs.lemmas.Nat.Bits.{bit_at_set_same, bit_at_set_other, bit_at_clear_same, bit_at_clear_other}
 use Rattle.hls_tree_nodes.specs.Shown.{level_in, is_sched, PostedIn}
 use Rattle.hls_tree_nodes.specs.TreeOf.{IsAlike, IsLaid, IsRanked, IsTelling, Tells, IsRoll, AllFrom, AllUpTo}
-use Rattle.hls_tree_nodes.specs.Inside.Levels.{IsLevel, AreByLevel}
+use Rattle.hls_tree_nodes.specs.Levels.{IsLevel, AreByLevel}
 use Rattle.hls_tree_nodes.proofs.Snapshots.{Nodes, rise, alike_refl, alike_then, laid_alike}
 use Rattle.hls_tree_nodes.proofs.Tells.{tells_step, tells_fewer, sched_below, sched_alike, entry_at, IsMost, low_level}
 

@@ -161,15 +161,15 @@ asking_is h s reads t = record {
 }
 
 -- the path of a pass
-record Chosen (mid new : Nodes) (choices : ℕ → Option ℕ) (root : Option ℕ) (route : Option (List ℕ)) : Type 0
+pub record Chosen (mid new : Nodes) (choices : ℕ → Option ℕ) (root : Option ℕ) (route : Option (List ℕ)) : Type 0
   where
-    path : Option Path
-    route_is : route ≡ route_of path
-    nodes : (k : ℕ) → new k ≡ granted_by (hop_at (hops_of path) k) (mid k)
-    choices_are : (k : ℕ) (hop : Hop) → hop_at (hops_of path) k ≡ Some hop → choices k ≡ Some hop.slot
-    may : (h : Hierarchy) → h.root ≡ root → Reads mid h → MayRun h (λ k. asks_in (mid k)) (masks mid) path
+    pub path : Option Path
+    pub route_is : route ≡ route_of path
+    pub nodes : (k : ℕ) → new k ≡ granted_by (hop_at (hops_of path) k) (mid k)
+    pub choices_are : (k : ℕ) (hop : Hop) → hop_at (hops_of path) k ≡ Some hop → choices k ≡ Some hop.slot
+    pub may : (h : Hierarchy) → h.root ≡ root → Reads mid h → MayRun h (λ k. asks_in (mid k)) (masks mid) path
 
-chosen : (mid new : Nodes) (choices : ℕ → Option ℕ) (root : Option ℕ) (route : Option (List ℕ))
+pub chosen : (mid new : Nodes) (choices : ℕ → Option ℕ) (root : Option ℕ) (route : Option (List ℕ))
     → Ran mid new choices root route → Chosen mid new choices root route
 chosen mid new choices root None r = record {
   path = None;

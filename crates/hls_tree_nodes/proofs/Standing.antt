@@ -1,6 +1,6 @@
 -- For how many ticks all schedulers of a list stand.
-use Rattle.std.proofs.Common.{◌≡◌, ◌≢◌, ℕ, suc, ◌+◌, ◌<◌, ◌≤◌, Bool, true, false, List, Option, Some, None}
-use Rattle.std.proofs.Common.{refl, sym, ◌∙◌, subst}
+use Rattle.std.proofs.Common.{◌≡◌, ℕ, ◌+◌, ◌<◌, ◌≤◌, false, List, Option, Some, None}
+use Rattle.std.proofs.Common.{sym, ◌∙◌, subst}
 use Rattle.std.proofs.Common.{arith, inl, inr, slice_get, length}
 use Rattle.std.specs.Prelude.{min}
 use Rattle.std.proofs.lemmas.Bool.{cases_lt, cases_Bool}
@@ -8,8 +8,8 @@ use Rattle.std.proofs.lemmas.Option.{slice_get_within}
 use Rattle.hls_kinds.specs.Stands.{always}
 use Rattle.hls_tree_nodes.specs.Shown.{Shown, What, Scheduler, is_sched}
 use Rattle.hls_tree_nodes.specs.Shown as shown
-use Rattle.hls_tree_nodes.specs.Leapt.{StandsIn, StandsWhat, StandsJust, stands_in, stands_what}
-use Rattle.hls_tree_nodes.specs.TreeOf.{IsRoll, IsOn}
+use Rattle.hls_tree_nodes.specs.Leapt.{StandsIn, StandsJust, stands_in}
+use Rattle.hls_tree_nodes.specs.TreeOf.{IsRoll}
 use Rattle.hls_tree_nodes.proofs.Leaps.{fewer}
 
 pub record StandsFor (n : ℕ) (choice : Option ℕ) (o : Option Shown) : Type 0 where

@@ -3,7 +3,7 @@ use Rattle.std.proofs.Common.{◌≡◌, ◌≢◌, ◌⊎◌, inl, inr, ℕ, �
 use Rattle.std.proofs.Common.{Option, Some, None, ◌∷◌, ◌++◌, zero, suc}
 use Rattle.std.proofs.Common.{refl, sym, ap, ◌∙◌, subst, arith, slice_get, length}
 use Rattle.std.specs.Prelude.{option_map}
-use Rattle.std.proofs.lemmas.Bool.{cases_eq, cases_lt}
+use Rattle.std.proofs.lemmas.Bool.{cases_eq, cases_lt, cases_Bool}
 use Rattle.std.proofs.lemmas.Option.{slice_get_past}
 use Rattle.hls_chron.specs.Seats.{terms_at}
 use Rattle.hls_kinds.specs.Asks.{slot_asks}
@@ -14,7 +14,7 @@ use Rattle.hls_tree_nodes.specs.Shown.{grant_in, is_sched, is_sched_what, Posted
 use Rattle.hls_tree_nodes.specs.Shown.{bare_what}
 use Rattle.hls_tree_nodes.specs.Shown.{SchedulerNode, ThreadNode, book_in, most_bare}
 use Rattle.hls_tree_nodes.specs.Views.{told_place}
-use Rattle.hls_tree_nodes.specs.TreeOf.{IsAlike, IsLaid, ToldBy, ToldAt, IsTelling, Tells, NoScheduler, IsFrom}
+use Rattle.hls_tree_nodes.specs.TreeOf.{IsAlike, IsLaid, ToldBy, ToldAt, IsTelling, Tells, TellsThread, NoScheduler, IsFrom}
 use Rattle.hls_tree_nodes.specs.TreeOf.{IsOn, IsRoll}
 use Rattle.hls_tree_nodes.specs.TreeOf.{IsRanked, AllFrom, AllUpTo, Each, IsNew, AreTold}
 use Rattle.hls_tree_nodes.proofs.Snapshots.{Nodes, one_of, rise, raised, IsChanged, changed, changed_alike, laid_alike}
@@ -27,7 +27,10 @@ pub record IsAtPort (old s : Nodes) (key port : ℕ) (asks : Bool) : Type 0 wher
   pub posted : (k : ℕ) → PostedIn (s k)
   pub free : (k : ℕ) → grant_in (s k) ≡ grant_in (old k)
   pub asks_so : asks_in (s key) ≡ asks
+  pub asked_so : asks_in (old key) ≡ asks
   pub ports : (q : ℕ) → q < port → ToldAt s key q
+  pub still : (c q p slot : ℕ) → c ≢ key → place_in (old c) q ≡ Some (At p slot)
+      → slot_asks (mask_in (s p)) slot ≡ slot_asks (mask_in (old p)) slot
   pub others : (c q : ℕ) → ((p slot : ℕ) → place_in (old key) p ≢ Some (At c slot)) → ToldAt old c q → ToldAt s c q
 
 module _ (old s : Nodes) (key port : ℕ) (asks : Bool) (g : IsAtPort old s key port asks) where
@@ -39,10 +42,12 @@ module _ (old s : Nodes) (key port : ℕ) (asks : Bool) (g : IsAtPort old s key 
     posted = g.posted;
     free = g.free;
     asks_so = g.asks_so;
+    asked_so = g.asked_so;
     ports = λ q lt p slot e. elim (cases_eq q port) [
       | inl same ↦ absurd (none p slot (ap (place_in (s key)) (sym same) ∙ e))
       | inr ne ↦ g.ports q (omega (arith, lt, ne)) p slot e
     ];
+    still = g.still;
     others = g.others;
   }
 
@@ -86,6 +91,21 @@ module _ (old s : Nodes) (key port : ℕ) (asks : Bool) (g : IsAtPort old s key 
           ]
         ]
 
+    -- what others told is as they told it
+    still_next : (c q p slot : ℕ) → c ≢ key → place_in (s c) q ≡ Some (At p slot)
+        → slot_asks (mask_in (new p)) slot ≡ slot_asks (mask_in (s p)) slot
+    still_next c q p slot off e = elim (cases_eq p p0) [
+      | inr np ↦ ap (λ o. slot_asks (mask_in o) slot) (others p np)
+      | inl ep ↦ elim (cases_eq slot s0) [
+        | inl es ↦ absurd (
+            let e2 : place_in (s c) q ≡ Some (At p0 s0) = e ∙ ap (λ n. Some (At n slot)) ep
+            ∙ ap (λ n. Some (At p0 n)) es in
+            off (g.laid.alone c key q port (At p0 s0) e2 at).0)
+        | inr ns ↦ ap (λ n. slot_asks (mask_in (new n)) slot) ep ∙ c0.others slot ns
+            ∙ ap (λ n. slot_asks (mask_in (s n)) slot) (sym ep)
+      ]
+    ]
+
     -- it does not sit on itself
     apart : key ≢ p0
     apart e =
@@ -102,6 +122,9 @@ module _ (old s : Nodes) (key port : ℕ) (asks : Bool) (g : IsAtPort old s key 
       free = one_of (λ k. grant_in (new k) ≡ grant_in (old k)) p0 (c0.grant ∙ g.free p0)
           (λ k ne. ap grant_in (others k ne) ∙ g.free k);
       asks_so = asks_same key apart ∙ g.asks_so;
+      asked_so = g.asked_so;
+      still = λ c q p slot off e. still_next c q p slot off (alike_places old s g.alike c q ∙ e)
+          ∙ g.still c q p slot off e;
       ports = λ q lt. elim (cases_eq q port) [
         | inl same ↦ told_still key q apart (inl (refl, same))
         | inr ne ↦ told_still key q apart (inr (g.ports q (omega (arith, lt, ne))))
@@ -141,6 +164,8 @@ ports_start s key asks laid posted e = record {
   posted = posted;
   free = λ k. refl;
   asks_so = sym e;
+  asked_so = sym e;
+  still = λ c q p slot off at. refl;
   ports = λ q lt. absurd (omega (arith, lt));
   others = λ c q none t. t;
 }
@@ -167,6 +192,8 @@ ports_end old s key port asks g le = record {
   alike = g.alike;
   posted = g.posted;
   free = g.free;
+  asks = g.asks_so ∙ sym g.asked_so;
+  still = g.still;
   told = λ q. elim (cases_lt q port) [
     | inl lt ↦ g.ports q lt
     | inr ge ↦ λ p slot e. absurd (past_ports s key q (At p slot)
@@ -287,6 +314,45 @@ all_skip s key is t = tells_fewer s _ _ t (λ c then. (
     | inr ne ↦ (let lt = then.1 in omega (arith, lt, ne))
   ],
 ))
+
+-- the next number, of a thread or of none
+pub all_next : (old new : Nodes) (key : ℕ) → IsTelling old (λ c. NoScheduler old c × (c < key))
+    → TellsThread key old new → IsTelling new (λ c. NoScheduler new c × (c < key + 1))
+all_next old new key t by = elim (cases_Bool (is_sched (old key))) [
+  | inl is ↦
+      let path : old ≡ new = (λ i k. sym (by.scheduler is k) i) in
+      subst (λ f. IsTelling f (λ c. NoScheduler f c × (c < key + 1))) path (all_skip old key is t)
+  | inr off ↦ all_step old new key t (by.thread (λ is. cc))
+]
+
+listed_skip : (s : Nodes) (l : List ℕ) (i key : ℕ) → slice_get l i ≡ Some key → is_sched (s key) ≡ true
+    → IsTelling s (λ c. NoScheduler s c × ¬ IsFrom i l c)
+    → IsTelling s (λ c. NoScheduler s c × ¬ IsFrom (i + 1) l c)
+listed_skip s l i key at is t = tells_fewer s _ _ t (λ c then. (
+  then.0,
+  λ w. elim (cases_eq w.0 i) [
+    | inl e ↦ then.0 (ap (λ n. is_sched (s n)) (entry_at l i c key at (ap (slice_get l) (sym e) ∙ w.2)) ∙ is)
+    | inr nj ↦ then.1 (w.0, omega (arith, w.1, nj), w.2)
+  ],
+))
+
+pub listed_next : (old new : Nodes) (l : List ℕ) (i key : ℕ) → slice_get l i ≡ Some key
+    → IsTelling old (λ c. NoScheduler old c × ¬ IsFrom i l c) → TellsThread key old new
+    → IsTelling new (λ c. NoScheduler new c × ¬ IsFrom (i + 1) l c)
+listed_next old new l i key at t by = elim (cases_Bool (is_sched (old key))) [
+  | inl is ↦
+      let path : old ≡ new = (λ i k. sym (by.scheduler is k) i) in
+      subst (λ f. IsTelling f (λ c. NoScheduler f c × ¬ IsFrom (i + 1) l c)) path (listed_skip old l i key at is t)
+  | inr off ↦ listed_step old new l i key at t (by.thread (λ is. cc))
+]
+
+pub thread_alike : (old new : Nodes) (key : ℕ) → TellsThread key old new → IsAlike old new
+thread_alike old new key by = elim (cases_Bool (is_sched (old key))) [
+  | inl is ↦
+      let path : old ≡ new = (λ i k. sym (by.scheduler is k) i) in
+      subst (IsAlike old) path (alike_refl old)
+  | inr off ↦ (by.thread (λ is. cc)).alike
+]
 
 pub all_end : (s : Nodes) (key : ℕ) → ((k : ℕ) → key ≤ k → seats_in (s k) ≡ [])
     → IsTelling s (λ c. NoScheduler s c × (c < key)) → IsTelling s (NoScheduler s)

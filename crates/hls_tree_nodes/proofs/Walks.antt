@@ -52,7 +52,7 @@ entry_cases (Some n) k = elim (cases_eq n k) [
   | inr ne ↦ inr (λ e. ne (cc))
 ]
 
-before_cases : (l : List ℕ) (i k : ℕ) → Before l i k ⊎ (Before l i k → ⊥)
+pub before_cases : (l : List ℕ) (i k : ℕ) → Before l i k ⊎ (Before l i k → ⊥)
 before_cases l zero k = inr (λ w. (let lt = w.1 in omega (arith, lt)))
 before_cases l (suc i) k = elim (before_cases l i k) [
   | inl w ↦ inl (w.0, (let lt = w.1 in omega (arith, lt)), w.2)

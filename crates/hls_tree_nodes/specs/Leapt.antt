@@ -1,5 +1,5 @@
 -- What many ticks, one after the other, leave of nodes, and for how many they stand.
-use Rattle.std.specs.Prelude.{◌≡◌, ◌≢◌, ℕ, zero, suc, ◌+◌, ◌<◌, ◌≤◌, Bool, Option, Some, None}
+use Rattle.std.specs.Prelude.{◌≡◌, ◌≢◌, ℕ, zero, suc, ◌+◌, ◌<◌, Bool, Option, Some, None}
 use Rattle.hls_machine.specs.Hierarchy.{Hierarchy, Thread, Admitted, is_ready, was_served}
 use Rattle.hls_machine.specs.Steps.{Path, Elapse, after, elapsed, hop_at, hops_of}
 use Rattle.hls_sched.specs.Seen.{leapt}

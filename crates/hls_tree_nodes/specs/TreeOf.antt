@@ -122,14 +122,23 @@ abbrev pub AllUpTo : (ℕ → Option Shown) → (level : ℕ) → List ℕ → (
 AllUpTo s level schedulers i c = is_sched (s c) ≡ true
     → (level ≤ level_in (s c)) × (level_in (s c) ≡ level → ¬ IsFrom i schedulers c)
 
--- A node has told what it asks. Whoever had told before still has, but for those that it sits on.
+-- A node has told what it asks. Whoever had told before still has, but for those that it sits on, and what others
+-- told is as they told it.
 pub record Tells (key : ℕ) (old new : ℕ → Option Shown) : Type 0 where
   pub alike : IsAlike old new
   pub posted : (k : ℕ) → PostedIn (new k)
   pub free : (k : ℕ) → grant_in (new k) ≡ grant_in (old k)
+  pub asks : asks_in (new key) ≡ asks_in (old key)
   pub told : (port : ℕ) → ToldAt new key port
+  pub still : (c port p slot : ℕ) → c ≢ key → place_in (old c) port ≡ Some (At p slot)
+      → slot_asks (mask_in (new p)) slot ≡ slot_asks (mask_in (old p)) slot
   pub others : (c port : ℕ) → ((q slot : ℕ) → place_in (old key) q ≢ Some (At c slot)) → ToldAt old c port
       → ToldAt new c port
+
+-- a thread has told what it asks, and a scheduler nothing
+pub record TellsThread (key : ℕ) (old new : ℕ → Option Shown) : Type 0 where
+  pub thread : NoScheduler old key → Tells key old new
+  pub scheduler : is_sched (old key) ≡ true → (k : ℕ) → new k ≡ old k
 
 -- these have something new to tell, or any node may have
 abbrev pub IsNew : Option (List ℕ) → ℕ → Type 0

@@ -10,15 +10,17 @@ ghost use Rattle.hls_tree_nodes.specs.Shown.{book_in, asks_in, level_in, place_i
 ghost use Rattle.hls_tree_nodes.specs.Shown.{grant_in, is_sched, on_post, post_revoked, post_granted, post_turned};
 ghost use Rattle.hls_tree_nodes.specs.Shown.{with_ready};
 ghost use Rattle.hls_tree_nodes.specs.Views.{shown_at, choice_at, told_place, is_place, place_view, seat_view};
-ghost use Rattle.hls_tree_nodes.specs.Inside.Levels.{IsLevel, AreByLevel};
+ghost use Rattle.hls_tree_nodes.specs.Levels.{IsLevel, AreByLevel};
+ghost use Rattle.hls_tree_nodes.specs.Known.{HaveTold, AreStill, AreKnown, IsKnown, IsFound, IsAlongRoute, has_bit};
 ghost use Rattle.hls_tree_nodes.specs.TreeOf.{IsLaid, IsRanked, IsAlike, IsTelling, ToldBy, Sitter, Led, Ran, RootAt};
-ghost use Rattle.hls_tree_nodes.specs.TreeOf.{Passed, Tells, NoScheduler, IsNew, IsOn, IsRoll, AllFrom, AllUpTo, Each};
-ghost use Rattle.hls_tree_nodes.specs.TreeOf.{AreTold};
+ghost use Rattle.hls_tree_nodes.specs.TreeOf.{Tells, TellsThread, NoScheduler, IsNew, IsOn, IsRoll, AllFrom, AllUpTo};
+ghost use Rattle.hls_tree_nodes.specs.TreeOf.{AreTold, Each};
 ghost use Rattle.hls_kinds.specs.Stands.{always};
 ghost use Rattle.hls_tree_nodes.specs.Leapt.{post_leapt, stands_in, StandsIn, StandsJust};
 
+use crate::known::{has_bit, with_bit};
 use crate::node::same_place;
-use crate::{Changed, Node, NodeId, Place, Role, Route, TakenSeat};
+use crate::{Changed, Known, Node, NodeId, Place, Role, Route, TakenSeat};
 use hls_sched::ALWAYS;
 use slab::Slab;
 
@@ -155,12 +157,11 @@ fn is_sched_at(nodes: &Slab<Node>, key: usize) -> bool
     }
 }
 
-/// Tells what a thread asks.
+/// Tells what a thread asks; a scheduler tells nothing.
 fn tell_thread(nodes: &mut Slab<Node>, key: usize)
-    requires telling { IsTelling (shown_at seen nodes.old) (λ c. NoScheduler (shown_at seen nodes.old) c × (c < key)) }
-    ensures telling { IsTelling (shown_at seen nodes.new)
-        (λ c. NoScheduler (shown_at seen nodes.new) c × (c < key + 1)) }
-    ensures alike { IsAlike (shown_at seen nodes.old) (shown_at seen nodes.new) }
+    requires laid { IsLaid (shown_at seen nodes.old) }
+    requires posted { (k : ℕ) → PostedIn (shown_at seen nodes.old k) }
+    ensures { TellsThread key (shown_at seen nodes.old) (shown_at seen nodes.new) }
 {
     if is_sched_at(nodes, key) {
         return;
@@ -174,6 +175,7 @@ fn tell_threads(nodes: &mut Slab<Node>)
         (λ c. NoScheduler (shown_at seen nodes.old) c × ¬ IsNew None c) }
     ensures telling { IsTelling (shown_at seen nodes.new) (NoScheduler (shown_at seen nodes.new)) }
     ensures alike { IsAlike (shown_at seen nodes.old) (shown_at seen nodes.new) }
+    ensures still { AreStill (shown_at seen nodes.old) (shown_at seen nodes.new) }
 {
     let end = nodes.capacity();
     for key in 0..end {
@@ -187,9 +189,10 @@ fn tell_listed(nodes: &mut Slab<Node>, threads: &[NodeId])
         (λ c. NoScheduler (shown_at seen nodes.old) c × ¬ IsNew (Some threads.now) c) }
     ensures telling { IsTelling (shown_at seen nodes.new) (NoScheduler (shown_at seen nodes.new)) }
     ensures alike { IsAlike (shown_at seen nodes.old) (shown_at seen nodes.new) }
+    ensures still { AreStill (shown_at seen nodes.old) (shown_at seen nodes.new) }
 {
     for id in threads {
-        tell_ports(nodes, id.key());
+        tell_thread(nodes, id.key());
     }
 }
 
@@ -199,6 +202,7 @@ fn tell_changed(nodes: &mut Slab<Node>, changed: &Option<Changed>)
         (λ c. NoScheduler (shown_at seen nodes.old) c × ¬ IsNew changed.now c) }
     ensures telling { IsTelling (shown_at seen nodes.new) (NoScheduler (shown_at seen nodes.new)) }
     ensures alike { IsAlike (shown_at seen nodes.old) (shown_at seen nodes.new) }
+    ensures still { AreStill (shown_at seen nodes.old) (shown_at seen nodes.new) }
 {
     match changed {
         Some(changed) => tell_listed(nodes, changed.threads()),
@@ -208,11 +212,14 @@ fn tell_changed(nodes: &mut Slab<Node>, changed: &Option<Changed>)
 
 /// Tells what a scheduler asks, if it is at the level.
 fn tell_scheduler(nodes: &mut Slab<Node>, schedulers: &[NodeId], at: usize, level: u8)
+    requires roll { IsRoll (shown_at seen nodes.old) schedulers.now }
     requires within { at < length schedulers.now }
     requires telling { IsTelling (shown_at seen nodes.old) (AllUpTo (shown_at seen nodes.old) level schedulers.now at) }
     ensures telling { IsTelling (shown_at seen nodes.new)
         (AllUpTo (shown_at seen nodes.new) level schedulers.now (at + 1)) }
     ensures alike { IsAlike (shown_at seen nodes.old) (shown_at seen nodes.new) }
+    ensures voices { (voices : ℕ) → 64 ≤ at → HaveTold (shown_at seen nodes.old) schedulers.now voices →
+        HaveTold (shown_at seen nodes.new) schedulers.now voices }
 {
     let key = schedulers[at].key();
     if level_at(nodes, key) != level {
@@ -240,6 +247,20 @@ fn tell_places(nodes: &mut Slab<Node>, schedulers: &[NodeId], places: u64)
     }
 }
 
+/// Tells what the schedulers at a level ask that stand past the 64th place of the list.
+fn tell_rest(nodes: &mut Slab<Node>, schedulers: &[NodeId], level: u8)
+    requires roll { IsRoll (shown_at seen nodes.old) schedulers.now }
+    requires telling { IsTelling (shown_at seen nodes.old) (AllUpTo (shown_at seen nodes.old) level schedulers.now 64) }
+    ensures telling { IsTelling (shown_at seen nodes.new) (AllFrom (shown_at seen nodes.new) level) }
+    ensures alike { IsAlike (shown_at seen nodes.old) (shown_at seen nodes.new) }
+    ensures voices { (voices : ℕ) → HaveTold (shown_at seen nodes.old) schedulers.now voices →
+        HaveTold (shown_at seen nodes.new) schedulers.now voices }
+{
+    for at in 64..schedulers.len() {
+        tell_scheduler(nodes, schedulers, at, level);
+    }
+}
+
 /// Tells what the schedulers at a level ask. They stand at these places of the list; those past the 64th are
 /// looked for.
 fn tell_level(nodes: &mut Slab<Node>, schedulers: &[NodeId], level: u8, places: u64)
@@ -250,9 +271,57 @@ fn tell_level(nodes: &mut Slab<Node>, schedulers: &[NodeId], level: u8, places: 
     ensures alike { IsAlike (shown_at seen nodes.old) (shown_at seen nodes.new) }
 {
     tell_places(nodes, schedulers, places);
-    for at in 64..schedulers.len() {
-        tell_scheduler(nodes, schedulers, at, level);
+    tell_rest(nodes, schedulers, level);
+}
+
+/// Tells what those schedulers at these places of the list ask that ask otherwise than they told, and what all have
+/// told then, a bit for each place.
+fn tell_news(nodes: &mut Slab<Node>, schedulers: &[NodeId], places: u64, voices: u64) -> u64
+    requires roll { IsRoll (shown_at seen nodes.old) schedulers.now }
+    requires within { (at : ℕ) → bit_at places at ≡ 1 → at < length schedulers.now }
+    requires laid { IsLaid (shown_at seen nodes.old) }
+    requires posted { (k : ℕ) → PostedIn (shown_at seen nodes.old k) }
+    requires voices { HaveTold (shown_at seen nodes.old) schedulers.now voices }
+    ensures telling { (level : ℕ) → IsLevel (shown_at seen nodes.old) level schedulers.now places →
+        IsTelling (shown_at seen nodes.old) (AllFrom (shown_at seen nodes.old) (level + 1)) →
+        IsTelling (shown_at seen nodes.new) (AllUpTo (shown_at seen nodes.new) level schedulers.now 64) }
+    ensures alike { IsAlike (shown_at seen nodes.old) (shown_at seen nodes.new) }
+    ensures voices { HaveTold (shown_at seen nodes.new) schedulers.now result }
+{
+    let mut told = voices;
+    let mut left = places;
+    while left != 0 {
+        let at = left.trailing_zeros();
+        let key = schedulers[at as usize].key();
+        let asks = asks_at(nodes, key);
+        if asks != has_bit(told, at) {
+            tell_ports(nodes, key);
+            told = with_bit(told, at, asks);
+        }
+        left &= !(1 << at);
     }
+    told
+}
+
+/// As `tell_level`, where it is known what each of the first 64 told.
+fn tell_level_news(
+    nodes: &mut Slab<Node>,
+    schedulers: &[NodeId],
+    level: u8,
+    places: u64,
+    voices: u64,
+) -> u64
+    requires roll { IsRoll (shown_at seen nodes.old) schedulers.now }
+    requires places { IsLevel (shown_at seen nodes.old) level schedulers.now places }
+    requires telling { IsTelling (shown_at seen nodes.old) (AllFrom (shown_at seen nodes.old) (level + 1)) }
+    requires voices { HaveTold (shown_at seen nodes.old) schedulers.now voices }
+    ensures telling { IsTelling (shown_at seen nodes.new) (AllFrom (shown_at seen nodes.new) level) }
+    ensures alike { IsAlike (shown_at seen nodes.old) (shown_at seen nodes.new) }
+    ensures voices { HaveTold (shown_at seen nodes.new) schedulers.now result }
+{
+    let told = tell_news(nodes, schedulers, places, voices);
+    tell_rest(nodes, schedulers, level);
+    told
 }
 
 /// The deepest level with a place.
@@ -301,6 +370,39 @@ fn tell_schedulers(nodes: &mut Slab<Node>, schedulers: &[NodeId], places: &[u64;
     }
 }
 
+/// As `tell_schedulers`, where it is known what each of the first 64 told.
+fn tell_schedulers_news(nodes: &mut Slab<Node>, schedulers: &[NodeId], known: &Known) -> u64
+    requires roll { IsRoll (shown_at seen nodes.old) schedulers.now }
+    requires known { AreKnown (shown_at seen nodes.old) schedulers.now known.now }
+    requires telling { IsTelling (shown_at seen nodes.old) (NoScheduler (shown_at seen nodes.old)) }
+    ensures telling { IsTelling (shown_at seen nodes.new) Each }
+    ensures alike { IsAlike (shown_at seen nodes.old) (shown_at seen nodes.new) }
+    ensures voices { HaveTold (shown_at seen nodes.new) schedulers.now result }
+{
+    let deep = deepest(nodes, schedulers, &known.places);
+    let mut voices = known.voices;
+    for step in 1..deep {
+        let level = deep - step + 1;
+        let places = known.places[usize::from(level)];
+        voices = tell_level_news(nodes, schedulers, level, places, voices);
+    }
+    voices
+}
+
+/// Which of the first 64 schedulers ask, a bit for each.
+fn voices_of(nodes: &Slab<Node>, schedulers: &[NodeId]) -> u64
+    requires posted { (k : ℕ) → PostedIn (shown_at seen nodes.now k) }
+    ensures { (at c : ℕ) → at < 64 → slice_get schedulers.now at ≡ Some c →
+        has_bit result at ≡ asks_in (shown_at seen nodes.now c) }
+{
+    let mut voices = 0;
+    for at in 0..schedulers.len().min(64) {
+        let asks = asks_at(nodes, schedulers[at].key());
+        voices = with_bit(voices, at as u32, asks);
+    }
+    voices
+}
+
 /// Takes the processor back from a node, if it has it, and tells the level of the node.
 fn revoke_at(nodes: &mut Slab<Node>, key: usize) -> u8
     requires posted { PostedIn (shown_at seen nodes.old key) }
@@ -336,6 +438,93 @@ fn revoke_all(nodes: &mut Slab<Node>, schedulers: &[NodeId]) -> [u64; 10]
         }
     }
     places
+}
+
+/// Takes the processor back from the nodes of a route.
+fn revoke_listed(nodes: &mut Slab<Node>, route: &[NodeId])
+    requires posted { (k : ℕ) → PostedIn (shown_at seen nodes.old k) }
+    requires along { IsAlongRoute (shown_at seen nodes.old) (Some route.now) }
+    ensures { (k : ℕ) → shown_at seen nodes.new k ≡ on_post post_revoked (shown_at seen nodes.old k) }
+{
+    for id in route {
+        let _level = revoke_at(nodes, id.key());
+    }
+}
+
+/// Takes the processor back along a route.
+fn revoke_route(nodes: &mut Slab<Node>, route: &Option<Route>)
+    requires posted { (k : ℕ) → PostedIn (shown_at seen nodes.old k) }
+    requires along { IsAlongRoute (shown_at seen nodes.old) route.now }
+    ensures { (k : ℕ) → shown_at seen nodes.new k ≡ on_post post_revoked (shown_at seen nodes.old k) }
+{
+    match route {
+        Some(route) => revoke_listed(nodes, route.nodes()),
+        None => {}
+    }
+}
+
+/// As `tell`, where nothing is known of who was granted and what was told; tells what it finds.
+fn tell_anew(nodes: &mut Slab<Node>, schedulers: &[NodeId], changed: &Option<Changed>) -> Known
+    requires roll { IsRoll (shown_at seen nodes.old) schedulers.now }
+    requires told { AreTold (shown_at seen nodes.old) changed.now }
+    requires laid { IsLaid (shown_at seen nodes.old) }
+    requires posted { (k : ℕ) → PostedIn (shown_at seen nodes.old k) }
+    ensures alike { IsAlike (shown_at seen nodes.old) (shown_at seen nodes.new) }
+    ensures telling { IsTelling (shown_at seen nodes.new) Each }
+    ensures known { AreKnown (shown_at seen nodes.new) schedulers.now result }
+{
+    let places = revoke_all(nodes, schedulers);
+    tell_changed(nodes, changed);
+    tell_schedulers(nodes, schedulers, &places);
+    let voices = voices_of(nodes, schedulers);
+    Known { places, voices }
+}
+
+/// As `tell`, where something is known.
+fn tell_again(
+    nodes: &mut Slab<Node>,
+    schedulers: &[NodeId],
+    changed: &Option<Changed>,
+    route: &Option<Route>,
+    known: &mut Known,
+)
+    requires roll { IsRoll (shown_at seen nodes.old) schedulers.now }
+    requires told { AreTold (shown_at seen nodes.old) changed.now }
+    requires laid { IsLaid (shown_at seen nodes.old) }
+    requires posted { (k : ℕ) → PostedIn (shown_at seen nodes.old k) }
+    requires known { AreKnown (shown_at seen nodes.old) schedulers.now known.old }
+    requires along { IsAlongRoute (shown_at seen nodes.old) route.now }
+    ensures alike { IsAlike (shown_at seen nodes.old) (shown_at seen nodes.new) }
+    ensures telling { IsTelling (shown_at seen nodes.new) Each }
+    ensures known { AreKnown (shown_at seen nodes.new) schedulers.now known.new }
+{
+    revoke_route(nodes, route);
+    tell_changed(nodes, changed);
+    known.voices = tell_schedulers_news(nodes, schedulers, known);
+}
+
+/// Takes the processor back, and tells what asks, where it is new. Where something is known since the last pass,
+/// only those along its way were granted, and a scheduler that asks as it told last need not tell it again.
+pub fn tell(
+    nodes: &mut Slab<Node>,
+    schedulers: &[NodeId],
+    changed: &Option<Changed>,
+    route: &Option<Route>,
+    known: &mut Option<Known>,
+)
+    requires roll { IsRoll (shown_at seen nodes.old) schedulers.now }
+    requires told { AreTold (shown_at seen nodes.old) changed.now }
+    requires laid { IsLaid (shown_at seen nodes.old) }
+    requires posted { (k : ℕ) → PostedIn (shown_at seen nodes.old k) }
+    requires known { IsKnown (shown_at seen nodes.old) schedulers.now route.now known.old }
+    ensures alike { IsAlike (shown_at seen nodes.old) (shown_at seen nodes.new) }
+    ensures telling { IsTelling (shown_at seen nodes.new) Each }
+    ensures known { IsFound (shown_at seen nodes.new) schedulers.now known.new }
+{
+    match known {
+        Some(known) => tell_again(nodes, schedulers, changed, route, known),
+        None => *known = Some(tell_anew(nodes, schedulers, changed)),
+    }
 }
 
 /// Grants a scheduler through a port, and names the slot that it serves; nothing at a thread.
@@ -507,7 +696,7 @@ fn grant_path(nodes: &mut Slab<Node>, root: NodeId, route: &mut Route)
     unreachable!()
 }
 
-/// Grants from the root down, if it asks, and tells the way.
+/// Grants from the root down, if it asks.
 fn grant_root(nodes: &mut Slab<Node>, root: Option<NodeId>, route: &mut Option<Route>)
     requires telling { IsTelling (shown_at seen nodes.old) Each }
     requires root { RootAt (shown_at seen nodes.old) root }
@@ -525,24 +714,13 @@ fn grant_root(nodes: &mut Slab<Node>, root: Option<NodeId>, route: &mut Option<R
     }
 }
 
-/// Tells what asks, where it is new, grants along the choices, and tells the way.
-pub fn pass(
-    nodes: &mut Slab<Node>,
-    schedulers: &[NodeId],
-    changed: &Option<Changed>,
-    root: Option<NodeId>,
-    route: &mut Option<Route>,
-)
-    requires roll { IsRoll (shown_at seen nodes.old) schedulers.now }
-    requires told { AreTold (shown_at seen nodes.old) changed.now }
-    requires laid { IsLaid (shown_at seen nodes.old) }
-    requires posted { (k : ℕ) → PostedIn (shown_at seen nodes.old k) }
+/// Grants from the root down, if it asks, and tells the way.
+pub fn grant(nodes: &mut Slab<Node>, root: Option<NodeId>, route: &mut Option<Route>)
+    requires telling { IsTelling (shown_at seen nodes.old) Each }
     requires root { RootAt (shown_at seen nodes.old) root }
-    ensures { Passed (shown_at seen nodes.old) (shown_at seen nodes.new) (choice_at choice nodes.new) root route.new }
+    ensures ran { Ran (shown_at seen nodes.old) (shown_at seen nodes.new) (choice_at choice nodes.new) root route.new }
+    ensures along { IsAlongRoute (shown_at seen nodes.new) route.new }
 {
-    let places = revoke_all(nodes, schedulers);
-    tell_changed(nodes, changed);
-    tell_schedulers(nodes, schedulers, &places);
     grant_root(nodes, root, route);
 }
 

@@ -2,7 +2,7 @@ use Rattle.std.proofs.Common.{arith, subst, get_or}
 use Rattle.hls_tree_nodes.specs.Views.{shown_at}
 use Rattle.hls_tree_nodes.proofs.Snapshots.{alike_refl, alike_then}
 use Rattle.hls_tree_nodes.proofs.Tells.{levels_start, level_to, levels_end, roll_alike}
-use Rattle.hls_tree_nodes.specs.Inside.Levels.{IsLevel}
+use Rattle.hls_tree_nodes.specs.Levels.{IsLevel}
 use Rattle.hls_tree_nodes.proofs.Levels.{level_alike}
 use Rattle.hls_tree_nodes.proofs.walk.tell_schedulers.Goals as goal
 

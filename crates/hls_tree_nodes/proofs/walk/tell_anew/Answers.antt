@@ -1,9 +1,9 @@
 use Rattle.hls_tree_nodes.specs.Views.{shown_at}
 use Rattle.hls_tree_nodes.proofs.Snapshots.{alike_then, revoked_alike}
 use Rattle.hls_tree_nodes.proofs.Tells.{telling_start, roll_alike}
-use Rattle.hls_tree_nodes.proofs.Passes.{root_alike}
 use Rattle.hls_tree_nodes.proofs.Levels.{by_level_alike}
-use Rattle.hls_tree_nodes.proofs.walk.pass.Goals as goal
+use Rattle.hls_tree_nodes.proofs.Voices.{voices_all}
+use Rattle.hls_tree_nodes.proofs.walk.tell_anew.Goals as goal
 
 pub tell_changed-requires : goal.tell_changed-requires
 tell_changed-requires g c = record {
@@ -21,19 +21,20 @@ tell_schedulers-requires g c =
       telling = c.tell_changed.ensures.telling;
     }
 
-pub grant_root-requires-clause-root : goal.grant_root-requires-clause-root
-grant_root-requires-clause-root g c =
+pub returns-clause-alike : goal.returns-clause-alike
+returns-clause-alike g c =
     let told = alike_then _ _ _ (revoked_alike _ _ c.revoke_all-places.ensures.revoked)
     c.tell_changed.ensures.alike in
-    root_alike _ _ c.args.root (alike_then _ _ _ told c.tell_schedulers.ensures.alike) c.requires.root
+    alike_then _ _ _ told c.tell_schedulers.ensures.alike
 
-pub returns : goal.returns
-returns g c =
+pub returns-clause-known : goal.returns-clause-known
+returns-clause-known g c =
     let told = alike_then _ _ _ (revoked_alike _ _ c.revoke_all-places.ensures.revoked)
     c.tell_changed.ensures.alike in
     record {
-      mid = shown_at (λ b. (goal.Scheduler-dyn g (b.vtable, b.value)).seen b.value) c.tell_schedulers.new.nodes;
-      alike = alike_then _ _ _ told c.tell_schedulers.ensures.alike;
-      telling = c.tell_schedulers.ensures.telling;
-      ran = c.grant_root.ensures;
+      places = by_level_alike _ _ _ _ (alike_then _ _ _ told c.tell_schedulers.ensures.alike)
+          c.revoke_all-places.ensures.places;
+      voices = voices_all
+          (shown_at (λ b. (goal.Scheduler-dyn g (b.vtable, b.value)).seen b.value) c.tell_schedulers.new.nodes)
+          _ _ c.voices_of-voices.ensures c.tell_schedulers.ensures.telling;
     }
