@@ -106,6 +106,7 @@ module _ {V : Type 0} {P : V → Type 0} (seen : (x : V) × P x → Seen) where
     counts = is.counts;
     told = is.told;
     ported = λ k. ported_still (flag_wake (flag k)) (h.nodes k) (is.ported k);
+    known = is.known;
   }
 
   ready_flagged : (t : Tree V P) (h : Hierarchy) → IsReadyOf seen t (flagged (ready_of seen t) h)
