@@ -19,5 +19,4 @@ pub mod Pushed
 pub mod Sparing
 pub mod Tellings
 pub mod Texts
-pub mod Least
 pub mod Chained

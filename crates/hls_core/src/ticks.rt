@@ -75,11 +75,7 @@ fn standing(tree: &Tree, bursts: &Bursts, thread: &Option<NodeId>, most: u32) ->
     ensures burst { IsWithin (left_in bursts.now) thread.now result }
 {
     let rest = rest_of(bursts, thread, most);
-    // Each scheduler stands for one tick.
-    if rest == 1 {
-        return rest;
-    }
-    tree.stands().min(rest)
+    tree.stands_within(rest)
 }
 
 /// Lets so many ticks pass, in which each scheduler stands.

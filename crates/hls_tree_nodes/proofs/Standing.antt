@@ -16,18 +16,19 @@ pub record StandsFor (n : ℕ) (choice : Option ℕ) (o : Option Shown) : Type 0
   pub least : n ≤ stands_in choice o
   pub law : StandsIn n choice o
 
--- so far, up to a place of the list
-pub record AllStand (s : ℕ → Option Shown) (choices : ℕ → Option ℕ) (l : List ℕ) (at n : ℕ) : Type 0 where
+-- so far, up to a place of the list, at most so many
+pub record AllStand (s : ℕ → Option Shown) (choices : ℕ → Option ℕ) (l : List ℕ) (most at n : ℕ) : Type 0 where
   pub each : (i k : ℕ) → i < at → slice_get l i ≡ Some k → StandsFor n (choices k) (s k)
-  pub attained : n < always → StandsJust s choices n
+  pub attained : n < most → StandsJust s choices n
   pub some : 0 < n
-  pub within : n ≤ always
+  pub within : n ≤ most
 
-pub none_stand : (s : ℕ → Option Shown) (choices : ℕ → Option ℕ) (l : List ℕ) → AllStand s choices l 0 always
-none_stand s choices l = record {
+pub none_stand : (s : ℕ → Option Shown) (choices : ℕ → Option ℕ) (l : List ℕ) (most : ℕ) → 0 < most
+    → AllStand s choices l most 0 most
+none_stand s choices l most some = record {
   each = λ i k lt. absurd (omega (arith, lt));
   attained = λ less. absurd (omega (arith, less));
-  some = omega arith;
+  some = some;
   within = omega arith;
 }
 
@@ -36,10 +37,10 @@ lower m n choice o le for_m =
     let least = for_m.least in
     record { least = omega (arith, le, least); law = fewer m n choice o le for_m.law }
 
-pub one_more : (s : ℕ → Option Shown) (choices : ℕ → Option ℕ) (l : List ℕ) (at n key one next : ℕ)
-    → AllStand s choices l at n → slice_get l at ≡ Some key → one ≡ stands_in (choices key) (s key) → 0 < one
-    → StandsIn one (choices key) (s key) → next ≡ min n one → AllStand s choices l (at + 1) next
-one_more s choices l at n key one next all here is some law min_is =
+pub one_more : (s : ℕ → Option Shown) (choices : ℕ → Option ℕ) (l : List ℕ) (most at n key one next : ℕ)
+    → AllStand s choices l most at n → slice_get l at ≡ Some key → one ≡ stands_in (choices key) (s key) → 0 < one
+    → StandsIn one (choices key) (s key) → next ≡ min n one → AllStand s choices l most (at + 1) next
+one_more s choices l most at n key one next all here is some law min_is =
     let within = all.within in
     let before = all.some in
     record {
@@ -72,12 +73,12 @@ no_scheduler n choice (Some s) le is = by_what s.what is where
   by_what (Scheduler post) off = absurd cc
   by_what (shown.Thread ready) off = record { least = le; law = tt }
 
-pub all_stand : (s : ℕ → Option Shown) (choices : ℕ → Option ℕ) (l : List ℕ) (at n : ℕ) → IsRoll s l
-    → length l ≤ at → AllStand s choices l at n → (k : ℕ) → StandsFor n (choices k) (s k)
-all_stand s choices l at n roll done all k = elim (cases_Bool (is_sched (s k))) [
+pub all_stand : (s : ℕ → Option Shown) (choices : ℕ → Option ℕ) (l : List ℕ) (most at n : ℕ) → IsRoll s l
+    → length l ≤ at → most ≤ always → AllStand s choices l most at n → (k : ℕ) → StandsFor n (choices k) (s k)
+all_stand s choices l most at n roll done few all k = elim (cases_Bool (is_sched (s k))) [
   | inl is ↦
       let found = roll.all k is in
       let lt = slice_get_within l found.0 k found.1 in
       all.each found.0 k (omega (arith, lt, done)) found.1
-  | inr off ↦ no_scheduler n (choices k) (s k) all.within off
+  | inr off ↦ let within = all.within in no_scheduler n (choices k) (s k) (omega (arith, within, few)) off
 ]

@@ -822,6 +822,29 @@ pub fn stands_all(nodes: &Slab<Node>, schedulers: &[NodeId]) -> u32
     least
 }
 
+/// For how many ticks all schedulers stand, at most so many. Once the least is one, nobody else is asked.
+pub fn stands_within(nodes: &Slab<Node>, schedulers: &[NodeId], most: u32) -> u32
+    requires roll { IsRoll (shown_at seen nodes.now) schedulers.now }
+    requires posted { (k : ℕ) → PostedIn (shown_at seen nodes.now k) }
+    requires some { 0 < most }
+    requires within { most ≤ always }
+    ensures least { (k : ℕ) → result ≤ stands_in (choice_at choice nodes.now k) (shown_at seen nodes.now k) }
+    ensures most { result ≤ most }
+    ensures attained { result < most → StandsJust (shown_at seen nodes.now) (choice_at choice nodes.now) result }
+    ensures law { 1 < result → (k : ℕ) → StandsIn result (choice_at choice nodes.now k) (shown_at seen nodes.now k) }
+    ensures some { 0 < result }
+{
+    let mut least = most;
+    for id in schedulers {
+        // Each stands for one tick.
+        if least == 1 {
+            return least;
+        }
+        least = least.min(stands_at(nodes, id.key()));
+    }
+    least
+}
+
 /// Sets whether a thread is ready.
 pub fn set_ready(nodes: &mut Slab<Node>, key: usize, to: bool)
     ensures here { shown_at seen nodes.new key ≡ with_ready to (shown_at seen nodes.old key) }

@@ -7,7 +7,7 @@ use Rattle.hls_tree_nodes.proofs.walk.stands_all.Goals as goal
 pub loop-id-init : goal.loop-id-init
 loop-id-init g c = none_stand
     (shown_at (λ b. (goal.Scheduler-dyn g (b.vtable, b.value)).seen b.value) c.args.nodes.now)
-    (choice_at (λ b. (goal.Scheduler-dyn g (b.vtable, b.value)).choice b.value) c.args.nodes.now) _
+    (choice_at (λ b. (goal.Scheduler-dyn g (b.vtable, b.value)).choice b.value) c.args.nodes.now) _ _ (omega arith)
 
 pub loop-id-preserved : goal.loop-id-preserved
 loop-id-preserved g c =
@@ -16,20 +16,20 @@ loop-id-preserved g c =
     one_more
     (shown_at (λ b. (goal.Scheduler-dyn g (b.vtable, b.value)).seen b.value) c.args.nodes.now)
     (choice_at (λ b. (goal.Scheduler-dyn g (b.vtable, b.value)).choice b.value) c.args.nodes.now)
-    _ _ _ _ _ _ c.loop-id.invariant (at ∙ ap Some (sym c.key.ensures.key)) c.stands_at.ensures.value
+    _ _ _ _ _ _ _ c.loop-id.invariant (at ∙ ap Some (sym c.key.ensures.key)) c.stands_at.ensures.value
     c.stands_at.ensures.some c.stands_at.ensures.law c.min-least.ensures
 
 pub returns-clause-least : goal.returns-clause-least
 returns-clause-least g c = λ k. (all_stand
     (shown_at (λ b. (goal.Scheduler-dyn g (b.vtable, b.value)).seen b.value) c.args.nodes.now)
     (choice_at (λ b. (goal.Scheduler-dyn g (b.vtable, b.value)).choice b.value) c.args.nodes.now)
-    _ _ _ c.requires.roll (omega (arith, c.loop-id-test.false)) c.loop-id.invariant k).least
+    _ _ _ _ c.requires.roll (omega (arith, c.loop-id-test.false)) (omega arith) c.loop-id.invariant k).least
 
 pub returns-clause-law : goal.returns-clause-law
 returns-clause-law g c = λ k. (all_stand
     (shown_at (λ b. (goal.Scheduler-dyn g (b.vtable, b.value)).seen b.value) c.args.nodes.now)
     (choice_at (λ b. (goal.Scheduler-dyn g (b.vtable, b.value)).choice b.value) c.args.nodes.now)
-    _ _ _ c.requires.roll (omega (arith, c.loop-id-test.false)) c.loop-id.invariant k).law
+    _ _ _ _ c.requires.roll (omega (arith, c.loop-id-test.false)) (omega arith) c.loop-id.invariant k).law
 
 pub returns-clause-attained : goal.returns-clause-attained
 returns-clause-attained g c = c.loop-id.invariant.attained
