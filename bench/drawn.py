@@ -6,6 +6,7 @@ Usage: bench/drawn.py PROFILE NUMBER [VERSION] > FILE
 kinds    schedulers of all kinds, and threads that come, wake, sleep, move and go
 derive   guarantees that just follow from others, or just do not
 settle   a busy scheduler that is moved, and so begins anew, again and again
+long     as kinds or settle, but with few commands over thousands of ticks
 hard     a few threads with guarantees, blocked and woken all the time
 limits   as many schedulers, threads, seats, shares or levels as there may be, and more
 text     a scenario in another dress, mostly with a bad line
@@ -312,13 +313,16 @@ def begun(draw, depth, first, schedulers, threads):
     return drawing
 
 
-def kinds(draw):
-    horizon = draw.choice([10, 20, 40, 100, 150, 400])
+def of_all_kinds(draw, horizon, busy):
     depth, first = draw.choice([None, None, 0, 1, 2, 6]), draw.choice(["fp", "fp", "edf", "sfq", "wheel", "rr"])
     it = begun(draw, depth, first, draw.randint(2, 9), draw.randint(2, 14))
-    it.go_on(horizon, draw.choice([0.05, 0.15, 0.4, 0.7]), {
+    it.go_on(horizon, draw.choice(busy), {
         it.wake: 10, it.block: 5, it.thread: 4, it.end: 2, it.again: 3, it.move: 5, it.load: 2, it.unload: 1})
     return it.text(horizon)
+
+
+def kinds(draw):
+    return of_all_kinds(draw, draw.choice([10, 20, 40, 100, 150, 400]), [0.05, 0.15, 0.4, 0.7])
 
 
 def derive(draw):
@@ -369,12 +373,21 @@ class Settling(Drawing):
         self.say(f"thread {name} on {self.seat()}")
 
 
-def settle(draw):
-    horizon = draw.choice([20, 40, 80, 200])
+def of_settlings(draw, horizon, busy):
     it = Settling(draw, draw.choice(["sfq", "sfq", "sfq", "edf", "edf", "rr", "wheel"]))
-    it.go_on(horizon, draw.choice([0.1, 0.3, 0.5]), {
+    it.go_on(horizon, draw.choice(busy), {
         it.move_above: 5, it.move_thread: 3, it.block: 4, it.wake: 7, it.come_again: 2})
     return it.text(horizon)
+
+
+def settle(draw):
+    return of_settlings(draw, draw.choice([20, 40, 80, 200]), [0.1, 0.3, 0.5])
+
+
+def long(draw):
+    """Few commands over many ticks."""
+    horizon = draw.choice([1000, 3000, 10000])
+    return draw.choice([of_all_kinds, of_settlings])(draw, horizon, [10 / horizon, 30 / horizon, 100 / horizon])
 
 
 def hard(draw):
@@ -454,7 +467,8 @@ def text(draw):
     return changed_text(draw, between.join(lines) + b"\n", draw.choice([0, 1, 1, 1, 2]))
 
 
-PROFILES = {"kinds": kinds, "derive": derive, "settle": settle, "hard": hard, "limits": limits, "text": text}
+PROFILES = {"kinds": kinds, "derive": derive, "settle": settle, "long": long, "hard": hard, "limits": limits,
+            "text": text}
 
 
 def drawn(profile, number, version=1):
