@@ -109,7 +109,8 @@ module _ (old new : Nodes) (l : List ℕ) (route : Option (List ℕ)) (known : O
   pub known_turned : (choices : ℕ → Option ℕ) → ((k : ℕ) → new k ≡ on_post (post_turned (choices k)) (old k))
       → IsKnown old l route known → IsKnown new l route known
   known_turned choices is = known_kept old new l route known
-      (kept_by old new (λ k. on_post (post_turned (choices k))) is (λ k. left_post (post_turned (choices k)) (λ post. refl)))
+      (kept_by old new (λ k. on_post (post_turned (choices k))) is
+      (λ k. left_post (post_turned (choices k)) (λ post. refl)))
       (λ k. ap grant_in (is k) ∙ grant_by (post_turned (choices k)) (λ post. refl) (old k))
 
   -- after some

@@ -28,7 +28,8 @@ twice (Some s) = ap (λ (w : What). Some (record s { what = w })) (twice_what s.
 free_what : (w : What) → PostedWhat w → grant_what w ≡ None → on_what post_revoked w ≡ w
 free_what (Scheduler post) posted free =
     let off : post.granted ≡ false = posted.granted ∙ ap is_some free in
-    let unit : revoked post.unit ≡ post.unit = ap (λ (grant : Option ℕ). record post.unit { grant = grant }) (sym free) in
+    let unit : revoked post.unit ≡ post.unit =
+    ap (λ (grant : Option ℕ). record post.unit { grant = grant }) (sym free) in
     λ i. Scheduler (record { unit = unit i; config = post.config; mask = post.mask; granted = sym off i })
 free_what (Thread r) posted free = refl
 

@@ -14,7 +14,8 @@ use Rattle.hls_tree_nodes.specs.Shown.{grant_in, is_sched, is_sched_what, Posted
 use Rattle.hls_tree_nodes.specs.Shown.{bare_what}
 use Rattle.hls_tree_nodes.specs.Shown.{SchedulerNode, ThreadNode, book_in, most_bare}
 use Rattle.hls_tree_nodes.specs.Views.{told_place}
-use Rattle.hls_tree_nodes.specs.TreeOf.{IsAlike, IsLaid, ToldBy, ToldAt, IsTelling, Tells, TellsThread, NoScheduler, IsFrom}
+use Rattle.hls_tree_nodes.specs.TreeOf.{IsAlike, IsLaid, ToldBy, ToldAt, IsTelling, Tells, TellsThread, NoScheduler}
+use Rattle.hls_tree_nodes.specs.TreeOf.{IsFrom}
 use Rattle.hls_tree_nodes.specs.TreeOf.{IsOn, IsRoll}
 use Rattle.hls_tree_nodes.specs.TreeOf.{IsRanked, AllFrom, AllUpTo, Each, IsNew, AreTold}
 use Rattle.hls_tree_nodes.proofs.Snapshots.{Nodes, one_of, rise, raised, IsChanged, changed, changed_alike, laid_alike}

@@ -22,7 +22,9 @@ loop-id-preserved g c =
       telling = listed_next _ _ _ _ _ (at ∙ ap Some (sym c.key.ensures.key)) c.loop-id.invariant.telling
           c.tell_thread.ensures;
       alike = alike_then _ _ _ c.loop-id.invariant.alike (thread_alike _ _ _ c.tell_thread.ensures);
-      still = still_then _ (shown_at (λ b. (goal.Scheduler-dyn g (b.vtable, b.value)).seen b.value) c.loop-id.nodes) (shown_at (λ b. (goal.Scheduler-dyn g (b.vtable, b.value)).seen b.value) c.tell_thread.new.nodes)
+      still = still_then _
+          (shown_at (λ b. (goal.Scheduler-dyn g (b.vtable, b.value)).seen b.value) c.loop-id.nodes)
+          (shown_at (λ b. (goal.Scheduler-dyn g (b.vtable, b.value)).seen b.value) c.tell_thread.new.nodes)
           c.loop-id.invariant.alike c.loop-id.invariant.still
           (thread_still _ _ _ c.tell_thread.ensures);
     }

@@ -19,7 +19,9 @@ pub loop-key-preserved : goal.loop-key-preserved
 loop-key-preserved g c = record {
   telling = all_next _ _ _ c.loop-key.invariant.telling c.tell_thread.ensures;
   alike = alike_then _ _ _ c.loop-key.invariant.alike (thread_alike _ _ _ c.tell_thread.ensures);
-  still = still_then _ (shown_at (λ b. (goal.Scheduler-dyn g (b.vtable, b.value)).seen b.value) c.loop-key.nodes) (shown_at (λ b. (goal.Scheduler-dyn g (b.vtable, b.value)).seen b.value) c.tell_thread.new.nodes)
+  still = still_then _
+      (shown_at (λ b. (goal.Scheduler-dyn g (b.vtable, b.value)).seen b.value) c.loop-key.nodes)
+      (shown_at (λ b. (goal.Scheduler-dyn g (b.vtable, b.value)).seen b.value) c.tell_thread.new.nodes)
       c.loop-key.invariant.alike c.loop-key.invariant.still
       (thread_still _ _ _ c.tell_thread.ensures);
 }
