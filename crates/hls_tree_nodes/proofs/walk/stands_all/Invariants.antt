@@ -6,4 +6,5 @@ use Rattle.hls_tree_nodes.proofs.walk.stands_all.Given as goal
 abbrev pub invariant-loop-id : goal.invariant-loop-id
 invariant-loop-id g l = AllStand
     (shown_at (λ b. (goal.Scheduler-dyn g (b.vtable, b.value)).seen b.value) l.nodes)
-    (choice_at (λ b. (goal.Scheduler-dyn g (b.vtable, b.value)).choice b.value) l.nodes) l.schedulers always l.id-index l.least
+    (choice_at (λ b. (goal.Scheduler-dyn g (b.vtable, b.value)).choice b.value) l.nodes) l.schedulers always l.id-index
+        l.least
