@@ -34,7 +34,7 @@ not_taken owner free places slot none le = rw none (elim (cases_lt free places) 
 
 pub seated_free : (owners after : List (Option ℕ)) (slot places top bound : ℕ) → IsFreeFrom owners top
     → ((place : ℕ) → place < 1000
-      → owner_in after place ≡ owner_after (owner_in owners) (Seat slot (Slots places)) place)
+    → owner_in after place ≡ owner_after (owner_in owners) (Seat slot (Slots places)) place)
     → (bound < 1000 → top + places ≤ bound) → IsFreeFrom after bound
 seated_free owners after slot places top bound free is past = λ place le lt.
     let le_here : top + places ≤ bound = past (omega (arith, le, lt)) in

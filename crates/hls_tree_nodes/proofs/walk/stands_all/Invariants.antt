@@ -7,4 +7,4 @@ abbrev pub invariant-loop-id : goal.invariant-loop-id
 invariant-loop-id g l = AllStand
     (shown_at (λ b. (goal.Scheduler-dyn g (b.vtable, b.value)).seen b.value) l.nodes)
     (choice_at (λ b. (goal.Scheduler-dyn g (b.vtable, b.value)).choice b.value) l.nodes) l.schedulers always l.id-index
-        l.least
+    l.least

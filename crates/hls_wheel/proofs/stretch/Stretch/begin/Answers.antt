@@ -15,7 +15,7 @@ returns-then-from-place c =
     let its = c.from-then-from-place-2.ensures in
     rw (← here) (begun_here owners frame now c.from-then-from-place-2.result _ c.owner-self.result runs
     c.now-now.type_inv (omega (arith, few, its)) (ap (λ n. n + c.from-then-from-place-2.result)
-        c.from-then-from-place.ensures)
+    c.from-then-from-place.ensures)
     c.owner-self.ensures
     (c.from-then-from-place-2.ensures
     ∙ run_known owners frame now c.run_of-at.result (now % frame)
