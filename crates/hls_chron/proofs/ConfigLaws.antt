@@ -1,10 +1,12 @@
 -- What holds of configurations by cases: their ports, their seats, and what is of one kind. Above, nobody goes by the
 -- numbers of a configuration for these.
-use Rattle.std.proofs.Common.{◌≡◌, ◌≢◌, ◌⊎◌, ℕ, ◌≤◌, ◌<◌, true, false, inl, inr, refl, sym, ◌∙◌, arith}
+use Rattle.std.proofs.Common.{◌≡◌, ◌≢◌, ◌⊎◌, ℕ, ◌≤◌, ◌<◌, true, false, inl, inr, refl, sym, ◌∙◌, arith, ap}
+use Rattle.std.specs.Prelude.{Some, None}
 use Rattle.hls_chron.specs.declared.plain.Kind.TheVariants as kinds
 use Rattle.hls_chron.specs.declared.plain.Config.{Config}
 use Rattle.hls_chron.specs.declared.plain.Config.TheVariants as configs
-use Rattle.hls_chron.specs.Kinds.{kind_of, port_count, IsPort, is_join_config, fair_queue}
+use Rattle.hls_chron.specs.declared.plain.Sharing.{Sharing}
+use Rattle.hls_chron.specs.Kinds.{kind_of, port_count, IsPort, is_join_config, fair_queue, by_shares, sharing_of}
 use Rattle.hls_chron.specs.Ranges.{ConfigInRange}
 use Rattle.hls_chron.specs.Seats.{most_seats}
 
@@ -84,6 +86,35 @@ one_queue (configs.Rr quantum) = omega arith
 one_queue (configs.Wheel frame) = omega arith
 one_queue (configs.Join ports) = omega arith
 
+-- ---- what holds of each kind
+
+module _ (P : Config → Type 0) where
+  pub by_kind : P configs.Cpu → P configs.Fp → P configs.Edf → ((sharing : Sharing) → P (by_shares sharing))
+      → ((quantum : ℕ) → P (configs.Rr quantum)) → ((frame : ℕ) → P (configs.Wheel frame))
+      → ((ports : ℕ) → P (configs.Join ports)) → (config : Config) → P config
+  by_kind cpu fp edf sfq rr wheel join configs.Cpu = cpu
+  by_kind cpu fp edf sfq rr wheel join configs.Fp = fp
+  by_kind cpu fp edf sfq rr wheel join configs.Edf = edf
+  by_kind cpu fp edf sfq rr wheel join (configs.Sfq total most quantum) =
+      sfq (record { total = total; most = most; quantum = quantum })
+  by_kind cpu fp edf sfq rr wheel join (configs.Rr quantum) = rr quantum
+  by_kind cpu fp edf sfq rr wheel join (configs.Wheel frame) = wheel frame
+  by_kind cpu fp edf sfq rr wheel join (configs.Join ports) = join ports
+
+  pub join_or_not : ((config : Config) → kind_of config ≢ kinds.Join → P config)
+      → ((ports : ℕ) → P (configs.Join ports)) → (config : Config) → P config
+  join_or_not other join =
+      by_kind (other configs.Cpu (λ e. cc)) (other configs.Fp (λ e. cc)) (other configs.Edf (λ e. cc))
+      (λ sharing. other (by_shares sharing) (λ e. cc)) (λ quantum. other (configs.Rr quantum) (λ e. cc))
+      (λ frame. other (configs.Wheel frame) (λ e. cc)) join
+
+  pub sharing_or_not : ((sharing : Sharing) → P (by_shares sharing))
+      → ((config : Config) → kind_of config ≢ kinds.Sfq → P config) → (config : Config) → P config
+  sharing_or_not sfq other =
+      by_kind (other configs.Cpu (λ e. cc)) (other configs.Fp (λ e. cc)) (other configs.Edf (λ e. cc)) sfq
+      (λ quantum. other (configs.Rr quantum) (λ e. cc)) (λ frame. other (configs.Wheel frame) (λ e. cc))
+      (λ ports. other (configs.Join ports) (λ e. cc))
+
 -- ---- what holds of one kind: shown of a configuration with its numbers, it holds of each of the kind
 
 module _ (P : Config → Type 0) where
@@ -105,10 +136,9 @@ module _ (P : Config → Type 0) where
   of_edf p (configs.Wheel frame) is = absurd cc
   of_edf p (configs.Join ports) is = absurd cc
 
-  pub of_sfq : ((total most quantum : ℕ) → P (configs.Sfq total most quantum)) → (config : Config) → kind_of config
-      ≡ kinds.Sfq
+  pub of_sfq : ((sharing : Sharing) → P (by_shares sharing)) → (config : Config) → kind_of config ≡ kinds.Sfq
       → P config
-  of_sfq p (configs.Sfq total most quantum) is = p total most quantum
+  of_sfq p (configs.Sfq total most quantum) is = p (record { total = total; most = most; quantum = quantum })
   of_sfq p configs.Cpu is = absurd cc
   of_sfq p configs.Fp is = absurd cc
   of_sfq p configs.Edf is = absurd cc
@@ -178,3 +208,20 @@ kind_of_join (configs.Join ports) e = refl
 
 pub kind_no_join : (config : Config) → is_join_config config ≡ false → kind_of config ≢ kinds.Join
 kind_no_join config off e = let on = join_if_kind config e in let no : true ≡ false = sym on ∙ off in cc
+
+-- ---- the numbers of fair queueing
+
+pub no_sharing : (config : Config) → kind_of config ≢ kinds.Sfq → sharing_of config ≡ None
+no_sharing configs.Cpu ne = refl
+no_sharing configs.Fp ne = refl
+no_sharing configs.Edf ne = refl
+no_sharing (configs.Sfq total most quantum) ne = absurd (ne refl)
+no_sharing (configs.Rr quantum) ne = refl
+no_sharing (configs.Wheel frame) ne = refl
+no_sharing (configs.Join ports) ne = refl
+
+pub with_sharing : (config : Config) (sharing : Sharing) → sharing_of config ≡ Some sharing → config ≡ by_shares sharing
+with_sharing = sharing_or_not (λ config. (sharing : Sharing) → sharing_of config ≡ Some sharing
+    → config ≡ by_shares sharing)
+    (λ mine sharing is. let same : mine ≡ sharing = cc in ap by_shares same)
+    (λ config ne sharing is. let no = no_sharing config ne in absurd cc)
