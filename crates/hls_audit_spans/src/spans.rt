@@ -1,4 +1,5 @@
 // Ticks as spans in their order.
+ghost use Rattle.hls_chron.specs.Ranges.{longest_horizon};
 ghost use Rattle.std.specs.Prelude.{◌≡◌, ◌+◌, ◌-◌, ◌<◌, ◌≤◌, ◌++◌, ◌∷◌, [], ℕ, Bool, true, false, IfOk};
 ghost use Rattle.std.specs.Prelude.{OnOk, length, get_or, None};
 ghost use Rattle.hls_chron.specs.Ticks.{count};
@@ -150,7 +151,7 @@ impl Spans {
 
     /// How many of the ticks there are among so many from one on.
     pub fn count(&self, from: u32, ticks: u32) -> u32
-        requires few { from + ticks ≤ 1000000 }
+        requires few { from + ticks ≤ longest_horizon }
         ensures { (f : ℕ → Bool) (end : ℕ) → Tell f self.now.spans.items end → from + ticks ≤ end →
             result ≡ count f from ticks }
     {

@@ -1,4 +1,5 @@
 // The first tick of one stay at which its thread lacks what is guaranteed, or has more than the cap.
+ghost use Rattle.hls_chron.specs.Ranges.{longest_horizon};
 ghost use Rattle.std.specs.Prelude.{◌≡◌, ◌+◌, ◌≤◌, ℕ, Bool, true, IfOk};
 ghost use Rattle.hls_guarantee.specs.declared.Guarantee.TheVariants.{All};
 ghost use Rattle.hls_guarantee.specs.Cap.{KeepsCap};
@@ -59,7 +60,7 @@ pub(crate) fn first_starving(
 ) -> Result<Option<u32>, AllocError>
     requires kept { IsValid stay.now.kept }
     requires order { stay.now.since ≤ until }
-    requires few { until ≤ 1000000 }
+    requires few { until ≤ longest_horizon }
     ensures { IfOk result (λ first. (c : Content) → end_of c stay.now ≡ until → until ≤ c.horizon →
         TellsReady c stay.now.name ready.now.spans.items → TellsServed c stay.now.name served.now.spans.items →
         FirstAt (λ t. Starves c t stay.now) first) }
@@ -88,7 +89,7 @@ pub(crate) fn first_exceeding(
 ) -> Result<Option<u32>, AllocError>
     requires kept { IsValid stay.now.kept }
     requires order { stay.now.since ≤ until }
-    requires few { until ≤ 1000000 }
+    requires few { until ≤ longest_horizon }
     ensures { IfOk result (λ first. (c : Content) → end_of c stay.now ≡ until → until ≤ c.horizon →
         TellsServed c stay.now.name served.now.spans.items → FirstAt (λ t. Exceeds c t stay.now) first) }
 {

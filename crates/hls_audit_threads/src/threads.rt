@@ -1,4 +1,5 @@
 // The ticks of one thread in a report: in which it is served, and in which it is ready.
+ghost use Rattle.hls_chron.specs.Ranges.{longest_horizon};
 ghost use Rattle.std.specs.Prelude.{◌≡◌, ◌+◌, ◌<◌, ◌≤◌, ℕ, Bool, true, IfOk, OnOk};
 ghost use Rattle.hls_audit_spans.specs.Spans.{Tell};
 ghost use Rattle.hls_report_text.specs.Content.{content_of};
@@ -16,7 +17,7 @@ use std::alloc::{AllocError, Global};
 /// Adds the ticks of a run, behind all others.
 fn add_run(served: &mut Spans, run: &Run) -> Result<(), AllocError>
     requires order { run.now.from ≤ run.now.to }
-    requires few { run.now.to < 1000000 }
+    requires few { run.now.to < longest_horizon }
     ensures { OnOk result ((f : ℕ → Bool) → Tell f served.old.spans.items run.now.from →
         ((t : ℕ) → run.now.from ≤ t → t < run.now.to + 1 → f t ≡ true) →
         Tell f served.new.spans.items (run.now.to + 1)) }

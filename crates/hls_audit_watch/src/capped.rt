@@ -1,4 +1,5 @@
 // A list of served and unserved ticks, watched tick by tick for a cap.
+ghost use Rattle.hls_chron.specs.Ranges.{longest_horizon};
 ghost use Rattle.std.specs.Prelude.{◌≡◌, ℕ, ◌<◌, ◌≤◌, ◌↔◌, IsTrue, [], ◌∷◌, ◌++◌, length, IfOk};
 ghost use Rattle.hls_guarantee.specs.Cap.{ListKeepsCap};
 ghost use Rattle.hls_guarantee.specs.Limits.{IsValid};
@@ -37,7 +38,7 @@ impl Model for CapWatch {
 /// From how many ticks back the service has to be known, in a list of at most so many ticks.
 fn cap_period_of(guarantee: &Guarantee, ticks: u32) -> u32
     requires valid { IsValid guarantee.now }
-    requires few { ticks ≤ 1000000 }
+    requires few { ticks ≤ longest_horizon }
     ensures some { 1 ≤ result }
     ensures period { (n : ℕ) → n ≤ ticks → IsCapPeriodOf guarantee.now result n }
 {
@@ -65,7 +66,7 @@ impl CapWatch {
         ticks: u32,
     ) -> Result<CapWatch, AllocError>
         requires valid { IsValid guarantee.now }
-        requires few { ticks ≤ 1000000 }
+        requires few { ticks ≤ longest_horizon }
         ensures { IfOk result (λ w. w ≡ record { guarantee = guarantee.now; ticks = ticks; list = [] }) }
     {
         let period = cap_period_of(guarantee, ticks);

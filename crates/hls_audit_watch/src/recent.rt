@@ -1,4 +1,5 @@
 // The service of the last ticks.
+ghost use Rattle.hls_chron.specs.Ranges.{longest_horizon};
 ghost use Rattle.std.specs.Prelude.{◌≡◌, ℕ, ◌+◌, ◌-◌, ◌%◌, ◌<◌, ◌≤◌, [], ◌∷◌, ◌++◌, length, OnOk, IfOk};
 ghost use Rattle.hls_chron.specs.Ticks.{one_if, count};
 ghost use Rattle.hls_guarantee.specs.Service.{schedule_of};
@@ -64,7 +65,7 @@ impl Recent {
     /// How many ticks there were.
     pub(crate) fn len(&self) -> u32
         ensures number { result ≡ length self.now.list }
-        ensures few { result ≤ 1000000 }
+        ensures few { result ≤ longest_horizon }
     {
         self.pushed
     }
@@ -96,7 +97,7 @@ impl Recent {
 
     /// One tick more.
     pub(crate) fn push(&mut self, served: bool)
-        requires { length self.old.list < 1000000 }
+        requires { length self.old.list < longest_horizon }
         ensures { self.new ≡ record self.old { list = self.old.list ++ served ∷ [] } }
     {
         self.total += service(served);

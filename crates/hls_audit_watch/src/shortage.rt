@@ -1,4 +1,5 @@
 // The first tick at which a guarantee is not kept, or its cap is not.
+ghost use Rattle.hls_chron.specs.Ranges.{longest_horizon};
 ghost use Rattle.std.specs.Prelude.{◌≡◌, ◌≤◌, [], IfOk, length};
 ghost use Rattle.hls_guarantee.specs.Limits.{IsValid};
 ghost use Rattle.hls_audit_watch.specs.First.{FirstAt};
@@ -22,7 +23,7 @@ pub fn first_short(
 ) -> Result<Option<usize>, AllocError>
     requires valid { IsValid kept.now }
     requires same { length ready.now ≡ length served.now }
-    requires few { length served.now ≤ 1000000 }
+    requires few { length served.now ≤ longest_horizon }
     ensures { IfOk result (FirstAt (IsShort kept.now ready.now served.now)) }
 {
     let mut watch = KeptWatch::new(alloc, kept, served.len() as u32)?;
@@ -60,7 +61,7 @@ pub fn first_over(
     served: &[bool],
 ) -> Result<Option<usize>, AllocError>
     requires valid { IsValid kept.now }
-    requires few { length served.now ≤ 1000000 }
+    requires few { length served.now ≤ longest_horizon }
     ensures { IfOk result (FirstAt (IsOver kept.now served.now)) }
 {
     Ok(find_over(kept, served))

@@ -1,4 +1,5 @@
 // A list of served and unserved ticks, watched tick by tick.
+ghost use Rattle.hls_chron.specs.Ranges.{longest_horizon};
 ghost use Rattle.std.specs.Prelude.{◌≡◌, ◌<◌, ◌≤◌, ◌↔◌, IsTrue, [], ◌∷◌, ◌++◌, length, IfOk};
 ghost use Rattle.hls_guarantee.specs.Cap.{ListKeepsCap};
 ghost use Rattle.hls_guarantee.specs.Limits.{IsValid};
@@ -36,7 +37,7 @@ impl Watch {
     /// Returns `AllocError` where there is no memory for it.
     pub fn new(alloc: Global, guarantee: &Guarantee, ticks: u32) -> Result<Watch, AllocError>
         requires valid { IsValid guarantee.now }
-        requires few { ticks ≤ 1000000 }
+        requires few { ticks ≤ longest_horizon }
         ensures { IfOk result (λ w. w ≡ record { guarantee = guarantee.now; ticks = ticks; list = [] }) }
     {
         let kept = KeptWatch::new(alloc, guarantee, ticks)?;

@@ -1,4 +1,5 @@
 -- The servers of the slots of a book, and what a book of reservations keeps.
+use Rattle.hls_chron.specs.Ranges.{most_slots}
 use Rattle.std.specs.Prelude.{◌≡◌, ℕ, ◌+◌, ◌-◌, ◌≤◌, ◌<◌, Bool, true, false, Some, is_some, nat_lt}
 use Rattle.std.specs.Prelude.{if◌then◌else◌}
 use Rattle.hls_chron.specs.declared.plain.Config.TheVariants.{Edf}
@@ -60,13 +61,13 @@ pub record IsGiven (b : Ledger) : Type 0 where
 pub record KeepsReservations (b : Ledger) : Type 0 where
   pub dated : IsDated b
   pub settled : settled_at b ≤ now_of b
-  pub within : (slot : ℕ) → 32 ≤ slot → tenant_at b slot ≡ Vacant
+  pub within : (slot : ℕ) → most_slots ≤ slot → tenant_at b slot ≡ Vacant
   pub tenants : (slot : ℕ) → IsTenant (tenant_at b slot) (now_of b)
-  pub sound : AreSound all_parts 32 (server_at b)
+  pub sound : AreSound all_parts most_slots (server_at b)
   pub sure : (slot t : ℕ) → t < now_of b → served b slot t ≡ true → asked b slot t ≡ true
   pub hard : (slot : ℕ) (r : Reservation) → tenant_at b slot ≡ Sits (Res true r.x r.y) r.since
       → EachHard r (asked b slot) (served b slot) (now_of b)
-  pub room : IsGiven b → HaveRoom all_parts 32 (server_at b) (now_of b)
+  pub room : IsGiven b → HaveRoom all_parts most_slots (server_at b) (now_of b)
   pub each : IsGiven b → (slot : ℕ) (hard : Bool) (r : Reservation)
       → tenant_at b slot ≡ Sits (Res hard r.x r.y) r.since → EachTick r (asked b slot) (served b slot)
       (now_of b)

@@ -1,4 +1,5 @@
 -- Whether a scheduler of fair queueing leaves work undone.
+use Rattle.hls_chron.specs.Ranges.{most_slots}
 use Rattle.std.specs.Prelude.{◌≡◌, ℕ, ◌+◌, ◌≤◌, true}
 use Rattle.hls_chron.specs.declared.plain.Config.TheVariants.{Sfq}
 use Rattle.hls_chron.specs.Ledger.{Ledger, now_of}
@@ -13,4 +14,4 @@ pub record LosesNoTick (total most quantum : ℕ) (b : Ledger) : Type 0 where
   -- who is served asks
   pub serves : (slot t : ℕ) → served b slot t ≡ true → asked b slot t ≡ true
   -- and the seats have what the scheduler was given, all of it
-  pub shares : (i n : ℕ) → i + n ≤ now_of b → sum_below (λ slot. served_ticks b slot i n) 32 ≡ given_ticks b i n
+  pub shares : (i n : ℕ) → i + n ≤ now_of b → sum_below (λ slot. served_ticks b slot i n) most_slots ≡ given_ticks b i n

@@ -1,4 +1,5 @@
 -- What the reservations that ask may use up to a bound, a tick: the demand of each, and the sum.
+use Rattle.hls_chron.specs.Ranges.{most_slots}
 use Rattle.std.specs.Prelude.{ℕ, ◌+◌, ◌*◌, ◌-◌, ◌/◌, nat_le, if◌then◌else◌}
 use Rattle.hls_chron.specs.declared.plain.Terms.TheVariants as terms
 use Rattle.hls_chron.specs.Ledger.{Ledger}
@@ -27,4 +28,4 @@ demand_at b mask slot bound =
 
 -- of all slots, where these ask
 abbrev pub demand : Ledger → (mask bound : ℕ) → ℕ
-demand b mask bound = sum_below (λ slot. demand_at b mask slot bound) 32
+demand b mask bound = sum_below (λ slot. demand_at b mask slot bound) most_slots

@@ -1,5 +1,6 @@
 //! What holds of reservations: each function's contract is a law, and its body does nothing.
 
+ghost use Rattle.hls_chron.specs.Ranges.{most_slots};
 ghost use Rattle.std.specs.Prelude.{◌≡◌, ℕ, ◌*◌, ◌-◌, ◌≤◌, Bool, true};
 ghost use Rattle.hls_chron.specs.Ledger.{Ledger, now_of};
 ghost use Rattle.hls_chron.specs.Parts.{all_parts};
@@ -47,5 +48,5 @@ pub fn demand_fits_the_ticks()
     ensures ticks { (b : Ledger) (mask bound : ℕ) → IsMade Config.Edf b → IsGiven b → now_of b ≤ bound →
         demand b mask bound ≤ bound - now_of b }
     ensures parts { (b : Ledger) (bound : ℕ) → IsMade Config.Edf b → IsGiven b → now_of b ≤ bound →
-        claimed_in all_parts (server_at b) 32 (now_of b) bound ≤ all_parts * (bound - now_of b) }
+        claimed_in all_parts (server_at b) most_slots (now_of b) bound ≤ all_parts * (bound - now_of b) }
 {}

@@ -1,5 +1,6 @@
 //! What holds of the definitions: each function's contract is a law, and its body does nothing.
 
+ghost use Rattle.hls_chron.specs.Ranges.{most_slots};
 ghost use Rattle.std.specs.Prelude.{◌≡◌, ℕ, ◌+◌, Option, Bool, true, false, ◌<◌, min};
 ghost use Rattle.hls_chron.specs.Ledger.{Ledger, now_of};
 ghost use Rattle.hls_chron.specs.Seats.{terms_at};
@@ -84,11 +85,11 @@ pub fn places_meet_their_rules()
 pub fn each_stands_for_the_present_tick(total: u32, most: u32, quantum: u32)
     requires { 0 < quantum }
     ensures reservations { (b : Ledger) (mask : ℕ) (choice : Option ℕ) → IsMade Config.Edf b → OnlySeatsAsk b mask →
-        0 < min (to_deadlines b mask 32) (rest_of_budget b mask choice) }
+        0 < min (to_deadlines b mask most_slots) (rest_of_budget b mask choice) }
     ensures shares { (b : Ledger) (mask : ℕ) (choice : Option ℕ) → 0 < rest_of_share quantum b mask choice }
     ensures rivals { (b : Ledger) (mask slot : ℕ) → IsMade (Config.Sfq total most quantum) b → OnlySeatsAsk b mask →
         Serves (Config.Sfq total most quantum) b mask slot → turn_goes_on quantum b mask ≡ false →
         0 < to_rivals (tag_of_asking quantum b mask) slot (start_tag quantum b (now_of b) slot)
-        (tag_step (weight_in (terms_at b slot))) 32 }
+        (tag_step (weight_in (terms_at b slot))) most_slots }
     ensures frames { (b : Ledger) (frame : ℕ) → 0 < owned_for (owner_at b) frame (now_of b) frame }
 {}

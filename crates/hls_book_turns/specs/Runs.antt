@@ -1,4 +1,5 @@
 -- A run of ticks in which a seat of round robin asks, and how many others they serve.
+use Rattle.hls_chron.specs.Ranges.{most_slots}
 use Rattle.std.specs.Prelude.{◌≡◌, ℕ, ◌+◌, ◌≤◌, Bool, true, not, ◌&&◌, ◌==◌, nat_lt}
 use Rattle.hls_chron.specs.declared.plain.Terms.TheVariants.{Turn}
 use Rattle.hls_chron.specs.Ledger.{Ledger}
@@ -21,4 +22,4 @@ abbrev pub is_rival : Ledger → (slot i n other : ℕ) → Bool
 is_rival b slot i n other = not (other == slot) && nat_lt 0 (served_ticks b other i n)
 
 abbrev pub rivals : Ledger → (slot i n : ℕ) → ℕ
-rivals b slot i n = sum_below (λ other. one_if (is_rival b slot i n other)) 32
+rivals b slot i n = sum_below (λ other. one_if (is_rival b slot i n other)) most_slots

@@ -1,4 +1,5 @@
 -- What part of the ticks of its scheduler a seat of round robin has.
+use Rattle.hls_chron.specs.Ranges.{most_slots}
 use Rattle.std.specs.Prelude.{◌≡◌, ℕ, ◌+◌, ◌*◌, ◌≤◌, ◌<◌, Bool, false}
 use Rattle.hls_frac.specs.declared.Frac.{Frac}
 use Rattle.hls_chron.specs.declared.plain.Config.TheVariants.{Rr}
@@ -23,7 +24,7 @@ pub record KeepsPart (quantum : ℕ) (b : Ledger) : Type 0 where
       → ticks_of_others b slot i (n + 1) ≤ 31 * (served_ticks b slot i (n + 1) + quantum)
   -- so of the ticks that the scheduler is given the seat has one in 32, all but 31 quanta
   pub part : (i n slot : ℕ) → i + n < now_of b → AsksForTurns b slot i n
-      → given_ticks b i (n + 1) ≤ 32 * served_ticks b slot i (n + 1) + 31 * quantum
+      → given_ticks b i (n + 1) ≤ most_slots * served_ticks b slot i (n + 1) + 31 * quantum
 
 -- where a port has supplied g since the start or the last settling, each seat has been supplied with h since then, or
 -- since its seating if that is later

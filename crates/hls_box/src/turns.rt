@@ -1,4 +1,5 @@
 // Turns of a quantum.
+ghost use Rattle.hls_chron.specs.Ranges.{most_slots};
 ghost use Rattle.std.specs.Prelude.{◌≡◌, ◌<◌, ◌≤◌, true};
 ghost use Rattle.hls_box.specs.Turns.{had_by, goes_on_by, left_by, turn_after as after, turn_left as left_turn};
 ghost use Rattle.hls_box.specs.Turns.{turn_leapt as leapt_turn};
@@ -25,7 +26,7 @@ pub fn ticks_had(turn: Turn, slot: u32) -> u32
 /// Whether the turn goes on, where these slots ask: its slot asks, and it has had a part of a quantum.
 pub fn turn_goes_on(mask: u32, turn: Turn) -> bool
     ensures value { result ≡ goes_on_by mask turn }
-    ensures within { result ≡ true → turn.slot < 32 }
+    ensures within { result ≡ true → turn.slot < most_slots }
 {
     has_slot(mask, turn.slot) && turn.ticks != 0
 }

@@ -1,4 +1,5 @@
 // The table of the servers of a box.
+ghost use Rattle.hls_chron.specs.Ranges.{most_slots};
 ghost use Rattle.std.specs.Prelude.{◌≡◌, [], IfOk, IfSome, IsNone, length, replicate};
 ghost use Rattle.std.specs.Borrow.{Array, Lends, LendsIf, sem};
 ghost use Rattle.hls_book.specs.Servers as laws;
@@ -43,7 +44,7 @@ impl Table {
     /// # Errors
     /// Returns `AllocError` for want of memory.
     pub fn vacant(&self) -> Result<Table, AllocError>
-        ensures { IfOk result (λ table. table ≡ replicate 32 laws.vacant) }
+        ensures { IfOk result (λ table. table ≡ replicate most_slots laws.vacant) }
     {
         let alloc = self.alloc;
         let servers = Box::new(alloc, [vacant(); 32])?;
@@ -56,7 +57,7 @@ impl Table {
     /// The servers, where there are some.
     #[inline]
     pub fn get(&self) -> &Servers
-        requires { length self.now ≡ 32 }
+        requires { length self.now ≡ most_slots }
         ensures { result.now ≡ self.now }
     {
         match &self.servers {
@@ -81,7 +82,7 @@ impl Table {
     /// The servers, to be changed, where there are some.
     #[inline]
     pub fn get_mut(&mut self) -> &mut Servers
-        requires { length self.old ≡ 32 }
+        requires { length self.old ≡ most_slots }
         ensures* writes_back { sem 𝓛 (Lends the_row (Array server_row 32) self.entry result (λ w. w)) }
         ensures value { result.now ≡ self.old }
     {

@@ -1,5 +1,6 @@
 //! Whether a list of served and unserved ticks satisfies a guarantee.
 
+ghost use Rattle.hls_chron.specs.Ranges.{longest_horizon};
 ghost use Rattle.std.specs.Prelude.{
   ◌≡◌,
   ℕ,
@@ -33,7 +34,7 @@ const MOST_TICKS: usize = 20_000;
 /// Whether a list of served and unserved ticks, of at most a million, satisfies a guarantee.
 pub fn holds(g: &Guarantee, list: &[bool]) -> bool
     requires valid { IsValid g.now }
-    requires few { length list.now ≤ 1000000 }
+    requires few { length list.now ≤ longest_horizon }
     ensures { IsTrue result ↔ ListSatisfies g.now list.now }
 {
     match g {
@@ -141,7 +142,7 @@ fn windows_hold(hard: bool, x: u32, y: u32, list: &[bool]) -> bool
 /// Whether there is an offset at which every piece keeps the reservation.
 fn blocks_hold(hard: bool, x: u32, y: u32, list: &[bool]) -> bool
     requires range { IsReservation x y }
-    requires few { length list.now ≤ 1000000 }
+    requires few { length list.now ≤ longest_horizon }
     ensures { IsTrue result ↔
         ((e : ℕ) × (e < y) ×
         EveryPartOf (λ i n got. InPiece e y i n → IsReserved hard x y n got) list.now) }
@@ -161,7 +162,7 @@ fn none_broken() -> [bool; MOST_TICKS]
 /// Marks each offset at which some piece does not keep the reservation. The pieces are taken by their ends.
 fn mark_broken(hard: bool, x: u32, y: u32, list: &[bool], broken: &mut [bool])
     requires range { IsReservation x y }
-    requires few { length list.now ≤ 1000000 }
+    requires few { length list.now ≤ longest_horizon }
     requires wide { y ≤ length broken.old }
     requires blank { (r : ℕ) → slice_index_or broken.old r false ≡ false }
     ensures { (e : ℕ) → e < y →

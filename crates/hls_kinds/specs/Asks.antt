@@ -1,4 +1,5 @@
 -- Whether a scheduler asks for the processor, by its configuration, its book and the slots that ask now.
+use Rattle.hls_chron.specs.Ranges.{most_slots}
 use Rattle.std.specs.Prelude.{ℕ, ◌^◌, Bool, false, not, ◌&&◌, ◌||◌, ◌==◌, nat_lt, Option, Some, None, bit_and, bit_or}
 use Rattle.std.specs.Int.{bit_at, bit_not, w32}
 use Rattle.hls_chron.specs.declared.plain.Config.{Config}
@@ -37,7 +38,7 @@ owner_asks mask (Some slot) = slot_asks mask slot
 -- place asks, and the others where some seat asks.
 abbrev pub asks : Config → Ledger → ℕ → Bool
 asks Fp b mask = some_slot_asks mask
-asks Edf b mask = any_below (λ slot. asks_in_budget b mask slot || asks_softly b mask slot) 32
+asks Edf b mask = any_below (λ slot. asks_in_budget b mask slot || asks_softly b mask slot) most_slots
 asks (Sfq total most quantum) b mask = some_slot_asks mask
 asks (Rr quantum) b mask = some_slot_asks mask
 asks (Wheel frame) b mask = owner_asks mask (owner_now frame b)

@@ -1,4 +1,5 @@
 -- The discipline of a scheduler, a fact about its book alone.
+use Rattle.hls_chron.specs.Ranges.{most_slots}
 use Rattle.std.specs.Prelude.{◌≡◌, ◌≢◌, ℕ, ◌≤◌, ◌<◌, Option, Some, None, Bool, true, false, if◌then◌else◌}
 use Rattle.hls_chron.specs.declared.plain.Config.{Config}
 use Rattle.hls_chron.specs.declared.plain.Config.TheVariants.{Cpu, Fp, Edf, Sfq, Rr, Wheel, Join}
@@ -22,12 +23,12 @@ pub record HasLeastPriority (b : Ledger) (mask slot : ℕ) : Type 0 where
 -- of the asking seats with budget, or where there is none of the asking soft seats, the one of least deadline
 abbrev pub may_go : Ledger → (mask slot : ℕ) → Bool
 may_go b mask slot =
-    if any_below (asks_in_budget b mask) 32 then asks_in_budget b mask slot else asks_softly b mask slot
+    if any_below (asks_in_budget b mask) most_slots then asks_in_budget b mask slot else asks_softly b mask slot
 
 -- the slot of the turn where it goes on, else the first asking slot by this key
 pub record TakesTurn (quantum : ℕ) (b : Ledger) (key : ℕ → ℕ) (mask slot : ℕ) : Type 0 where
   pub goes_on : turn_goes_on quantum b mask ≡ true → slot ≡ turn_slot b
-  pub passes : turn_goes_on quantum b mask ≡ false → IsFirst 32 (slot_asks mask) key slot
+  pub passes : turn_goes_on quantum b mask ≡ false → IsFirst most_slots (slot_asks mask) key slot
 
 pub record IsOwner (owner : Option ℕ) (mask slot : ℕ) : Type 0 where
   pub owns : owner ≡ Some slot
@@ -40,7 +41,7 @@ pub record IsSole (mask slot : ℕ) : Type 0 where
 -- the slot to serve, where these slots ask
 abbrev pub Serves : Config → Ledger → ℕ → ℕ → Type 0
 Serves Fp b mask slot = HasLeastPriority b mask slot
-Serves Edf b mask slot = IsFirst 32 (may_go b mask) (deadline_at b mask) slot
+Serves Edf b mask slot = IsFirst most_slots (may_go b mask) (deadline_at b mask) slot
 Serves (Sfq total most quantum) b mask slot = TakesTurn quantum b (start_tag quantum b (now_of b)) mask slot
 Serves (Rr quantum) b mask slot = TakesTurn quantum b (turns_after (turn_slot b)) mask slot
 Serves (Wheel frame) b mask slot = IsOwner (owner_now frame b) mask slot

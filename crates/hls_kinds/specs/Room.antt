@@ -1,5 +1,6 @@
 -- The room of a scheduler, by its configuration and its book: the slots that are free, and what the seats
 -- use up.
+use Rattle.hls_chron.specs.Ranges.{most_slots}
 use Rattle.std.specs.Prelude.{◌≡◌, ◌≢◌, ℕ, ◌-◌, ◌<◌, Option, Some, None, if◌then◌else◌}
 use Rattle.hls_chron.specs.declared.plain.Config.{Config}
 use Rattle.hls_chron.specs.declared.plain.Config.TheVariants as configs
@@ -45,8 +46,8 @@ weight_in _ = 0
 -- Reservations use up parts, also while they are held; shares use up weight, and slots of a frame its places.
 -- The other kinds have no room to use up.
 abbrev pub room_used : Config → Ledger → ℕ
-room_used configs.Edf b = sum_below (λ slot. parts_in (occupant_at configs.Edf b slot)) 32
-room_used (configs.Sfq total most quantum) b = sum_below (λ slot. weight_in (terms_at b slot)) 32
+room_used configs.Edf b = sum_below (λ slot. parts_in (occupant_at configs.Edf b slot)) most_slots
+room_used (configs.Sfq total most quantum) b = sum_below (λ slot. weight_in (terms_at b slot)) most_slots
 room_used (configs.Wheel frame) b = owned_places frame b
 room_used _ b = 0
 

@@ -1,4 +1,5 @@
 -- For how many ticks a scheduler asks as it does and serves whom it serves, where nothing but ticks comes.
+use Rattle.hls_chron.specs.Ranges.{most_slots}
 use Rattle.std.specs.Prelude.{ℕ, zero, suc, ◌+◌, ◌*◌, ◌-◌, ◌/◌, ◌%◌, Bool, true, false, Option, Some, None}
 use Rattle.std.specs.Prelude.{if◌then◌else◌, min, max, nat_lt, ◌==◌}
 use Rattle.hls_chron.specs.declared.plain.Config.{Config}
@@ -79,7 +80,7 @@ rest_of_share quantum b mask (Some slot) =
     if without_slot slot mask == 0 then always else
     min always (turn_end quantum (quantum - turn_ticks b slot % quantum)
     (to_rivals (tag_of_asking quantum b mask) slot (start_tag quantum b (now_of b) slot)
-    (tag_step (weight_in (terms_at b slot))) 32))
+    (tag_step (weight_in (terms_at b slot))) most_slots))
 
 abbrev pub stands_of : Config → Ledger → (mask : ℕ) → (granted : Bool) → (choice : Option ℕ) → ℕ
 stands_of Fp b mask granted choice = always
@@ -87,7 +88,7 @@ stands_of (Join ports) b mask granted choice = always
 stands_of (Rr quantum) b mask granted choice =
     if granted then rest_of_turn quantum b mask choice else always
 stands_of Edf b mask granted choice =
-    max 1 (if granted then min (to_deadlines b mask 32) (rest_of_budget b mask choice) else to_deadlines b mask 32)
+    max 1 (if granted then min (to_deadlines b mask most_slots) (rest_of_budget b mask choice) else to_deadlines b mask most_slots)
 stands_of (Sfq total most quantum) b mask granted choice =
     if granted then rest_of_share quantum b mask choice else always
 stands_of (Wheel frame) b mask granted choice = max 1 (owned_for (owner_at b) frame (now_of b) frame)

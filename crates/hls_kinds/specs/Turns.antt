@@ -1,4 +1,5 @@
 -- The turns of round robin and of fair queueing, recomputed from the book.
+use Rattle.hls_chron.specs.Ranges.{most_slots}
 use Rattle.std.specs.Prelude.{ℕ, ◌+◌, ◌-◌, ◌%◌, Bool, not, ◌&&◌, ◌||◌, ◌==◌, Option, Some, None}
 use Rattle.std.specs.Prelude.{is_some}
 use Rattle.std.specs.Int.{bit_at}
@@ -41,4 +42,4 @@ turn_goes_on quantum b mask =
 
 -- how far a slot comes after another in the cyclic order: 0 for the next, 31 for the slot itself
 abbrev pub turns_after : (slot other : ℕ) → ℕ
-turns_after slot other = (other + 31 - slot) % 32
+turns_after slot other = (other + 31 - slot) % most_slots

@@ -1,5 +1,6 @@
 -- When each refusal applies, and what is kept of it. All tests see the hierarchy as it stands, with a mover in
 -- its old seat.
+use Rattle.hls_chron.specs.Ranges.{most_slots, most_levels, most_shares}
 use Rattle.std.specs.Prelude.{◌≡◌, ℕ, ◌≤◌, ◌<◌, length, List, Option, Some, None, is_some, IsSome, slice_get}
 use Rattle.hls_text.specs.Lines.{Text}
 use Rattle.hls_chron.specs.declared.plain.Config.{Config}
@@ -67,7 +68,7 @@ pub record AreTooManyThreads (h : Hierarchy) (command : Command) (most : ℕ) : 
 
 -- 15 NotEmpty: so many seats of the scheduler that is to be unloaded are taken
 abbrev pub seats_taken : Ledger → ℕ
-seats_taken b = count (λ slot. is_some (terms_at b slot)) 0 32
+seats_taken b = count (λ slot. is_some (terms_at b slot)) 0 most_slots
 
 pub record IsNotEmpty (h : Hierarchy) (command : Command) (name : Text) (seats : ℕ) : Type 0 where
   pub unloads : command ≡ Unload name
@@ -89,19 +90,19 @@ pub record IsCycle (h : Hierarchy) (command : Command) (name : Text) : Type 0 wh
   pub place_is : number_of h name ≡ Some place
   pub under : IsUnder h moved place
 
--- 20 TooDeep: a scheduler would have this level, which is above 8, and none a greater one
+-- 20 TooDeep: a scheduler would have this level, which is above the most, and none a greater one
 pub record IsTooDeep (h : Hierarchy) (command : Command) (level : ℕ) : Type 0 where
   pub shares : ℕ
   pub chain : HasChainAfter h command level shares
   pub greatest : (other fewer : ℕ) → HasChainAfter h command other fewer → other ≤ level
-  pub above : 8 < level
+  pub above : most_levels < level
 
--- 21 TooManyShares: a path would hold so many fair queueing schedulers, more than four, and none more
+-- 21 TooManyShares: a path would hold so many fair queueing schedulers, more than there may be, and none more
 pub record AreTooManyShares (h : Hierarchy) (command : Command) (shares : ℕ) : Type 0 where
   pub level : ℕ
   pub chain : HasChainAfter h command level shares
   pub greatest : (deep other : ℕ) → HasChainAfter h command deep other → other ≤ shares
-  pub above : 4 < shares
+  pub above : most_shares < shares
 
 -- 22 KitEmpty: no box of the kind is left, and so many were used
 pub record IsKitEmpty (boxes : Boxes) (command : Command) (kind : Kind) (used : ℕ) : Type 0 where

@@ -7,7 +7,7 @@ use Rattle.hls_chron.specs.declared.plain.Config.TheVariants as configs
 use Rattle.hls_chron.specs.declared.plain.Kind.TheVariants as kinds
 use Rattle.hls_chron.specs.Kinds.{kind_of, terms_kind, port_count, fair_queue}
 use Rattle.hls_chron.specs.Name.{IsName}
-use Rattle.hls_chron.specs.Ranges.{ConfigInRange, TermsInRange}
+use Rattle.hls_chron.specs.Ranges.{ConfigInRange, TermsInRange, most_levels, most_shares}
 use Rattle.hls_chron.specs.Seats.{terms_at}
 use Rattle.hls_kinds.specs.Asks.{asks, slot_asks}
 use Rattle.hls_kinds.specs.Discipline.{Serves}
@@ -45,10 +45,10 @@ abbrev pub fair_queues : Hierarchy → List ℕ → ℕ
 fair_queues h [] = 0
 fair_queues h (k ∷ chain) = fair_queue (config_of (h.nodes k)) + fair_queues h chain
 
--- no level above 8, and at most four fair queueing schedulers on a path
+-- no level above the greatest, and at most so many fair queueing schedulers on a path
 pub record IsShallow (h : Hierarchy) : Type 0 where
-  pub levels : (chain : List ℕ) → IsChain h None chain → length chain ≤ 8
-  pub shares : (chain : List ℕ) → IsChain h None chain → fair_queues h chain ≤ 4
+  pub levels : (chain : List ℕ) → IsChain h None chain → length chain ≤ most_levels
+  pub shares : (chain : List ℕ) → IsChain h None chain → fair_queues h chain ≤ most_shares
 
 -- the numbers of a seat are in range
 pub record SeatInRange (seat : Seat) : Type 0 where

@@ -1,4 +1,5 @@
 // How deep a new scheduler would be, and how many fair queueing schedulers a path to it would hold.
+ghost use Rattle.hls_chron.specs.Ranges.{most_levels, most_shares};
 ghost use Rattle.std.specs.Prelude.{◌≡◌, ◌≤◌, length, List, IfSome, IsNone};
 ghost use Rattle.hls_text.specs.Lines.{Text};
 ghost use Rattle.hls_scenario.specs.declared.scenario.Perch.{Perch};
@@ -10,23 +11,17 @@ ghost use Rattle.hls_tree.specs.Trees.{IsTreeOf, Stands};
 ghost use Rattle.hls_manager.specs.Inside.Ports.{AreAtParents, AreWanted};
 ghost use Rattle.hls_manager.specs.Inside.Heights.{IsMost, IsHeightRefusal, IsLowEnough};
 
-use hls_chron::Config;
+use hls_chron::{Config, LEVELS, SHARES};
 use hls_report_text::Refusal;
 use hls_sched::Scheduler;
 use hls_tree::{Seat, Tree};
-
-/// The greatest level that a scheduler may have.
-const MOST_LEVEL: u32 = 8;
-
-/// How many fair queueing schedulers a path may hold.
-const MOST_SHARES: u32 = 4;
 
 /// The greatest level of the schedulers at which these seats are; the processor is at level 0.
 fn level_over(tree: &Tree, seats: &[Seat]) -> u32
     requires { Stands seen tree.now (λ h. IsReached h × AreAtParents h seats.now) }
     ensures most { (h : Hierarchy) → IsTreeOf seen tree.now h → IsReached h →
         IsMost h length seats.now (length seats.now) result }
-    ensures within { result ≤ 8 }
+    ensures within { result ≤ most_levels }
 {
     let mut most = 0;
     for seat in seats {
@@ -42,7 +37,7 @@ fn shares_over(tree: &Tree, seats: &[Seat]) -> u32
     requires { Stands seen tree.now (λ h. IsReached h × AreAtParents h seats.now) }
     ensures most { (h : Hierarchy) → IsTreeOf seen tree.now h → IsReached h →
         IsMost h (fair_queues h) seats.now (length seats.now) result }
-    ensures within { result ≤ 4 }
+    ensures within { result ≤ most_shares }
 {
     let mut most = 0;
     for seat in seats {
@@ -75,11 +70,11 @@ pub(crate) fn height_refusal(tree: &Tree, config: &Config, seats: &[Seat]) -> Op
     ensures formed { IfSome result (λ refusal. IsRefusal refusal) }
 {
     let level = level_over(tree, seats) + 1;
-    if level > MOST_LEVEL {
+    if level > LEVELS {
         return Some(Refusal::TooDeep { level });
     }
     let count = shares_over(tree, seats) + share_of(config);
-    if count > MOST_SHARES {
+    if count > SHARES {
         return Some(Refusal::TooManyShares { count });
     }
     None

@@ -15,18 +15,12 @@ ghost use Rattle.hls_manager.specs.Inside.Shifts.{IsAtSpot, IsAimed, IsLoop, IsM
 ghost use Rattle.hls_machine.specs.Legal.{IsReached};
 
 use crate::lookups::fault_refusal;
-use hls_chron::Name;
+use hls_chron::{LEVELS, Name, SHARES};
 use hls_kinds::SeatFault;
 use hls_report_text::Refusal;
 use hls_scenario::{Perch, Spot};
 use hls_sched::Scheduler;
 use hls_tree::{NodeId, Seat, Sort, Tree};
-
-/// The greatest level that a scheduler may have.
-const MOST_LEVEL: u32 = 8;
-
-/// The most fair queueing schedulers that a path may hold.
-const MOST_SHARES: u32 = 4;
 
 /// Why the seat that is wanted cannot be taken, the want of a derivation aside.
 pub(crate) fn hindrance(
@@ -128,11 +122,11 @@ fn overloaded(tree: &Tree, id: NodeId, seat: &Seat) -> Option<Refusal>
     ensures formed { IfSome result (λ refusal. IsRefusal refusal) }
 {
     let level = tree.level_after(id, seat.parent);
-    if level > MOST_LEVEL {
+    if level > LEVELS {
         return Some(Refusal::TooDeep { level });
     }
     let count = tree.shares_after(id, seat.parent);
-    if count > MOST_SHARES {
+    if count > SHARES {
         return Some(Refusal::TooManyShares { count });
     }
     None

@@ -1,4 +1,5 @@
 -- What is left on a scheduler for further seats, by its configuration and its book.
+use Rattle.hls_chron.specs.Ranges.{most_slots}
 use Rattle.std.specs.Prelude.{◌≡◌, ℕ, ◌+◌, ◌-◌, ◌*◌, ◌/◌, ◌<◌, ◌≤◌, ◌==◌, List, [], ◌∷◌, Option, Some, None}
 use Rattle.std.specs.Prelude.{if◌then◌else◌}
 use Rattle.std.specs.List.{filter_map}
@@ -48,7 +49,7 @@ fit_in free y = if most_ticks free y == 0 then None else Some (record { x = most
 
 -- what is left where a slot is free, with reservations in these periods
 abbrev pub IsRoom : Config → Ledger → (periods : List ℕ) → Left → Type 0
-IsRoom configs.Fp b periods (Priorities spans) = AreFreeSpans b 0 32 spans
+IsRoom configs.Fp b periods (Priorities spans) = AreFreeSpans b 0 most_slots spans
 IsRoom configs.Edf b periods (Parts free fits) =
     (free ≡ room_left configs.Edf b) × (fits ≡ filter_map (fit_in free) periods)
 IsRoom (configs.Sfq total most quantum) b periods (Weight weight) =

@@ -1,4 +1,5 @@
 // The priorities that no seat of a scheduler has.
+ghost use Rattle.hls_chron.specs.Ranges.{most_slots};
 ghost use Rattle.std.specs.Prelude.{◌≡◌, ◌≤◌, ◌<◌, ℕ, true, false, IfOk};
 ghost use Rattle.hls_chron.specs.declared.plain.Config.TheVariants.{Fp};
 ghost use Rattle.hls_chron.specs.Seats.{HasPriority};
@@ -21,7 +22,7 @@ const PRIORITIES: u32 = 32;
 fn is_taken(tree: &Tree, id: NodeId, priority: u32) -> bool
     requires stands { Stands seen tree.now (λ h. IsLoaded (h.nodes id)) }
     requires fixed { (h : Hierarchy) → IsTreeOf seen tree.now h → config_of (h.nodes id) ≡ Fp }
-    requires within { priority < 32 }
+    requires within { priority < most_slots }
     ensures taken { result ≡ true → (h : Hierarchy) → IsTreeOf seen tree.now h →
         HasPriority (book_of (h.nodes id)) priority }
     ensures free { result ≡ false → (h : Hierarchy) → IsTreeOf seen tree.now h →
@@ -41,12 +42,12 @@ fn is_of_priority(fault: Option<SeatFault>) -> bool
 fn next_free(tree: &Tree, id: NodeId, from: u32) -> u32
     requires stands { Stands seen tree.now (λ h. IsLoaded (h.nodes id)) }
     requires fixed { (h : Hierarchy) → IsTreeOf seen tree.now h → config_of (h.nodes id) ≡ Fp }
-    requires within { from ≤ 32 }
+    requires within { from ≤ most_slots }
     ensures behind { from ≤ result }
-    ensures within { result ≤ 32 }
+    ensures within { result ≤ most_slots }
     ensures before { (h : Hierarchy) (p : ℕ) → IsTreeOf seen tree.now h → from ≤ p → p < result →
         HasPriority (book_of (h.nodes id)) p }
-    ensures here { result < 32 → (h : Hierarchy) → IsTreeOf seen tree.now h →
+    ensures here { result < most_slots → (h : Hierarchy) → IsTreeOf seen tree.now h →
         ¬ HasPriority (book_of (h.nodes id)) result }
 {
     for priority in from..PRIORITIES {
@@ -61,12 +62,12 @@ fn next_free(tree: &Tree, id: NodeId, from: u32) -> u32
 fn next_taken(tree: &Tree, id: NodeId, from: u32) -> u32
     requires stands { Stands seen tree.now (λ h. IsLoaded (h.nodes id)) }
     requires fixed { (h : Hierarchy) → IsTreeOf seen tree.now h → config_of (h.nodes id) ≡ Fp }
-    requires within { from ≤ 32 }
+    requires within { from ≤ most_slots }
     ensures behind { from ≤ result }
-    ensures within { result ≤ 32 }
+    ensures within { result ≤ most_slots }
     ensures before { (h : Hierarchy) (p : ℕ) → IsTreeOf seen tree.now h → from ≤ p → p < result →
         ¬ HasPriority (book_of (h.nodes id)) p }
-    ensures here { result < 32 → (h : Hierarchy) → IsTreeOf seen tree.now h →
+    ensures here { result < most_slots → (h : Hierarchy) → IsTreeOf seen tree.now h →
         HasPriority (book_of (h.nodes id)) result }
 {
     for priority in from..PRIORITIES {
@@ -85,7 +86,7 @@ pub fn free_spans(alloc: Global, tree: &Tree, id: NodeId) -> Result<Vec<Span>, A
     requires stands { Stands seen tree.now (λ h. IsLoaded (h.nodes id)) }
     requires fixed { (h : Hierarchy) → IsTreeOf seen tree.now h → config_of (h.nodes id) ≡ Fp }
     ensures { IfOk result (λ spans. (h : Hierarchy) → IsTreeOf seen tree.now h →
-        AreFreeSpans (book_of (h.nodes id)) 0 32 spans.items) }
+        AreFreeSpans (book_of (h.nodes id)) 0 most_slots spans.items) }
 {
     let mut spans = Vec::new(alloc);
     let mut first = next_free(tree, id, 0);

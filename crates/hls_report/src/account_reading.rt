@@ -1,4 +1,5 @@
 // Reading the accounts, and the end.
+ghost use Rattle.hls_chron.specs.Ranges.{longest_horizon};
 ghost use Rattle.std.specs.Prelude.{◌≡◌, ℕ, ◌^◌, ◌<◌, ◌≤◌, ◌++◌, ◌∷◌, [], codes, decimal, map};
 ghost use Rattle.std.specs.Prelude.{OnOk, IfOk, IfErr, IfSome, Some};
 ghost use Rattle.std.specs.List.{AllByRecursion};
@@ -33,7 +34,7 @@ fn idle_of(line: &[u8]) -> Option<u32>
 
 fn next_account(lines: &mut Lines<'_>, horizon: u32) -> Result<AccountLine, ReportFault>
     requires room { CanCount lines.old }
-    requires few { horizon ≤ 1000000 }
+    requires few { horizon ≤ longest_horizon }
     ensures ok { IfOk result (λ line. AccountPasses horizon line lines.old lines.new) }
     ensures err { IfErr result (λ fault. FailsAt (AccountRest horizon) lines.old fault) }
 {
@@ -63,7 +64,7 @@ pub fn accounts(
     horizon: u32,
 ) -> Result<(Vec<Account>, u32), ReportFault>
     requires room { CanCount lines.old }
-    requires few { horizon ≤ 1000000 }
+    requires few { horizon ≤ longest_horizon }
     ensures ok { IfOk result (λ p. AllByRecursion (IsAccount horizon) p.0.items × (p.1 < 2 ^ 32)
         × Passes (AccountRest horizon) EndRest
         (map account_text p.0.items ++ (codes "idle " ++ decimal p.1) ∷ []) lines.old lines.new) }

@@ -1,4 +1,5 @@
 // Reading the commands with their answers.
+ghost use Rattle.hls_chron.specs.Ranges.{longest_horizon};
 ghost use Rattle.std.specs.Prelude.{◌≡◌, ◌↔◌, ℕ, ◌≤◌, ◌++◌, ◌∷◌, [], codes, length, map, flat_map, None};
 ghost use Rattle.std.specs.Prelude.{OnOk, IfOk, IfErr, IfSome, Some, IsTrue};
 ghost use Rattle.hls_report_text.specs.ReportText.{refusal_text, seat_text, answer_lines, answered_lines};
@@ -122,7 +123,7 @@ fn next_item(
     left: u32,
 ) -> Result<Option<Item>, ReportFault>
     requires room { CanCount lines.old }
-    requires few { horizon ≤ 1000000 }
+    requires few { horizon ≤ longest_horizon }
     ensures ok { IfOk result (λ found. ItemPasses version horizon last left found lines.old lines.new) }
     ensures err { IfErr result (λ fault. FailsAt (CommandRest version horizon last left) lines.old fault) }
 {
@@ -151,7 +152,7 @@ fn next_command(
     left: u32,
 ) -> Result<Option<Answered>, ReportFault>
     requires room { CanCount lines.old }
-    requires few { horizon ≤ 1000000 }
+    requires few { horizon ≤ longest_horizon }
     ensures ok { IfOk result (λ found. CommandPasses version horizon last left found lines.old lines.new) }
     ensures err { IfErr result (λ fault. FailsAt (CommandRest version horizon last left) lines.old fault) }
 {
@@ -183,7 +184,7 @@ pub fn commands(
     horizon: u32,
 ) -> Result<Vec<Answered>, ReportFault>
     requires room { CanCount lines.old }
-    requires few { horizon ≤ 1000000 }
+    requires few { horizon ≤ longest_horizon }
     ensures ok { IfOk result (λ answered. AreAnswered version horizon 0 answered.items
         × (length answered.items ≤ 65536)
         × Passes (CommandRest version horizon 0 65536) (RunRest horizon 0 None [])

@@ -1,4 +1,5 @@
 // Reading a line.
+ghost use Rattle.hls_chron.specs.Ranges.{longest_horizon};
 ghost use Rattle.std.specs.Prelude.{◌≡◌, ◌≤◌, ◌<◌, ◌^◌, ◌++◌, ◌∷◌, codes, decimal, Some, IfSome, IfOk, ℕ};
 ghost use Rattle.std.specs.Prelude.{IsTrue, ◌↔◌};
 ghost use Rattle.hls_guarantee.specs.Limits.{IsValid};
@@ -30,7 +31,7 @@ pub fn item(
     horizon: u32,
     last: u32,
 ) -> Result<Option<Item>, AllocError>
-    requires { horizon ≤ 1000000 }
+    requires { horizon ≤ longest_horizon }
     ensures found { IfOk result (λ found.
         IfSome found (λ item. IsNext version horizon last item × (line.now ≡ item_text version item))) }
     ensures exact { IfOk result (λ found.
@@ -177,7 +178,7 @@ fn account_back(text: &[u8]) -> Option<(Guarantee, u32, u32)>
 
 /// The account that a line spells.
 pub fn account(line: &[u8], horizon: u32) -> Option<Account>
-    requires { horizon ≤ 1000000 }
+    requires { horizon ≤ longest_horizon }
     ensures found { IfSome result (λ a. IsAccount horizon a × (line.now ≡ account_text a)) }
     ensures exact { (a : Account) → IsAccount horizon a → line.now ≡ account_text a → result ≡ Some a }
 {

@@ -1,4 +1,5 @@
 // Reading a whole report.
+ghost use Rattle.hls_chron.specs.Ranges.{longest_horizon};
 ghost use Rattle.std.specs.Prelude.{◌≡◌, ◌^◌, ◌-◌, ◌<◌, ◌≤◌, ◌++◌, map, length, IfOk, IfErr};
 ghost use Rattle.std.specs.List.{AllByRecursion};
 ghost use Rattle.hls_report_text.specs.ReportText.{account_text, end_lines, ended};
@@ -48,7 +49,7 @@ fn tail(
     horizon: u32,
 ) -> Result<(Vec<Account>, u32), ReportFault>
     requires room { CanCount lines.old }
-    requires few { horizon ≤ 1000000 }
+    requires few { horizon ≤ longest_horizon }
     ensures ok { IfOk result (λ p. AllByRecursion (IsAccount horizon) p.0.items × (p.1 < 2 ^ 32)
         × (lines.old.rest.now ≡ ended (map account_text p.0.items ++ end_lines p.1))) }
     ensures err { IfErr result (λ fault. FailsAt (AccountRest horizon) lines.old fault) }

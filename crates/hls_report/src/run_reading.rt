@@ -1,4 +1,5 @@
 // Reading the runs.
+ghost use Rattle.hls_chron.specs.Ranges.{longest_horizon};
 ghost use Rattle.std.specs.Prelude.{◌≡◌, ◌↔◌, ◌^◌, ◌<◌, ◌≤◌, ◌+◌, ◌++◌, ◌∷◌, [], List, length, map, codes};
 ghost use Rattle.std.specs.Prelude.{Option, Some, None, IfOk, OnOk, IfErr, IfSome, MatchOption};
 ghost use Rattle.hls_text.specs.Lines.{Text};
@@ -36,7 +37,7 @@ struct RunFront<'a> {
 
 /// The last tick of a run from that tick on, and the words of its path.
 fn run_front(line: &[u8], from: u32, horizon: u32) -> Option<RunFront<'_>>
-    requires { horizon ≤ 1000000 }
+    requires { horizon ≤ longest_horizon }
     ensures { MatchOption result
         ((s : Stretch) → s.from ≡ from → from ≤ s.to → s.to < horizon → line.now ≡ stretch_text s → ⊥)
         (λ f. (from ≤ f.to) × (f.to < horizon)
@@ -108,7 +109,7 @@ fn told_run<'a>(
     last: &[u8],
     horizon: u32,
 ) -> Result<Option<ToldRun<'a>>, AllocError>
-    requires few { horizon ≤ 1000000 }
+    requires few { horizon ≤ longest_horizon }
     requires known { length known.old.names.keys ≤ 2 ^ 16 }
     requires recent { AreRecent known.old }
     ensures told { IfOk result (λ found. MatchOption found
@@ -146,7 +147,7 @@ fn next_run<'a>(
     horizon: u32,
 ) -> Result<ToldRun<'a>, ReportFault>
     requires room { CanCount lines.old }
-    requires few { horizon ≤ 1000000 }
+    requires few { horizon ≤ longest_horizon }
     requires left { from < horizon }
     requires known { AreNames known.old.names.keys }
     requires recent { AreRecent known.old }
@@ -198,7 +199,7 @@ fn names_of(alloc: Global, known: &IndexSet<Name>) -> Result<List<Name>, AllocEr
 /// Reads the runs, and the line behind them.
 pub fn runs(alloc: Global, lines: &mut Lines<'_>, horizon: u32) -> Result<Schedule, ReportFault>
     requires room { CanCount lines.old }
-    requires few { horizon ≤ 1000000 }
+    requires few { horizon ≤ longest_horizon }
     ensures ok { IfOk result (λ s. IsSchedule horizon s
         × Passes (RunRest horizon 0 None []) (AccountRest horizon)
         (map stretch_text (stretches_of s) ++ codes "accounts" ∷ []) lines.old lines.new) }

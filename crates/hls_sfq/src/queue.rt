@@ -1,13 +1,15 @@
 // The queue of the slots that ask, by their start tags.
+ghost use Rattle.hls_chron.specs.Ranges.{most_slots};
 ghost use Rattle.std.specs.Prelude.{◌≡◌, ◌<◌, ℕ, [], None, Some, IfOk, IfSome, MatchOption, length, replicate};
 ghost use Rattle.std.specs.Prelude.{slice_set};
 ghost use Rattle.hls_order.specs.Order.{IsEmpty, IsLeast};
 ghost use Rattle.hls_sfq.specs.Queue.{IsNext, IsQueue};
 ghost use Rattle.hls_sfq.specs.Changes.{placed};
 
-use crate::seats::{SLOTS, Seats};
+use crate::seats::Seats;
 use crate::shares::tag_where;
 use hls_box::{Turn, turn_goes_on};
+use hls_chron::SLOTS;
 use hls_order::Order;
 use std::alloc::{AllocError, Global};
 use std::marker::Model;
@@ -40,7 +42,7 @@ impl Queue {
     /// # Errors
     /// Returns `AllocError` for want of memory.
     pub fn made(alloc: Global) -> Result<Queue, AllocError>
-        ensures { IfOk result (λ queue. queue ≡ replicate 32 None) }
+        ensures { IfOk result (λ queue. queue ≡ replicate most_slots None) }
     {
         let order = Box::new(alloc, Order::new())?;
         Ok(Queue { order: Some(order) })
@@ -48,7 +50,7 @@ impl Queue {
 
     /// Gives a slot a start tag, whether it is present or not.
     pub fn put(&mut self, slot: u32, tag: u128)
-        requires { slot < 32 }
+        requires { slot < most_slots }
         ensures { self.new ≡ slice_set self.old slot (Some tag) }
     {
         if let Some(order) = &mut self.order {
@@ -58,7 +60,7 @@ impl Queue {
 
     /// Takes a slot out, whether it is present or not.
     pub fn take(&mut self, slot: u32)
-        requires { slot < 32 }
+        requires { slot < most_slots }
         ensures { self.new ≡ slice_set self.old slot None }
     {
         if let Some(order) = &mut self.order {
@@ -78,7 +80,7 @@ impl Queue {
 
     /// The slots in their order, where there are places.
     pub fn order(&self) -> &Order
-        requires { length self.now ≡ 32 }
+        requires { length self.now ≡ most_slots }
         ensures { result.now ≡ self.now }
     {
         match &self.order {
@@ -90,7 +92,7 @@ impl Queue {
 
 /// Gives a slot its place in the queue, or takes it out where it does not ask.
 pub fn place(queue: &mut Queue, slot: u32, tag: Option<u128>)
-    requires { slot < 32 }
+    requires { slot < most_slots }
     ensures { queue.new ≡ slice_set queue.old slot tag }
 {
     match tag {
@@ -101,8 +103,8 @@ pub fn place(queue: &mut Queue, slot: u32, tag: Option<u128>)
 
 /// Gives the slot that was served its new place.
 pub fn place_served(queue: &mut Queue, slot: Option<u32>, time: u128, seats: &Seats, mask: u32)
-    requires seats { length seats.now ≡ 32 }
-    requires within { IfSome slot (λ slot. slot < 32) }
+    requires seats { length seats.now ≡ most_slots }
+    requires within { IfSome slot (λ slot. slot < most_slots) }
     ensures { queue.new ≡ placed queue.old slot time seats.now mask }
 {
     if let Some(slot) = slot {
@@ -112,8 +114,8 @@ pub fn place_served(queue: &mut Queue, slot: Option<u32>, time: u128, seats: &Se
 
 /// Gives each slot its place anew.
 pub fn place_all(queue: &mut Queue, time: u128, seats: &Seats, mask: u32)
-    requires size { length queue.old ≡ 32 }
-    requires seats { length seats.now ≡ 32 }
+    requires size { length queue.old ≡ most_slots }
+    requires seats { length seats.now ≡ most_slots }
     ensures { IsQueue queue.new time seats.now mask }
 {
     for slot in 0..SLOTS {
@@ -124,7 +126,7 @@ pub fn place_all(queue: &mut Queue, time: u128, seats: &Seats, mask: u32)
 /// The slot of the turn where it goes on, else the first of the queue: the asking slot of least start tag.
 pub fn next_of(queue: &Queue, turn: Turn, mask: u32) -> Option<u32>
     ensures value { IsNext queue.now turn mask result }
-    ensures within { length queue.now ≡ 32 → (slot : ℕ) → result ≡ Some slot → slot < 32 }
+    ensures within { length queue.now ≡ most_slots → (slot : ℕ) → result ≡ Some slot → slot < most_slots }
 {
     if turn_goes_on(mask, turn) {
         Some(turn.slot)

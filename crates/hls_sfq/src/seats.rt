@@ -1,12 +1,11 @@
 // The seats by slot.
+ghost use Rattle.hls_chron.specs.Ranges.{most_slots};
 ghost use Rattle.std.specs.Prelude.{◌≡◌, [], None, IfOk, length, replicate, slice_index_or, slice_set};
 
 use crate::shares::FairSeat;
+use hls_chron::SLOTS;
 use std::alloc::{AllocError, Global};
 use std::marker::Model;
-
-/// How many slots there are.
-pub const SLOTS: u32 = 32;
 
 /// The seat of each slot that is taken. It has no places at first, so that a box that is not set up takes no room
 /// for them.
@@ -44,7 +43,7 @@ impl Seats {
     /// # Errors
     /// Returns `AllocError` for want of memory.
     pub fn vacant(&self) -> Result<Seats, AllocError>
-        ensures { IfOk result (λ seats. seats ≡ replicate 32 None) }
+        ensures { IfOk result (λ seats. seats ≡ replicate most_slots None) }
     {
         let places = vec![in self.allocator(); None; SLOTS as usize]?;
         Ok(Seats { places })

@@ -1,4 +1,5 @@
 -- A tree, and the hierarchies that it is of.
+use Rattle.hls_chron.specs.Ranges.{most_slots}
 use Rattle.std.specs.Prelude.{◌≡◌, ◌≢◌, ℕ, ◌+◌, ◌^◌, ◌<◌, ◌≤◌, max, map, Bool, true, false, Option, Some, None}
 use Rattle.std.specs.Prelude.{List, [], ◌∷◌, ◌++◌, length, slice_get}
 use Rattle.hls_kinds.specs.Asks.{slot_asks}
@@ -25,7 +26,7 @@ level_over s (seat ∷ seats) = max (level_at s seat.place) (level_over s seats)
 -- on different schedulers, and numbers are of 32 bits.
 pub record IsRanked (s : ℕ → Option Shown) : Type 0 where
   pub exact : (c : ℕ) → level_in (s c) ≡ level_over s (seats_in (s c))
-  pub within : (c port p slot : ℕ) → place_in (s c) port ≡ Some (At p slot) → slot < 32
+  pub within : (c port p slot : ℕ) → place_in (s c) port ≡ Some (At p slot) → slot < most_slots
   pub few : (c : ℕ) → level_in (s c) ≤ most_in (s c)
   pub some : (c : ℕ) → 0 < most_in (s c) → seats_in (s c) ≢ []
   pub ports : (c : ℕ) → length (seats_in (s c)) ≤ 4

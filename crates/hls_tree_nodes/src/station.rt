@@ -1,7 +1,7 @@
 // A box, beside what it was told.
 ghost use Rattle.std.specs.Prelude.{◌≡◌, ◌≢◌, ◌<◌, ◌^◌, true, None, IfSome, IsNone, ◌↔◌, bit_and, false};
 ghost use Rattle.std.specs.Prelude.{get_or, slice_set};
-ghost use Rattle.hls_chron.specs.Ranges.{TermsInRange};
+ghost use Rattle.hls_chron.specs.Ranges.{TermsInRange, most_slots};
 ghost use Rattle.hls_chron.specs.Seats.{terms_at};
 ghost use Rattle.hls_kinds.specs.Asks.{slot_asks};
 ghost use Rattle.hls_kinds.specs.Discipline.{Serves};
@@ -33,7 +33,7 @@ pub struct Station {
 
 /// The bit of a slot.
 fn bit(slot: u32) -> u32
-    requires { slot < 32 }
+    requires { slot < most_slots }
     ensures { result ≡ 2 ^ slot }
 {
     1 << slot
@@ -41,7 +41,7 @@ fn bit(slot: u32) -> u32
 
 /// Whether a slot asks.
 fn is_set(mask: u32, slot: u32) -> bool
-    requires { slot < 32 }
+    requires { slot < most_slots }
     ensures { result ≡ slot_asks mask slot }
 {
     (mask >> slot) & 1 == 1
@@ -108,7 +108,7 @@ impl Station {
     pub fn tell(&mut self, slot: u32, asks: bool)
         requires posted { IsPosted (post_of seen self.old) }
         requires taken { terms_at (seen self.old.unit).book slot ≢ None }
-        requires within { slot < 32 }
+        requires within { slot < most_slots }
         ensures { IsTold slot asks (post_of seen self.old) (post_of seen self.new) }
     {
         let is_set = is_set(self.mask, slot);
@@ -225,7 +225,7 @@ impl Station {
     pub fn leave(&mut self, slot: u32)
         requires posted { IsPosted (post_of seen self.old) }
         requires taken { terms_at (seen self.old.unit).book slot ≢ None }
-        requires within { slot < 32 }
+        requires within { slot < most_slots }
         requires room { 0 < (seen self.old.unit).book.spare_marks }
         ensures { post_of seen self.new ≡ post_left slot (post_of seen self.old) }
     {

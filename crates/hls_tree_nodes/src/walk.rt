@@ -1,4 +1,5 @@
 // Walks over the nodes.
+ghost use Rattle.hls_chron.specs.Ranges.{most_slots};
 ghost use Rattle.std.specs.Prelude.{◌≡◌, ◌≢◌, ℕ, ◌+◌, ◌<◌, ◌≤◌, Option, Some, None, true, IfSome, IsNone, []};
 ghost use Rattle.std.specs.Prelude.{length, map, option_map, slice_get, get_or};
 ghost use Rattle.std.specs.Int.{bit_at};
@@ -28,7 +29,7 @@ use slab::Slab;
 fn tell_at(nodes: &mut Slab<Node>, key: usize, slot: u32, asks: bool)
     requires posted { PostedIn (shown_at seen nodes.old key) }
     requires taken { terms_at (book_in (shown_at seen nodes.old key)) slot ≢ None }
-    requires within { slot < 32 }
+    requires within { slot < most_slots }
     ensures here { ToldIn slot asks (shown_at seen nodes.old key) (shown_at seen nodes.new key) }
     ensures others { (k : ℕ) → k ≢ key → shown_at seen nodes.new k ≡ shown_at seen nodes.old k }
 {
@@ -96,7 +97,7 @@ fn slot_at(nodes: &Slab<Node>, key: usize, port: u8) -> Option<(usize, u32)>
 fn tell_slot(nodes: &mut Slab<Node>, at: Option<(usize, u32)>, asks: bool)
     requires posted { (k : ℕ) → PostedIn (shown_at seen nodes.old k) }
     requires taken { IfSome at (λ a. terms_at (book_in (shown_at seen nodes.old a.0)) a.1 ≢ None) }
-    requires within { IfSome at (λ a. a.1 < 32) }
+    requires within { IfSome at (λ a. a.1 < most_slots) }
     ensures { ToldBy at asks (shown_at seen nodes.old) (shown_at seen nodes.new) }
 {
     match at {

@@ -1,4 +1,5 @@
 // What became of a job.
+ghost use Rattle.hls_chron.specs.Ranges.{longest_horizon};
 ghost use Rattle.std.specs.Prelude.{◌≡◌, ◌+◌, ◌≤◌, All};
 ghost use Rattle.hls_guarantee.specs.Limits.{IsValid};
 ghost use Rattle.hls_legal.specs.declared.stay.Stay.{Stay as StayRecord};
@@ -32,7 +33,7 @@ fn fate_by(release: &Release, reach: u32, got: u32) -> Fate
 
 /// Whether a stay has so many ticks from one on.
 fn has_ticks(horizon: u32, from: u32, ticks: u32, stay: &Stay) -> bool
-    requires few { from + ticks ≤ 1000000 }
+    requires few { from + ticks ≤ longest_horizon }
     ensures { result ≡ has_ticks horizon from ticks stay.now }
 {
     let until = match stay.until {
@@ -44,7 +45,7 @@ fn has_ticks(horizon: u32, from: u32, ticks: u32, stay: &Stay) -> bool
 
 /// In how many ticks the first of these stays that has so many from one on promises what is asked for, if there is one.
 fn bound_among(horizon: u32, stays: &[Stay], from: u32, ticks: u32, asked: u32) -> Option<u128>
-    requires few { from + ticks ≤ 1000000 }
+    requires few { from + ticks ≤ longest_horizon }
     requires some { 1 ≤ asked }
     requires small { asked ≤ 100000 }
     requires valid { All (λ (s : StayRecord). IsValid s.kept) stays.now }

@@ -1,4 +1,5 @@
 // The best cut of some ticks: the one whose least surplus is greatest.
+ghost use Rattle.hls_chron.specs.Ranges.{longest_horizon};
 ghost use Rattle.std.specs.Prelude.{◌≡◌, ◌+◌, ◌-◌, ◌≤◌, ◌<◌, ◌↔◌, ℕ, Bool, IsTrue, min};
 ghost use Rattle.hls_audit_spans.specs.Spans.{Tell};
 ghost use Rattle.hls_view_margins.specs.Cuts.{IsCutPiece, IsBestOf};
@@ -20,7 +21,7 @@ pub(crate) struct Pieces {
 
 /// The ticks from one on and before another, if there is one.
 fn part_between(served: &Spans, from: u32, until: u32) -> Option<Part>
-    requires few { until ≤ 1000000 }
+    requires few { until ≤ longest_horizon }
     ensures { (f : ℕ → Bool) (end : ℕ) → Tell f served.now.spans.items end → until ≤ end →
         IsBetween f from until result }
 {

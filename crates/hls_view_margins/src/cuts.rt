@@ -1,4 +1,5 @@
 // Cuts of ticks.
+ghost use Rattle.hls_chron.specs.Ranges.{longest_horizon};
 ghost use Rattle.std.specs.Prelude.{◌≤◌, ◌<◌};
 
 /// The ticks from one on and before another, cut before the one at an offset and every so many ticks behind it.
@@ -9,7 +10,7 @@ pub(crate) struct Cut {
     pub(crate) offset: u32,
     pub(crate) period: u32,
     pub(crate) ghost order: { lo ≤ hi },
-    pub(crate) ghost few: { hi ≤ 1000000 },
+    pub(crate) ghost few: { hi ≤ longest_horizon },
     pub(crate) ghost some: { 1 ≤ period },
     pub(crate) ghost small: { period ≤ 20000 },
     pub(crate) ghost within: { offset < period },
@@ -21,7 +22,7 @@ pub(crate) struct Window {
     pub(crate) lo: u32,
     pub(crate) hi: u32,
     pub(crate) ghost some: { lo < hi },
-    pub(crate) ghost few: { hi ≤ 1000000 },
+    pub(crate) ghost few: { hi ≤ longest_horizon },
 }
 
 /// A reservation by blocks: where it is hard, at most so many of the ticks of a period.

@@ -1,4 +1,5 @@
 // The first part with the least surplus: of all that have so many ticks, and of all.
+ghost use Rattle.hls_chron.specs.Ranges.{longest_horizon};
 ghost use Rattle.std.specs.Prelude.{◌≡◌, ◌+◌, ◌≤◌, ◌<◌, ℕ, Bool};
 ghost use Rattle.hls_audit_spans.specs.Spans.{Tell};
 ghost use Rattle.hls_view_margins.specs.First.{IsFirstOf};
@@ -12,7 +13,7 @@ use hls_audit_spans::Spans;
 
 /// So many ticks from one on, with the service that they had.
 pub(crate) fn part_of(served: &Spans, from: u32, ticks: u32) -> Part
-    requires few { from + ticks ≤ 1000000 }
+    requires few { from + ticks ≤ longest_horizon }
     ensures { (f : ℕ → Bool) (end : ℕ) → Tell f served.now.spans.items end → from + ticks ≤ end →
         result ≡ part f from ticks }
 {
@@ -33,7 +34,7 @@ pub(crate) fn least_of_length(
 ) -> Option<Part>
     requires some { 1 ≤ ticks }
     requires fits { lo + ticks ≤ hi }
-    requires few { hi ≤ 1000000 }
+    requires few { hi ≤ longest_horizon }
     ensures { (f : ℕ → Bool) (end : ℕ) → Tell f served.now.spans.items end → hi ≤ end →
         IsFirstOf scale.now (IsLong f lo hi ticks) result }
 {
@@ -47,7 +48,7 @@ pub(crate) fn least_of_length(
 /// Of all parts, the first that has the least surplus.
 pub(crate) fn least_of_all(scale: &Scale, served: &Spans, lo: u32, hi: u32) -> Option<Part>
     requires order { lo ≤ hi }
-    requires few { hi ≤ 1000000 }
+    requires few { hi ≤ longest_horizon }
     ensures { (f : ℕ → Bool) (end : ℕ) → Tell f served.now.spans.items end → hi ≤ end →
         IsFirstOf scale.now (IsPart f lo hi) result }
 {
@@ -64,7 +65,7 @@ pub(crate) fn least_of_all(scale: &Scale, served: &Spans, lo: u32, hi: u32) -> O
 /// before it: a part that has some is left behind.
 fn run_since(scale: &Scale, served: &Spans, since: u32, tick: u32) -> u32
     requires order { since ≤ tick }
-    requires few { tick < 1000000 }
+    requires few { tick < longest_horizon }
     ensures order { result ≤ tick }
     ensures leads { (f : ℕ → Bool) (end : ℕ) → Tell f served.now.spans.items end → tick < end → (lo : ℕ) →
         Leads scale.now f lo tick since → Leads scale.now f lo (tick + 1) result }

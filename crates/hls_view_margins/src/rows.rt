@@ -1,4 +1,5 @@
 // Rows of ticks in which a thread is ready, or is ready and not served.
+ghost use Rattle.hls_chron.specs.Ranges.{longest_horizon};
 ghost use Rattle.std.specs.Prelude.{◌≡◌, ◌+◌, ◌-◌, ◌≤◌, ◌<◌, ℕ, Bool, true, false};
 ghost use Rattle.hls_audit_spans.specs.Spans.{Tell};
 ghost use Rattle.hls_view_margins.specs.Rows.{IsLongestOf};
@@ -11,7 +12,7 @@ use hls_audit_spans::Spans;
 
 /// Whether a tick is one of them.
 pub fn is_in(ticks: &Spans, tick: u32) -> bool
-    requires few { tick < 1000000 }
+    requires few { tick < longest_horizon }
     ensures { (f : ℕ → Bool) (end : ℕ) → Tell f ticks.now.spans.items end → tick < end → result ≡ f tick }
 {
     ticks.count(tick, 1) == 1
@@ -19,7 +20,7 @@ pub fn is_in(ticks: &Spans, tick: u32) -> bool
 
 /// Whether a thread is ready in a tick, and where it is to wait, is not served.
 fn is_counted(ready: &Spans, served: &Spans, waiting: bool, tick: u32) -> bool
-    requires few { tick < 1000000 }
+    requires few { tick < longest_horizon }
     ensures { (f g : ℕ → Bool) (end : ℕ) → Tell f ready.now.spans.items end → Tell g served.now.spans.items end →
         tick < end → result ≡ counts waiting f g tick }
 {
@@ -51,7 +52,7 @@ fn longer(first: Option<Row>, from: u32, ticks: u32) -> Option<Row>
 /// The first tick that is none of them, of those from one on and before another, or else this other.
 fn turn_off(ticks: &Spans, from: u32, until: u32) -> u32
     requires order { from ≤ until }
-    requires few { until ≤ 1000000 }
+    requires few { until ≤ longest_horizon }
     ensures begins { from ≤ result }
     ensures ends { result ≤ until }
     ensures turn { (f : ℕ → Bool) (end : ℕ) → Tell f ticks.now.spans.items end → until ≤ end →
@@ -89,7 +90,7 @@ fn turn_on(ticks: &Spans, from: u32, until: u32) -> u32
 /// this other.
 pub(crate) fn turn(ticks: &Spans, on: bool, from: u32, until: u32) -> u32
     requires order { from ≤ until }
-    requires few { until ≤ 1000000 }
+    requires few { until ≤ longest_horizon }
     ensures begins { from ≤ result }
     ensures ends { result ≤ until }
     ensures turn { (f : ℕ → Bool) (end : ℕ) → Tell f ticks.now.spans.items end → until ≤ end →
@@ -105,7 +106,7 @@ pub(crate) fn turn(ticks: &Spans, on: bool, from: u32, until: u32) -> u32
 /// The first tick behind one that is none of them where this one is, or the other way round, or else an end.
 pub fn steady_until(ticks: &Spans, tick: u32, hi: u32) -> u32
     requires early { tick < hi }
-    requires few { hi ≤ 1000000 }
+    requires few { hi ≤ longest_horizon }
     ensures later { tick < result }
     ensures ends { result ≤ hi }
     ensures steady { (f : ℕ → Bool) (end : ℕ) → Tell f ticks.now.spans.items end → hi ≤ end → IsSteady f tick result }
@@ -117,7 +118,7 @@ pub fn steady_until(ticks: &Spans, tick: u32, hi: u32) -> u32
 /// A tick behind one, at most an end, up to which a thread is counted as in this one.
 fn counted_until(ready: &Spans, served: &Spans, waiting: bool, tick: u32, hi: u32) -> u32
     requires early { tick < hi }
-    requires few { hi ≤ 1000000 }
+    requires few { hi ≤ longest_horizon }
     ensures later { tick < result }
     ensures ends { result ≤ hi }
     ensures steady { (f g : ℕ → Bool) (end : ℕ) → Tell f ready.now.spans.items end →
@@ -152,7 +153,7 @@ pub(crate) fn longest_row(
     hi: u32,
 ) -> Option<Row>
     requires order { lo ≤ hi }
-    requires few { hi ≤ 1000000 }
+    requires few { hi ≤ longest_horizon }
     ensures { (f g : ℕ → Bool) (end : ℕ) → Tell f ready.now.spans.items end → Tell g served.now.spans.items end →
         hi ≤ end → IsLongestOf (counts waiting f g) lo hi result }
 {

@@ -1,4 +1,5 @@
 // The columns that have a tick in which something happens.
+ghost use Rattle.hls_chron.specs.Ranges.{longest_horizon};
 ghost use Rattle.std.specs.Prelude.{◌≡◌, ◌≤◌, ◌<◌, ◌+◌, ◌==◌, ◌||◌, ℕ, IfOk, OnOk, filter};
 ghost use Rattle.std.specs.List.{range_with_len};
 ghost use Rattle.hls_view_signs.specs.Inside.Found.{column_of, is_found};
@@ -16,7 +17,7 @@ pub(crate) fn column_of(scale: &Scale, tick: u32) -> u32
 
 /// How many columns there are.
 fn column_count(scale: &Scale) -> u32
-    requires { scale.now.to < 1000000 }
+    requires { scale.now.to < longest_horizon }
     ensures { result ≡ scale.now.columns }
 {
     column_of(scale, scale.to) + 1
@@ -46,7 +47,7 @@ fn is_found(found: &[u32], column: u32) -> bool
 /// # Errors
 /// Returns `AllocError` for want of memory.
 pub(crate) fn in_order(alloc: Global, scale: &Scale, found: &[u32]) -> Result<Vec<u32>, AllocError>
-    requires { scale.now.to < 1000000 }
+    requires { scale.now.to < longest_horizon }
     ensures { IfOk result (λ columns. columns.items
         ≡ filter (is_found found.now) (range_with_len 0 scale.now.columns)) }
 {

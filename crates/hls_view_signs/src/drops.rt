@@ -1,4 +1,5 @@
 // Words that wake a thread, and jobs that a wake or a block drops.
+ghost use Rattle.hls_chron.specs.Ranges.{longest_horizon};
 ghost use Rattle.std.specs.Prelude.{◌≡◌, ◌+◌, ◌<◌, ◌&&◌, ◌==◌, not, Some, IfSome};
 ghost use Rattle.std.specs.List.{list_any};
 ghost use Rattle.hls_text.specs.Lines.{Text};
@@ -40,8 +41,8 @@ fn is_broken(word: &Word, tick: u32) -> bool
 
 /// Whether a word in a tick drops a job that the word before it on the thread of a name released.
 fn is_cut(served: &Spans, last: &Word, word: &Word, tick: u32) -> bool
-    requires last { last.now.tick < 1000000 }
-    requires word { word.now.tick < 1000000 }
+    requires last { last.now.tick < longest_horizon }
+    requires word { word.now.tick < longest_horizon }
     ensures { (c : Content) (name : Text) → TellsServed c name served.now.spans.items → last.now.tick < c.horizon →
         word.now.tick < c.horizon → result
         ≡ list_any (told.is_dropped c tick name) (release_of last.now.tick last.now.sort (Some word.now)) }
@@ -59,8 +60,8 @@ fn is_cut(served: &Spans, last: &Word, word: &Word, tick: u32) -> bool
 
 /// Whether a word in a tick drops a job that the word before it, if there is one, released.
 fn is_cut_by(served: &Spans, last: Option<Word>, word: &Word, tick: u32) -> bool
-    requires last { IfSome last (λ (w : spoken.Word). w.tick < 1000000) }
-    requires word { word.now.tick < 1000000 }
+    requires last { IfSome last (λ (w : spoken.Word). w.tick < longest_horizon) }
+    requires word { word.now.tick < longest_horizon }
     ensures { (c : Content) (name : Text) → TellsServed c name served.now.spans.items →
         IfSome last (λ (w : spoken.Word). w.tick < c.horizon) → word.now.tick < c.horizon →
         result ≡ list_any (told.is_dropped c tick name) (released last (Some word.now)) }

@@ -1,4 +1,5 @@
 // What happens in the rows of a picture.
+ghost use Rattle.hls_chron.specs.Ranges.{longest_horizon};
 ghost use Rattle.std.specs.Prelude.{◌≡◌, ◌<◌, ◌&&◌, ◌==◌, ℕ, IfOk, OnOk};
 ghost use Rattle.std.specs.List.{list_any};
 ghost use Rattle.hls_report_text.specs.Content.{Content, content_of};
@@ -57,7 +58,7 @@ fn columns_for(
     event: Event,
     row: &[Label],
 ) -> Result<List<u32>, AllocError>
-    requires { scale.now.to < 1000000 }
+    requires { scale.now.to < longest_horizon }
     ensures { IfOk result (λ columns. (c : Content) → AreMoments c scale.now moments.now →
         columns ≡ columns_with scale.now (happens_in c event row.now)) }
 {
@@ -72,7 +73,7 @@ fn signs_for(
     moments: &[Moment],
     row: &[Label],
 ) -> Result<Signs, AllocError>
-    requires { scale.now.to < 1000000 }
+    requires { scale.now.to < longest_horizon }
     ensures { IfOk result (λ signs. (c : Content) → AreMoments c scale.now moments.now →
         IsSigns c scale.now row.now signs) }
 {

@@ -1,4 +1,5 @@
 // Longest rows of ticks as slices.
+ghost use Rattle.hls_chron.specs.Ranges.{longest_horizon};
 ghost use Rattle.std.specs.Prelude.{◌≡◌, ◌+◌, ◌++◌, ◌<◌, ◌≤◌, [], IfOk, OnOk, length};
 ghost use Rattle.hls_view_trace.specs.Events.{category_text};
 ghost use Rattle.hls_view_trace.specs.declared.event.Event.TheVariants as variants;
@@ -42,7 +43,7 @@ fn run_length(on: &[bool]) -> usize
 
 fn row_slice(alloc: Global, strip: &Strip, from: u32, ticks: u32) -> Result<Slice, AllocError>
     requires named { strip.now.word.now ≡ category_text strip.now.category }
-    requires few { from + ticks ≤ 1000000 }
+    requires few { from + ticks ≤ longest_horizon }
     ensures { IfOk result (λ slice. variants.Slice slice
         ≡ told.row_slice strip.now.category strip.now.place from ticks) }
 {
@@ -65,7 +66,7 @@ fn put_slice(
 ) -> Result<(), AllocError>
     requires named { strip.now.word.now ≡ category_text strip.now.category }
     requires there { at < length strip.now.on.now }
-    requires few { strip.now.from + length strip.now.on.now ≤ 1000000 }
+    requires few { strip.now.from + length strip.now.on.now ≤ longest_horizon }
     ensures { OnOk result (events.new.items ≡ events.old.items
         ++ told.slice_at strip.now.category strip.now.place strip.now.from strip.now.on.now at) }
 {
@@ -97,7 +98,7 @@ pub(crate) fn put_inner(
     ticks: &Ticks,
 ) -> Result<(), AllocError>
     requires alike { length ticks.now.taken.now ≡ length ticks.now.ready.now }
-    requires few { ticks.now.from + length ticks.now.ready.now ≤ 1000000 }
+    requires few { ticks.now.from + length ticks.now.ready.now ≤ longest_horizon }
     ensures { OnOk result (events.new.items ≡ events.old.items
         ++ told.inner_slices place ticks.now.from ticks.now.ready.now ticks.now.taken.now) }
 {

@@ -1,4 +1,5 @@
 // Stays on the tracks of their places.
+ghost use Rattle.hls_chron.specs.Ranges.{longest_horizon};
 ghost use Rattle.std.specs.Prelude.{◌≡◌, ◌+◌, ◌-◌, ◌++◌, ◌<◌, ◌≤◌, [], IfOk, OnOk, flat_map, get_or, length, map};
 ghost use Rattle.std.specs.List.{AllByRecursion, range_with_len};
 ghost use Rattle.hls_guarantee.specs.Limits.{IsValid};
@@ -76,7 +77,7 @@ fn put_track(
 ) -> Result<(), AllocError>
     requires valid { IsValid stay.now.account.now.kept }
     requires alike { length stay.now.taken.now ≡ length stay.now.ready.now }
-    requires few { stay.now.account.now.from + length stay.now.ready.now ≤ 1000000 }
+    requires few { stay.now.account.now.from + length stay.now.ready.now ≤ longest_horizon }
     ensures { OnOk result (events.new.items ≡ events.old.items
         ++ told.track_events place stay.now.account.now stay.now.ready.now stay.now.taken.now number) }
 {
@@ -102,7 +103,7 @@ fn put_stay(
     requires rows { length rows.now < 4096 }
     requires valid { IsValid stay.now.account.now.kept }
     requires alike { length stay.now.taken.now ≡ length stay.now.ready.now }
-    requires few { stay.now.account.now.from + length stay.now.ready.now ≤ 1000000 }
+    requires few { stay.now.account.now.from + length stay.now.ready.now ≤ longest_horizon }
     ensures { OnOk result (events.new.items ≡ events.old.items
         ++ told.stay_events rows.now ways.now stay.now.account.now stay.now.ready.now stay.now.taken.now) }
 {

@@ -1,4 +1,5 @@
 -- The words that the program knows, and what they ask for.
+use Rattle.hls_chron.specs.Ranges.{longest_horizon}
 use Rattle.std.specs.Prelude.{◌≡◌, ◌⊎◌, ◌≤◌, ℕ, List, [], ◌∷◌, ◌++◌, codes, decimal, Option, Some, None}
 use Rattle.hls_text.specs.Lines.{Text}
 use Rattle.hls_chron.specs.Name.{IsName}
@@ -59,7 +60,7 @@ MaySpan words from to = StatesNone words from to ⊎ (FromFirst words from to �
 -- the words after `trace` state no length of a tick, or one in microseconds
 abbrev pub MayLast : List Text → Option ℕ → Type 0
 MayLast words None = words ≡ []
-MayLast words (Some length) = (1 ≤ length) × (length ≤ 1000000) × Heads (codes "--tick") words length []
+MayLast words (Some length) = (1 ≤ length) × (length ≤ longest_horizon) × Heads (codes "--tick") words length []
 
 -- the words ask for this
 abbrev pub IsView : List Text → View → Type 0

@@ -1,4 +1,5 @@
 -- What a watch knows of the list that was pushed.
+use Rattle.hls_chron.specs.Ranges.{longest_horizon}
 use Rattle.std.specs.Prelude.{◌≡◌, ℕ, ◌%◌, ◌≤◌, Bool, IsTrue, ◌↔◌, List, length}
 use Rattle.hls_guarantee.specs.declared.Guarantee.{Guarantee}
 use Rattle.hls_guarantee.specs.Cap.{ListKeepsCap}
@@ -13,7 +14,7 @@ use Rattle.hls_audit_watch.specs.Inside.Periods.{IsPeriodOf, IsCapPeriodOf}
 pub record IsKeeping (g : Guarantee) (ticks w debt : ℕ) (cuts : Cuts) (kept : Bool) (list : List Bool) :
     Type 0 where
   pub valid : IsValid g
-  pub few : ticks ≤ 1000000
+  pub few : ticks ≤ longest_horizon
   pub within : length list ≤ ticks
   pub some : 1 ≤ w
   pub period : (n : ℕ) → n ≤ ticks → IsPeriodOf g w n
@@ -26,7 +27,7 @@ pub record IsKeeping (g : Guarantee) (ticks w debt : ℕ) (cuts : Cuts) (kept : 
 pub record IsCapping (g : Guarantee) (ticks w : ℕ) (excess : Excess) (capped : Bool) (list : List Bool) :
     Type 0 where
   pub valid : IsValid g
-  pub few : ticks ≤ 1000000
+  pub few : ticks ≤ longest_horizon
   pub within : length list ≤ ticks
   pub period : (n : ℕ) → n ≤ ticks → IsCapPeriodOf g w n
   pub rate : HasRate g excess.rate

@@ -1,4 +1,5 @@
 -- What ticks come to.
+use Rattle.hls_chron.specs.Ranges.{longest_horizon}
 use Rattle.std.specs.Prelude.{◌≡◌, ℕ, ◌<◌, ◌≤◌, ◌+◌, Option, Some, None, Bool}
 use Rattle.hls_report_text.specs.declared.report.Path.{Path}
 use Rattle.hls_sched.specs.Seen.{Seen}
@@ -55,7 +56,7 @@ module _ {V : Type 0} {P : V → Type 0} where
     pub standing : IsStanding h
     pub noted : AreNoted h j
     pub early : h.now + most ≤ t.horizon
-    pub short : t.horizon ≤ 1000000
+    pub short : t.horizon ≤ longest_horizon
 
   -- each of so many ticks could elapse by the path, and the tree is of the hierarchy after them
   pub record IsAfter (seen : (x : V) × P x → Seen) (new : Tree V P) (h : Hierarchy) (asking : ℕ → Bool)

@@ -1,4 +1,5 @@
 -- What a command comes to.
+use Rattle.hls_chron.specs.Ranges.{longest_horizon}
 use Rattle.std.specs.Prelude.{ℕ, ◌==◌, ◌≤◌, Bool, false}
 use Rattle.hls_scenario.specs.declared.scenario.Command.{Command}
 use Rattle.hls_scenario.specs.declared.scenario.Command.TheVariants.{Wake, Block}
@@ -49,7 +50,7 @@ module _ {V : Type 0} {P : V → Type 0} where
     pub marks : manager.HasMarkRoom h
     pub stays : AreStays tallies h
     pub standing : IsStanding h
-    pub short : t.horizon ≤ 1000000
+    pub short : t.horizon ≤ longest_horizon
 
   -- by whatever step the command was answered, after which the tree is, the stays are those after it
   abbrev pub CarriesStays : ((x : V) × P x → Seen) → (old new : Tree V P) → Bursts → (was now : Stays) → Command

@@ -1,4 +1,5 @@
 -- What is known of the present tick: the choice, the earliest deadline of those that ask, and who has budget.
+use Rattle.hls_chron.specs.Ranges.{most_slots}
 use Rattle.std.specs.Prelude.{◌≡◌, ℕ, zero, suc, ◌<◌, ◌-◌, ◌^◌, List, Option, Some, None, Bool, false, min}
 use Rattle.std.specs.Prelude.{nat_lt, if◌then◌else◌}
 use Rattle.hls_chron.specs.Ledger.{Ledger}
@@ -30,16 +31,16 @@ with_funded slot funded slots = if funded then with_slot slot slots else slots
 
 -- these are all slots that may be served by this, and maybe others
 pub record HasAll (among : ℕ) (need : Need) (servers : List Server) (b : Ledger) (mask : ℕ) : Type 0 where
-  pub none : (slot : ℕ) → slot < 32 → slot_asks among slot ≡ false
+  pub none : (slot : ℕ) → slot < most_slots → slot_asks among slot ≡ false
       → deadline_asking need servers b mask slot ≡ None
 
 -- no seat is soft, unless that is said
 pub record IsHard (soft : Bool) (b : Ledger) : Type 0 where
-  pub hard : soft ≡ false → (slot : ℕ) → slot < 32 → soft_in (terms_at b slot) ≡ false
+  pub hard : soft ≡ false → (slot : ℕ) → slot < most_slots → soft_in (terms_at b slot) ≡ false
 
 pub record IsOutlook (o : Outlook) (servers : List Server) (b : Ledger) (mask : ℕ) : Type 0 where
   pub chosen : o.best ≡ choice_of servers b mask
-  pub soonest : 0 < o.soonest → o.soonest ≡ soonest_of servers b mask 32
+  pub soonest : 0 < o.soonest → o.soonest ≡ soonest_of servers b mask most_slots
   pub funded : HasAll o.funded Budget servers b mask
 
 -- one slot asks besides those that did

@@ -1,4 +1,5 @@
 -- How deep the places of a load are, and how many fair queueing schedulers are above them.
+use Rattle.hls_chron.specs.Ranges.{most_shares, most_levels}
 use Rattle.std.specs.Prelude.{◌≡◌, ℕ, ◌<◌, ◌≤◌, List, [], ◌∷◌, ◌++◌, Option, Some, None, slice_get}
 use Rattle.hls_text.specs.Lines.{Text}
 use Rattle.hls_chron.specs.declared.plain.Config.{Config}
@@ -35,8 +36,8 @@ pub record IsMost (h : Hierarchy) (measure : List ℕ → ℕ) (seats : List Sea
 
 -- a load is not too deep, and below no more than four fair queueing schedulers
 pub record IsLowEnough (h : Hierarchy) (config : Config) (perches : List Perch) : Type 0 where
-  pub levels : (level shares : ℕ) → HasNewChain h config perches level shares → level ≤ 8
-  pub shares : (level shares : ℕ) → HasNewChain h config perches level shares → shares ≤ 4
+  pub levels : (level shares : ℕ) → HasNewChain h config perches level shares → level ≤ most_levels
+  pub shares : (level shares : ℕ) → HasNewChain h config perches level shares → shares ≤ most_shares
 
 -- it is too deep, or else below too many
 abbrev pub IsHeightRefusal : Hierarchy → (name : Text) → Config → List Perch → Refusal → Type 0

@@ -1,4 +1,5 @@
 -- A node that is to take another seat.
+use Rattle.hls_chron.specs.Ranges.{most_levels, most_shares}
 use Rattle.std.specs.Prelude.{◌≡◌, ℕ, ◌<◌, ◌≤◌, List, length, Option, Some, None, Bool, true, false}
 use Rattle.hls_text.specs.Lines.{Text}
 use Rattle.hls_chron.specs.declared.plain.Kind.TheVariants as kinds
@@ -62,17 +63,17 @@ SharesWithin h k parent most = (seat : TakenSeat) (chain : List ℕ) → schedul
 -- the first reason why the place is none for a scheduler, whatever the seat there
 abbrev pub IsMisplaced : Hierarchy → (k : ℕ) → (parent : Option ℕ) → Spot → Refusal → Type 0
 IsMisplaced h k parent spot (Cycle name) = (spot_name spot ≡ Some name) × IsLoop h k parent
-IsMisplaced h k parent spot (TooDeep level) = IsNoCycle h k parent × (8 < level)
+IsMisplaced h k parent spot (TooDeep level) = IsNoCycle h k parent × (most_levels < level)
     × ((seat : TakenSeat) → scheduler_at seat.place ≡ parent → IsGreatestLevel (moved_to h k seat) level)
-IsMisplaced h k parent spot (TooManyShares shares) = IsNoCycle h k parent × LevelsWithin h k parent 8 × (4 < shares)
+IsMisplaced h k parent spot (TooManyShares shares) = IsNoCycle h k parent × LevelsWithin h k parent most_levels × (most_shares < shares)
     × ((seat : TakenSeat) → scheduler_at seat.place ≡ parent → AreMostShares (moved_to h k seat) shares)
 IsMisplaced h k parent spot _ = ⊥
 
 -- there is none
 pub record IsPlaced (h : Hierarchy) (k : ℕ) (parent : Option ℕ) : Type 0 where
   pub acyclic : IsNoCycle h k parent
-  pub levels : LevelsWithin h k parent 8
-  pub shares : SharesWithin h k parent 4
+  pub levels : LevelsWithin h k parent most_levels
+  pub shares : SharesWithin h k parent most_shares
 
 -- nothing refuses the move but the want of a derivation
 pub record IsMovable (h : Hierarchy) (name : Text) (perch : Perch) (id : ℕ) (seat : Seat) : Type 0 where

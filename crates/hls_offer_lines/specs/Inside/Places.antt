@@ -1,4 +1,5 @@
 -- Terms in the order of cost, each at its place.
+use Rattle.hls_chron.specs.Ranges.{most_slots}
 use Rattle.std.specs.Prelude.{ℕ, ◌-◌, ◌<◌, min, None}
 use Rattle.hls_chron.specs.declared.plain.Config.{Config}
 use Rattle.hls_chron.specs.declared.plain.Config.TheVariants as configs
@@ -16,7 +17,7 @@ place_of _ = 0
 
 -- how many places there are
 abbrev pub place_count : Config → ℕ
-place_count configs.Fp = 32
+place_count configs.Fp = most_slots
 place_count (configs.Sfq total most quantum) = min total 20
 place_count (configs.Wheel frame) = frame
 place_count _ = 1

@@ -1,4 +1,5 @@
 -- What the lines of runs tell, and what they leave to come.
+use Rattle.hls_chron.specs.Ranges.{longest_horizon}
 use Rattle.std.specs.Prelude.{◌≡◌, ℕ, ◌+◌, ◌^◌, ◌≤◌, ◌<◌, List, [], ◌∷◌, length, take, map, option_map, codes}
 use Rattle.std.specs.Prelude.{Option, Some, None}
 use Rattle.std.specs.List.{AllByRecursion}
@@ -94,7 +95,7 @@ RunFails horizon from last known old fault = (path : Option (Option (List Text))
 -- the line behind the last run was read, or another stands there
 abbrev pub AccountsPass : (old new : Lines) → Type 0
 AccountsPass old new = (horizon : ℕ) (path : Option (Option (List Text))) (known : List Text) →
-    horizon ≤ 1000000 → Passes (RunRest horizon horizon path known) (AccountRest horizon)
+    horizon ≤ longest_horizon → Passes (RunRest horizon horizon path known) (AccountRest horizon)
     (codes "accounts" ∷ []) old new
 
 abbrev pub AccountsFail : Lines → ReportFault → Type 0
