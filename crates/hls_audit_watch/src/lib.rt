@@ -11,8 +11,6 @@ mod past;
 mod recent;
 mod reservation;
 mod shortage;
-#[cfg(test)]
-mod tests;
 mod watch;
 
 pub use shortage::{first_over, first_short};

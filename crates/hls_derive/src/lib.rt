@@ -4,8 +4,6 @@
 mod derivation;
 pub mod laws;
 mod reading;
-#[cfg(test)]
-mod tests;
 mod words;
 mod writing;
 

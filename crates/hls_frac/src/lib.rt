@@ -5,8 +5,6 @@ ghost use Rattle.std.specs.Prelude.{◌≡◌, ◌/◌, ◌≤◌, ◌↔◌, If
 ghost use Rattle.std.specs.Int.{IsGcd};
 
 pub mod laws;
-#[cfg(test)]
-mod tests;
 
 /// A fraction that is not negative, in lowest terms.
 #[derive(Clone, Copy, Debug, PartialEq, Eq)]

@@ -4,7 +4,5 @@
 mod draws;
 mod generating;
 mod making;
-#[cfg(test)]
-mod tests;
 
 pub use generating::generate;

@@ -14,8 +14,6 @@ pub mod laws;
 mod reading;
 mod rule;
 pub mod step_laws;
-#[cfg(test)]
-mod tests;
 mod writing;
 
 pub use capping::keeps_cap;

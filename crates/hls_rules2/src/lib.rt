@@ -3,7 +3,5 @@
 
 pub mod laws;
 mod rule;
-#[cfg(test)]
-mod tests;
 
 pub use rule::{answer_of, answer2};

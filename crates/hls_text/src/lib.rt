@@ -6,8 +6,6 @@ mod cuts;
 mod decimals;
 mod lines;
 mod numbers;
-#[cfg(test)]
-mod tests;
 mod tokens;
 mod writing;
 

@@ -2,8 +2,6 @@
 #![tactic(auto)]
 
 mod event;
-#[cfg(test)]
-mod tests;
 mod writing;
 
 pub use event::{Category, Counts, Event, Instant, Place, Slice, Trace};

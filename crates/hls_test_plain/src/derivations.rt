@@ -1,7 +1,7 @@
 //! Derivations that are read, written back and turned away.
 
-use crate::{Derivation, SchedStep, Step, read_derivation, write_derivation};
 use hls_chron::{Kind, List};
+use hls_derive::{Derivation, SchedStep, Step, read_derivation, write_derivation};
 use hls_frac::Frac;
 use hls_guarantee::{Guarantee, RuleName};
 use std::test::Fail;

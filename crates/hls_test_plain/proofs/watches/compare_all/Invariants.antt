@@ -1,5 +1,5 @@
 use Rattle.std.proofs.Common.{◌≡◌}
-use Rattle.hls_audit_watch.proofs.tests.compare_all.Given as goal
+use Rattle.hls_test_plain.proofs.watches.compare_all.Given as goal
 
 abbrev pub invariant-loop-number : goal.invariant-loop-number
 invariant-loop-number g l = l.watch.ticks ≡ 8

@@ -2,8 +2,8 @@
 
 ghost use Rattle.std.specs.Prelude.{ℕ, ◌≤◌, ◌<◌, length};
 
-use crate::{Guarantee, holds, keeps_cap, read_guarantee, valid, write_guarantee};
 use hls_frac::Frac;
+use hls_guarantee::{Guarantee, holds, keeps_cap, read_guarantee, valid, write_guarantee};
 use std::process::Abort;
 use std::test::Fail;
 

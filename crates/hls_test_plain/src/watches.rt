@@ -3,7 +3,7 @@
 ghost use Rattle.std.specs.Prelude.{◌≡◌, ◌≤◌, length};
 ghost use Rattle.hls_guarantee.specs.Limits.{IsValid};
 
-use crate::Watch;
+use hls_audit_watch::Watch;
 use hls_frac::Frac;
 use hls_guarantee::{Guarantee, holds, keeps_cap, valid};
 use std::alloc::Global;

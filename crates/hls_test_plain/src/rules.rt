@@ -2,9 +2,9 @@
 ghost use Rattle.std.specs.Prelude.{IfOk};
 ghost use Rattle.hls_guarantee.specs.Limits.{IsValid};
 
-use crate::answer_of;
 use hls_guarantee::{Guarantee, RuleName, read_guarantee};
 use hls_rules::{RULES, Rule, RuleBook};
+use hls_rules2::answer_of;
 use std::test::Fail;
 
 /// The guarantee of that text.

@@ -3,7 +3,7 @@
 ghost use Rattle.std.specs.Prelude.{◌^◌, IfOk};
 ghost use Rattle.hls_frac.specs.Frac.{IsWithin};
 
-use crate::Frac;
+use hls_frac::Frac;
 use std::process::Abort;
 use std::test::Fail;
 

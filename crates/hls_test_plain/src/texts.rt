@@ -1,5 +1,5 @@
 // Texts of lines, tokens and numbers, with what they say.
-use crate::{is_clean, next_line, next_token, number, shown};
+use hls_text::{is_clean, next_line, next_token, number, shown};
 
 #[test]
 fn cuts_lines(rt: HostRuntime) {

@@ -1,6 +1,6 @@
 // A trace of each kind of event.
-use crate::{Category, Counts, Event, Instant, Place, Slice, Trace, write_trace};
 use hls_chron::List;
+use hls_view_trace::{Category, Counts, Event, Instant, Place, Slice, Trace, write_trace};
 use std::alloc::Global;
 use std::test::Fail;
 

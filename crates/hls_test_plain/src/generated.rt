@@ -1,5 +1,5 @@
 // The first lines of a scenario, and how much there is of it.
-use crate::generate;
+use hls_gen::generate;
 use hls_scenario::{Command, print_scenario};
 use std::test::Fail;
 

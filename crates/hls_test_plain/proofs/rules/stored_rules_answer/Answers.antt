@@ -1,6 +1,6 @@
 use Rattle.std.proofs.Common.{arith}
 use Rattle.hls_rules.proofs.Eleven.{once}
-use Rattle.hls_rules2.proofs.tests.stored_rules_answer.Goals as goal
+use Rattle.hls_test_plain.proofs.rules.stored_rules_answer.Goals as goal
 
 pub new-book-requires : goal.new-book-requires
 new-book-requires g c =
