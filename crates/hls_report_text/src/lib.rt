@@ -6,8 +6,6 @@ mod refusal;
 mod refusals;
 mod report;
 mod stretch;
-#[cfg(test)]
-mod tests;
 mod writing;
 
 pub use refusal::Refusal;

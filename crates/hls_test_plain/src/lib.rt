@@ -1,9 +1,11 @@
-//! Values worked out by hand of what stands below the rest: fractions, texts, guarantees, derivations and rules, watches,
+//! Values worked out by hand of what stands below the rest: fractions, texts, books, guarantees, derivations and rules, watches,
 //! agendas, scenarios that are made, and traces.
 #![tactic(auto)]
 
 #[cfg(test)]
 mod agendas;
+#[cfg(test)]
+mod books;
 #[cfg(test)]
 mod derivations;
 #[cfg(test)]
