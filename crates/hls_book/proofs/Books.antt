@@ -6,8 +6,11 @@ use Rattle.hls_chron.specs.declared.book.TickRow.{TickRow}
 use Rattle.hls_chron.specs.declared.book.Event.{Event}
 use Rattle.hls_chron.specs.declared.book.Event.TheVariants.{Seat, Leave, Settle}
 use Rattle.hls_chron.specs.declared.plain.Config.{Config}
-use Rattle.hls_chron.specs.declared.plain.Config.TheVariants.{Cpu, Fp, Edf, Sfq, Rr, Wheel, Join}
+use Rattle.hls_chron.specs.declared.plain.Config.TheVariants.{Cpu, Fp, Edf, Rr, Wheel, Join}
+use Rattle.hls_chron.specs.declared.plain.Sharing.{Sharing}
+use Rattle.hls_chron.specs.Kinds.{by_shares}
 use Rattle.hls_chron.specs.Ledger.{Ledger, now_of, with_row, with_mark, before, IsDated}
+use Rattle.hls_chron.proofs.ConfigLaws.{by_kind}
 use Rattle.hls_kinds.specs.Shares.{KeepsShares}
 use Rattle.hls_kinds.specs.Discipline.{KeepsDiscipline}
 use Rattle.hls_kinds.specs.Made.{IsAllowed, IsRow, Making, Begun, Marked, Ticked, IsMade}
@@ -48,26 +51,22 @@ pub reservations_made : (b : Ledger) → IsMade Edf b → KeepsReservations b
 reservations_made b made = ∥∥₁_elim made (hlevel (props, tenant_prop)) (reservations_making b)
 
 -- fair queueing
-in_range : (total most quantum : ℕ) (b : Ledger) (event : Event) → IsAllowed (Sfq total most quantum) b event
-    → MayMarkInRange total most quantum b event
-in_range total most quantum b (Seat slot terms) may = ((may.2.within, may.1), may.0, may.2.free)
-in_range total most quantum b (Leave slot) may = tt
-in_range total most quantum b Settle may = tt
+in_range : (sharing : Sharing) (b : Ledger) (event : Event) → IsAllowed (by_shares sharing) b event
+    → MayMarkInRange sharing b event
+in_range sharing b (Seat slot terms) may = ((may.2.within, may.1), may.0, may.2.free)
+in_range sharing b (Leave slot) may = tt
+in_range sharing b Settle may = tt
 
-shares_making : (total most quantum : ℕ) (b : Ledger) → Making (Sfq total most quantum) b
-    → KeepsShareBook total most quantum b
-shares_making total most quantum b (Begun _ kind range unwritten unmarked) =
-    share_book-unwritten total most quantum b range unwritten unmarked
-shares_making total most quantum _ (Marked b event making may) =
-    share_book-mark total most quantum b event (in_range total most quantum b event may)
-    (shares_making total most quantum b making)
-shares_making total most quantum _ (Ticked b row making is) =
-    share_book-row total most quantum b row is.seats is.serves (shares_making total most quantum b making)
+shares_making : (sharing : Sharing) (b : Ledger) → Making (by_shares sharing) b → KeepsShareBook sharing b
+shares_making sharing b (Begun _ kind range unwritten unmarked) =
+    share_book-unwritten sharing b range unwritten unmarked
+shares_making sharing _ (Marked b event making may) =
+    share_book-mark sharing b event (in_range sharing b event may) (shares_making sharing b making)
+shares_making sharing _ (Ticked b row making is) =
+    share_book-row sharing b row is.seats is.serves (shares_making sharing b making)
 
-pub shares_made : (total most quantum : ℕ) (b : Ledger) → IsMade (Sfq total most quantum) b
-    → KeepsShareBook total most quantum b
-shares_made total most quantum b made =
-    ∥∥₁_elim made (hlevel (props, ranges_prop, serves_prop)) (shares_making total most quantum b)
+pub shares_made : (sharing : Sharing) (b : Ledger) → IsMade (by_shares sharing) b → KeepsShareBook sharing b
+shares_made sharing b made = ∥∥₁_elim made (hlevel (props, ranges_prop, serves_prop)) (shares_making sharing b)
 
 -- frames
 placed : (frame : ℕ) (b : Ledger) (event : Event) → IsAllowed (Wheel frame) b event → KeepsPlaces frame b
@@ -107,23 +106,20 @@ module _ (config : Config) (shares : (b : Ledger) → KeepsShares config b) wher
   discipline_kept b made = ∥∥₁_elim made (discipline_prop config b) (discipline_making b)
 
 pub discipline_made : (config : Config) (b : Ledger) → IsMade config b → KeepsDiscipline config b
-discipline_made (Sfq total most quantum) b made =
-    keeps-discipline total most quantum b (shares_made total most quantum b made)
-discipline_made Cpu b made = discipline_kept Cpu (λ b. tt) b made
-discipline_made Fp b made = discipline_kept Fp (λ b. tt) b made
-discipline_made Edf b made = discipline_kept Edf (λ b. tt) b made
-discipline_made (Rr quantum) b made = discipline_kept (Rr quantum) (λ b. tt) b made
-discipline_made (Wheel frame) b made = discipline_kept (Wheel frame) (λ b. tt) b made
-discipline_made (Join ports) b made = discipline_kept (Join ports) (λ b. tt) b made
+discipline_made = by_kind (λ config. (b : Ledger) → IsMade config b → KeepsDiscipline config b)
+    (discipline_kept Cpu (λ b. tt)) (discipline_kept Fp (λ b. tt)) (discipline_kept Edf (λ b. tt))
+    (λ sharing b made. keeps-discipline sharing b (shares_made sharing b made))
+    (λ quantum. discipline_kept (Rr quantum) (λ b. tt)) (λ frame. discipline_kept (Wheel frame) (λ b. tt))
+    (λ ports. discipline_kept (Join ports) (λ b. tt))
 
 -- promises
 pub promise_made : (config : Config) (b : Ledger) → IsMade config b → KeepsPromise config b
-promise_made Fp b made = fixed_priority_keeps b (admission_made Fp b made) (discipline_made Fp b made)
-promise_made Edf b made = promise-kept b (reservations_made b made)
-promise_made (Sfq total most quantum) b made = fair_keeps total most quantum b (shares_made total most quantum b made)
-promise_made (Rr quantum) b made = turns_keep quantum b made
-promise_made (Wheel frame) b made = wheel_keeps frame b (admission_made (Wheel frame) b made)
-    (discipline_made (Wheel frame) b made) (places_made frame b made)
-promise_made (Join ports) b made =
-    join_keeps ports b (admission_made (Join ports) b made) (discipline_made (Join ports) b made)
-promise_made Cpu b made = absurd (kind_made Cpu b made refl)
+promise_made = by_kind (λ config. (b : Ledger) → IsMade config b → KeepsPromise config b)
+    (λ b made. absurd (kind_made Cpu b made refl))
+    (λ b made. fixed_priority_keeps b (admission_made Fp b made) (discipline_made Fp b made))
+    (λ b made. promise-kept b (reservations_made b made))
+    (λ sharing b made. fair_keeps sharing b (shares_made sharing b made)) turns_keep
+    (λ frame b made. wheel_keeps frame b (admission_made (Wheel frame) b made)
+    (discipline_made (Wheel frame) b made) (places_made frame b made))
+    (λ ports b made. join_keeps ports b (admission_made (Join ports) b made)
+    (discipline_made (Join ports) b made))

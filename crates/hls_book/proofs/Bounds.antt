@@ -4,8 +4,9 @@ use Rattle.std.proofs.Common.{Some, None, length, inl, inr}
 use Rattle.std.specs.Prelude.{Option, max}
 use Rattle.std.proofs.Math.Nat.{mul-le-mul_left, mul-le-mul_right}
 use Rattle.std.proofs.lemmas.Bool.{cases_Bool}
-use Rattle.hls_chron.specs.declared.plain.Config.TheVariants.{Sfq}
+use Rattle.hls_chron.specs.declared.plain.Sharing.{Sharing}
 use Rattle.hls_chron.specs.declared.plain.Terms.TheVariants.{Weight}
+use Rattle.hls_chron.specs.Kinds.{by_shares}
 use Rattle.hls_chron.specs.Ranges.{IsWithin}
 use Rattle.hls_chron.specs.Ledger.{Ledger, now_of, row_at, before}
 use Rattle.hls_chron.specs.Seats.{terms_at}
@@ -28,11 +29,14 @@ step_small w step some whole =
     let least : 1 * step ≤ w * step = mul-le-mul_right step (let one : 1 ≤ w = omega (arith, some) in one) in
     omega (arith, least, whole)
 
-module _ (T M Q : ℕ) (b : Ledger) (kept : KeepsShareBook T M Q b) where
+module _ (sharing : Sharing) (b : Ledger) (kept : KeepsShareBook sharing b) where
+  abbrev Q : ℕ
+  Q = sharing.quantum
+
   seat_weight : (slot since weight t : ℕ) → t ≤ now_of b → tenant_then b slot t ≡ Sits (Weight weight) since
       → 0 < weight
   seat_weight slot since weight t le sits =
-      let range = (weights-at T M Q b kept t le).ranged slot weight
+      let range = (weights-at sharing b kept t le).ranged slot weight
       (sits_on (before t b) slot since (Weight weight) sits) in
       omega (arith, range.0)
 
@@ -41,29 +45,29 @@ module _ (T M Q : ℕ) (b : Ledger) (kept : KeepsShareBook T M Q b) where
       → IsWithin (time_by Q b (start_tag Q b) t) (time_by Q b (start_tag Q b) t + Q * tag_step weight)
       (start_tag Q b t slot)
   near-virtual-time t slot weight since lo le sits =
-      near-time T M Q b kept slot since weight t lo le sits (seat_weight slot since weight t le sits)
+      near-time sharing b kept slot since weight t lo le sits (seat_weight slot since weight t le sits)
 
   -- the start tag of a slot with a seat is at most a quantum of units past the virtual time
   tag_near : (t slot : ℕ) → b.start ≤ t → t ≤ now_of b → 0 < (share_at b t slot).weight
       → start_tag Q b t slot ≤ v_of Q b t + Q * unit_tag
   tag_near t slot lo le some =
-      let here = at-all T M Q b kept t lo le in
+      let here = at-all sharing b kept t lo le in
       let below : slot < 32 = (
-      let lt_most = slot-at T M Q b kept t slot le some in omega (arith, lt_most, kept.range.1.1)) in
+      let lt_most = slot-at sharing b kept t slot le some in omega (arith, lt_most, kept.range.1.1)) in
       let near : (tags_of Q b t slot).f ≤ v_of Q b t + Q * (tags_of Q b t slot).step = here.kept.near slot below in
       let f = tag-taken (share_at b t slot) (f_of Q b t slot) some in
       let small : Q * tag_step (share_at b t slot).weight ≤ Q * unit_tag = mul-le-mul_left Q
       (step_small (share_at b t slot).weight (tag_step (share_at b t slot).weight) some
-      (steps-at T M Q b kept t slot le some)) in
+      (steps-at sharing b kept t slot le some)) in
       omega (arith, here.start slot some, near, f, small)
 
   time_grows : (t : ℕ) (to : Option ℕ) → b.start ≤ t → t < now_of b → to_of b t ≡ to
       → v_of Q b (suc t) ≤ v_of Q b t + Q * unit_tag
   time_grows t None lo lt is = omega (arith, v-none Q b t lo is)
   time_grows t (Some k) lo lt is =
-      let here = at-all T M Q b kept t lo (omega (arith, lt)) in
-      let serves = serves-at T M Q b kept t k lo lt here is in
-      let near = tag_near t k lo (omega (arith, lt)) (taken-at T M Q b kept t k lt serves.ready) in
+      let here = at-all sharing b kept t lo (omega (arith, lt)) in
+      let serves = serves-at sharing b kept t k lo lt here is in
+      let near = tag_near t k lo (omega (arith, lt)) (taken-at sharing b kept t k lt serves.ready) in
       elim (cases_Bool (turn_goes_on Q (before t b) (row_at b t).mask)) [
         | inl on ↦ omega (arith, v-on Q b t lo on)
         | inr off ↦ omega (arith, v-begun Q b t k lo is off, near)
@@ -89,12 +93,12 @@ module _ (T M Q : ℕ) (b : Ledger) (kept : KeepsShareBook T M Q b) where
       let near = tag_near t slot lo le (omega (arith, w, seat_weight slot since weight t le sits)) in
       omega (arith, time, same, near)
 
-  pub keeps-discipline : KeepsDiscipline (Sfq T M Q) b
+  pub keeps-discipline : KeepsDiscipline (by_shares sharing) b
   keeps-discipline = record {
     asked = λ t slot lt is.
-        serves-asks (Sfq T M Q) (before t b) (row_at b t).mask slot (kept.served t slot lt is);
+        serves-asks (by_shares sharing) (before t b) (row_at b t).mask slot (kept.served t slot lt is);
     served = λ t slot lt is. kept.served t slot lt is;
-    shares = keeps-shares T M Q b kept;
+    shares = keeps-shares sharing b kept;
   }
 
   -- at the present tick
@@ -113,7 +117,7 @@ module _ (T M Q : ℕ) (b : Ledger) (kept : KeepsShareBook T M Q b) where
   pub present-start : (slot weight : ℕ) → terms_at b slot ≡ Some (Weight weight)
       → start_tag Q b (now_of b) slot ≡ max (v_of Q b (now_of b)) (f_of Q b (now_of b) slot)
   present-start slot weight is =
-      (at-all T M Q b kept (now_of b) (omega arith) (omega arith)).start slot (present_heavy slot weight is)
+      (at-all sharing b kept (now_of b) (omega arith) (omega arith)).start slot (present_heavy slot weight is)
 
   pub present-small : v_of Q b (now_of b) ≤ length b.rows * (Q * unit_tag)
   present-small = time_by_ticks (length b.rows) (omega arith)

@@ -6,7 +6,8 @@ use Rattle.std.specs.Prelude.{Option, Some, None, max, nat_lt, if◌then◌else�
 use Rattle.std.specs.Int.{bit_at}
 use Rattle.std.proofs.lemmas.Bool.{cases_lt, cases_Bool, eq-eqb}
 use Rattle.std.proofs.lemmas.Bool.Decides.{nat_tests}
-use Rattle.hls_chron.specs.declared.plain.Config.TheVariants.{Sfq}
+use Rattle.hls_chron.specs.declared.plain.Sharing.{Sharing}
+use Rattle.hls_chron.specs.Kinds.{by_shares}
 use Rattle.hls_chron.specs.Ledger.{Ledger, now_of, row_at, before}
 use Rattle.hls_chron.specs.Seats.{asked, served, is_slot}
 use Rattle.hls_chron.specs.Ticks.{one_if}
@@ -70,9 +71,12 @@ not_served : (b : Ledger) (t k : ℕ) → served b k t ≡ false → to_of b t �
 not_served b t k miss to = let is = to-served b k k t to refl in let clash : true ≡ false =
     sym is ∙ miss in cc
 
-module _ (T M Q : ℕ) (b : Ledger) (kept : KeepsShareBook T M Q b) where
-  pub room-of : (t : ℕ) → t ≤ now_of b → HaveRoom T M 32 (tags_of Q b t)
-  room-of t le = record { weight = fits-at T M Q b kept t le; count = few-at T M Q b kept t le }
+module _ (sharing : Sharing) (b : Ledger) (kept : KeepsShareBook sharing b) where
+  abbrev Q : ℕ
+  Q = sharing.quantum
+
+  pub room-of : (t : ℕ) → t ≤ now_of b → HaveRoom sharing.total sharing.most 32 (tags_of Q b t)
+  room-of t le = record { weight = fits-at sharing b kept t le; count = few-at sharing b kept t le }
 
   start_is : (t slot : ℕ) → At Q b t → 0 < (share_at b t slot).weight
       → start_tag Q b t slot ≡ max (v_of Q b t) (tags_of Q b t slot).f
@@ -106,11 +110,11 @@ module _ (T M Q : ℕ) (b : Ledger) (kept : KeepsShareBook T M Q b) where
   ready-at t k lt is =
       sym (asks_is t k)
       ∙ eq-eqb (bit_at (row_at b t).mask k) 1
-      (serves-slot (Sfq T M Q) (before t b) (row_at b t).mask k (kept.served t k lt is))
+      (serves-slot (by_shares sharing) (before t b) (row_at b t).mask k (kept.served t k lt is))
 
   pub below-at : (t k : ℕ) → t < now_of b → asked b k t ≡ true → k < 32
   below-at t k lt ready =
-      let few = slot-at T M Q b kept t k (omega (arith, lt)) (taken-at T M Q b kept t k lt ready) in
+      let few = slot-at sharing b kept t k (omega (arith, lt)) (taken-at sharing b kept t k lt ready) in
       omega (arith, few, kept.range.1.1)
 
   stays-at : (t k : ℕ) → t < now_of b → to_of b t ≡ Some k
@@ -121,14 +125,14 @@ module _ (T M Q : ℕ) (b : Ledger) (kept : KeepsShareBook T M Q b) where
       → SfqServes 32 (clock_of Q b t) (tags_of Q b t) (asks_of b t) k
   serves-at t k lo lt here is =
       let ready = ready-at t k lt is in
-      let mine = start_is t k here (taken-at T M Q b kept t k lt ready) in
+      let mine = start_is t k here (taken-at sharing b kept t k lt ready) in
       record {
         slot = below-at t k lt ready;
         ready = ready;
         stays = stays-at t k lt is;
         least = λ off j below asks.
             let le = (first-at t k lo lt is (sym (goes-is Q b t) ∙ off)).least j below (asks_is t j ∙ asks) in
-            let its = start_is t j here (taken-at T M Q b kept t j lt asks) in
+            let its = start_is t j here (taken-at sharing b kept t j lt asks) in
             omega (arith, le, mine, its);
       }
 
@@ -144,7 +148,7 @@ module _ (T M Q : ℕ) (b : Ledger) (kept : KeepsShareBook T M Q b) where
             ∙ sym (after-on (clock_of Q b t) (tags_of Q b t) (asks_of b t) k on)
         | inr off ↦
             v-begun Q b t k lo is (sym (goes-is Q b t) ∙ off)
-            ∙ start_is t k here (taken-at T M Q b kept t k lt (ready-at t k lt is))
+            ∙ start_is t k here (taken-at sharing b kept t k lt (ready-at t k lt is))
             ∙ sym (v-begins (clock_of Q b t) (tags_of Q b t) (asks_of b t) k off)
       ]
 
@@ -161,7 +165,7 @@ module _ (T M Q : ℕ) (b : Ledger) (kept : KeepsShareBook T M Q b) where
         | inl is ↦
             let to = served-to b k t is in
             let serves = serves-at t k lo lt here to in
-            let some = taken-at T M Q b kept t k lt serves.ready in
+            let some = taken-at sharing b kept t k lt serves.ready in
             let fs = f-served Q b t k same is in
             let mine = start_is t k here some in
             let g = tag-taken (share_at b (suc t) k) (f_of Q b (suc t) k) (omega (arith, sw, some)) in
@@ -203,7 +207,7 @@ module _ (T M Q : ℕ) (b : Ledger) (kept : KeepsShareBook T M Q b) where
 
   steps_of : (t k : ℕ) → t ≤ now_of b → 0 < (tags_of Q b t k).w
       → (tags_of Q b t k).w * (tags_of Q b t k).step ≡ unit_tag
-  steps_of t k le some = steps-at T M Q b kept t k le some
+  steps_of t k le some = steps-at sharing b kept t k le some
 
   clock_tags : (v v' who had : ℕ) (tags : ℕ → Tag) → v ≡ v'
       → AreTags Q unit_tag 32 (record { v = v; who = who; had = had }) tags
@@ -269,7 +273,7 @@ module _ (T M Q : ℕ) (b : Ledger) (kept : KeepsShareBook T M Q b) where
     | inr off ↦ s-off Q b t k same off
     | inl on ↦
         let below : k < 32 = (
-        let lt_most = slot-at T M Q b kept t k (omega (arith, lt)) some in
+        let lt_most = slot-at sharing b kept t k (omega (arith, lt)) some in
         omega (arith, lt_most, kept.range.1.1)) in
         let st = start-tick Q unit_tag 32 k (clock_of Q b t) (tags_of Q b t) (asks_of b t) (to_of b t)
         some_quantum

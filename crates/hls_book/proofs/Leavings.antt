@@ -7,12 +7,13 @@ use Rattle.std.proofs.lemmas.Bool.{cases_eq, eq-eqb, ne_eqb}
 use Rattle.hls_chron.specs.declared.book.Event.{Event}
 use Rattle.hls_chron.specs.declared.book.Event.TheVariants.{Leave}
 use Rattle.hls_chron.specs.declared.plain.Config.{Config}
-use Rattle.hls_chron.specs.declared.plain.Config.TheVariants.{Cpu, Fp, Edf, Sfq, Rr, Wheel, Join}
+use Rattle.hls_chron.specs.declared.plain.Config.TheVariants.{Edf}
 use Rattle.hls_chron.specs.declared.plain.Terms.{Terms}
 use Rattle.hls_chron.specs.declared.plain.Terms.TheVariants as terms
 use Rattle.hls_chron.specs.Ledger.{Ledger, now_of, with_mark}
 use Rattle.hls_chron.specs.Seats.{is_slot, asked, served, terms_at, priority_in, HasPriority}
 use Rattle.hls_chron.proofs.BookLaws.{terms_at-mark}
+use Rattle.hls_chron.proofs.ConfigLaws.{by_kind}
 use Rattle.hls_chron.proofs.CountLaws.{count-more}
 use Rattle.hls_kinds.specs.declared.tenant.Tenant.{Tenant}
 use Rattle.hls_kinds.specs.declared.tenant.Tenant.TheVariants.{Vacant, Sits, Left}
@@ -122,21 +123,19 @@ parts_left b at slot =
 -- together
 used_left : (config : Config) (b : Ledger) (at : ℕ)
     → room_used config (with_mark b (Leave at)) ≤ room_used config b
-used_left Edf b at =
-    sum-le (λ slot. parts_in (occupant_at Edf (with_mark b (Leave at)) slot))
-    (λ slot. parts_in (occupant_at Edf b slot)) 32 (λ slot lt. parts_left b at slot)
-used_left (Sfq total most quantum) b at =
-    sum-le (λ slot. weight_in (terms_at (with_mark b (Leave at)) slot)) (λ slot. weight_in (terms_at b slot)) 32
+used_left config b at = by_kind (λ config. room_used config (with_mark b (Leave at)) ≤ room_used config b)
+    (omega arith) (omega arith)
+    (sum-le (λ slot. parts_in (occupant_at Edf (with_mark b (Leave at)) slot))
+    (λ slot. parts_in (occupant_at Edf b slot)) 32 (λ slot lt. parts_left b at slot))
+    (λ sharing. sum-le (λ slot. weight_in (terms_at (with_mark b (Leave at)) slot))
+    (λ slot. weight_in (terms_at b slot)) 32
     (λ slot lt. let after = ap weight_in (terms_at-mark b (Leave at) slot) in
-    let less = weight_left at slot (terms_at b slot) in omega (arith, after, less))
-used_left (Wheel frame) b at =
-    count-more (λ p. is_some (owner_at (with_mark b (Leave at)) p)) (λ p. is_some (owner_at b p)) 0 frame
+    let less = weight_left at slot (terms_at b slot) in omega (arith, after, less)))
+    (λ quantum. omega arith)
+    (λ frame. count-more (λ p. is_some (owner_at (with_mark b (Leave at)) p)) (λ p. is_some (owner_at b p)) 0 frame
     (λ p is. owned_left (owner_at b p) at (is_slot (owner_at b p) at)
-    (sym (ap is_some (owner_at-mark b (Leave at) p)) ∙ is))
-used_left Cpu b at = omega arith
-used_left Fp b at = omega arith
-used_left (Rr quantum) b at = omega arith
-used_left (Join ports) b at = omega arith
+    (sym (ap is_some (owner_at-mark b (Leave at) p)) ∙ is)))
+    (λ ports. omega arith) config
 
 pub fits-leave : (config : Config) (b : Ledger) (at : ℕ) (m : Terms) → Fits config b m
     → Fits config (with_mark b (Leave at)) m

@@ -5,11 +5,12 @@ use Rattle.std.proofs.Common.{Bool, true, false}
 use Rattle.std.specs.Prelude.{Option, Some, None, not, nat_lt, nat_eq}
 use Rattle.std.proofs.lemmas.Bool.{cases_lt, cases_eq, ne_eqb}
 use Rattle.std.proofs.lemmas.Bool.Decides.{nat_tests}
-use Rattle.hls_chron.specs.declared.plain.Config.TheVariants.{Sfq}
+use Rattle.hls_chron.specs.declared.plain.Kind.TheVariants as kinds
+use Rattle.hls_chron.specs.declared.plain.Sharing.{Sharing}
 use Rattle.hls_chron.specs.declared.plain.Terms.{Terms}
 use Rattle.hls_chron.specs.declared.plain.Terms.TheVariants as terms
 use Rattle.hls_chron.specs.Ranges.{IsWithin}
-use Rattle.hls_chron.specs.Kinds.{kind_of, terms_kind}
+use Rattle.hls_chron.specs.Kinds.{terms_kind, by_shares}
 use Rattle.hls_chron.specs.Ledger.{Ledger, no_row, now_of, before, IsDated}
 use Rattle.hls_chron.specs.Seats.{asked, terms_at}
 use Rattle.hls_chron.specs.Ticks.{one_if}
@@ -81,17 +82,17 @@ pub weight-is : (b : Ledger) (slot : ℕ) → (share_in (tenant_at b slot)).weig
 weight-is b slot = weight_same (tenant_at b slot) ∙ ap weight_in (seated-terms b slot)
 
 -- books with the same marks have the same weights
-pub room-same : (total most quantum : ℕ) (a b : Ledger) → a.marks ≡ b.marks
-    → room_used (Sfq total most quantum) a ≡ room_used (Sfq total most quantum) b
-room-same total most quantum a b same =
+pub room-same : (sharing : Sharing) (a b : Ledger) → a.marks ≡ b.marks
+    → room_used (by_shares sharing) a ≡ room_used (by_shares sharing) b
+room-same sharing a b same =
     sum-eq (λ slot. weight_in (terms_at a slot)) (λ slot. weight_in (terms_at b slot)) 32
     (λ slot lt. ap weight_in (terms_at-same a b slot same))
 
-pub weights-same : (total most quantum : ℕ) (a b : Ledger) → a.marks ≡ b.marks → HasWeights total most quantum b
-    → HasWeights total most quantum a
-weights-same total most quantum a b same had = record {
+pub weights-same : (sharing : Sharing) (a b : Ledger) → a.marks ≡ b.marks → HasWeights sharing b
+    → HasWeights sharing a
+weights-same sharing a b same had = record {
   ranged = λ slot m is. had.ranged slot m (sym (terms_at-same a b slot same) ∙ is);
-  fits = let e = room-same total most quantum a b same in omega (arith, e, had.fits);
+  fits = let e = room-same sharing a b same in omega (arith, e, had.fits);
 }
 
 -- before its choice, the present tick has all the marks
@@ -103,7 +104,7 @@ pub tenant-now : (b : Ledger) (slot : ℕ) → IsDated b → tenant_then b slot 
 tenant-now b slot dated = tenant_at-same (before (now_of b) b) b slot (marks-now b dated)
 
 -- terms of the kind have a weight
-weighs : (m : Terms) → terms_kind m ≡ kind_of (Sfq 0 0 0)
+weighs : (m : Terms) → terms_kind m ≡ kinds.Sfq
     → ((weight : ℕ) → Some m ≡ Some (terms.Weight weight) → IsWithin 1 20 weight) → 0 < weight_in (Some m)
 weighs (terms.Weight weight) is range = omega (arith, (range weight refl).0)
 weighs terms.Cpu is range = absurd cc
@@ -124,24 +125,24 @@ taken_is : (m : Option Terms) → 0 < weight_in m → m ≢ None
 taken_is None some none = omega (arith, some)
 taken_is (Some n) some none = cc
 
-module _ (T M Q : ℕ) (b : Ledger) (kept : KeepsShareBook T M Q b) where
+module _ (sharing : Sharing) (b : Ledger) (kept : KeepsShareBook sharing b) where
   -- at each tick up to the present
-  pub seats-at : (t : ℕ) → t ≤ now_of b → HasSeats (Sfq T M Q) (before t b)
+  pub seats-at : (t : ℕ) → t ≤ now_of b → HasSeats (by_shares sharing) (before t b)
   seats-at t le = elim (cases_lt t (now_of b)) [
     | inl lt ↦ kept.admission.had t lt
     | inr ge ↦
         let e : now_of b ≡ t = omega (arith, le, ge) in
-        subst (λ z. HasSeats (Sfq T M Q) (before z b)) e
-        (seats-same (Sfq T M Q) (before (now_of b) b) b (marks-now b kept.admission.dated) kept.admission.seats)
+        subst (λ z. HasSeats (by_shares sharing) (before z b)) e
+        (seats-same (by_shares sharing) (before (now_of b) b) b (marks-now b kept.admission.dated) kept.admission.seats)
   ]
 
-  pub weights-at : (t : ℕ) → t ≤ now_of b → HasWeights T M Q (before t b)
+  pub weights-at : (t : ℕ) → t ≤ now_of b → HasWeights sharing (before t b)
   weights-at t le = elim (cases_lt t (now_of b)) [
     | inl lt ↦ kept.had t lt
     | inr ge ↦
         let e : now_of b ≡ t = omega (arith, le, ge) in
-        subst (λ z. HasWeights T M Q (before z b)) e
-        (weights-same T M Q (before (now_of b) b) b (marks-now b kept.admission.dated) kept.weights)
+        subst (λ z. HasWeights sharing (before z b)) e
+        (weights-same sharing (before (now_of b) b) b (marks-now b kept.admission.dated) kept.weights)
   ]
 
   range-at : (t slot : ℕ) → t ≤ now_of b → 0 < (share_at b t slot).weight
@@ -159,10 +160,10 @@ module _ (T M Q : ℕ) (b : Ledger) (kept : KeepsShareBook T M Q b) where
       let within = range-at t slot le some in divides (share_at b t slot).weight within.0 within.1
 
   -- a seat sits at a slot below the most
-  pub slot-at : (t slot : ℕ) → t ≤ now_of b → 0 < (share_at b t slot).weight → slot < M
+  pub slot-at : (t slot : ℕ) → t ≤ now_of b → 0 < (share_at b t slot).weight → slot < sharing.most
   slot-at t slot le some =
       let is = weight-is (before t b) slot in
-      elim (terms_at (before t b) slot) as (λ m. terms_at (before t b) slot ≡ m → slot < M) [
+      elim (terms_at (before t b) slot) as (λ m. terms_at (before t b) slot ≡ m → slot < sharing.most) [
         | None ↦ λ none. absurd (let zero_weight = ap weight_in none in omega (arith, is, some, zero_weight))
         | Some m ↦ λ e. (seats-at t le).within slot m e
       ] refl
@@ -173,7 +174,7 @@ module _ (T M Q : ℕ) (b : Ledger) (kept : KeepsShareBook T M Q b) where
     | false ↦ omega arith
   ]
 
-  none_taken : (t slot : ℕ) → t ≤ now_of b → M ≤ slot → one_if (nat_lt 0 (share_at b t slot).weight) ≡ 0
+  none_taken : (t slot : ℕ) → t ≤ now_of b → sharing.most ≤ slot → one_if (nat_lt 0 (share_at b t slot).weight) ≡ 0
   none_taken t slot le ge = elim (cases_lt 0 (share_at b t slot).weight) [
     | inl some ↦ absurd (let lt = slot-at t slot le some in omega (arith, lt, ge))
     | inr none ↦
@@ -182,11 +183,12 @@ module _ (T M Q : ℕ) (b : Ledger) (kept : KeepsShareBook T M Q b) where
   ]
 
   pub few-at : (t : ℕ) → t ≤ now_of b
-      → sum_below (λ slot. one_if (nat_lt 0 (share_at b t slot).weight)) 32 ≤ M
-  few-at t le = (few_by (λ slot. one_if (nat_lt 0 (share_at b t slot).weight)) M 32 (λ slot. one_taken t slot)
+      → sum_below (λ slot. one_if (nat_lt 0 (share_at b t slot).weight)) 32 ≤ sharing.most
+  few-at t le = (few_by (λ slot. one_if (nat_lt 0 (share_at b t slot).weight)) sharing.most 32
+      (λ slot. one_taken t slot)
       (λ slot ge. none_taken t slot le ge)).1
 
-  pub fits-at : (t : ℕ) → t ≤ now_of b → sum_below (λ slot. (share_at b t slot).weight) 32 ≤ T
+  pub fits-at : (t : ℕ) → t ≤ now_of b → sum_below (λ slot. (share_at b t slot).weight) 32 ≤ sharing.total
   fits-at t le =
       let e = sum-eq (λ slot. (share_at b t slot).weight) (λ slot. weight_in (terms_at (before t b) slot)) 32
       (λ slot lt. weight-is (before t b) slot) in

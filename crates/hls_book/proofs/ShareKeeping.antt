@@ -5,9 +5,10 @@ use Rattle.std.proofs.lemmas.Bool.{cases_lt, cases_eq, eq-eqb, ne_eqb}
 use Rattle.hls_chron.specs.declared.book.TickRow.{TickRow}
 use Rattle.hls_chron.specs.declared.book.Event.{Event}
 use Rattle.hls_chron.specs.declared.book.Event.TheVariants.{Seat, Leave, Settle}
-use Rattle.hls_chron.specs.declared.plain.Config.TheVariants.{Sfq}
+use Rattle.hls_chron.specs.declared.plain.Sharing.{Sharing}
 use Rattle.hls_chron.specs.declared.plain.Terms.{Terms}
 use Rattle.hls_chron.specs.declared.plain.Terms.TheVariants.{Weight}
+use Rattle.hls_chron.specs.Kinds.{by_shares}
 use Rattle.hls_chron.specs.Ranges.{IsWithin, ConfigInRange, TermsInRange}
 use Rattle.hls_chron.specs.Ledger.{Ledger, now_of, with_row, with_mark, row_at, before}
 use Rattle.hls_chron.specs.Seats.{SlotAsks, terms_at}
@@ -39,7 +40,7 @@ pub then_row : (b : Ledger) (row : TickRow) (slot t : ℕ)
     → tenant_then (with_row b row) slot t ≡ tenant_then b slot t
 then_row b row slot t = tenant_at-same (before t (with_row b row)) (before t b) slot (marks_row b row t)
 
-module _ (T M Q : ℕ) (b : Ledger) (row : TickRow) (kept : KeepsShareBook T M Q b) where
+module _ (sharing : Sharing) (b : Ledger) (row : TickRow) (kept : KeepsShareBook sharing b) where
   -- in the tick after the row, who sat in the present one
   pub then_late : (slot : ℕ) → tenant_then b slot (now_of b + 1) ≡ tenant_then b slot (now_of b)
   then_late slot =
@@ -69,13 +70,13 @@ module _ (T M Q : ℕ) (b : Ledger) (row : TickRow) (kept : KeepsShareBook T M Q
         ∙ row_next t slot since terms lt (sym (then_row b row slot (t + 1)) ∙ sits) old;
   }
 
-  row_had : (t : ℕ) → t < now_of (with_row b row) → HasWeights T M Q (before t (with_row b row))
+  row_had : (t : ℕ) → t < now_of (with_row b row) → HasWeights sharing (before t (with_row b row))
   row_had t lt = elim (cases_lt t (now_of b)) [
     | inl past ↦ rw (before-row b row t past) (kept.had t past)
     | inr late ↦
         let here : now_of b ≡ t = omega (arith, now_of-row b row, lt, late) in
-        subst (λ z. HasWeights T M Q (before z (with_row b row))) here
-        (weights-same T M Q (before (now_of b) (with_row b row)) b (before-now b row kept.admission.dated)
+        subst (λ z. HasWeights sharing (before z (with_row b row))) here
+        (weights-same sharing (before (now_of b) (with_row b row)) b (before-now b row kept.admission.dated)
         kept.weights)
   ]
 
@@ -89,35 +90,35 @@ module _ (T M Q : ℕ) (b : Ledger) (row : TickRow) (kept : KeepsShareBook T M Q
     tenants = λ z slot le. then_row b row slot z;
   }
 
-  pub serves-row : (mask slot : ℕ) → Serves (Sfq T M Q) b mask slot
-      → Serves (Sfq T M Q) (before (now_of b) (with_row b row)) mask slot
+  pub serves-row : (mask slot : ℕ) → Serves (by_shares sharing) b mask slot
+      → Serves (by_shares sharing) (before (now_of b) (with_row b row)) mask slot
   serves-row mask slot serves =
-      rw (before-last b row kept.admission.dated) (serves-room (Sfq T M Q) b mask slot serves)
+      rw (before-last b row kept.admission.dated) (serves-room (by_shares sharing) b mask slot serves)
 
-  row_served : ((slot : ℕ) → row.to ≡ Some slot → Serves (Sfq T M Q) b row.mask slot) → (t slot : ℕ)
+  row_served : ((slot : ℕ) → row.to ≡ Some slot → Serves (by_shares sharing) b row.mask slot) → (t slot : ℕ)
       → t < now_of (with_row b row) → (row_at (with_row b row) t).to ≡ Some slot
-      → Serves (Sfq T M Q) (before t (with_row b row)) (row_at (with_row b row) t).mask slot
+      → Serves (by_shares sharing) (before t (with_row b row)) (row_at (with_row b row) t).mask slot
   row_served serves t slot lt = elim (cases_lt t (now_of b)) [
     | inl past ↦ rw (row_at-past b row t past, before-row b row t past) (λ is. kept.served t slot past is)
     | inr late ↦
         let here : now_of b ≡ t = omega (arith, now_of-row b row, lt, late) in
         let P : ℕ → Type 0 = λ z. (row_at (with_row b row) z).to ≡ Some slot
-        → Serves (Sfq T M Q) (before z (with_row b row)) (row_at (with_row b row) z).mask slot in
+        → Serves (by_shares sharing) (before z (with_row b row)) (row_at (with_row b row) z).mask slot in
         subst P here (rw (row_at-now b row) (λ is. serves-row row.mask slot (serves slot is)))
   ]
 
-pub share_book-row : (T M Q : ℕ) (b : Ledger) (row : TickRow)
+pub share_book-row : (sharing : Sharing) (b : Ledger) (row : TickRow)
     → ((slot : ℕ) → SlotAsks row.mask slot → terms_at b slot ≢ None)
-    → ((slot : ℕ) → row.to ≡ Some slot → Serves (Sfq T M Q) b row.mask slot)
-    → KeepsShareBook T M Q b → KeepsShareBook T M Q (with_row b row)
-share_book-row T M Q b row only serves kept = record {
+    → ((slot : ℕ) → row.to ≡ Some slot → Serves (by_shares sharing) b row.mask slot)
+    → KeepsShareBook sharing b → KeepsShareBook sharing (with_row b row)
+share_book-row sharing b row only serves kept = record {
   range = kept.range;
-  admission = admission-row (Sfq T M Q) b row only kept.admission;
-  sittings = sittings-row T M Q b row kept;
+  admission = admission-row (by_shares sharing) b row only kept.admission;
+  sittings = sittings-row sharing b row kept;
   leavings = leavings-row b row kept.admission.dated kept.leavings;
-  weights = weights-same T M Q (with_row b row) b refl kept.weights;
-  had = λ t lt. row_had T M Q b row kept t lt;
-  served = λ t slot lt. row_served T M Q b row kept serves t slot lt;
+  weights = weights-same sharing (with_row b row) b refl kept.weights;
+  had = λ t lt. row_had sharing b row kept t lt;
+  served = λ t slot lt. row_served sharing b row kept serves t slot lt;
 }
 
 -- the weights after a mark
@@ -147,9 +148,10 @@ leave_weight b at slot = elim (cases_eq at slot) [
   | inr other ↦ let e = ap weight_in (leave_other b at slot other) in omega (arith, e)
 ]
 
-seated_room : (T M Q : ℕ) (b : Ledger) (at : ℕ) (terms : Terms)
-    → room_used (Sfq T M Q) (with_mark b (Seat at terms)) ≤ room_used (Sfq T M Q) b + weight_in (Some terms)
-seated_room T M Q b at terms =
+seated_room : (sharing : Sharing) (b : Ledger) (at : ℕ) (terms : Terms)
+    → room_used (by_shares sharing) (with_mark b (Seat at terms)) ≤ room_used (by_shares sharing) b
+    + weight_in (Some terms)
+seated_room sharing b at terms =
     let f : ℕ → ℕ = λ slot. weight_in (terms_at (with_mark b (Seat at terms)) slot) in
     let g : ℕ → ℕ = λ slot. weight_in (terms_at b slot) in
     elim (cases_lt at 32) [
@@ -164,62 +166,65 @@ seated_room T M Q b at terms =
     ]
 
 -- a weight that fits is within what is left
-fits_left : (T M Q : ℕ) (b : Ledger) (terms : Terms) → Fits (Sfq T M Q) b terms → TermsInRange terms
-    → room_used (Sfq T M Q) b ≤ T → room_used (Sfq T M Q) b + weight_in (Some terms) ≤ T
-fits_left T M Q b (Weight weight) fits range used = elim (cases_lt (T - room_used (Sfq T M Q) b) weight) [
-  | inl lacks ↦ absurd (fits.room (T - room_used (Sfq T M Q) b) weight
-      (record { left = refl; asks = refl; lacks = lacks }))
-  | inr enough ↦ omega (arith, enough, used)
-]
-fits_left T M Q b _ fits range used = omega (arith, used)
+fits_left : (sharing : Sharing) (b : Ledger) (terms : Terms) → Fits (by_shares sharing) b terms → TermsInRange terms
+    → room_used (by_shares sharing) b ≤ sharing.total
+    → room_used (by_shares sharing) b + weight_in (Some terms) ≤ sharing.total
+fits_left sharing b (Weight weight) fits range used =
+    elim (cases_lt (sharing.total - room_used (by_shares sharing) b) weight) [
+      | inl lacks ↦ absurd (fits.room (sharing.total - room_used (by_shares sharing) b) weight
+          (record { left = refl; asks = refl; lacks = lacks }))
+      | inr enough ↦ omega (arith, enough, used)
+    ]
+fits_left sharing b _ fits range used = omega (arith, used)
 
 -- a mark that a scheduler may be told of, in its ranges, where a seat is taken at a free slot
-abbrev pub MayMarkInRange : (T M Q : ℕ) → Ledger → Event → Type 0
-MayMarkInRange T M Q b (Seat slot terms) =
-    MayMark (Sfq T M Q) b (Seat slot terms) × TermsInRange terms × (terms_at b slot ≡ None)
-MayMarkInRange T M Q b (Leave slot) = Unit {0}
-MayMarkInRange T M Q b Settle = Unit {0}
+abbrev pub MayMarkInRange : (sharing : Sharing) → Ledger → Event → Type 0
+MayMarkInRange sharing b (Seat slot terms) =
+    MayMark (by_shares sharing) b (Seat slot terms) × TermsInRange terms × (terms_at b slot ≡ None)
+MayMarkInRange sharing b (Leave slot) = Unit {0}
+MayMarkInRange sharing b Settle = Unit {0}
 
-may_mark : (T M Q : ℕ) (b : Ledger) (event : Event) → MayMarkInRange T M Q b event → MayMark (Sfq T M Q) b event
-may_mark T M Q b (Seat slot terms) may = may.0
-may_mark T M Q b (Leave slot) may = tt
-may_mark T M Q b Settle may = tt
+may_mark : (sharing : Sharing) (b : Ledger) (event : Event) → MayMarkInRange sharing b event
+    → MayMark (by_shares sharing) b event
+may_mark sharing b (Seat slot terms) may = may.0
+may_mark sharing b (Leave slot) may = tt
+may_mark sharing b Settle may = tt
 
-seated_free : (T M Q : ℕ) (b : Ledger) (event : Event) → MayMarkInRange T M Q b event → IsSeatedFree b event
-seated_free T M Q b (Seat slot terms) may = may.2
-seated_free T M Q b (Leave slot) may = tt
-seated_free T M Q b Settle may = tt
+seated_free : (sharing : Sharing) (b : Ledger) (event : Event) → MayMarkInRange sharing b event → IsSeatedFree b event
+seated_free sharing b (Seat slot terms) may = may.2
+seated_free sharing b (Leave slot) may = tt
+seated_free sharing b Settle may = tt
 
-ranged_seat : (T M Q : ℕ) (b : Ledger) (at : ℕ) (new : Terms) → HasWeights T M Q b → TermsInRange new
+ranged_seat : (sharing : Sharing) (b : Ledger) (at : ℕ) (new : Terms) → HasWeights sharing b → TermsInRange new
     → (slot weight : ℕ) → terms_at (with_mark b (Seat at new)) slot ≡ Some (Weight weight) → IsWithin 1 20 weight
-ranged_seat T M Q b at new had range slot weight is = elim (cases_eq at slot) [
+ranged_seat sharing b at new had range slot weight is = elim (cases_eq at slot) [
   | inl same ↦
       let one = seat_here b at slot new same in
       let e : new ≡ Weight weight = cc in subst TermsInRange e range
   | inr other ↦ had.ranged slot weight (sym (seat_other b at slot new other) ∙ is)
 ]
 
-ranged_leave : (T M Q : ℕ) (b : Ledger) (at : ℕ) → HasWeights T M Q b
+ranged_leave : (sharing : Sharing) (b : Ledger) (at : ℕ) → HasWeights sharing b
     → (slot weight : ℕ) → terms_at (with_mark b (Leave at)) slot ≡ Some (Weight weight) → IsWithin 1 20 weight
-ranged_leave T M Q b at had slot weight is = elim (cases_eq at slot) [
+ranged_leave sharing b at had slot weight is = elim (cases_eq at slot) [
   | inl same ↦ absurd (let clash = sym (leave_here b at slot same) ∙ is in cc)
   | inr other ↦ had.ranged slot weight (sym (leave_other b at slot other) ∙ is)
 ]
 
-pub weights-mark : (T M Q : ℕ) (b : Ledger) (event : Event) → MayMarkInRange T M Q b event → HasWeights T M Q b
-    → HasWeights T M Q (with_mark b event)
-weights-mark T M Q b (Seat at new) may had = record {
-  ranged = λ slot terms is. ranged_seat T M Q b at new had may.1 slot terms is;
-  fits = omega (arith, seated_room T M Q b at new, fits_left T M Q b new may.0.1 may.1 had.fits);
+pub weights-mark : (sharing : Sharing) (b : Ledger) (event : Event) → MayMarkInRange sharing b event
+    → HasWeights sharing b → HasWeights sharing (with_mark b event)
+weights-mark sharing b (Seat at new) may had = record {
+  ranged = λ slot terms is. ranged_seat sharing b at new had may.1 slot terms is;
+  fits = omega (arith, seated_room sharing b at new, fits_left sharing b new may.0.1 may.1 had.fits);
 }
-weights-mark T M Q b (Leave at) may had = record {
-  ranged = λ slot terms is. ranged_leave T M Q b at had slot terms is;
+weights-mark sharing b (Leave at) may had = record {
+  ranged = λ slot terms is. ranged_leave sharing b at had slot terms is;
   fits =
       let less = sum-le (λ slot. weight_in (terms_at (with_mark b (Leave at)) slot))
       (λ slot. weight_in (terms_at b slot)) 32 (λ slot below. leave_weight b at slot) in
       omega (arith, less, had.fits);
 }
-weights-mark T M Q b Settle may had = record {
+weights-mark sharing b Settle may had = record {
   ranged = λ slot terms is. had.ranged slot terms (sym (terms_at-mark b Settle slot) ∙ is);
   fits =
       let same = sum-eq (λ slot. weight_in (terms_at (with_mark b Settle) slot))
@@ -227,7 +232,7 @@ weights-mark T M Q b Settle may had = record {
       omega (arith, same, had.fits);
 }
 
-module _ (T M Q : ℕ) (b : Ledger) (event : Event) (kept : KeepsShareBook T M Q b) where
+module _ (sharing : Sharing) (b : Ledger) (event : Event) (kept : KeepsShareBook sharing b) where
   now_mark : (slot since : ℕ) (terms : Terms)
       → tenant_then (with_mark b event) slot (now_of b) ≡ Sits terms since
       → SatBefore b slot since terms
@@ -268,19 +273,19 @@ module _ (T M Q : ℕ) (b : Ledger) (event : Event) (kept : KeepsShareBook T M Q
         ]
   ]
 
-pub share_book-mark : (T M Q : ℕ) (b : Ledger) (event : Event) → MayMarkInRange T M Q b event
-    → KeepsShareBook T M Q b → KeepsShareBook T M Q (with_mark b event)
-share_book-mark T M Q b event may kept = record {
+pub share_book-mark : (sharing : Sharing) (b : Ledger) (event : Event) → MayMarkInRange sharing b event
+    → KeepsShareBook sharing b → KeepsShareBook sharing (with_mark b event)
+share_book-mark sharing b event may kept = record {
   range = kept.range;
-  admission = admission-mark (Sfq T M Q) b event (may_mark T M Q b event may) kept.admission;
+  admission = admission-mark (by_shares sharing) b event (may_mark sharing b event may) kept.admission;
   sittings = record {
-    first = λ slot since terms sits. mark_first T M Q b event kept slot since terms sits;
-    next = λ t slot since terms lt sits old. past_mark T M Q b event kept slot t lt
-        ∙ mark_next T M Q b event kept t slot since terms lt sits old;
+    first = λ slot since terms sits. mark_first sharing b event kept slot since terms sits;
+    next = λ t slot since terms lt sits old. past_mark sharing b event kept slot t lt
+        ∙ mark_next sharing b event kept t slot since terms lt sits old;
   };
   leavings =
-      leavings-mark b event kept.admission.dated (seated_free T M Q b event may) kept.leavings;
-  weights = weights-mark T M Q b event may kept.weights;
+      leavings-mark b event kept.admission.dated (seated_free sharing b event may) kept.leavings;
+  weights = weights-mark sharing b event may kept.weights;
   had = λ t lt. rw (before-mark b event t lt) (kept.had t lt);
   served = λ t slot lt. rw (row_at-mark b event t, before-mark b event t lt) (kept.served t slot lt);
 }
@@ -295,8 +300,8 @@ unfolding sum_below
 sum-none zero = refl
 sum-none (suc n) = omega (arith, sum-none n)
 
-weights-unmarked : (T M Q : ℕ) (b : Ledger) → b.marks ≡ [] → HasWeights T M Q b
-weights-unmarked T M Q b unmarked = record {
+weights-unmarked : (sharing : Sharing) (b : Ledger) → b.marks ≡ [] → HasWeights sharing b
+weights-unmarked sharing b unmarked = record {
   ranged = λ slot terms is. absurd (let none = terms_at-unmarked b slot unmarked in let clash = sym none ∙ is
       in cc);
   fits =
@@ -305,11 +310,12 @@ weights-unmarked T M Q b unmarked = record {
       let none = sum-none 32 in omega (arith, same, none);
 }
 
-pub share_book-unwritten : (T M Q : ℕ) (b : Ledger) → ConfigInRange (Sfq T M Q) → b.rows ≡ [] → b.marks ≡ []
-    → KeepsShareBook T M Q b
-share_book-unwritten T M Q b range unwritten unmarked = record {
+pub share_book-unwritten : (sharing : Sharing) (b : Ledger) → ConfigInRange (by_shares sharing) → b.rows ≡ []
+    → b.marks ≡ []
+    → KeepsShareBook sharing b
+share_book-unwritten sharing b range unwritten unmarked = record {
   range = range;
-  admission = admission-unwritten (Sfq T M Q) b unwritten unmarked;
+  admission = admission-unwritten (by_shares sharing) b unwritten unmarked;
   sittings = record {
     first = λ slot since terms sits. absurd (
         let none = tenant_at-unmarked (before b.start b) slot (no_marks b b.start unmarked) in
@@ -319,8 +325,8 @@ share_book-unwritten T M Q b range unwritten unmarked = record {
         let clash = sym none ∙ sits in cc);
   };
   leavings = leavings-unwritten b unwritten unmarked;
-  weights = weights-unmarked T M Q b unmarked;
-  had = λ t lt. weights-unmarked T M Q (before t b) (no_marks b t unmarked);
+  weights = weights-unmarked sharing b unmarked;
+  had = λ t lt. weights-unmarked sharing (before t b) (no_marks b t unmarked);
   served = λ t slot lt is. absurd (
       let none = row_at-unwritten b t unwritten in let clash : None ≡ Some slot = rw none at is in cc);
 }

@@ -8,9 +8,10 @@ use Rattle.std.proofs.lemmas.Bool.{cases_eq}
 use Rattle.std.proofs.lemmas.Bool.Decides.{nat_tests}
 use Rattle.std.proofs.lemmas.Nat.Bits.{bit_at-zero}
 use Rattle.hls_frac.specs.declared.Frac.{Frac}
-use Rattle.hls_chron.specs.declared.plain.Config.TheVariants.{Sfq}
+use Rattle.hls_chron.specs.declared.plain.Sharing.{Sharing}
 use Rattle.hls_chron.specs.declared.plain.Terms.{Terms}
 use Rattle.hls_chron.specs.declared.plain.Terms.TheVariants as terms
+use Rattle.hls_chron.specs.Kinds.{by_shares}
 use Rattle.hls_chron.specs.Ledger.{Ledger, now_of, row_at}
 use Rattle.hls_chron.specs.Seats.{SlotAsks, asked, served}
 use Rattle.hls_chron.specs.Ticks.{count}
@@ -54,19 +55,30 @@ reduced sn sd en ed rn rd fn fd w T d n N sd_pos ed_pos T_pos rate error part =
     mul-le-mul_right (rd * fd * T) part in
     le_of_mul-le-mul_right {k = (sd * T) * (ed * T)} (omega (arith, left, right, whole)) pos
 
-pub fair-share : (T M Q w : ℕ) (s d s' d' : Frac) (n G N : ℕ) → 1 ≤ T → IsFairShare T M Q w s d s' d'
-    → HasShare s d n G → w * G ≤ T * N + (T - w) * Q + w * ((M - 1) * Q) → HasShare s' d' n N
-fair-share T M Q w s d s' d' n G N some fair given got =
-    let rest : T - w ≡ fair.rest = omega (arith, fair.weights) in
-    let others : M - 1 ≡ fair.others = omega (arith, fair.seats) in
-    let has : w * G ≤ T * N + fair.rest * Q + w * (fair.others * Q) = (
-    let more : w * ((M - 1) * Q) ≡ w * (fair.others * Q) = ap (λ x. w * (x * Q)) others in
-    let less : (T - w) * Q ≡ fair.rest * Q = ap (λ x. x * Q) rest in
-    omega (arith, got, less, more)) in
-    reduced s.num s.den d.num d.den s'.num s'.den d'.num d'.den w T
-    ((d.num + fair.others * Q * d.den) * w + fair.rest * Q * d.den) n N s.positive d.positive some fair.rate
-    fair.error
-    (part_of s.num s.den d.num d.den w T (fair.others * Q) (fair.rest * Q) n G N given has)
+-- the ticks that a seat has of given ones, as a share by its weight
+module _ (sharing : Sharing) where
+  abbrev T : ℕ
+  T = sharing.total
+
+  abbrev M : ℕ
+  M = sharing.most
+
+  abbrev Q : ℕ
+  Q = sharing.quantum
+
+  pub fair-share : (w : ℕ) (s d s' d' : Frac) (n G N : ℕ) → 1 ≤ T → IsFairShare T M Q w s d s' d'
+      → HasShare s d n G → w * G ≤ T * N + (T - w) * Q + w * ((M - 1) * Q) → HasShare s' d' n N
+  fair-share w s d s' d' n G N some fair given got =
+      let rest : T - w ≡ fair.rest = omega (arith, fair.weights) in
+      let others : M - 1 ≡ fair.others = omega (arith, fair.seats) in
+      let has : w * G ≤ T * N + fair.rest * Q + w * (fair.others * Q) = (
+      let more : w * ((M - 1) * Q) ≡ w * (fair.others * Q) = ap (λ x. w * (x * Q)) others in
+      let less : (T - w) * Q ≡ fair.rest * Q = ap (λ x. x * Q) rest in
+      omega (arith, got, less, more)) in
+      reduced s.num s.den d.num d.den s'.num s'.den d'.num d'.den w T
+      ((d.num + fair.others * Q * d.den) * w + fair.rest * Q * d.den) n N s.positive d.positive some fair.rate
+      fair.error
+      (part_of s.num s.den d.num d.den w T (fair.others * Q) (fair.rest * Q) n G N given has)
 
 both_first : (a c : Bool) → (a && c) ≡ true → a ≡ true
 both_first true c is = refl
@@ -83,8 +95,8 @@ pub given_some : (b : Ledger) (port t : ℕ) → given b port t ≡ true → is_
 unfolding given
 given_some b port t is = both_first (is_some (row_at b t).to) ((row_at b t).port == port) is
 
-module _ (T M Q : ℕ) (b : Ledger) (kept : KeepsShareBook T M Q b) where
-  pub fair_asks : (slot t : ℕ) → asked b slot t ≡ true → asked_by (Sfq T M Q) b t ≡ true
+module _ (sharing : Sharing) (b : Ledger) (kept : KeepsShareBook sharing b) where
+  pub fair_asks : (slot t : ℕ) → asked b slot t ≡ true → asked_by (by_shares sharing) b t ≡ true
   unfolding asked_by
   fair_asks slot t asks = some_asks (row_at b t).mask slot (asked-slot b slot t asks)
 
@@ -96,7 +108,8 @@ module _ (T M Q : ℕ) (b : Ledger) (kept : KeepsShareBook T M Q b) where
   part_met : (slot since port weight i n : ℕ) (s d s' d' : Frac)
       → tenant_at b slot ≡ Sits (terms.Weight weight) since
       → since ≤ i → i + n ≤ now_of b → ((t : ℕ) → i ≤ t → t < i + n → asked b slot t ≡ true)
-      → IsFairShare T M Q weight s d s' d' → HasShare s d n (count (given b port) i n)
+      → IsFairShare sharing.total sharing.most sharing.quantum weight s d s' d'
+      → HasShare s d n (count (given b port) i n)
       → HasShare s' d' n (count (served b slot) i n)
   part_met slot since port weight i zero s d s' d' sits early le on fair lent = omega arith
   part_met slot since port weight i (suc n) s d s' d' sits early le on fair lent =
@@ -104,20 +117,22 @@ module _ (T M Q : ℕ) (b : Ledger) (kept : KeepsShareBook T M Q b) where
       let last = sat-at b slot since (i + n) (now_of b) (terms.Weight weight) kept.sittings
       (omega (arith, le))
       (omega arith) (omega (arith, early)) now in
-      let h = has-share T M Q b kept slot since weight i n le early last on in
+      let h = has-share sharing b kept slot since weight i n le early last on in
       let less = count-more (given b port) (λ z. is_some (to_of b z)) i (suc n)
       (λ t is. given_some b port t is) in
       let few = mul-le-mul_left weight less in
       let got : weight * count (given b port) i (suc n)
-      ≤ T * count (served b slot) i (suc n) + (T - weight) * Q + weight * ((M - 1) * Q) =
+      ≤ sharing.total * count (served b slot) i (suc n) + (sharing.total - weight) * sharing.quantum
+      + weight * ((sharing.most - 1) * sharing.quantum) =
       rw (served_count slot i (suc n)) (omega (arith, h, few)) in
-      fair-share T M Q weight s d s' d' (suc n) (count (given b port) i (suc n))
+      fair-share sharing weight s d s' d' (suc n) (count (given b port) i (suc n))
       (count (served b slot) i (suc n))
       kept.range.0.0 fair lent got
 
   share_supplied : (slot since port weight : ℕ) (s d s' d' : Frac)
-      → tenant_at b slot ≡ Sits (terms.Weight weight) since → IsFairShare T M Q weight s d s' d'
-      → Supplies (Psbe s d) (given b port) (asked_by (Sfq T M Q) b) (settled_at b) (now_of b)
+      → tenant_at b slot ≡ Sits (terms.Weight weight) since
+      → IsFairShare sharing.total sharing.most sharing.quantum weight s d s' d'
+      → Supplies (Psbe s d) (given b port) (asked_by (by_shares sharing) b) (settled_at b) (now_of b)
       → Supplies (Psbe s' d') (served b slot) (asked b slot) since (now_of b)
   share_supplied slot since port weight s d s' d' sits fair supplied =
       let later = kept.admission.stood.later slot since (terms.Weight weight) sits in
@@ -132,14 +147,14 @@ module _ (T M Q : ℕ) (b : Ledger) (kept : KeepsShareBook T M Q b) where
       }
 
   fair_lends : (slot since port : ℕ) (m : Terms) (g h : Guarantee) → tenant_at b slot ≡ Sits m since
-      → LendsByTerms (Sfq T M Q) m g h
-      → Supplies g (given b port) (asked_by (Sfq T M Q) b) (settled_at b) (now_of b)
+      → LendsByTerms (by_shares sharing) m g h
+      → Supplies g (given b port) (asked_by (by_shares sharing) b) (settled_at b) (now_of b)
       → Supplies h (served b slot) (asked b slot) since (now_of b)
   fair_lends slot since port (terms.Weight weight) (Psbe s d) (Psbe s' d') sits lends supplied =
       share_supplied slot since port weight s d s' d' sits lends supplied
   fair_lends slot since port _ _ _ sits lends supplied = absurd lends
 
-  pub fair_keeps : KeepsPromise (Sfq T M Q) b
+  pub fair_keeps : KeepsPromise (by_shares sharing) b
   fair_keeps = record {
     kept = λ ports slot since port m g h sits lends supplied. elim lends.lends [
       | inl by_terms ↦ fair_lends slot since port m g h sits by_terms supplied

@@ -6,6 +6,7 @@ use Rattle.std.proofs.lemmas.Bool.{cases_lt, lt-ltb}
 use Rattle.std.proofs.lemmas.Nat.Bits.{bit_at-zero}
 use Rattle.hls_chron.specs.declared.plain.Terms.{Terms}
 use Rattle.hls_chron.specs.declared.plain.Terms.TheVariants as terms
+use Rattle.hls_chron.specs.declared.plain.Sharing.{Sharing}
 use Rattle.hls_chron.specs.Ledger.{Ledger, no_row, now_of, row_at}
 use Rattle.hls_chron.specs.Seats.{asked, served}
 use Rattle.hls_chron.specs.Ticks.{count}
@@ -59,9 +60,18 @@ sat-at b slot since t last terms kept le within early sits =
     sat-since b slot since t (last - t) terms kept (omega (arith, e, within)) early
     (ap (tenant_then b slot) e ∙ sits)
 
-module _ (T M Q : ℕ) (b : Ledger) (kept : KeepsShareBook T M Q b) where
+module _ (sharing : Sharing) (b : Ledger) (kept : KeepsShareBook sharing b) where
+  abbrev T : ℕ
+  T = sharing.total
+
+  abbrev M : ℕ
+  M = sharing.most
+
+  abbrev Q : ℕ
+  Q = sharing.quantum
+
   all_at : (t : ℕ) → b.start ≤ t → t ≤ now_of b → At Q b t
-  all_at t lo le = at-all T M Q b kept t lo le
+  all_at t lo le = at-all sharing b kept t lo le
 
   -- the start tag of a seat is near the virtual time
   pub near-time : (slot since weight t : ℕ) → b.start ≤ t → t ≤ now_of b
@@ -73,7 +83,7 @@ module _ (T M Q : ℕ) (b : Ledger) (kept : KeepsShareBook T M Q b) where
       let w : (share_at b t slot).weight ≡ weight = ap (λ tenant. (share_in tenant).weight) sits in
       let some : 0 < (share_at b t slot).weight = omega (arith, w, heavy) in
       let below : slot < 32 = (
-      let lt_most = slot-at T M Q b kept t slot le some in omega (arith, lt_most, kept.range.1.1)) in
+      let lt_most = slot-at sharing b kept t slot le some in omega (arith, lt_most, kept.range.1.1)) in
       let start = here.start slot some in
       let near : (tags_of Q b t slot).f ≤ v_of Q b t + Q * (tags_of Q b t slot).step = here.kept.near slot below in
       let f = tag-taken (share_at b t slot) (f_of Q b t slot) some in
@@ -84,13 +94,13 @@ module _ (T M Q : ℕ) (b : Ledger) (kept : KeepsShareBook T M Q b) where
       → Passes Q unit_tag T M 32 from until (clock_of Q b) (tags_of Q b) (asks_of b) (to_of b)
   passes from until lo le = record {
     kept = λ t ge lt. (all_at t (omega (arith, lo, ge)) (omega (arith, lt, le))).kept;
-    fits = λ t ge lt. room-of T M Q b kept t (omega (arith, lt, le));
-    serves = λ t k ge lt is. serves-at T M Q b kept t k (omega (arith, lo, ge)) (omega (arith, lt, le))
+    fits = λ t ge lt. room-of sharing b kept t (omega (arith, lt, le));
+    serves = λ t k ge lt is. serves-at sharing b kept t k (omega (arith, lo, ge)) (omega (arith, lt, le))
         (all_at t (omega (arith, lo, ge)) (omega (arith, lt, le))) is;
-    taken = λ t k ge lt below asks. taken-at T M Q b kept t k (omega (arith, lt, le)) asks;
-    v = λ t ge lt. v-next T M Q b kept t (omega (arith, lo, ge)) (omega (arith, lt, le))
+    taken = λ t k ge lt below asks. taken-at sharing b kept t k (omega (arith, lt, le)) asks;
+    v = λ t ge lt. v-next sharing b kept t (omega (arith, lo, ge)) (omega (arith, lt, le))
         (all_at t (omega (arith, lo, ge)) (omega (arith, lt, le)));
-    churn = λ t ge lt. churn-at T M Q b kept t (omega (arith, lo, ge)) (omega (arith, lt, le))
+    churn = λ t ge lt. churn-at sharing b kept t (omega (arith, lo, ge)) (omega (arith, lt, le))
         (all_at t (omega (arith, lo, ge)) (omega (arith, lt, le)));
   }
 
@@ -106,7 +116,7 @@ module _ (T M Q : ℕ) (b : Ledger) (kept : KeepsShareBook T M Q b) where
         (omega (arith, le)) (omega (arith, ge, early)) sits in
         let now = sat-at b slot since t (from + len) (terms.Weight weight) kept.sittings (omega (arith, lt))
         (omega (arith, le)) (omega (arith, ge, early)) sits in
-        tag-stays T M Q b kept t slot (omega (arith, lo, ge)) (omega (arith, lt, le))
+        tag-stays sharing b kept t slot (omega (arith, lo, ge)) (omega (arith, lt, le))
         (all_at t (omega (arith, lo, ge)) (omega (arith, lt, le))) (ap share_in (later ∙ sym now));
   }
 
@@ -120,8 +130,8 @@ module _ (T M Q : ℕ) (b : Ledger) (kept : KeepsShareBook T M Q b) where
       → tenant_then b slot (from + len) ≡ Sits (terms.Weight weight) since → asked b slot from ≡ true
       → slot < 32
   slot_below slot since weight from len le early sits asks =
-      let some = taken-at T M Q b kept from slot (omega (arith, le)) asks in
-      let lt = slot-at T M Q b kept from slot (omega (arith, le)) some in
+      let some = taken-at sharing b kept from slot (omega (arith, le)) asks in
+      let lt = slot-at sharing b kept from slot (omega (arith, le)) some in
       omega (arith, lt, kept.range.1.1)
 
   -- the share of a seat in a run of ticks in which it asks, of what is given to the scheduler
@@ -135,7 +145,7 @@ module _ (T M Q : ℕ) (b : Ledger) (kept : KeepsShareBook T M Q b) where
       let lo = asked-started b slot from asks in
       let w = weight_of slot since weight from len le early sits in
       let h = share Q unit_tag T M 32 slot from len (clock_of Q b) (tags_of Q b) (asks_of b) (to_of b)
-      (some_quantum T M Q b kept)
+      (some_quantum sharing b kept)
       (omega arith) (slot_below slot since weight from len le early sits asks)
       (passes from (from + suc len) lo le) (asks_on slot since weight from len lo le early sits on) in
       subst (λ n. n * given_in (to_of b) from (suc len)
@@ -159,7 +169,7 @@ module _ (T M Q : ℕ) (b : Ledger) (kept : KeepsShareBook T M Q b) where
       let w = weight_of slot since weight i n le early sits in
       let u = weight_of other since' rival i n le early' sits' in
       let d = differ Q unit_tag T M 32 slot other i n (clock_of Q b) (tags_of Q b) (asks_of b) (to_of b)
-      (some_quantum T M Q b kept)
+      (some_quantum sharing b kept)
       (omega arith) (slot_below slot since weight i n le early sits asks)
       (slot_below other since' rival i n le early' sits' asks') (passes i (i + suc n) lo le)
       (asks_on slot since weight i n lo le early sits on) (asks_on other since' rival i n lo le early' sits'

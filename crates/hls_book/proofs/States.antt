@@ -4,6 +4,7 @@ use Rattle.std.proofs.Common.{Some, None}
 use Rattle.std.proofs.Common.{true, false, length, add-one}
 use Rattle.hls_chron.specs.declared.book.TickRow.{TickRow}
 use Rattle.hls_chron.specs.declared.book.Event.{Event}
+use Rattle.hls_chron.specs.declared.plain.Sharing.{Sharing}
 use Rattle.hls_chron.specs.Ledger.{Ledger, now_of, with_row, with_mark, row_at, before}
 use Rattle.hls_chron.specs.Seats.{asked, served, is_slot}
 use Rattle.hls_chron.proofs.BookLaws.{now_of-row, row_at-mark, row_at-now, before-mark}
@@ -44,7 +45,10 @@ goes_room : (Q : ℕ) (b : Ledger) (mask : ℕ) → turn_goes_on Q (roomless b) 
 unfolding asked served row_at settled_at left_at
 goes_room Q b mask = refl
 
-module _ (T M Q : ℕ) (b : Ledger) (row : TickRow) (kept : KeepsShareBook T M Q b) where
+module _ (sharing : Sharing) (b : Ledger) (row : TickRow) (kept : KeepsShareBook sharing b) where
+  abbrev Q : ℕ
+  Q = sharing.quantum
+
   next_now : now_of (with_row b row) ≡ suc (now_of b)
   next_now = now_of-row b row ∙ add-one (now_of b)
 
@@ -55,7 +59,7 @@ module _ (T M Q : ℕ) (b : Ledger) (row : TickRow) (kept : KeepsShareBook T M Q
   time-idle none =
       ap (v_of Q (with_row b row)) next_now
       ∙ v-none Q (with_row b row) (now_of b) (omega arith) (row_to ∙ none)
-      ∙ time_up_to Q (with_row b row) b (now_of b) (same_row T M Q b row kept)
+      ∙ time_up_to Q (with_row b row) b (now_of b) (same_row sharing b row kept)
 
   -- whether a turn goes on in the row
   row_goes : turn_goes_on Q (before (now_of b) (with_row b row)) (row_at (with_row b row) (now_of b)).mask
@@ -70,21 +74,21 @@ module _ (T M Q : ℕ) (b : Ledger) (row : TickRow) (kept : KeepsShareBook T M Q
   time-on on =
       ap (v_of Q (with_row b row)) next_now
       ∙ v-on Q (with_row b row) (now_of b) (omega arith) (row_goes ∙ on)
-      ∙ time_up_to Q (with_row b row) b (now_of b) (same_row T M Q b row kept)
+      ∙ time_up_to Q (with_row b row) b (now_of b) (same_row sharing b row kept)
 
   pub time-begins : (k : ℕ) → row.to ≡ Some k → turn_goes_on Q b row.mask ≡ false
       → v_of Q (with_row b row) (now_of (with_row b row)) ≡ start_tag Q b (now_of b) k
   time-begins k is off =
       ap (v_of Q (with_row b row)) next_now
       ∙ v-begun Q (with_row b row) (now_of b) k (omega arith) (row_to ∙ is) (row_goes ∙ off)
-      ∙ start_tag-same Q (with_row b row) b (now_of b) (now_of b) k (same_row T M Q b row kept) (omega arith)
+      ∙ start_tag-same Q (with_row b row) b (now_of b) (now_of b) k (same_row sharing b row kept) (omega arith)
 
   -- who sits goes on to sit
   sits_on_row : (slot : ℕ) → share_at (with_row b row) (suc (now_of b)) slot
       ≡ share_at (with_row b row) (now_of b) slot
   sits_on_row slot =
       ap share_in (then_row b row slot (suc (now_of b))
-      ∙ ap (tenant_then b slot) (sym (add-one (now_of b))) ∙ then_late T M Q b row kept slot
+      ∙ ap (tenant_then b slot) (sym (add-one (now_of b))) ∙ then_late sharing b row kept slot
       ∙ sym (then_row b row slot (now_of b)))
 
   pub finish-unserved : (slot : ℕ) → is_slot row.to slot ≡ false
@@ -94,7 +98,7 @@ module _ (T M Q : ℕ) (b : Ledger) (row : TickRow) (kept : KeepsShareBook T M Q
       served_by (with_row b row) slot (now_of b) ∙ ap (λ to. is_slot to slot) row_to ∙ other in
       ap (λ t. f_of Q (with_row b row) t slot) next_now
       ∙ f-unserved Q (with_row b row) (now_of b) slot (sits_on_row slot) miss
-      ∙ finish_up_to Q (with_row b row) b (now_of b) slot (same_row T M Q b row kept)
+      ∙ finish_up_to Q (with_row b row) b (now_of b) slot (same_row sharing b row kept)
 
   pub finish-served : (slot : ℕ) → is_slot row.to slot ≡ true
       → f_of Q (with_row b row) (now_of (with_row b row)) slot
@@ -105,12 +109,12 @@ module _ (T M Q : ℕ) (b : Ledger) (row : TickRow) (kept : KeepsShareBook T M Q
       ap (λ t. f_of Q (with_row b row) t slot) next_now
       ∙ f-served Q (with_row b row) (now_of b) slot (sits_on_row slot) hit
       ∙ ap (λ s. s + tag_step (share_at (with_row b row) (now_of b) slot).weight)
-      (start_tag-same Q (with_row b row) b (now_of b) (now_of b) slot (same_row T M Q b row kept) (omega arith))
+      (start_tag-same Q (with_row b row) b (now_of b) (now_of b) slot (same_row sharing b row kept) (omega arith))
       ∙ ap (λ tenant. start_tag Q b (now_of b) slot + tag_step (share_in tenant).weight)
       (then_row b row slot (now_of b))
 
 -- a mark of the present tick
-module _ (T M Q : ℕ) (b : Ledger) (event : Event) (kept : KeepsShareBook T M Q b) where
+module _ (sharing : Sharing) (b : Ledger) (event : Event) (kept : KeepsShareBook sharing b) where
   rows_mark : SameRows (with_mark b event) b (now_of b)
   rows_mark = record {
     start = refl;
@@ -118,33 +122,38 @@ module _ (T M Q : ℕ) (b : Ledger) (event : Event) (kept : KeepsShareBook T M Q
     befores = λ z lt. before-mark b event z lt;
   }
 
-  tags_mark : (z slot : ℕ) → z < now_of b → start_tag Q (with_mark b event) z slot ≡ start_tag Q b z slot
-  tags_mark z slot lt = start_tag-same Q (with_mark b event) b z z slot (record {
+  tags_mark : (z slot : ℕ) → z < now_of b → start_tag sharing.quantum (with_mark b event) z slot
+      ≡ start_tag sharing.quantum b z slot
+  tags_mark z slot lt = start_tag-same sharing.quantum (with_mark b event) b z z slot (record {
     before = record {
       start = refl;
       rows = λ u below. row_at-mark b event u;
       befores = λ u below. before-mark b event u (omega (arith, lt, below));
     };
-    tenants = λ u k le. past_mark T M Q b event kept k u (omega (arith, le, lt));
+    tenants = λ u k le. past_mark sharing b event kept k u (omega (arith, le, lt));
   }) (omega arith)
 
-  pub time-mark : v_of Q (with_mark b event) (now_of b) ≡ v_of Q b (now_of b)
-  time-mark = time-same Q (with_mark b event) b (start_tag Q (with_mark b event)) (start_tag Q b) (now_of b)
+  pub time-mark : v_of sharing.quantum (with_mark b event) (now_of b) ≡ v_of sharing.quantum b (now_of b)
+  time-mark = time-same sharing.quantum (with_mark b event) b (start_tag sharing.quantum (with_mark b event))
+      (start_tag sharing.quantum b) (now_of b)
       (now_of b)
       rows_mark (omega arith) tags_mark
 
   -- of a seat that goes on to sit
   pub finish-stays : (slot : ℕ) → share_at (with_mark b event) (now_of b) slot ≡ share_at b (now_of b) slot
-      → f_of Q (with_mark b event) (now_of b) slot ≡ f_of Q b (now_of b) slot
+      → f_of sharing.quantum (with_mark b event) (now_of b) slot ≡ f_of sharing.quantum b (now_of b) slot
   finish-stays slot same =
-      ap (λ share. finish_by Q (with_mark b event) (start_tag Q (with_mark b event)) share slot (now_of b)) same
-      ∙ finish-same Q (with_mark b event) b (start_tag Q (with_mark b event)) (start_tag Q b) (now_of b) (now_of b)
+      ap (λ share. finish_by sharing.quantum (with_mark b event) (start_tag sharing.quantum (with_mark b event)) share
+      slot (now_of b)) same
+      ∙ finish-same sharing.quantum (with_mark b event) b (start_tag sharing.quantum (with_mark b event))
+      (start_tag sharing.quantum b) (now_of b) (now_of b)
       (share_at b (now_of b) slot) slot rows_mark (since-then b slot (now_of b)) (omega arith) tags_mark
 
   -- of a seat that is seated or settled
   pub finish-begins : (slot : ℕ) → (share_at (with_mark b event) (now_of b) slot).since ≡ now_of b
-      → f_of Q (with_mark b event) (now_of b) slot
-      ≡ v_of Q b (now_of b) + Q * tag_step (share_at (with_mark b event) (now_of b) slot).weight
+      → f_of sharing.quantum (with_mark b event) (now_of b) slot
+      ≡ v_of sharing.quantum b (now_of b) + sharing.quantum * tag_step
+      (share_at (with_mark b event) (now_of b) slot).weight
   finish-begins slot new =
-      f-fresh Q (with_mark b event) (now_of b) slot new
-      ∙ ap (λ v. v + Q * tag_step (share_at (with_mark b event) (now_of b) slot).weight) time-mark
+      f-fresh sharing.quantum (with_mark b event) (now_of b) slot new
+      ∙ ap (λ v. v + sharing.quantum * tag_step (share_at (with_mark b event) (now_of b) slot).weight) time-mark

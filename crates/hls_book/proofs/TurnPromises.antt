@@ -175,7 +175,8 @@ module _ (quantum : ℕ) (b : Ledger) (made : IsMade (Rr quantum) b) where
             parts_met (λ k n got. HasShare s d n got) (λ k n got. HasShare s' d' n got) slot since port i j sits from to
             asks
             (λ k n is lent.
-            fair-share 32 (31 * quantum - 30) 1 1 s d s' d' n (count (given b port) k n) (served_ticks b slot k n)
+            fair-share (record { total = 32; most = 31 * quantum - 30; quantum = 1 }) 1 s d s' d' n
+            (count (given b port) k n) (served_ticks b slot k n)
             (omega arith) (as_fair quantum s d s' d' some share) lent
             (omega (
               arith,

@@ -1,8 +1,9 @@
 -- What fair queueing leaves in its book, by how it admits seats and chooses among them in each tick.
 use Rattle.std.specs.Prelude.{◌≡◌, ◌≢◌, ℕ, ◌+◌, ◌≤◌, ◌<◌, Some, None}
-use Rattle.hls_chron.specs.declared.plain.Config.TheVariants.{Sfq}
+use Rattle.hls_chron.specs.declared.plain.Sharing.{Sharing}
 use Rattle.hls_chron.specs.declared.plain.Terms.{Terms}
 use Rattle.hls_chron.specs.declared.plain.Terms.TheVariants.{Weight}
+use Rattle.hls_chron.specs.Kinds.{by_shares}
 use Rattle.hls_chron.specs.Ranges.{IsWithin, ConfigInRange}
 use Rattle.hls_chron.specs.Ledger.{Ledger, now_of, row_at, before}
 use Rattle.hls_chron.specs.Seats.{terms_at}
@@ -33,18 +34,18 @@ pub record KeepsLeavings (b : Ledger) : Type 0 where
       → terms_at (before t b) slot ≢ None → tenant_then b slot (t + 1) ≡ tenant_then b slot t
 
 -- the weights of the seats are in range, and sum to at most the total
-pub record HasWeights (total most quantum : ℕ) (b : Ledger) : Type 0 where
+pub record HasWeights (sharing : Sharing) (b : Ledger) : Type 0 where
   pub ranged : (slot weight : ℕ) → terms_at b slot ≡ Some (Weight weight) → IsWithin 1 20 weight
-  pub fits : room_used (Sfq total most quantum) b ≤ total
+  pub fits : room_used (by_shares sharing) b ≤ sharing.total
 
 -- Seats are admitted as they are, their weights fit now and before each tick, and each row served the slot of
 -- the turn where it went on, else that of least start tag among those that asked.
-pub record KeepsShareBook (total most quantum : ℕ) (b : Ledger) : Type 0 where
-  pub range : ConfigInRange (Sfq total most quantum)
-  pub admission : KeepsAdmission (Sfq total most quantum) b
+pub record KeepsShareBook (sharing : Sharing) (b : Ledger) : Type 0 where
+  pub range : ConfigInRange (by_shares sharing)
+  pub admission : KeepsAdmission (by_shares sharing) b
   pub sittings : KeepsSittings b
   pub leavings : KeepsLeavings b
-  pub weights : HasWeights total most quantum b
-  pub had : (t : ℕ) → t < now_of b → HasWeights total most quantum (before t b)
+  pub weights : HasWeights sharing b
+  pub had : (t : ℕ) → t < now_of b → HasWeights sharing (before t b)
   pub served : (t slot : ℕ) → t < now_of b → (row_at b t).to ≡ Some slot
-      → Serves (Sfq total most quantum) (before t b) (row_at b t).mask slot
+      → Serves (by_shares sharing) (before t b) (row_at b t).mask slot

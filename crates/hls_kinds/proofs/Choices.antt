@@ -5,11 +5,11 @@ use Rattle.std.specs.Int.{bit_at}
 use Rattle.std.proofs.lemmas.Bool.{cases_eq, cases_lt, cases_Bool, eq-eqb, eqb-true}
 use Rattle.std.proofs.lemmas.Nat.Bits.{same_from_bits, bit_at-zero, bit_at-lt}
 use Rattle.hls_chron.specs.declared.plain.Config.{Config}
-use Rattle.hls_chron.specs.declared.plain.Config.TheVariants.{Cpu, Fp, Edf, Sfq, Rr, Wheel, Join}
+use Rattle.hls_chron.specs.declared.plain.Config.TheVariants.{Fp, Rr, Join}
 use Rattle.hls_chron.specs.declared.plain.Terms.{Terms}
 use Rattle.hls_chron.specs.declared.plain.Terms.TheVariants as variants
 use Rattle.hls_chron.specs.declared.plain.Kind.TheVariants as kinds
-use Rattle.hls_chron.specs.Kinds.{terms_kind}
+use Rattle.hls_chron.specs.Kinds.{terms_kind, by_shares}
 use Rattle.hls_chron.specs.Ranges.{ConfigInRange}
 use Rattle.hls_chron.specs.Ledger.{Ledger, now_of}
 use Rattle.hls_chron.specs.Seats.{most_seats, terms_at, priority_in, priority_at}
@@ -19,11 +19,11 @@ use Rattle.hls_kinds.specs.Tags.{start_tag}
 use Rattle.hls_kinds.specs.Turns.{turn_slot, turn_goes_on, turns_after}
 use Rattle.hls_kinds.specs.Frames.{owner_now}
 use Rattle.hls_kinds.specs.Asks.{asks, some_slot_asks, slot_asks, asks_in_budget, asks_softly, owner_asks}
-use Rattle.hls_kinds.specs.Discipline.{HasLeastPriority, TakesTurn, may_go, IsOwner, Serves}
+use Rattle.hls_kinds.specs.Discipline.{HasLeastPriority, TakesTurn, may_go, IsOwner, IsSole, Serves}
 use Rattle.hls_kinds.proofs.SlotLaws.{any_below-zero, any_below-miss, any_below-none, any_below-or}
 use Rattle.hls_kinds.proofs.SlotLaws.{first-alone, first-better, first-held, first-missed}
 use Rattle.hls_kinds.specs.Fits.{HasSeats}
-use Rattle.hls_chron.proofs.ConfigLaws.{few_seats}
+use Rattle.hls_chron.proofs.ConfigLaws.{by_kind, few_seats}
 
 -- where the test holds below n, there is a first slot
 pub record HasFirst (n : ℕ) (among : ℕ → Bool) (key : ℕ → ℕ) : Type 0 where
@@ -162,29 +162,35 @@ owner_some : (owner : Option ℕ) (mask : ℕ) → owner_asks mask owner ≡ tru
 owner_some None mask on = cc
 owner_some (Some slot) mask on = (slot, record { owns = refl; asks = eqb-true (bit_at mask slot) 1 on })
 
-pub serves_some : (config : Config) (b : Ledger) (mask : ℕ) → ConfigInRange config → HasSeats config b
-    → OnlySeats b mask → asks config b mask ≡ true → (slot : ℕ) × Serves config b mask slot
-serves_some Cpu b mask range seats only on = cc
-serves_some Fp b mask range seats only on =
-    least_some b mask seats only
-    (first_some 32 (slot_asks mask) (λ slot. number_in (priority_at b slot))
-    (any_asks Fp b mask range seats only on))
-serves_some Edf b mask range seats only on = let f =
-    first_some 32 (may_go b mask) (deadline_at b mask) (any_may_go b mask on) in (f.slot, f.first)
-serves_some (Sfq total most quantum) b mask range seats only on =
-    turn_some quantum b (start_tag quantum b (now_of b)) mask
-    (first_some 32 (slot_asks mask) (start_tag quantum b (now_of b))
-    (any_asks (Sfq total most quantum) b mask range seats only on))
-serves_some (Rr quantum) b mask range seats only on =
-    turn_some quantum b (turns_after (turn_slot b)) mask
-    (first_some 32 (slot_asks mask) (turns_after (turn_slot b))
-    (any_asks (Rr quantum) b mask range seats only on))
-serves_some (Wheel frame) b mask range seats only on = owner_some (owner_now frame b) mask on
-serves_some (Join ports) b mask range seats only on =
-    let f = first_some 32 (slot_asks mask) (λ slot. slot) (any_asks (Join ports) b mask range seats only on)
-    in
+sole_some : (ports : ℕ) (b : Ledger) (mask : ℕ) → HasSeats (Join ports) b → OnlySeats b mask
+    → HasFirst 32 (slot_asks mask) (λ slot. slot) → (slot : ℕ) × IsSole mask slot
+sole_some ports b mask seats only f =
     let lt : f.slot < 1 = within_seats (Join ports) b mask f.slot seats only f.first.chosen in
     (f.slot, record { sole = omega arith; asks = eqb-true (bit_at mask f.slot) 1 f.first.chosen })
+
+-- the first slot that asks, by this key
+first_asks : (key : ℕ → ℕ) (config : Config) (b : Ledger) (mask : ℕ) → ConfigInRange config → HasSeats config b
+    → OnlySeats b mask → some_slot_asks mask ≡ true → HasFirst 32 (slot_asks mask) key
+first_asks key config b mask range seats only on =
+    first_some 32 (slot_asks mask) key (any_asks config b mask range seats only on)
+
+pub serves_some : (config : Config) (b : Ledger) (mask : ℕ) → ConfigInRange config → HasSeats config b
+    → OnlySeats b mask → asks config b mask ≡ true → (slot : ℕ) × Serves config b mask slot
+serves_some config b mask =
+    by_kind (λ config. ConfigInRange config → HasSeats config b → OnlySeats b mask → asks config b mask ≡ true
+    → (slot : ℕ) × Serves config b mask slot)
+    (λ range seats only on. cc)
+    (λ range seats only on. least_some b mask seats only
+    (first_asks (λ slot. number_in (priority_at b slot)) Fp b mask range seats only on))
+    (λ range seats only on. let f = first_some 32 (may_go b mask) (deadline_at b mask) (any_may_go b mask on) in
+    (f.slot, f.first))
+    (λ sharing range seats only on. turn_some sharing.quantum b (start_tag sharing.quantum b (now_of b)) mask
+    (first_asks (start_tag sharing.quantum b (now_of b)) (by_shares sharing) b mask range seats only on))
+    (λ quantum range seats only on. turn_some quantum b (turns_after (turn_slot b)) mask
+    (first_asks (turns_after (turn_slot b)) (Rr quantum) b mask range seats only on))
+    (λ frame range seats only on. owner_some (owner_now frame b) mask on)
+    (λ ports range seats only on. sole_some ports b mask seats only
+    (first_asks (λ slot. slot) (Join ports) b mask range seats only on)) config
 
 -- ---- and one alone
 
@@ -218,11 +224,12 @@ turn_one quantum b key mask slot other f g = elim (cases_Bool (turn_goes_on quan
 
 pub serves_one : (config : Config) (b : Ledger) (mask slot other : ℕ) → HasSeats config b
     → Serves config b mask slot → Serves config b mask other → slot ≡ other
-serves_one Cpu b mask slot other seats f g = absurd f
-serves_one Fp b mask slot other seats f g =
-    least_one b mask slot other (priority_at b slot) (priority_at b other) seats f g refl refl
-serves_one Edf b mask slot other seats f g = first_one 32 _ _ slot other f g
-serves_one (Sfq total most quantum) b mask slot other seats f g = turn_one quantum b _ mask slot other f g
-serves_one (Rr quantum) b mask slot other seats f g = turn_one quantum b _ mask slot other f g
-serves_one (Wheel frame) b mask slot other seats f g = let same = sym f.owns ∙ g.owns in cc
-serves_one (Join ports) b mask slot other seats f g = f.sole ∙ sym g.sole
+serves_one config b mask slot other =
+    by_kind (λ config. HasSeats config b → Serves config b mask slot → Serves config b mask other → slot ≡ other)
+    (λ seats f g. absurd f)
+    (λ seats f g. least_one b mask slot other (priority_at b slot) (priority_at b other) seats f g refl refl)
+    (λ seats. first_one 32 _ _ slot other)
+    (λ sharing seats. turn_one sharing.quantum b _ mask slot other)
+    (λ quantum seats. turn_one quantum b _ mask slot other)
+    (λ frame seats f g. let same = sym f.owns ∙ g.owns in cc)
+    (λ ports seats f g. f.sole ∙ sym g.sole) config

@@ -1,19 +1,21 @@
 -- What a mark and a row leave of the discipline.
-use Rattle.std.proofs.Common.{◌≡◌, ℕ, ◌+◌, ◌<◌, ◌==◌, [], None, Some, true, arith, subst, inl, inr, refl}
+use Rattle.std.proofs.Common.{◌≡◌, ◌≢◌, ℕ, ◌+◌, ◌<◌, ◌==◌, [], None, Some, true, arith, subst, inl, inr, refl}
 use Rattle.std.proofs.Common.{sym, ap, ◌∙◌}
 use Rattle.std.specs.Int.{bit_at}
 use Rattle.std.proofs.lemmas.Nat.Bits.{bit_at-zero}
 use Rattle.std.proofs.lemmas.Bool.{cases_lt}
 use Rattle.hls_chron.specs.declared.book.TickRow.{TickRow}
 use Rattle.hls_chron.specs.declared.book.Event.{Event}
+use Rattle.hls_chron.specs.declared.plain.Kind.TheVariants as kinds
 use Rattle.hls_chron.specs.declared.plain.Config.{Config}
-use Rattle.hls_chron.specs.declared.plain.Config.TheVariants as configs
+use Rattle.hls_chron.specs.Kinds.{kind_of}
 use Rattle.hls_chron.specs.Ledger.{Ledger, now_of, with_row, with_mark, row_at, before}
 use Rattle.hls_chron.specs.Seats.{asked, served}
+use Rattle.hls_chron.proofs.ConfigLaws.{by_kind, sharing_or_not}
 use Rattle.hls_chron.proofs.CountLaws.{count-agree}
 use Rattle.hls_kinds.specs.Asks.{asks}
 use Rattle.hls_kinds.specs.Tenants.{tenant_at}
-use Rattle.hls_kinds.specs.Shares.{AsksThroughout, KeepsShares}
+use Rattle.hls_kinds.specs.Shares.{AsksThroughout, KeepsSharesByWeight, KeepsShares}
 use Rattle.hls_kinds.specs.Discipline.{Serves, KeepsDiscipline}
 use Rattle.hls_chron.proofs.BookLaws.{now_of-row, row_at-mark, row_at-past, row_at-now, row_at-unwritten}
 use Rattle.hls_chron.proofs.BookLaws.{before-mark, before-row}
@@ -54,21 +56,27 @@ throughout-mark b event slot weight i n lt a = record {
   asks = λ t from to. sym (asked-mark b event slot t) ∙ a.asks t from to;
 }
 
-shares-mark : (config : Config) (b : Ledger) (event : Event)
-    → KeepsShares config b → KeepsShares config (with_mark b event)
-shares-mark (configs.Sfq total most quantum) b event kept = λ i n slot other weight rival lt asks others.
+-- the other kinds have no shares to keep
+unshared : (config : Config) (b : Ledger) → kind_of config ≢ kinds.Sfq → KeepsShares config b
+unshared config b =
+    by_kind (λ config. kind_of config ≢ kinds.Sfq → KeepsShares config b) (λ ne. tt) (λ ne. tt) (λ ne. tt)
+    (λ sharing ne. absurd (ne refl)) (λ quantum ne. tt) (λ frame ne. tt) (λ ports ne. tt) config
+
+weights-mark : (quantum : ℕ) (b : Ledger) (event : Event) → KeepsSharesByWeight quantum b
+    → KeepsSharesByWeight quantum (with_mark b event)
+weights-mark quantum b event kept = λ i n slot other weight rival lt asks others.
     let one = count-agree (served (with_mark b event) slot) (served b slot) i (n + 1)
     (λ t _ _. served-mark b event slot t) in
     let two = count-agree (served (with_mark b event) other) (served b other) i (n + 1)
     (λ t _ _. served-mark b event other t) in
     rw (one, two) (kept i n slot other weight rival lt
     (throughout-mark b event slot weight i n lt asks) (throughout-mark b event other rival i n lt others))
-shares-mark configs.Cpu b event kept = tt
-shares-mark configs.Fp b event kept = tt
-shares-mark configs.Edf b event kept = tt
-shares-mark (configs.Rr quantum) b event kept = tt
-shares-mark (configs.Wheel frame) b event kept = tt
-shares-mark (configs.Join ports) b event kept = tt
+
+shares-mark : (config : Config) (b : Ledger) (event : Event)
+    → KeepsShares config b → KeepsShares config (with_mark b event)
+shares-mark config b event =
+    sharing_or_not (λ config. KeepsShares config b → KeepsShares config (with_mark b event))
+    (λ sharing. weights-mark sharing.quantum b event) (λ config ne kept. unshared config (with_mark b event) ne) config
 
 asked-unwritten : (b : Ledger) (slot t : ℕ) → b.rows ≡ [] → asked b slot t ≡ true → ⊥
 unfolding asked
@@ -79,14 +87,10 @@ asked-unwritten b slot t unwritten is =
     cc
 
 shares-unwritten : (config : Config) (b : Ledger) → b.rows ≡ [] → KeepsShares config b
-shares-unwritten (configs.Sfq total most quantum) b unwritten = λ i n slot other weight rival lt asks others.
-    absurd (asked-unwritten b slot i unwritten (asks.asks i (omega arith) (omega arith)))
-shares-unwritten configs.Cpu b unwritten = tt
-shares-unwritten configs.Fp b unwritten = tt
-shares-unwritten configs.Edf b unwritten = tt
-shares-unwritten (configs.Rr quantum) b unwritten = tt
-shares-unwritten (configs.Wheel frame) b unwritten = tt
-shares-unwritten (configs.Join ports) b unwritten = tt
+shares-unwritten config b unwritten =
+    sharing_or_not (λ config. KeepsShares config b) (λ sharing i n slot other weight rival lt asks others.
+    absurd (asked-unwritten b slot i unwritten (asks.asks i (omega arith) (omega arith))))
+    (λ config. unshared config b) config
 
 pub discipline-mark : (config : Config) (b : Ledger) (event : Event)
     → KeepsDiscipline config b → KeepsDiscipline config (with_mark b event)

@@ -2,12 +2,12 @@
 use Rattle.std.proofs.Common.{◌≡◌, ◌≢◌, ℕ, None, refl, sym, ◌∙◌, cond, inl, inr}
 use Rattle.hls_chron.specs.declared.plain.Kind.TheVariants as kinds
 use Rattle.hls_chron.specs.declared.plain.Config.{Config}
-use Rattle.hls_chron.specs.declared.plain.Config.TheVariants.{Cpu, Fp, Edf, Sfq, Rr, Wheel, Join}
+use Rattle.hls_chron.specs.declared.plain.Config.TheVariants.{Edf}
 use Rattle.hls_chron.specs.declared.plain.Terms.{Terms}
 use Rattle.hls_chron.specs.Kinds.{kind_of}
 use Rattle.hls_chron.specs.Ledger.{Ledger}
 use Rattle.hls_chron.specs.Seats.{terms_at}
-use Rattle.hls_chron.proofs.ConfigLaws.{edf_or_not}
+use Rattle.hls_chron.proofs.ConfigLaws.{by_kind, edf_or_not}
 use Rattle.hls_kinds.specs.declared.tenant.Tenant.{Tenant}
 use Rattle.hls_kinds.specs.declared.tenant.Tenant.TheVariants.{Vacant, Sits, Left}
 use Rattle.hls_kinds.specs.Tenants.{tenant_at}
@@ -18,13 +18,10 @@ use Rattle.hls_kinds.proofs.TenantLaws.{seated_in, seated-terms}
 
 pub occupant_plain : (config : Config) (b : Ledger) (slot : ℕ) → kind_of config ≢ kinds.Edf
     → occupant_at config b slot ≡ terms_at b slot
-occupant_plain Edf b slot unheld = absurd (unheld refl)
-occupant_plain Cpu b slot unheld = refl
-occupant_plain Fp b slot unheld = refl
-occupant_plain (Sfq total most quantum) b slot unheld = refl
-occupant_plain (Rr quantum) b slot unheld = refl
-occupant_plain (Wheel frame) b slot unheld = refl
-occupant_plain (Join ports) b slot unheld = refl
+occupant_plain config b slot =
+    by_kind (λ config. kind_of config ≢ kinds.Edf → occupant_at config b slot ≡ terms_at b slot) (λ unheld. refl)
+    (λ unheld. refl) (λ unheld. absurd (unheld refl)) (λ sharing unheld. refl) (λ quantum unheld. refl)
+    (λ frame unheld. refl) (λ ports unheld. refl) config
 
 -- what holds of slots that hold nothing, and of those of reservations
 pub by_holding : (P : Config → Type 0) (config : Config) → P Edf → (kind_of config ≢ kinds.Edf → P config)

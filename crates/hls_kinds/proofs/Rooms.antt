@@ -4,10 +4,10 @@ use Rattle.std.proofs.Common.{◌≡◌, ℕ, zero, suc, ◌+◌, ◌-◌, [], �
 use Rattle.std.proofs.Math.Seq.{take-append_seam}
 use Rattle.hls_chron.specs.declared.book.TickRow.{TickRow}
 use Rattle.hls_chron.specs.declared.plain.Config.{Config}
-use Rattle.hls_chron.specs.declared.plain.Config.TheVariants.{Cpu, Fp, Edf, Sfq, Rr, Wheel, Join}
 use Rattle.hls_chron.specs.Ledger.{Ledger, now_of, with_row, row_at, before, IsDated}
 use Rattle.hls_chron.specs.Seats.{terms_at, asked, served}
 use Rattle.hls_chron.proofs.BookLaws.{before-now}
+use Rattle.hls_chron.proofs.ConfigLaws.{by_kind}
 use Rattle.hls_kinds.specs.Tenants.{tenant_at, settled_at, left_at}
 use Rattle.hls_kinds.specs.Reservations.{claim_at}
 use Rattle.hls_kinds.specs.Tags.{start_by, start_tags, start_tag}
@@ -22,13 +22,9 @@ roomless b = record b { spare_ticks = 0; spare_marks = 0 }
 
 pub asks-room : (config : Config) (b : Ledger) (mask : ℕ) → asks config (roomless b) mask ≡ asks config b mask
 unfolding asked served row_at claim_at tenant_at owner_at
-asks-room Cpu b mask = refl
-asks-room Fp b mask = refl
-asks-room Edf b mask = refl
-asks-room (Sfq total most quantum) b mask = refl
-asks-room (Rr quantum) b mask = refl
-asks-room (Wheel frame) b mask = refl
-asks-room (Join ports) b mask = refl
+asks-room config b mask =
+    by_kind (λ config. asks config (roomless b) mask ≡ asks config b mask) refl refl refl (λ sharing. refl)
+    (λ quantum. refl) (λ frame. refl) (λ ports. refl) config
 
 tags-room : (quantum : ℕ) (b : Ledger) (n : ℕ) → start_tags quantum (roomless b) n ≡ start_tags quantum b n
 unfolding start_tags asked served row_at tenant_at before settled_at left_at
@@ -52,20 +48,27 @@ pub slot-room : (b : Ledger) → turn_slot (roomless b) ≡ turn_slot b
 unfolding row_at settled_at
 slot-room b = refl
 
+share-room : (quantum : ℕ) (b : Ledger) (mask slot : ℕ)
+    → TakesTurn quantum b (start_tag quantum b (now_of b)) mask slot
+    → TakesTurn quantum (roomless b) (start_tag quantum (roomless b) (now_of b)) mask slot
+share-room quantum b mask slot serves =
+    turn-room quantum b (start_tag quantum (roomless b) (now_of b)) mask slot
+    (subst (λ (key : ℕ → ℕ). TakesTurn quantum b key mask slot) (sym (tag-room quantum b (now_of b))) serves)
+
+round-room : (quantum : ℕ) (b : Ledger) (mask slot : ℕ)
+    → TakesTurn quantum b (turns_after (turn_slot b)) mask slot
+    → TakesTurn quantum (roomless b) (turns_after (turn_slot (roomless b))) mask slot
+round-room quantum b mask slot serves =
+    turn-room quantum b (turns_after (turn_slot (roomless b))) mask slot
+    (subst (λ (n : ℕ). TakesTurn quantum b (turns_after n) mask slot) (sym (slot-room b)) serves)
+
 pub serves-room : (config : Config) (b : Ledger) (mask slot : ℕ) → Serves config b mask slot
     → Serves config (roomless b) mask slot
 unfolding asked served row_at claim_at tenant_at owner_at
-serves-room Cpu b mask slot serves = serves
-serves-room Fp b mask slot serves = least-room b mask slot serves
-serves-room Edf b mask slot serves = serves
-serves-room (Sfq total most quantum) b mask slot serves =
-    turn-room quantum b (start_tag quantum (roomless b) (now_of b)) mask slot
-    (subst (λ (key : ℕ → ℕ). TakesTurn quantum b key mask slot) (sym (tag-room quantum b (now_of b))) serves)
-serves-room (Rr quantum) b mask slot serves =
-    turn-room quantum b (turns_after (turn_slot (roomless b))) mask slot
-    (subst (λ (n : ℕ). TakesTurn quantum b (turns_after n) mask slot) (sym (slot-room b)) serves)
-serves-room (Wheel frame) b mask slot serves = serves
-serves-room (Join ports) b mask slot serves = serves
+serves-room config b mask slot =
+    by_kind (λ config. Serves config b mask slot → Serves config (roomless b) mask slot) (λ serves. serves)
+    (least-room b mask slot) (λ serves. serves) (λ sharing. share-room sharing.quantum b mask slot)
+    (λ quantum. round-room quantum b mask slot) (λ frame serves. serves) (λ ports serves. serves) config
 
 pub before-last : (b : Ledger) (row : TickRow) → IsDated b → before (now_of b) (with_row b row) ≡ roomless b
 unfolding before

@@ -3,9 +3,9 @@ use Rattle.std.proofs.Common.{◌≡◌, ℕ, ◌||◌, ◌&&◌, Bool, true, fa
 use Rattle.std.proofs.lemmas.Bool.{cases_eq, cases_Bool, eq-eqb, ne_eqb, eqb-true}
 use Rattle.std.proofs.lemmas.Nat.Bits.{bit_at-zero}
 use Rattle.hls_chron.specs.declared.plain.Config.{Config}
-use Rattle.hls_chron.specs.declared.plain.Config.TheVariants.{Cpu, Fp, Edf, Sfq, Rr, Wheel, Join}
 use Rattle.hls_chron.specs.Ledger.{Ledger}
 use Rattle.hls_chron.specs.Seats.{SlotAsks}
+use Rattle.hls_chron.proofs.ConfigLaws.{by_kind}
 use Rattle.hls_kinds.specs.Slots.{any_below}
 use Rattle.hls_kinds.specs.Turns.{turn_slot, turn_goes_on}
 use Rattle.hls_kinds.specs.Asks.{asks, some_slot_asks, slot_asks, asks_in_budget, asks_softly}
@@ -50,15 +50,15 @@ turn_asks quantum b key mask slot turn = elim (cases_Bool (turn_goes_on quantum 
 
 pub serves-asks : (config : Config) (b : Ledger) (mask slot : ℕ) → Serves config b mask slot
     → asks config b mask ≡ true
-serves-asks Cpu b mask slot serves = absurd serves
-serves-asks Fp b mask slot serves = some_asks mask slot serves.asks
-serves-asks Edf b mask slot serves =
-    any_below-at (λ slot. asks_in_budget b mask slot || asks_softly b mask slot) 32 slot serves.within
-    (may_ask b mask slot serves.chosen)
-serves-asks (Sfq total most quantum) b mask slot serves = turn_asks quantum b _ mask slot serves
-serves-asks (Rr quantum) b mask slot serves = turn_asks quantum b _ mask slot serves
-serves-asks (Wheel frame) b mask slot serves = rw serves.owns (eq-eqb _ 1 serves.asks)
-serves-asks (Join ports) b mask slot serves = some_asks mask slot serves.asks
+serves-asks config b mask slot =
+    by_kind (λ config. Serves config b mask slot → asks config b mask ≡ true) (λ serves. absurd serves)
+    (λ serves. some_asks mask slot serves.asks)
+    (λ serves. any_below-at (λ slot. asks_in_budget b mask slot || asks_softly b mask slot) 32 slot serves.within
+    (may_ask b mask slot serves.chosen))
+    (λ sharing. turn_asks sharing.quantum b _ mask slot)
+    (λ quantum. turn_asks quantum b _ mask slot)
+    (λ frame serves. rw serves.owns (eq-eqb _ 1 serves.asks))
+    (λ ports serves. some_asks mask slot serves.asks) config
 
 pub may_go_asks : (b : Ledger) (mask slot : ℕ) → may_go b mask slot ≡ true → slot_asks mask slot ≡ true
 may_go_asks b mask slot go =
@@ -78,10 +78,8 @@ turn_asks_slot quantum b key mask slot turn = elim (cases_Bool (turn_goes_on qua
 
 pub serves-slot : (config : Config) (b : Ledger) (mask slot : ℕ) → Serves config b mask slot
     → SlotAsks mask slot
-serves-slot Cpu b mask slot serves = absurd serves
-serves-slot Fp b mask slot serves = serves.asks
-serves-slot Edf b mask slot serves = eqb-true _ 1 (may_go_asks b mask slot serves.chosen)
-serves-slot (Sfq total most quantum) b mask slot serves = turn_asks_slot quantum b _ mask slot serves
-serves-slot (Rr quantum) b mask slot serves = turn_asks_slot quantum b _ mask slot serves
-serves-slot (Wheel frame) b mask slot serves = serves.asks
-serves-slot (Join ports) b mask slot serves = serves.asks
+serves-slot config b mask slot =
+    by_kind (λ config. Serves config b mask slot → SlotAsks mask slot) (λ serves. absurd serves) (λ serves. serves.asks)
+    (λ serves. eqb-true _ 1 (may_go_asks b mask slot serves.chosen))
+    (λ sharing. turn_asks_slot sharing.quantum b _ mask slot)
+    (λ quantum. turn_asks_slot quantum b _ mask slot) (λ frame serves. serves.asks) (λ ports serves. serves.asks) config

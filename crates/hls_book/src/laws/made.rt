@@ -2,7 +2,7 @@
 //! nothing.
 
 ghost use Rattle.std.specs.Prelude.{◌≡◌, ◌≢◌, ℕ, ◌+◌, ◌<◌, [], Some, None, true};
-ghost use Rattle.hls_chron.specs.Kinds.{kind_of};
+ghost use Rattle.hls_chron.specs.Kinds.{kind_of, by_shares};
 ghost use Rattle.hls_chron.specs.Ledger.{Ledger, now_of, with_row, with_mark, row_at, before};
 ghost use Rattle.hls_chron.specs.Ranges.{ConfigInRange};
 ghost use Rattle.hls_chron.specs.Seats.{SlotAsks, served, terms_at};
@@ -19,7 +19,7 @@ ghost use Rattle.hls_book.specs.Books.{KeepsReservations, IsGiven, ReachesDeadli
 ghost use Rattle.hls_book.specs.ShareBook.{KeepsShareBook};
 ghost use Rattle.hls_book.specs.Places.{KeepsPlaces};
 
-use hls_chron::{Config, Event, Kind, Terms, TickRow};
+use hls_chron::{Config, Event, Kind, Sharing, Terms, TickRow};
 use hls_guarantee::Guarantee;
 use hls_kinds::{Reservation, Tenant};
 
@@ -65,8 +65,7 @@ pub fn only_seats_ask(config: Config)
 /// It has what the laws of its kind ask of a book.
 pub fn made_books_meet_their_kind()
     ensures reservations { (b : Ledger) → IsMade Config.Edf b → KeepsReservations b }
-    ensures shares { (total most quantum : ℕ) (b : Ledger) → IsMade (Config.Sfq total most quantum) b →
-        KeepsShareBook total most quantum b }
+    ensures shares { (sharing : Sharing) (b : Ledger) → IsMade (by_shares sharing) b → KeepsShareBook sharing b }
     ensures places { (frame : ℕ) (b : Ledger) → IsMade (Config.Wheel frame) b → KeepsPlaces frame b }
 {}
 

@@ -2,4 +2,4 @@ use Rattle.hls_book.proofs.Bounds.{keeps-discipline}
 use Rattle.hls_book.proofs.laws.sfq.fair_queueing_keeps_discipline.Goals as goal
 
 pub returns : goal.returns
-returns c = keeps-discipline c.args.total c.args.most c.args.quantum
+returns c = keeps-discipline c.args.sharing
