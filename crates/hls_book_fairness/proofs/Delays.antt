@@ -4,8 +4,9 @@ use Rattle.std.proofs.Common.{add-one, inl, inr}
 use Rattle.std.specs.Prelude.{◌/◌, is_some}
 use Rattle.std.proofs.Math.Nat.{mul-le-mul_left, mul-add}
 use Rattle.std.proofs.lemmas.Bool.{cases_lt}
-use Rattle.hls_chron.specs.declared.plain.Config.TheVariants.{Sfq}
+use Rattle.hls_chron.specs.declared.plain.Sharing.{Sharing}
 use Rattle.hls_chron.specs.declared.plain.Terms.TheVariants.{Weight}
+use Rattle.hls_chron.specs.Kinds.{by_shares}
 use Rattle.hls_chron.specs.Ledger.{Ledger, now_of, row_at}
 use Rattle.hls_chron.specs.Seats.{asked, served}
 use Rattle.hls_chron.specs.Ticks.{count}
@@ -80,9 +81,18 @@ level_in_time w T r N G ticks q some share part had = elim (cases_lt N ticks) [
   | inr enough ↦ enough
 ]
 
-module _ (T M Q : ℕ) (b : Ledger) (made : IsMade (Sfq T M Q) b) where
-  book : KeepsShareBook T M Q b
-  book = shares_made T M Q b made
+module _ (sharing : Sharing) (b : Ledger) (made : IsMade (by_shares sharing) b) where
+  abbrev T : ℕ
+  T = sharing.total
+
+  abbrev M : ℕ
+  M = sharing.most
+
+  abbrev Q : ℕ
+  Q = sharing.quantum
+
+  book : KeepsShareBook sharing b
+  book = shares_made sharing b made
 
   served_same : (slot from n : ℕ) → count (served b slot) from n ≡ served_in (to_of b) slot from n
   unfolding served
@@ -97,16 +107,16 @@ module _ (T M Q : ℕ) (b : Ledger) (made : IsMade (Sfq T M Q) b) where
 
     some : 0 < weight
     some =
-        let range = (weights-at T M Q b book (i + n) (omega (arith, lt))).ranged slot weight
+        let range = (weights-at sharing b book (i + n) (omega (arith, lt))).ranged slot weight
         (sits_on _ slot on.since (Weight weight) on.sits) in
         omega (arith, range.0)
 
     fits : weight ≤ T
     fits =
         let here : (share_at b (i + n) slot).weight ≡ weight = ap (λ tenant. (share_in tenant).weight) on.sits in
-        let below = slot-at T M Q b book (i + n) slot (omega (arith, lt)) (omega (arith, here, some)) in
+        let below = slot-at sharing b book (i + n) slot (omega (arith, lt)) (omega (arith, here, some)) in
         let one = sum-at (λ k. (share_at b (i + n) k).weight) 32 slot (omega (arith, below, book.range.1.1)) in
-        let all = fits-at T M Q b book (i + n) (omega (arith, lt)) in
+        let all = fits-at sharing b book (i + n) (omega (arith, lt)) in
         omega (arith, one, all, here)
 
     served_more : served_in (to_of b) slot i (suc n) ≡ served_ticks b slot i (n + 1)
@@ -118,28 +128,29 @@ module _ (T M Q : ℕ) (b : Ledger) (made : IsMade (Sfq T M Q) b) where
     any : T * (ticks + (Q - 1)) / weight + (M - 1) * Q - (Q - 1) ≤ given_ticks b i (n + 1)
         → ticks ≤ served_ticks b slot i (n + 1)
     any had =
-        let share = has-share T M Q b book slot on.since weight i n le on.early on.sits asks in
+        let share = has-share sharing b book slot on.since weight i n le on.early on.sits asks in
         let share' : weight * given_ticks b i (n + 1)
         ≤ T * served_ticks b slot i (n + 1) + (T - weight) * Q + weight * ((M - 1) * Q) =
         rw (← given_more, ← served_more) share in
         in_time weight T Q ((M - 1) * Q) (served_ticks b slot i (n + 1)) (given_ticks b i (n + 1)) ticks
-        (T * (ticks + (Q - 1)) / weight) some (some_quantum T M Q b book) share'
+        (T * (ticks + (Q - 1)) / weight) some (some_quantum sharing b book) share'
         (rounded (T * (ticks + (Q - 1))) weight some) fits had
 
     level : IsLevel Q b slot i → T * (ticks - 1) / weight + ((M - 1) * Q + 1) ≤ given_ticks b i (n + 1)
         → ticks ≤ served_ticks b slot i (n + 1)
     level is had =
-        let share = level_share T M Q b book slot on.since weight i n le on.early on.sits asks is in
+        let share = level_share sharing b book slot on.since weight i n le on.early on.sits asks is in
         let share' : weight * given_ticks b i (n + 1) ≤ T * served_ticks b slot i (n + 1) + weight * ((M - 1) * Q) =
         rw (← given_more, ← served_more) share in
         level_in_time weight T ((M - 1) * Q) (served_ticks b slot i (n + 1)) (given_ticks b i (n + 1)) ticks
         (T * (ticks - 1) / weight) some share' (rounded (T * (ticks - 1)) weight some) had
 
-  whole : (i n slot weight : ℕ) → i + n < now_of b → AsksThroughout b slot weight i n → IsGivenThroughout T M Q b i n
+  whole : (i n slot weight : ℕ) → i + n < now_of b → AsksThroughout b slot weight i n → IsGivenThroughout sharing b i n
       → given_ticks b i (n + 1) ≡ n + 1
   whole i n slot weight lt on has =
       count-all (λ t. is_some (row_at b t).to) i (n + 1)
-      (λ t ge less. has t ge (omega (arith, less)) (fair_asks T M Q b book slot t (on.asks t ge (omega (arith, less)))))
+      (λ t ge less. has t ge (omega (arith, less))
+      (fair_asks sharing b book slot t (on.asks t ge (omega (arith, less)))))
 
-  pub keeps_delays : KeepsDelays T M Q b
+  pub keeps_delays : KeepsDelays sharing b
   keeps_delays = record { any = any; level = level; whole = whole }

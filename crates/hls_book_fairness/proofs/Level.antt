@@ -6,6 +6,7 @@ use Rattle.std.proofs.Math.Nat.{mul-le-mul_left, mul-le-mul_right, mul-add}
 use Rattle.std.proofs.lemmas.Bool.{cases_lt}
 use Rattle.std.proofs.lemmas.Bool.Decides.{nat_tests}
 use Rattle.std.proofs.Common.{inl, inr}
+use Rattle.hls_chron.specs.declared.plain.Sharing.{Sharing}
 use Rattle.hls_chron.specs.declared.plain.Terms.TheVariants.{Weight}
 use Rattle.hls_chron.specs.Ledger.{Ledger, now_of}
 use Rattle.hls_chron.specs.Seats.{asked}
@@ -75,22 +76,31 @@ level_arith Q V T M v v' w step N G p q o s some less seat whole up all first pa
     let share = together 0 T V ((M - 1) * Q) v v' w N G some less up grow sum in
     omega (arith, share)
 
-module _ (T M Q : ℕ) (b : Ledger) (kept : KeepsShareBook T M Q b) where
+module _ (sharing : Sharing) (b : Ledger) (kept : KeepsShareBook sharing b) where
+  abbrev T : ℕ
+  T = sharing.total
+
+  abbrev M : ℕ
+  M = sharing.most
+
+  abbrev Q : ℕ
+  Q = sharing.quantum
+
   at : (t : ℕ) → b.start ≤ t → t ≤ now_of b → At Q b t
-  at t lo le = at-all T M Q b kept t lo le
+  at t lo le = at-all sharing b kept t lo le
 
   -- the ticks of the run, and the seat in it
   passes : (from until : ℕ) → b.start ≤ from → until ≤ now_of b
       → Passes Q unit_tag T M 32 from until (clock_of Q b) (tags_of Q b) (asks_of b) (to_of b)
   passes from until lo le = record {
     kept = λ t ge lt. (at t (omega (arith, lo, ge)) (omega (arith, lt, le))).kept;
-    fits = λ t ge lt. room-of T M Q b kept t (omega (arith, lt, le));
-    serves = λ t k ge lt is. serves-at T M Q b kept t k (omega (arith, lo, ge)) (omega (arith, lt, le))
+    fits = λ t ge lt. room-of sharing b kept t (omega (arith, lt, le));
+    serves = λ t k ge lt is. serves-at sharing b kept t k (omega (arith, lo, ge)) (omega (arith, lt, le))
         (at t (omega (arith, lo, ge)) (omega (arith, lt, le))) is;
-    taken = λ t k ge lt below asks. taken-at T M Q b kept t k (omega (arith, lt, le)) asks;
-    v = λ t ge lt. v-next T M Q b kept t (omega (arith, lo, ge)) (omega (arith, lt, le))
+    taken = λ t k ge lt below asks. taken-at sharing b kept t k (omega (arith, lt, le)) asks;
+    v = λ t ge lt. v-next sharing b kept t (omega (arith, lo, ge)) (omega (arith, lt, le))
         (at t (omega (arith, lo, ge)) (omega (arith, lt, le)));
-    churn = λ t ge lt. churn-at T M Q b kept t (omega (arith, lo, ge)) (omega (arith, lt, le))
+    churn = λ t ge lt. churn-at sharing b kept t (omega (arith, lo, ge)) (omega (arith, lt, le))
         (at t (omega (arith, lo, ge)) (omega (arith, lt, le)));
   }
 
@@ -105,7 +115,7 @@ module _ (T M Q : ℕ) (b : Ledger) (kept : KeepsShareBook T M Q b) where
         (omega (arith, le)) (omega (arith, ge, early)) sits in
         let now = sat-at b slot since t (from + len) (Weight weight) kept.sittings (omega (arith, lt))
         (omega (arith, le)) (omega (arith, ge, early)) sits in
-        tag-stays T M Q b kept t slot (omega (arith, lo, ge)) (omega (arith, lt, le))
+        tag-stays sharing b kept t slot (omega (arith, lo, ge)) (omega (arith, lt, le))
         (at t (omega (arith, lo, ge)) (omega (arith, lt, le))) (ap share_in (later ∙ sym now));
   }
 
@@ -120,10 +130,10 @@ module _ (T M Q : ℕ) (b : Ledger) (kept : KeepsShareBook T M Q b) where
     lo = asked-started b slot from asks
 
     some : 0 < (share_at b from slot).weight
-    some = taken-at T M Q b kept from slot (omega (arith, le)) asks
+    some = taken-at sharing b kept from slot (omega (arith, le)) asks
 
     below : slot < 32
-    below = let lt = slot-at T M Q b kept from slot (omega (arith, le)) some in omega (arith, lt, kept.range.1.1)
+    below = let lt = slot-at sharing b kept from slot (omega (arith, le)) some in omega (arith, lt, kept.range.1.1)
 
     pass : Passes Q unit_tag T M 32 from (from + suc len) (clock_of Q b) (tags_of Q b) (asks_of b) (to_of b)
     pass = passes from (from + suc len) lo le
@@ -147,14 +157,14 @@ module _ (T M Q : ℕ) (b : Ledger) (kept : KeepsShareBook T M Q b) where
     fits : (tags_of Q b from slot).w ≤ T
     fits =
         let one = sum-at (λ k. (tags_of Q b from k).w) 32 slot below in
-        omega (arith, one, (room-of T M Q b kept from (omega (arith, le))).weight)
+        omega (arith, one, (room-of sharing b kept from (omega (arith, le))).weight)
 
     pub level_share : weight * given_in (to_of b) from (suc len)
         ≤ T * served_in (to_of b) slot from (suc len) + weight * ((M - 1) * Q)
     level_share =
         let on = asks_on slot since weight from len lo le early sits on in
         let last = at (from + len) (omega (arith, lo)) (omega (arith, le)) in
-        let some_ticks = some_quantum T M Q b kept in
+        let some_ticks = some_quantum sharing b kept in
         let all = span-ahead Q unit_tag T M 32 from len (clock_of Q b) (tags_of Q b) (asks_of b) (to_of b) some_ticks
         pass in
         let own = span-own Q unit_tag T M 32 slot from len (clock_of Q b) (tags_of Q b) (asks_of b) (to_of b)
@@ -167,7 +177,7 @@ module _ (T M Q : ℕ) (b : Ledger) (kept : KeepsShareBook T M Q b) where
         let tag' : Tag = after_tags (clock_of Q b) (tags_of Q b) (to_of b) (from + len) slot in
         let w : ℕ = (tags_of Q b from slot).w in
         let step : ℕ = (tags_of Q b from slot).step in
-        let room = room-of T M Q b kept from (omega (arith, le)) in
+        let room = room-of sharing b kept from (omega (arith, le)) in
         let first_all = all_ahead Q unit_tag (v_of Q b from) 32 M (tags_of Q b from) room.count
         (λ k lt. first.kept.steps k lt) in
         let part = sum-at (λ k. ahead Q v' (after_tags (clock_of Q b) (tags_of Q b) (to_of b) (from

@@ -4,7 +4,8 @@ use Rattle.std.proofs.Common.{arith, inl, inr}
 use Rattle.std.specs.Prelude.{Option, is_some}
 use Rattle.std.specs.Int.{bit_at}
 use Rattle.std.proofs.lemmas.Bool.{cases_lt, eq-eqb, ne_eqb, eqb-true}
-use Rattle.hls_chron.specs.declared.plain.Config.TheVariants.{Sfq}
+use Rattle.hls_chron.specs.declared.plain.Sharing.{Sharing}
+use Rattle.hls_chron.specs.Kinds.{by_shares}
 use Rattle.hls_chron.specs.Ledger.{Ledger, now_of, row_at, before}
 use Rattle.hls_chron.specs.Seats.{asked, served, is_slot}
 use Rattle.hls_chron.specs.Ticks.{one_if}
@@ -62,21 +63,21 @@ one_tick : (to : Option ℕ) → ((slot : ℕ) → to ≡ Some slot → slot < 3
 one_tick None within = none_of 32
 one_tick (Some at) within = one_below at 32 (within at refl)
 
-module _ (total most quantum : ℕ) (b : Ledger) (made : IsMade (Sfq total most quantum) b) where
-  book : KeepsShareBook total most quantum b
-  book = shares_made total most quantum b made
+module _ (sharing : Sharing) (b : Ledger) (made : IsMade (by_shares sharing) b) where
+  book : KeepsShareBook sharing b
+  book = shares_made sharing b made
 
   serves : (slot t : ℕ) → served b slot t ≡ true → asked b slot t ≡ true
   unfolding asked
   serves slot t is =
       let to = its_slot (row_at b t).to slot (sym (served_by b slot t) ∙ is) in
       eq-eqb (bit_at (row_at b t).mask slot) 1
-      (serves-slot (Sfq total most quantum) (before t b) (row_at b t).mask slot
+      (serves-slot (by_shares sharing) (before t b) (row_at b t).mask slot
       (book.served t slot (passed b t slot to) to))
 
   within : (t slot : ℕ) → (row_at b t).to ≡ Some slot → slot < 32
   within t slot to =
-      below-at total most quantum b book t slot (passed b t slot to)
+      below-at sharing b book t slot (passed b t slot to)
       (serves slot t (served_by b slot t ∙ ap (λ o. is_slot o slot) to ∙ eq-eqb slot slot refl))
 
   shares : (i n : ℕ) → sum_below (λ slot. served_ticks b slot i n) 32 ≡ given_ticks b i n
@@ -93,9 +94,9 @@ module _ (total most quantum : ℕ) (b : Ledger) (made : IsMade (Sfq total most 
       ∙ rw (shares i n, one_tick (row_at b (i + n)).to (within (i + n)))
       (sym (count-push (λ t. is_some (row_at b t).to) i n))
 
-  pub loses_none : LosesNoTick total most quantum b
+  pub loses_none : LosesNoTick sharing b
   loses_none = record {
-    asks = λ slot t is. fair_asks total most quantum b book slot t is;
+    asks = λ slot t is. fair_asks sharing b book slot t is;
     serves = serves;
     shares = λ i n le. shares i n;
   }

@@ -5,8 +5,10 @@ use Rattle.std.specs.Prelude.{Option, Some, None, min, nat_lt, ◌==◌}
 use Rattle.std.proofs.Math.Nat.{le-div_iff_mul-le, mod-lt}
 use Rattle.std.proofs.lemmas.Bool.{eq-eqb, eqb-true, eqb-false, ltb-false, cases_eq}
 use Rattle.std.specs.Int.{bit_at}
-use Rattle.hls_chron.specs.declared.plain.Config.TheVariants.{Edf, Sfq}
+use Rattle.hls_chron.specs.declared.plain.Config.TheVariants.{Edf}
+use Rattle.hls_chron.specs.declared.plain.Sharing.{Sharing}
 use Rattle.hls_chron.specs.declared.plain.Terms.TheVariants as terms
+use Rattle.hls_chron.specs.Kinds.{by_shares}
 use Rattle.hls_chron.specs.Ledger.{Ledger, now_of}
 use Rattle.hls_chron.specs.Seats.{SlotAsks, terms_at, served}
 use Rattle.hls_kinds.specs.declared.tenant.Tenant.{Tenant}
@@ -133,25 +135,25 @@ asking_by : (asks : Bool) (tag theirs : ℕ) → cond asks (Some tag) None ≡ S
 asking_by true tag theirs is = (refl, cc)
 asking_by false tag theirs is = absurd cc
 
-pub rivals_stand : (total most quantum : ℕ) (b : Ledger) (mask slot : ℕ) → IsMade (Sfq total most quantum) b
-    → OnlySeatsAsk b mask → Serves (Sfq total most quantum) b mask slot → turn_goes_on quantum b mask ≡ false
-    → 0 < to_rivals (tag_of_asking quantum b mask) slot (start_tag quantum b (now_of b) slot)
+pub rivals_stand : (sharing : Sharing) (b : Ledger) (mask slot : ℕ) → IsMade (by_shares sharing) b
+    → OnlySeatsAsk b mask → Serves (by_shares sharing) b mask slot → turn_goes_on sharing.quantum b mask ≡ false
+    → 0 < to_rivals (tag_of_asking sharing.quantum b mask) slot (start_tag sharing.quantum b (now_of b) slot)
     (tag_step (weight_in (terms_at b slot))) 32
-rivals_stand total most quantum b mask slot made only serves off =
-    let book = shares_made total most quantum b made in
-    let asks : SlotAsks mask slot = serves-slot (Sfq total most quantum) b mask slot serves in
+rivals_stand sharing b mask slot made only serves off =
+    let book = shares_made sharing b made in
+    let asks : SlotAsks mask slot = serves-slot (by_shares sharing) b mask slot serves in
     let seat = weight_of (terms_at b slot) (only slot asks) (book.admission.seats.of_kind slot) in
     let range = book.weights.ranged slot seat.0 seat.1 in
     let weight : weight_in (terms_at b slot) ≡ seat.0 = ap weight_in seat.1 in
     let wide : 0 < tag_step (weight_in (terms_at b slot)) =
     some_step (weight_in (terms_at b slot)) (omega (arith, weight, range)) (omega (arith, weight, range)) in
-    rivals_apart (tag_of_asking quantum b mask) slot (start_tag quantum b (now_of b) slot)
+    rivals_apart (tag_of_asking sharing.quantum b mask) slot (start_tag sharing.quantum b (now_of b) slot)
     (tag_step (weight_in (terms_at b slot))) 32 wide (λ other theirs lt before is.
-    (let on = asking_by (slot_asks mask other) (start_tag quantum b (now_of b) other) theirs is in
+    (let on = asking_by (slot_asks mask other) (start_tag sharing.quantum b (now_of b) other) theirs is in
     let least = (serves.passes off).least other lt on.0 in
     let first = (serves.passes off).first other lt on.0 in
     let tag = on.1 in
-    elim (cases_eq (start_tag quantum b (now_of b) slot) (start_tag quantum b (now_of b) other)) [
+    elim (cases_eq (start_tag sharing.quantum b (now_of b) slot) (start_tag sharing.quantum b (now_of b) other)) [
       | inl same ↦ let no = first same in absurd (omega (arith, no, before))
       | inr apart ↦ omega (arith, least, apart, tag)
     ]))

@@ -4,11 +4,11 @@ use Rattle.std.specs.Prelude.{Option}
 use Rattle.std.proofs.lemmas.Bool.{cases_Bool, eq-eqb}
 use Rattle.std.specs.Int.{bit_at}
 use Rattle.hls_chron.specs.declared.book.TickRow.{TickRow}
-use Rattle.hls_chron.specs.declared.plain.Config.TheVariants.{Sfq}
 use Rattle.hls_chron.specs.declared.plain.Kind.TheVariants as kinds
+use Rattle.hls_chron.specs.declared.plain.Sharing.{Sharing}
 use Rattle.hls_chron.specs.declared.plain.Terms.{Terms}
 use Rattle.hls_chron.specs.declared.plain.Terms.TheVariants as terms
-use Rattle.hls_chron.specs.Kinds.{terms_kind}
+use Rattle.hls_chron.specs.Kinds.{terms_kind, by_shares}
 use Rattle.hls_chron.specs.Ledger.{Ledger, with_row}
 use Rattle.hls_chron.specs.Seats.{SlotAsks, terms_at}
 use Rattle.hls_kinds.specs.Asks.{slot_asks}
@@ -34,16 +34,16 @@ weight_of (Some terms.Cpu) seat kind = let no = kind terms.Cpu refl in absurd cc
 weight_of (Some terms.Turn) seat kind = let no = kind terms.Turn refl in absurd cc
 weight_of (Some terms.Sole) seat kind = let no = kind terms.Sole refl in absurd cc
 
-module _ (total most quantum : ℕ) (b : Ledger) (row : TickRow) (made : IsMade (Sfq total most quantum) b)
-    (is : IsRow (Sfq total most quantum) b row) where
-  book : KeepsShareBook total most quantum b
-  book = shares_made total most quantum b made
+module _ (sharing : Sharing) (b : Ledger) (row : TickRow) (made : IsMade (by_shares sharing) b)
+    (is : IsRow (by_shares sharing) b row) where
+  book : KeepsShareBook sharing b
+  book = shares_made sharing b made
 
-  old : KeepsTagRules quantum b
-  old = tag_rules total most quantum b made
+  old : KeepsTagRules sharing.quantum b
+  old = tag_rules sharing b made
 
-  new : KeepsTagRules quantum (with_row b row)
-  new = tag_rules total most quantum (with_row b row) (made_row (Sfq total most quantum) b row made is)
+  new : KeepsTagRules sharing.quantum (with_row b row)
+  new = tag_rules sharing (with_row b row) (made_row (by_shares sharing) b row made is)
 
   asks : (slot : ℕ) → SlotAsks row.mask slot → slot_asks row.mask slot ≡ true
   asks slot on = eq-eqb (bit_at row.mask slot) 1 on
@@ -54,16 +54,16 @@ module _ (total most quantum : ℕ) (b : Ledger) (row : TickRow) (made : IsMade 
       omega (arith, less, book.range.1.1)
 
   -- the slot that is served has a weight, so that it starts at the virtual time or later
-  served_late : (slot : ℕ) → row.to ≡ Some slot → time_of quantum b ≤ start_of quantum b slot
+  served_late : (slot : ℕ) → row.to ≡ Some slot → time_of sharing.quantum b ≤ start_of sharing.quantum b slot
   served_late slot to =
-      let on = serves-slot (Sfq total most quantum) b row.mask slot (is.serves slot to) in
+      let on = serves-slot (by_shares sharing) b row.mask slot (is.serves slot to) in
       let seat = weight_of (terms_at b slot) (is.seats slot on) (book.admission.seats.of_kind slot) in
       let start = old.starts slot seat.0 seat.1 in
       omega (arith, start)
 
-  time_after : (to : Option ℕ) → row.to ≡ to → time_of quantum b ≤ time_of quantum (with_row b row)
+  time_after : (to : Option ℕ) → row.to ≡ to → time_of sharing.quantum b ≤ time_of sharing.quantum (with_row b row)
   time_after None to = let same = old.idles row to in omega (arith, same)
-  time_after (Some slot) to = elim (cases_Bool (turn_goes_on quantum b row.mask)) [
+  time_after (Some slot) to = elim (cases_Bool (turn_goes_on sharing.quantum b row.mask)) [
     | inl on ↦ let same = old.goes_on row on in omega (arith, same)
     | inr off ↦
         let start = old.serves row slot to off in
@@ -73,12 +73,12 @@ module _ (total most quantum : ℕ) (b : Ledger) (row : TickRow) (made : IsMade 
 
   -- the slot whose turn begins starts no later than another that asks
   time_before : (to : Option ℕ) → row.to ≡ to → (slot weight : ℕ) → terms_at b slot ≡ Some (terms.Weight weight)
-      → SlotAsks row.mask slot → time_of quantum (with_row b row) ≤ start_of quantum b slot
+      → SlotAsks row.mask slot → time_of sharing.quantum (with_row b row) ≤ start_of sharing.quantum b slot
   time_before None to slot weight seat on =
       let same = old.idles row to in
       let start = old.starts slot weight seat in
       omega (arith, same, start)
-  time_before (Some first) to slot weight seat asking = elim (cases_Bool (turn_goes_on quantum b row.mask)) [
+  time_before (Some first) to slot weight seat asking = elim (cases_Bool (turn_goes_on sharing.quantum b row.mask)) [
     | inl on ↦
         let same = old.goes_on row on in
         let start = old.starts slot weight seat in
@@ -94,7 +94,7 @@ module _ (total most quantum : ℕ) (b : Ledger) (row : TickRow) (made : IsMade 
   kept_terms slot = refl
 
   fixed : (slot weight : ℕ) → terms_at b slot ≡ Some (terms.Weight weight) → SlotAsks row.mask slot
-      → row.to ≢ Some slot → start_of quantum (with_row b row) slot ≡ start_of quantum b slot
+      → row.to ≢ Some slot → start_of sharing.quantum (with_row b row) slot ≡ start_of sharing.quantum b slot
   fixed slot weight seat on apart =
       let first = old.starts slot weight seat in
       let later = new.starts slot weight (kept_terms slot ∙ seat) in
@@ -104,15 +104,15 @@ module _ (total most quantum : ℕ) (b : Ledger) (row : TickRow) (made : IsMade 
       omega (arith, first, later, finish, low, high)
 
   goes_on : (slot weight : ℕ) → terms_at b slot ≡ Some (terms.Weight weight) → row.to ≡ Some slot
-      → start_of quantum (with_row b row) slot ≡ start_of quantum b slot + tag_step weight
+      → start_of sharing.quantum (with_row b row) slot ≡ start_of sharing.quantum b slot + tag_step weight
   goes_on slot weight seat to =
       let later = new.starts slot weight (kept_terms slot ∙ seat) in
-      let on = serves-slot (Sfq total most quantum) b row.mask slot (is.serves slot to) in
+      let on = serves-slot (by_shares sharing) b row.mask slot (is.serves slot to) in
       let time = time_before row.to refl slot weight seat on in
       let finish = old.finishes row slot weight to seat in
       omega (arith, later, time, finish)
 
-  pub tag_order : KeepsTagOrder quantum b row
+  pub tag_order : KeepsTagOrder sharing.quantum b row
   tag_order = record {
     grows = time_after row.to refl;
     ahead = time_before row.to refl;

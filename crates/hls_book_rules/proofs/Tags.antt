@@ -3,8 +3,9 @@ use Rattle.std.proofs.Common.{◌≡◌, ℕ, ◌+◌, ◌*◌, Some, true, refl
 use Rattle.std.proofs.lemmas.Bool.{eq-eqb, ne_eqb}
 use Rattle.hls_chron.specs.declared.book.Event.{Event}
 use Rattle.hls_chron.specs.declared.book.Event.TheVariants.{Seat, Leave, Settle}
-use Rattle.hls_chron.specs.declared.plain.Config.TheVariants.{Sfq}
+use Rattle.hls_chron.specs.declared.plain.Sharing.{Sharing}
 use Rattle.hls_chron.specs.declared.plain.Terms.TheVariants.{Weight}
+use Rattle.hls_chron.specs.Kinds.{by_shares}
 use Rattle.hls_chron.specs.Ledger.{Ledger, now_of, with_mark}
 use Rattle.hls_chron.specs.Seats.{is_slot}
 use Rattle.hls_chron.proofs.BookLaws.{dated-mark}
@@ -30,9 +31,9 @@ settled_seat (Sits terms since) weight tick is = let same : terms ≡ Weight wei
 settled_seat Vacant weight tick is = absurd cc
 settled_seat (Left terms since at) weight tick is = absurd cc
 
-module _ (total most quantum : ℕ) (b : Ledger) (made : IsMade (Sfq total most quantum) b) where
-  book : KeepsShareBook total most quantum b
-  book = shares_made total most quantum b made
+module _ (sharing : Sharing) (b : Ledger) (made : IsMade (by_shares sharing) b) where
+  book : KeepsShareBook sharing b
+  book = shares_made sharing b made
 
   -- whoever sits after a mark does so in the present tick
   sat : (event : Event) (slot : ℕ) (tenant : Tenant) → tenant_at (with_mark b event) slot ≡ tenant
@@ -42,29 +43,30 @@ module _ (total most quantum : ℕ) (b : Ledger) (made : IsMade (Sfq total most 
 
   begun : (event : Event) (slot weight : ℕ)
       → tenant_at (with_mark b event) slot ≡ Sits (Weight weight) (now_of b)
-      → finish_of quantum (with_mark b event) slot ≡ time_of quantum b + quantum * tag_step weight
+      → finish_of sharing.quantum (with_mark b event) slot ≡ time_of sharing.quantum b
+      + sharing.quantum * tag_step weight
   begun event slot weight is =
       let sits = sat event slot (Sits (Weight weight) (now_of b)) is in
-      finish-begins total most quantum b event book slot (ap (λ (tenant : Tenant). (share_in tenant).since) sits)
-      ∙ ap (λ (tenant : Tenant). time_of quantum b + quantum * tag_step (share_in tenant).weight) sits
+      finish-begins sharing b event book slot (ap (λ (tenant : Tenant). (share_in tenant).since) sits)
+      ∙ ap (λ (tenant : Tenant). time_of sharing.quantum b + sharing.quantum * tag_step (share_in tenant).weight) sits
 
   kept : (event : Event) (slot : ℕ) → tenant_at (with_mark b event) slot ≡ tenant_at b slot
-      → finish_of quantum (with_mark b event) slot ≡ finish_of quantum b slot
+      → finish_of sharing.quantum (with_mark b event) slot ≡ finish_of sharing.quantum b slot
   kept event slot same =
-      finish-stays total most quantum b event book slot
+      finish-stays sharing b event book slot
       (ap share_in (sat event slot (tenant_at b slot) same ∙ sym (tenant-now b slot book.admission.dated)))
 
-  pub tag_rules : KeepsTagRules quantum b
+  pub tag_rules : KeepsTagRules sharing.quantum b
   tag_rules = record {
-    starts = λ slot weight is. present-start total most quantum b book slot weight is;
-    serves = λ row slot to off. time-begins total most quantum b row book slot to off;
-    goes_on = λ row on. time-on total most quantum b row book on;
+    starts = λ slot weight is. present-start sharing b book slot weight is;
+    serves = λ row slot to off. time-begins sharing b row book slot to off;
+    goes_on = λ row on. time-on sharing b row book on;
     finishes = λ row slot weight to is.
         let here : is_slot row.to slot ≡ true = ap (λ o. is_slot o slot) to ∙ eq-eqb slot slot refl in
-        finish-served total most quantum b row book slot here
-        ∙ ap (λ n. start_of quantum b slot + tag_step n) (seat-share total most quantum b book slot weight is);
-    waits = λ row slot other. finish-unserved total most quantum b row book slot (not_its row.to slot other);
-    idles = λ row none. time-idle total most quantum b row book none;
+        finish-served sharing b row book slot here
+        ∙ ap (λ n. start_of sharing.quantum b slot + tag_step n) (seat-share sharing b book slot weight is);
+    waits = λ row slot other. finish-unserved sharing b row book slot (not_its row.to slot other);
+    idles = λ row none. time-idle sharing b row book none;
     begins = λ slot weight.
         begun (Seat slot (Weight weight)) slot weight
         (tenant_at-mark b (Seat slot (Weight weight)) slot ∙ rw (eq-eqb slot slot refl) refl);
@@ -76,5 +78,5 @@ module _ (total most quantum : ℕ) (b : Ledger) (made : IsMade (Sfq total most 
         kept (Seat other terms) slot (tenant_at-mark b (Seat other terms) slot ∙ rw (ne_eqb other slot apart) refl);
     without = λ slot other apart.
         kept (Leave other) slot (tenant_at-mark b (Leave other) slot ∙ rw (ne_eqb other slot apart) refl);
-    stays = λ event. time-mark total most quantum b event book;
+    stays = λ event. time-mark sharing b event book;
   }

@@ -3,9 +3,10 @@ use Rattle.std.specs.Prelude.{◌≡◌, ◌≢◌, ℕ, ◌+◌, ◌*◌, ◌�
 use Rattle.hls_chron.specs.declared.book.TickRow.{TickRow}
 use Rattle.hls_chron.specs.declared.book.Event.{Event}
 use Rattle.hls_chron.specs.declared.book.Event.TheVariants.{Seat, Leave, Settle}
-use Rattle.hls_chron.specs.declared.plain.Config.TheVariants.{Sfq}
+use Rattle.hls_chron.specs.declared.plain.Sharing.{Sharing}
 use Rattle.hls_chron.specs.declared.plain.Terms.{Terms}
 use Rattle.hls_chron.specs.declared.plain.Terms.TheVariants.{Weight}
+use Rattle.hls_chron.specs.Kinds.{by_shares}
 use Rattle.hls_chron.specs.Ledger.{Ledger, now_of, with_row, with_mark}
 use Rattle.hls_chron.specs.Seats.{SlotAsks, terms_at}
 use Rattle.hls_kinds.specs.Made.{IsRow}
@@ -67,6 +68,6 @@ pub record KeepsTagOrder (quantum : ℕ) (b : Ledger) (row : TickRow) : Type 0 w
   pub goes_on : (slot weight : ℕ) → terms_at b slot ≡ Some (Weight weight) → row.to ≡ Some slot
       → start_of quantum (with_row b row) slot ≡ start_of quantum b slot + tag_step weight
 
-abbrev pub KeepsTagOrderInTicks : (total most quantum : ℕ) → Ledger → Type 0
-KeepsTagOrderInTicks total most quantum b =
-    (row : TickRow) → IsRow (Sfq total most quantum) b row → KeepsTagOrder quantum b row
+abbrev pub KeepsTagOrderInTicks : (sharing : Sharing) → Ledger → Type 0
+KeepsTagOrderInTicks sharing b =
+    (row : TickRow) → IsRow (by_shares sharing) b row → KeepsTagOrder sharing.quantum b row

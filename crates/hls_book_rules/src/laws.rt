@@ -1,8 +1,9 @@
 //! What holds of the definitions: each function's contract is a law, and its body does nothing.
 
-ghost use Rattle.hls_chron.specs.Ranges.{most_slots};
 ghost use Rattle.std.specs.Prelude.{◌≡◌, ℕ, ◌+◌, Option, Bool, true, false, ◌<◌, min};
+ghost use Rattle.hls_chron.specs.Kinds.{by_shares};
 ghost use Rattle.hls_chron.specs.Ledger.{Ledger, now_of};
+ghost use Rattle.hls_chron.specs.Ranges.{most_slots};
 ghost use Rattle.hls_chron.specs.Seats.{terms_at};
 ghost use Rattle.hls_kinds.specs.Discipline.{Serves};
 ghost use Rattle.hls_kinds.specs.Frames.{owner_at};
@@ -21,7 +22,7 @@ ghost use Rattle.hls_book.specs.Turns.{KeepsTurnRules};
 ghost use Rattle.hls_book_rules.specs.Places.{KeepsPlaceRules};
 ghost use Rattle.hls_book_rules.specs.Stands.{OnlySeatsAsk};
 
-use hls_chron::Config;
+use hls_chron::{Config, Sharing};
 use hls_kinds::{Claim, Reservation};
 
 /// What each kind begins with in a new book: virtual time 0, the first slot next with a whole quantum, no owners, and
@@ -50,8 +51,8 @@ pub fn claims_meet_their_rules(reservation: Reservation)
 
 /// The virtual time and the tags of fair queueing go from tick to tick, and from seat to seat, by their rules (after
 /// Goyal, Guo and Vin 1996).
-pub fn tags_meet_their_rules(total: u32, most: u32, quantum: u32)
-    ensures { (b : Ledger) → IsMade (Config.Sfq total most quantum) b → KeepsTagRules quantum b }
+pub fn tags_meet_their_rules(sharing: Sharing)
+    ensures { (b : Ledger) → IsMade (by_shares sharing) b → KeepsTagRules sharing.quantum b }
 {}
 
 /// The start tags are the only ones that meet their rules in every tick, in whatever way they are computed.
@@ -62,16 +63,16 @@ pub fn start_tags_are_the_only_ones()
 
 /// The virtual time never falls, and is not past the start tag of a seat that asks. A start tag is fixed when its seat
 /// begins to ask: it stays while the seat asks and waits, and is a step later once it was served.
-pub fn tags_keep_their_order(total: u32, most: u32, quantum: u32)
-    ensures { (b : Ledger) → IsMade (Config.Sfq total most quantum) b → KeepsTagOrderInTicks total most quantum b }
+pub fn tags_keep_their_order(sharing: Sharing)
+    ensures { (b : Ledger) → IsMade (by_shares sharing) b → KeepsTagOrderInTicks sharing b }
 {}
 
 /// The turns of round robin and of fair queueing go from tick to tick, and from seat to seat, by their rules.
 pub fn turns_meet_their_rules(quantum: u32)
     requires { 0 < quantum }
     ensures rounds { (b : Ledger) → IsMade (Config.Rr quantum) b → KeepsTurnRules quantum b }
-    ensures shares { (total most : ℕ) (b : Ledger) → IsMade (Config.Sfq total most quantum) b →
-        KeepsTurnRules quantum b }
+    ensures shares { (sharing : Sharing) (b : Ledger) → IsMade (by_shares sharing) b →
+        KeepsTurnRules sharing.quantum b }
 {}
 
 /// The places of a frame come to seats and go by their rules.
@@ -82,14 +83,14 @@ pub fn places_meet_their_rules()
 /// Each scheduler stands for the present tick: deadlines lie ahead, a turn has some of its quantum left, whose turn
 /// begins has the least tag, and a place is its owner's. So `stands_of`, which says one tick at least, says no more
 /// than these numbers do.
-pub fn each_stands_for_the_present_tick(total: u32, most: u32, quantum: u32)
-    requires { 0 < quantum }
+pub fn each_stands_for_the_present_tick(sharing: Sharing)
+    requires { 0 < sharing.quantum }
     ensures reservations { (b : Ledger) (mask : ℕ) (choice : Option ℕ) → IsMade Config.Edf b → OnlySeatsAsk b mask →
         0 < min (to_deadlines b mask most_slots) (rest_of_budget b mask choice) }
-    ensures shares { (b : Ledger) (mask : ℕ) (choice : Option ℕ) → 0 < rest_of_share quantum b mask choice }
-    ensures rivals { (b : Ledger) (mask slot : ℕ) → IsMade (Config.Sfq total most quantum) b → OnlySeatsAsk b mask →
-        Serves (Config.Sfq total most quantum) b mask slot → turn_goes_on quantum b mask ≡ false →
-        0 < to_rivals (tag_of_asking quantum b mask) slot (start_tag quantum b (now_of b) slot)
+    ensures shares { (b : Ledger) (mask : ℕ) (choice : Option ℕ) → 0 < rest_of_share sharing.quantum b mask choice }
+    ensures rivals { (b : Ledger) (mask slot : ℕ) → IsMade (by_shares sharing) b → OnlySeatsAsk b mask →
+        Serves (by_shares sharing) b mask slot → turn_goes_on sharing.quantum b mask ≡ false →
+        0 < to_rivals (tag_of_asking sharing.quantum b mask) slot (start_tag sharing.quantum b (now_of b) slot)
         (tag_step (weight_in (terms_at b slot))) most_slots }
     ensures frames { (b : Ledger) (frame : ℕ) → 0 < owned_for (owner_at b) frame (now_of b) frame }
 {}

@@ -7,10 +7,10 @@ pub returns-clause-reservations : goal.returns-clause-reservations
 returns-clause-reservations c = reservations_stand
 
 pub returns-clause-shares : goal.returns-clause-shares
-returns-clause-shares c = λ b mask choice. shares_stand c.args.quantum b mask choice c.requires
+returns-clause-shares c = λ b mask choice. shares_stand c.args.sharing.quantum b mask choice c.requires
 
 pub returns-clause-rivals : goal.returns-clause-rivals
-returns-clause-rivals c = rivals_stand c.args.total c.args.most c.args.quantum
+returns-clause-rivals c = rivals_stand c.args.sharing
 
 pub returns-clause-frames : goal.returns-clause-frames
 returns-clause-frames c = λ b frame. frames_stand (owner_at b) frame (now_of b) frame
