@@ -54,7 +54,7 @@ reduced sn sd en ed rn rd fn fd w T d n N sd_pos ed_pos T_pos rate error part =
     mul-le-mul_right (rd * fd * T) part in
     le_of_mul-le-mul_right {k = (sd * T) * (ed * T)} (omega (arith, left, right, whole)) pos
 
-pub fair-share : (T M Q w : ℕ) (s d s' d' : Frac) (n G N : ℕ) → 1 ≤ T → IsFairShare T M Q w s d s' d'
+pub fair-share : (T M Q w : ℕ) (s d s' d' : Frac) (n G N : ℕ) → 1 ≤ T → IsFairShare (record { total = T; most = M; quantum = Q }) w s d s' d'
     → HasShare s d n G → w * G ≤ T * N + (T - w) * Q + w * ((M - 1) * Q) → HasShare s' d' n N
 fair-share T M Q w s d s' d' n G N some fair given got =
     let rest : T - w ≡ fair.rest = omega (arith, fair.weights) in
@@ -96,7 +96,7 @@ module _ (T M Q : ℕ) (b : Ledger) (kept : KeepsShareBook T M Q b) where
   part_met : (slot since port weight i n : ℕ) (s d s' d' : Frac)
       → tenant_at b slot ≡ Sits (terms.Weight weight) since
       → since ≤ i → i + n ≤ now_of b → ((t : ℕ) → i ≤ t → t < i + n → asked b slot t ≡ true)
-      → IsFairShare T M Q weight s d s' d' → HasShare s d n (count (given b port) i n)
+      → IsFairShare (record { total = T; most = M; quantum = Q }) weight s d s' d' → HasShare s d n (count (given b port) i n)
       → HasShare s' d' n (count (served b slot) i n)
   part_met slot since port weight i zero s d s' d' sits early le on fair lent = omega arith
   part_met slot since port weight i (suc n) s d s' d' sits early le on fair lent =
@@ -116,7 +116,7 @@ module _ (T M Q : ℕ) (b : Ledger) (kept : KeepsShareBook T M Q b) where
       kept.range.0.0 fair lent got
 
   share_supplied : (slot since port weight : ℕ) (s d s' d' : Frac)
-      → tenant_at b slot ≡ Sits (terms.Weight weight) since → IsFairShare T M Q weight s d s' d'
+      → tenant_at b slot ≡ Sits (terms.Weight weight) since → IsFairShare (record { total = T; most = M; quantum = Q }) weight s d s' d'
       → Supplies (Psbe s d) (given b port) (asked_by (Sfq T M Q) b) (settled_at b) (now_of b)
       → Supplies (Psbe s' d') (served b slot) (asked b slot) since (now_of b)
   share_supplied slot since port weight s d s' d' sits fair supplied =

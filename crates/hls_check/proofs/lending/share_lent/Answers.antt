@@ -56,7 +56,7 @@ returns-clause-some c =
     let a = c.args in
     let q = a.queue.now in
     let r = c.requires in
-    fractions-share q.total q.most q.quantum a.weight a.s.now a.d.now c.quotient-part.result c.quotient-others.result
+    fractions-share q a.weight a.s.now a.d.now c.quotient-part.result c.quotient-others.result
     c.add.result c.mul-2.result c.quotient-rest.result c.mul.result c.add-2.result r.config.1.0 r.terms.0
     c.if-weight-total.false (record {
       part_is = c.quotient-part.ensures;
