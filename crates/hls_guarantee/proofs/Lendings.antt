@@ -9,7 +9,9 @@ use Rattle.hls_chron.specs.declared.plain.Config.TheVariants as configs
 use Rattle.hls_chron.specs.declared.plain.Sharing.{Sharing}
 use Rattle.hls_chron.specs.declared.plain.Terms.{Terms}
 use Rattle.hls_chron.specs.declared.plain.Terms.TheVariants as terms
+use Rattle.hls_chron.specs.Kinds.{by_shares}
 use Rattle.hls_chron.specs.Ranges.{ConfigInRange}
+use Rattle.hls_chron.proofs.ConfigLaws.{by_kind}
 use Rattle.hls_guarantee.specs.declared.Guarantee.{Guarantee}
 use Rattle.hls_guarantee.specs.declared.Guarantee.TheVariants.{All, Psbe}
 use Rattle.hls_guarantee.specs.Conversions.{StartsNoLater}
@@ -53,22 +55,48 @@ same_turn quantum s d p e q f a b =
 psbe-same : (s d t e : Frac) → s ≡ t → d ≡ e → Psbe s d ≡ Psbe t e
 psbe-same s d t e first second = ap (λ (f : Frac). Psbe f d) first ∙ ap (λ (f : Frac). Psbe t f) second
 
-pub lends-one : (config : Config) (terms : Terms) (g h k : Guarantee) → ConfigInRange config →
-    LendsByTerms config terms g h → LendsByTerms config terms g k → h ≡ k
-lends-one configs.Cpu terms.Cpu All h k range a b = a ∙ sym b
-lends-one configs.Fp (terms.Prio priority) g h k range a b = a.1 ∙ sym b.1
-lends-one configs.Edf (terms.Res hard x y) All h k range a b = a ∙ sym b
-lends-one (configs.Wheel frame) (terms.Slots places) All h k range a b = a.1 ∙ sym b.1
-lends-one (configs.Sfq total most quantum) (terms.Weight weight) (Psbe s d) (Psbe p e) (Psbe q f) range a b =
-    let same = same_share (record { total = total; most = most; quantum = quantum }) weight s d p e q f range.0.0 a b in
+-- on any terms such a scheduler lends one guarantee of another
+abbrev LendsOne : Config → Type 0
+LendsOne config = (its : Terms) (g h k : Guarantee) → ConfigInRange config → LendsByTerms config its g h
+    → LendsByTerms config its g k → h ≡ k
+
+processor_one : LendsOne configs.Cpu
+processor_one terms.Cpu All h k range a b = a ∙ sym b
+processor_one _ _ _ _ range a b = absurd a
+
+priority_one : LendsOne configs.Fp
+priority_one (terms.Prio priority) g h k range a b = a.1 ∙ sym b.1
+priority_one _ _ _ _ range a b = absurd a
+
+reserved_one : LendsOne configs.Edf
+reserved_one (terms.Res hard x y) All h k range a b = a ∙ sym b
+reserved_one _ _ _ _ range a b = absurd a
+
+shared_one : (sharing : Sharing) → LendsOne (by_shares sharing)
+shared_one sharing (terms.Weight weight) (Psbe s d) (Psbe p e) (Psbe q f) range a b =
+    let same = same_share sharing weight s d p e q f range.0.0 a b in
     psbe-same p e q f same.0 same.1
-lends-one (configs.Rr quantum) terms.Turn (Psbe s d) (Psbe p e) (Psbe q f) range a b =
+shared_one sharing (terms.Weight weight) (Psbe s d) (Psbe p e) _ range a b = absurd b
+shared_one sharing _ _ _ _ range a b = absurd a
+
+turn_one : (quantum : ℕ) → LendsOne (configs.Rr quantum)
+turn_one quantum terms.Turn (Psbe s d) (Psbe p e) (Psbe q f) range a b =
     let same = same_turn quantum s d p e q f a b in
     psbe-same p e q f same.0 same.1
-lends-one (configs.Join ports) terms.Sole g h k range a b = a.1 ∙ sym b.1
-lends-one (configs.Sfq total most quantum) (terms.Weight weight) (Psbe s d) (Psbe p e) k range a b = absurd b
-lends-one (configs.Rr quantum) terms.Turn (Psbe s d) (Psbe p e) k range a b = absurd b
-lends-one _ _ _ _ _ range a b = absurd a
+turn_one quantum terms.Turn (Psbe s d) (Psbe p e) _ range a b = absurd b
+turn_one quantum _ _ _ _ range a b = absurd a
+
+framed_one : (frame : ℕ) → LendsOne (configs.Wheel frame)
+framed_one frame (terms.Slots places) All h k range a b = a.1 ∙ sym b.1
+framed_one frame _ _ _ _ range a b = absurd a
+
+joined_one : (ports : ℕ) → LendsOne (configs.Join ports)
+joined_one ports terms.Sole g h k range a b = a.1 ∙ sym b.1
+joined_one ports _ _ _ _ range a b = absurd a
+
+pub lends-one : (config : Config) (its : Terms) (g h k : Guarantee) → ConfigInRange config →
+    LendsByTerms config its g h → LendsByTerms config its g k → h ≡ k
+lends-one = by_kind LendsOne processor_one priority_one reserved_one shared_one turn_one framed_one joined_one
 
 -- a fair share is a lower one
 pub fair-at_most : (sharing : Sharing) (weight : ℕ) (s d p e : Frac) → 1 ≤ weight →
