@@ -66,7 +66,7 @@ module _ (sharing : Sharing) where
   abbrev Q : ℕ
   Q = sharing.quantum
 
-  pub fair-share : (w : ℕ) (s d s' d' : Frac) (n G N : ℕ) → 1 ≤ T → IsFairShare T M Q w s d s' d'
+  pub fair-share : (w : ℕ) (s d s' d' : Frac) (n G N : ℕ) → 1 ≤ T → IsFairShare sharing w s d s' d'
       → HasShare s d n G → w * G ≤ T * N + (T - w) * Q + w * ((M - 1) * Q) → HasShare s' d' n N
   fair-share w s d s' d' n G N some fair given got =
       let rest : T - w ≡ fair.rest = omega (arith, fair.weights) in
@@ -108,7 +108,7 @@ module _ (sharing : Sharing) (b : Ledger) (kept : KeepsShareBook sharing b) wher
   part_met : (slot since port weight i n : ℕ) (s d s' d' : Frac)
       → tenant_at b slot ≡ Sits (terms.Weight weight) since
       → since ≤ i → i + n ≤ now_of b → ((t : ℕ) → i ≤ t → t < i + n → asked b slot t ≡ true)
-      → IsFairShare sharing.total sharing.most sharing.quantum weight s d s' d'
+      → IsFairShare sharing weight s d s' d'
       → HasShare s d n (count (given b port) i n)
       → HasShare s' d' n (count (served b slot) i n)
   part_met slot since port weight i zero s d s' d' sits early le on fair lent = omega arith
@@ -131,7 +131,7 @@ module _ (sharing : Sharing) (b : Ledger) (kept : KeepsShareBook sharing b) wher
 
   share_supplied : (slot since port weight : ℕ) (s d s' d' : Frac)
       → tenant_at b slot ≡ Sits (terms.Weight weight) since
-      → IsFairShare sharing.total sharing.most sharing.quantum weight s d s' d'
+      → IsFairShare sharing weight s d s' d'
       → Supplies (Psbe s d) (given b port) (asked_by (by_shares sharing) b) (settled_at b) (now_of b)
       → Supplies (Psbe s' d') (served b slot) (asked b slot) since (now_of b)
   share_supplied slot since port weight s d s' d' sits fair supplied =

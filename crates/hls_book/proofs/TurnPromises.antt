@@ -108,7 +108,7 @@ linear quantum own theirs some passed = omega (arith, passed, whole own quantum 
 
 -- A seat has the share of a weight of 1 in 32, beside as many others of a tick each as 31 quanta have ticks besides 31.
 as_fair : (quantum : ℕ) (s d s' d' : Frac) → 0 < quantum → IsTurnShare quantum s d s' d'
-    → IsFairShare 32 (31 * quantum - 30) 1 1 s d s' d'
+    → IsFairShare (record { total = 32; most = 31 * quantum - 30; quantum = 1 }) 1 s d s' d'
 as_fair quantum s d s' d' pos share = record {
   others = 31 * quantum - 31;
   rest = 31;

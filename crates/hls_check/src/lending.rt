@@ -3,10 +3,10 @@ ghost use Rattle.std.specs.Prelude.{◌≡◌, ◌≤◌, ◌^◌, ◌↔◌, Is
 ghost use Rattle.hls_chron.specs.Ranges.{ConfigInRange, TermsInRange, IsWithin};
 ghost use Rattle.hls_guarantee.specs.Limits.{IsValid, IsShare};
 ghost use Rattle.hls_guarantee.specs.Satisfaction.{IsSoft};
-ghost use Rattle.hls_chron.specs.Kinds.{IsPort};
-ghost use Rattle.hls_guarantee.specs.Steps.{IsFairShare, LendsByTerms, LendsNothing, LendsThrough};
+ghost use Rattle.hls_chron.specs.Kinds.{IsPort, by_shares};
+ghost use Rattle.hls_guarantee.specs.Steps.{LendsByTerms, LendsNothing, LendsThrough};
 
-use hls_chron::{Config, Terms};
+use hls_chron::{Config, Sharing, Terms};
 use hls_derive::Place;
 use hls_frac::Frac;
 use hls_guarantee::Guarantee;
@@ -32,6 +32,9 @@ pub fn lent(place: &Place, g: &Guarantee) -> Option<Guarantee>
     ensures none { IsNone result → (h : Guarantee) →
         LendsByTerms place.now.config place.now.terms g.now h → ⊥ }
 {
+    if let Some(sharing) = place.config.sharing() {
+        return lent_of_share(&sharing, &place.terms, g);
+    }
     match (place.config, place.terms, *g) {
         (Config::Cpu, Terms::Cpu, Guarantee::All) => Some(Guarantee::All),
         (Config::Fp, Terms::Prio(0), _) => Some(*g),
@@ -41,26 +44,25 @@ pub fn lent(place: &Place, g: &Guarantee) -> Option<Guarantee>
         (Config::Wheel { frame }, Terms::Slots(places), Guarantee::All) => {
             places_lent(places, frame)
         }
-        (
-            Config::Sfq {
-                total,
-                most,
-                quantum,
-            },
-            Terms::Weight(weight),
-            Guarantee::Psbe { s, d },
-        ) => {
-            let queue = Queue {
-                total,
-                most,
-                quantum,
-            };
-            share_lent(&queue, weight, &s, &d)
-        }
         (Config::Rr { quantum }, Terms::Turn, Guarantee::Psbe { s, d }) => {
             Some(turn_lent(quantum, &s, &d))
         }
         (Config::Join { .. }, Terms::Sole, _) => soft(g),
+        _ => None,
+    }
+}
+
+/// The same of fair queueing with these numbers.
+fn lent_of_share(sharing: &Sharing, terms: &Terms, g: &Guarantee) -> Option<Guarantee>
+    requires config { ConfigInRange (by_shares sharing.now) }
+    requires terms { TermsInRange terms.now }
+    requires from { IsValid g.now }
+    ensures some { IfSome result (λ h. LendsByTerms (by_shares sharing.now) terms.now g.now h) }
+    ensures none { IsNone result → (h : Guarantee) →
+        LendsByTerms (by_shares sharing.now) terms.now g.now h → ⊥ }
+{
+    match (*terms, *g) {
+        (Terms::Weight(weight), Guarantee::Psbe { s, d }) => share_lent(sharing, weight, &s, &d),
         _ => None,
     }
 }
@@ -79,35 +81,22 @@ fn places_lent(places: u32, frame: u32) -> Option<Guarantee>
     })
 }
 
-/// Fair queueing: weights of this total, of at most so many seats, in turns of a quantum.
-#[derive(Clone, Copy)]
-struct Queue {
-    total: u32,
-    most: u32,
-    quantum: u32,
-}
-
 /// The share of a seat of this weight, where there is weight for it.
-fn share_lent(queue: &Queue, weight: u32, s: &Frac, d: &Frac) -> Option<Guarantee>
-    requires config { ConfigInRange (Config.Sfq queue.now.total queue.now.most queue.now.quantum) }
+fn share_lent(sharing: &Sharing, weight: u32, s: &Frac, d: &Frac) -> Option<Guarantee>
+    requires config { ConfigInRange (by_shares sharing.now) }
     requires terms { TermsInRange (Terms.Weight weight) }
     requires share { IsShare (10 ^ 13) (10 ^ 8) s.now d.now }
     ensures some { IfSome result (λ h.
-        LendsByTerms (Config.Sfq queue.now.total queue.now.most queue.now.quantum) (Terms.Weight weight)
-        (Guarantee.Psbe s.now d.now) h) }
-    ensures none { IsNone result → weight ≤ queue.now.total → ⊥ }
+        LendsByTerms (by_shares sharing.now) (Terms.Weight weight) (Guarantee.Psbe s.now d.now) h) }
+    ensures none { IsNone result → weight ≤ sharing.now.total → ⊥ }
 {
-    let Queue {
-        total,
-        most,
-        quantum,
-    } = *queue;
+    let total = sharing.total;
     if weight > total {
         return None;
     }
     let part = quotient(weight as u128, total as u128);
-    let others = quotient(((most - 1) * quantum) as u128, 1);
-    let rest = quotient(((total - weight) * quantum) as u128, total as u128);
+    let others = quotient(((sharing.most - 1) * sharing.quantum) as u128, 1);
+    let rest = quotient(((total - weight) * sharing.quantum) as u128, total as u128);
     Some(Guarantee::Psbe {
         s: s.mul(&part),
         d: d.add(&others).mul(&part).add(&rest),

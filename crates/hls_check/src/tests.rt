@@ -5,7 +5,7 @@ ghost use Rattle.hls_guarantee.specs.Limits.{IsValid};
 ghost use Rattle.hls_chron.specs.Kinds.{port_count};
 
 use crate::{Verdict, check};
-use hls_chron::{Config, Terms};
+use hls_chron::{Config, Sharing, Terms};
 use hls_derive::{Place, read_derivation};
 use hls_guarantee::{Guarantee, read_guarantee};
 use std::alloc::Global;
@@ -64,11 +64,7 @@ fn fixed_priority_passes_on_what_it_has(rt: HostRuntime) -> Result<(), Fail> {
 fn numbers_the_first_step_that_fails(rt: HostRuntime) -> Result<(), Fail> {
     let alloc = rt.alloc();
     let place = Place {
-        config: Config::Sfq {
-            total: 4,
-            most: 2,
-            quantum: 1,
-        },
+        config: Config::fair(4, 2),
         terms: Terms::Weight(3),
     };
     let cases = [
@@ -112,11 +108,12 @@ fn numbers_the_first_step_that_fails(rt: HostRuntime) -> Result<(), Fail> {
 fn counts_a_quantum_of_each_other_seat(rt: HostRuntime) -> Result<(), Fail> {
     let alloc = rt.alloc();
     let place = Place {
-        config: Config::Sfq {
+        config: Sharing {
             total: 4,
             most: 2,
             quantum: 2,
-        },
+        }
+        .config(),
         terms: Terms::Weight(1),
     };
     let cases = [

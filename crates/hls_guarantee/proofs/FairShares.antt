@@ -4,6 +4,7 @@ use Rattle.std.proofs.Math.Nat.{eq_of_mul-eq-mul_right}
 use Rattle.hls_frac.specs.declared.Frac.{Frac}
 use Rattle.hls_frac.specs.Frac.{IsQuotient, IsSum, IsProduct}
 use Rattle.hls_frac.proofs.Order.{cross_same}
+use Rattle.hls_chron.specs.declared.plain.Sharing.{Sharing}
 use Rattle.hls_guarantee.specs.Steps.{IsFairShare}
 
 -- products and sums of quotients, as quotients
@@ -67,62 +68,64 @@ unscaled en ed dn dd weight total others rest pos error =
 
 -- the numbers of a seat as fractions: its part of the total, a quantum of each other seat, the wait for them at first,
 -- that wait at its pace, and the part of the rest
-pub record AreFractions (total most quantum weight : ℕ) (d part others waiting slowed rest : Frac) : Type 0 where
-  pub part_is : IsQuotient part weight total
-  pub others_are : IsQuotient others ((most - 1) * quantum) 1
+pub record AreFractions (sharing : Sharing) (weight : ℕ) (d part others waiting slowed rest : Frac) : Type 0 where
+  pub part_is : IsQuotient part weight sharing.total
+  pub others_are : IsQuotient others ((sharing.most - 1) * sharing.quantum) 1
   pub waiting_is : IsSum waiting d others
   pub slowed_is : IsProduct slowed waiting part
-  pub rest_is : IsQuotient rest ((total - weight) * quantum) total
+  pub rest_is : IsQuotient rest ((sharing.total - weight) * sharing.quantum) sharing.total
 
-slowed-quotient : (total most quantum weight : ℕ) (d part others waiting slowed rest : Frac) →
-    AreFractions total most quantum weight d part others waiting slowed rest →
-    IsQuotient slowed ((d.num * 1 + (most - 1) * quantum * d.den) * weight) (d.den * 1 * total)
-slowed-quotient total most quantum weight d part others waiting slowed rest a =
-    let wait = sum-quotient waiting d others d.num d.den ((most - 1) * quantum) 1 refl a.others_are a.waiting_is in
-    product-quotient slowed waiting part _ _ weight total wait a.part_is a.slowed_is
+slowed-quotient : (sharing : Sharing) (weight : ℕ) (d part others waiting slowed rest : Frac) →
+    AreFractions sharing weight d part others waiting slowed rest →
+    IsQuotient slowed ((d.num * 1 + (sharing.most - 1) * sharing.quantum * d.den) * weight) (d.den * 1 * sharing.total)
+slowed-quotient sharing weight d part others waiting slowed rest a =
+    let wait = sum-quotient waiting d others d.num d.den ((sharing.most - 1) * sharing.quantum) 1 refl a.others_are
+    a.waiting_is in
+    product-quotient slowed waiting part _ _ weight sharing.total wait a.part_is a.slowed_is
 
 all_positive : (d : Frac) (total : ℕ) → 1 ≤ total → 1 ≤ d.den * 1 * total * total
 all_positive d total some =
     let den = d.positive in
     mul-pos (mul-pos (let one : 1 ≤ d.den * 1 = omega arith in one) some) some
 
-pub share-fractions : (total most quantum weight : ℕ) (s d part others waiting slowed rest rate error : Frac) →
-    1 ≤ weight → AreFractions total most quantum weight d part others waiting slowed rest →
-    IsFairShare total most quantum weight s d rate error → IsProduct rate s part × IsSum error slowed rest
-share-fractions total most quantum weight s d part others waiting slowed rest rate error some a share =
+pub share-fractions : (sharing : Sharing) (weight : ℕ) (s d part others waiting slowed rest rate error : Frac) →
+    1 ≤ weight → AreFractions sharing weight d part others waiting slowed rest →
+    IsFairShare sharing weight s d rate error → IsProduct rate s part × IsSum error slowed rest
+share-fractions sharing weight s d part others waiting slowed rest rate error some a share =
     let seats = share.seats in
     let weights = share.weights in
-    let pos : 1 ≤ total = omega arith in
-    let o : share.others ≡ most - 1 = omega arith in
-    let r : share.rest ≡ total - weight = omega arith in
-    let first : IsQuotient error ((d.num + (most - 1) * quantum * d.den) * weight + share.rest * quantum * d.den)
-    (d.den * total) =
+    let pos : 1 ≤ sharing.total = omega arith in
+    let o : share.others ≡ sharing.most - 1 = omega arith in
+    let r : share.rest ≡ sharing.total - weight = omega arith in
+    let quantum : ℕ = sharing.quantum in
+    let first : IsQuotient error ((d.num + (sharing.most - 1) * quantum * d.den) * weight + share.rest * quantum * d.den)
+    (d.den * sharing.total) =
     subst (λ n. IsQuotient error ((d.num + n * quantum * d.den) * weight + share.rest * quantum * d.den)
-    (d.den * total)) o share.error in
-    let second : IsQuotient error ((d.num + (most - 1) * quantum * d.den) * weight
-    + (total - weight) * quantum * d.den) (d.den * total) =
-    subst (λ n. IsQuotient error ((d.num + (most - 1) * quantum * d.den) * weight + n * quantum * d.den)
-    (d.den * total)) r first in
-    let whole = scaled error.num error.den d.num d.den weight total ((most - 1) * quantum) ((total - weight) * quantum)
-    second in
-    let slow = slowed-quotient total most quantum weight d part others waiting slowed rest a in (
-      quotient-product rate s part s.num s.den weight total (mul-pos s.positive pos) refl a.part_is
+    (d.den * sharing.total)) o share.error in
+    let second : IsQuotient error ((d.num + (sharing.most - 1) * quantum * d.den) * weight
+    + (sharing.total - weight) * quantum * d.den) (d.den * sharing.total) =
+    subst (λ n. IsQuotient error ((d.num + (sharing.most - 1) * quantum * d.den) * weight + n * quantum * d.den)
+    (d.den * sharing.total)) r first in
+    let whole = scaled error.num error.den d.num d.den weight sharing.total ((sharing.most - 1) * quantum)
+    ((sharing.total - weight) * quantum) second in
+    let slow = slowed-quotient sharing weight d part others waiting slowed rest a in (
+      quotient-product rate s part s.num s.den weight sharing.total (mul-pos s.positive pos) refl a.part_is
           share.rate,
-      quotient-sum error slowed rest _ _ _ _ (all_positive d total pos) slow a.rest_is whole,
+      quotient-sum error slowed rest _ _ _ _ (all_positive d sharing.total pos) slow a.rest_is whole,
     )
 
-pub fractions-share : (total most quantum weight : ℕ) (s d part others waiting slowed rest rate error : Frac) →
-    1 ≤ most → 1 ≤ weight → weight ≤ total →
-    AreFractions total most quantum weight d part others waiting slowed rest →
-    IsProduct rate s part × IsSum error slowed rest → IsFairShare total most quantum weight s d rate error
-fractions-share total most quantum weight s d part others waiting slowed rest rate error some light fits a both =
-    let slow = slowed-quotient total most quantum weight d part others waiting slowed rest a in
+pub fractions-share : (sharing : Sharing) (weight : ℕ) (s d part others waiting slowed rest rate error : Frac) →
+    1 ≤ sharing.most → 1 ≤ weight → weight ≤ sharing.total →
+    AreFractions sharing weight d part others waiting slowed rest →
+    IsProduct rate s part × IsSum error slowed rest → IsFairShare sharing weight s d rate error
+fractions-share sharing weight s d part others waiting slowed rest rate error some light fits a both =
+    let slow = slowed-quotient sharing weight d part others waiting slowed rest a in
     let whole = sum-quotient error slowed rest _ _ _ _ slow a.rest_is both.1 in record {
-      others = most - 1;
-      rest = total - weight;
+      others = sharing.most - 1;
+      rest = sharing.total - weight;
       seats = omega arith;
       weights = omega arith;
-      rate = product-quotient rate s part s.num s.den weight total refl a.part_is both.0;
-      error = unscaled error.num error.den d.num d.den weight total ((most - 1) * quantum)
-          ((total - weight) * quantum) (omega arith) whole;
+      rate = product-quotient rate s part s.num s.den weight sharing.total refl a.part_is both.0;
+      error = unscaled error.num error.den d.num d.den weight sharing.total ((sharing.most - 1) * sharing.quantum)
+          ((sharing.total - weight) * sharing.quantum) (omega arith) whole;
     }

@@ -4,6 +4,7 @@ use Rattle.hls_frac.specs.declared.Frac.{Frac}
 use Rattle.hls_frac.specs.Frac.{IsQuotient}
 use Rattle.hls_chron.specs.declared.plain.Config.{Config}
 use Rattle.hls_chron.specs.declared.plain.Config.TheVariants as configs
+use Rattle.hls_chron.specs.declared.plain.Sharing.{Sharing}
 use Rattle.hls_chron.specs.declared.plain.Terms.{Terms}
 use Rattle.hls_chron.specs.declared.plain.Terms.TheVariants as terms
 use Rattle.hls_guarantee.specs.declared.Guarantee.{Guarantee}
@@ -14,15 +15,16 @@ use Rattle.hls_chron.specs.Kinds.{IsPort}
 
 -- the share s' with the error d' that a seat has of s with d, beside at most `others` seats of at most `rest`, in turns
 -- of a quantum
-pub record IsFairShare (total most quantum weight : ℕ) (s d s' d' : Frac) : Type 0 where
+pub record IsFairShare (sharing : Sharing) (weight : ℕ) (s d s' d' : Frac) : Type 0 where
   pub others : ℕ
   pub rest : ℕ
-  pub seats : others + 1 ≡ most
-  pub weights : weight + rest ≡ total
+  pub seats : others + 1 ≡ sharing.most
+  pub weights : weight + rest ≡ sharing.total
   -- s * weight / total
-  pub rate : IsQuotient s' (s.num * weight) (s.den * total)
+  pub rate : IsQuotient s' (s.num * weight) (s.den * sharing.total)
   -- ((d + others * quantum) * weight + rest * quantum) / total
-  pub error : IsQuotient d' ((d.num + others * quantum * d.den) * weight + rest * quantum * d.den) (d.den * total)
+  pub error : IsQuotient d' ((d.num + others * sharing.quantum * d.den) * weight + rest * sharing.quantum * d.den)
+      (d.den * sharing.total)
 
 -- the share s' with the error d' that a seat has of s with d, beside 31 seats that have a quantum each in turn
 pub record IsTurnShare (quantum : ℕ) (s d s' d' : Frac) : Type 0 where
@@ -44,7 +46,7 @@ LendsByTerms (configs.Wheel frame) (terms.Slots places) All h =
     (places ≤ frame) × (h ≡ Resc true places frame)
 -- a weight is a part of a share
 LendsByTerms (configs.Sfq total most quantum) (terms.Weight weight) (Psbe s d) (Psbe s' d') =
-    IsFairShare total most quantum weight s d s' d'
+    IsFairShare (record { total = total; most = most; quantum = quantum }) weight s d s' d'
 -- a seat in a round is one of 32 at most
 LendsByTerms (configs.Rr quantum) terms.Turn (Psbe s d) (Psbe s' d') = IsTurnShare quantum s d s' d'
 -- other ports may add to what one port gives

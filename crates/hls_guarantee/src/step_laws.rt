@@ -8,7 +8,7 @@ ghost use Rattle.hls_guarantee.specs.Conversions.{Leads};
 ghost use Rattle.hls_guarantee.specs.Steps.{IsFairShare, IsTurnShare, LendsByTerms, LendsThrough};
 
 use crate::{Guarantee, RuleName};
-use hls_chron::{Config, Terms};
+use hls_chron::{Config, Sharing, Terms};
 use hls_frac::Frac;
 
 /// The processor lends every tick to its one seat, and nothing to any other.
@@ -53,9 +53,7 @@ pub fn terms_lend_one_guarantee(
 
 /// A fair share is a lower share that starts no earlier, as by `R1`.
 pub fn fair_shares_are_lesser(
-    total: u32,
-    most: u32,
-    quantum: u32,
+    sharing: Sharing,
     weight: u32,
     s: Frac,
     d: Frac,
@@ -63,7 +61,7 @@ pub fn fair_shares_are_lesser(
     error: Frac,
 )
     requires weight { 1 ≤ weight }
-    requires share { IsFairShare total most quantum weight s d rate error }
+    requires share { IsFairShare sharing weight s d rate error }
     ensures { Leads RuleName.R1 (Guarantee.Psbe s d) (Guarantee.Psbe rate error) }
 {}
 
@@ -74,17 +72,16 @@ pub fn shares_of_turns_are_lesser(quantum: u32, s: Frac, d: Frac, rate: Frac, er
 {}
 
 /// A seat that is alone, with the whole weight, has the whole share.
-pub fn sole_weight_has_the_share(total: u32, quantum: u32, s: Frac, d: Frac)
-    requires { 1 ≤ total }
-    ensures { IsFairShare total 1 quantum total s d s d }
+pub fn sole_weight_has_the_share(sharing: Sharing, s: Frac, d: Frac)
+    requires some { 1 ≤ sharing.total }
+    requires sole { sharing.most ≡ 1 }
+    ensures { IsFairShare sharing sharing.total s d s d }
 {}
 
 /// The rate is `s * part`, and the error `(d + others) * part + rest`, where `part` is `weight / total`,
 /// `others` is `(most - 1) * quantum`, and `rest` is `(total - weight) * quantum / total`.
 pub fn fair_shares_are_sums_of_products(
-    total: u32,
-    most: u32,
-    quantum: u32,
+    sharing: Sharing,
     weight: u32,
     s: Frac,
     d: Frac,
@@ -96,14 +93,14 @@ pub fn fair_shares_are_sums_of_products(
     rate: Frac,
     error: Frac,
 )
-    requires most { 1 ≤ most }
+    requires most { 1 ≤ sharing.most }
     requires weight { 1 ≤ weight }
-    requires total { weight ≤ total }
-    requires part { IsQuotient part weight total }
-    requires others { IsQuotient others ((most - 1) * quantum) 1 }
+    requires total { weight ≤ sharing.total }
+    requires part { IsQuotient part weight sharing.total }
+    requires others { IsQuotient others ((sharing.most - 1) * sharing.quantum) 1 }
     requires waiting { IsSum waiting d others }
     requires slowed { IsProduct slowed waiting part }
-    requires rest { IsQuotient rest ((total - weight) * quantum) total }
-    ensures { IsFairShare total most quantum weight s d rate error ↔
+    requires rest { IsQuotient rest ((sharing.total - weight) * sharing.quantum) sharing.total }
+    ensures { IsFairShare sharing weight s d rate error ↔
         (IsProduct rate s part × IsSum error slowed rest) }
 {}

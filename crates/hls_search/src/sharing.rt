@@ -1,5 +1,6 @@
 // Shares of shares, at fair queueing and in rounds of turns.
 ghost use Rattle.std.specs.Prelude.{◌≡◌, ℕ, ◌*◌, ◌≤◌, ◌^◌, IfSome, IsNone, IsSome, length};
+ghost use Rattle.hls_chron.specs.Kinds.{by_shares};
 ghost use Rattle.hls_chron.specs.Ranges.{ConfigInRange, TermsInRange};
 ghost use Rattle.hls_guarantee.specs.Limits.{IsNarrow, IsShare, IsValid};
 ghost use Rattle.hls_guarantee.specs.Conversions.{Converts};
@@ -11,7 +12,7 @@ ghost use Rattle.hls_search.specs.Inside.Places.{IsBestShare, LendsShares, ToSha
 
 use crate::chain::Chain;
 use crate::words::ask;
-use hls_chron::{Config, Terms};
+use hls_chron::{Config, Sharing, Terms};
 use hls_derive::{Place, Step};
 use hls_frac::Frac;
 use hls_guarantee::{Guarantee, RuleName};
@@ -83,23 +84,10 @@ pub fn share_for(place: &Place, want: &Guarantee) -> Option<Guarantee>
     ensures none { IsNone result → (goal : Guarantee) → IsValid goal →
         LendsByTerms place.now.config place.now.terms goal want.now → ⊥ }
 {
+    if let Some(sharing) = place.config.sharing() {
+        return fair_for(&sharing, &place.terms, want);
+    }
     match (place.config, place.terms, *want) {
-        (
-            Config::Sfq {
-                total,
-                most,
-                quantum,
-            },
-            Terms::Weight(weight),
-            Guarantee::Psbe { s: rate, d: error },
-        ) => {
-            let queue = Queue {
-                total,
-                most,
-                quantum,
-            };
-            fair_before(&queue, weight, &rate, &error)
-        }
         (Config::Rr { quantum }, Terms::Turn, Guarantee::Psbe { s: rate, d: error }) => {
             turn_before(quantum, &rate, &error)
         }
@@ -107,36 +95,40 @@ pub fn share_for(place: &Place, want: &Guarantee) -> Option<Guarantee>
     }
 }
 
-/// Fair queueing: weights of this total, of at most so many seats, in turns of a quantum.
-#[derive(Clone, Copy)]
-struct Queue {
-    total: u32,
-    most: u32,
-    quantum: u32,
+/// The same of fair queueing with these numbers.
+fn fair_for(sharing: &Sharing, terms: &Terms, want: &Guarantee) -> Option<Guarantee>
+    requires config { ConfigInRange (by_shares sharing.now) }
+    requires terms { TermsInRange terms.now }
+    requires want { IsNarrow want.now }
+    ensures some { IfSome result (λ goal. LendsByTerms (by_shares sharing.now) terms.now goal want.now) }
+    ensures of_all { IfSome result (λ goal. Converts RuleName.R8 Guarantee.All goal) }
+    ensures none { IsNone result → (goal : Guarantee) → IsValid goal →
+        LendsByTerms (by_shares sharing.now) terms.now goal want.now → ⊥ }
+{
+    match (*terms, *want) {
+        (Terms::Weight(weight), Guarantee::Psbe { s: rate, d: error }) => {
+            fair_before(sharing, weight, &rate, &error)
+        }
+        _ => None,
+    }
 }
 
 /// The share of which a seat of this weight is lent the share `rate` with the error `error`, if there is one.
-fn fair_before(queue: &Queue, weight: u32, rate: &Frac, error: &Frac) -> Option<Guarantee>
-    requires config { ConfigInRange (Config.Sfq queue.now.total queue.now.most queue.now.quantum) }
+fn fair_before(sharing: &Sharing, weight: u32, rate: &Frac, error: &Frac) -> Option<Guarantee>
+    requires config { ConfigInRange (by_shares sharing.now) }
     requires terms { TermsInRange (Terms.Weight weight) }
     requires narrow { IsShare (10 ^ 10) (10 ^ 6) rate.now error.now }
     ensures some { IfSome result (λ goal.
-        LendsByTerms (Config.Sfq queue.now.total queue.now.most queue.now.quantum) (Terms.Weight weight) goal
-        (Guarantee.Psbe rate.now error.now)) }
+        LendsByTerms (by_shares sharing.now) (Terms.Weight weight) goal (Guarantee.Psbe rate.now error.now)) }
     ensures of_all { IfSome result (λ goal. Converts RuleName.R8 Guarantee.All goal) }
     ensures none { IsNone result → (goal : Guarantee) → IsValid goal →
-        LendsByTerms (Config.Sfq queue.now.total queue.now.most queue.now.quantum) (Terms.Weight weight) goal
-        (Guarantee.Psbe rate.now error.now) → ⊥ }
+        LendsByTerms (by_shares sharing.now) (Terms.Weight weight) goal (Guarantee.Psbe rate.now error.now) → ⊥ }
 {
-    let Queue {
-        total,
-        most,
-        quantum,
-    } = *queue;
+    let total = sharing.total;
     if weight > total {
         return None;
     }
-    let others = ((most - 1) * weight + (total - weight)) * quantum;
+    let others = ((sharing.most - 1) * weight + (total - weight)) * sharing.quantum;
     share_before(weight, total, others, rate, error)
 }
 

@@ -1,13 +1,14 @@
 use Rattle.std.proofs.Common.{ℕ, ◌≤◌}
-use Rattle.hls_chron.specs.declared.plain.Config.TheVariants.{Sfq}
+use Rattle.hls_chron.specs.declared.plain.Sharing.{Sharing}
 use Rattle.hls_chron.specs.declared.plain.Terms.TheVariants.{Weight}
+use Rattle.hls_chron.specs.Kinds.{by_shares}
 use Rattle.hls_chron.specs.Ranges.{ConfigInRange, TermsInRange}
 use Rattle.hls_guarantee.proofs.FairShares.{fractions-share}
 use Rattle.hls_check.proofs.ShareSizes.{IsWeight, rate-fits, waiting-fits, slowed-fits, error-fits}
 use Rattle.hls_check.proofs.lending.share_lent.Goals as goal
 
-weighs : {total most quantum weight : ℕ} → ConfigInRange (Sfq total most quantum) → TermsInRange (Weight weight)
-    → weight ≤ total → IsWeight total most quantum weight
+weighs : {sharing : Sharing} {weight : ℕ} → ConfigInRange (by_shares sharing) → TermsInRange (Weight weight)
+    → weight ≤ sharing.total → IsWeight sharing weight
 weighs config w fits = record {
   some = w.0;
   light = w.1;
@@ -21,42 +22,42 @@ weighs config w fits = record {
 pub mul-requires : goal.mul-requires
 mul-requires c =
     let a = c.args in
-    let q = a.queue.now in
+    let sharing = a.sharing.now in
     let size = weighs c.requires.config c.requires.terms c.if-weight-total.false in
-    rate-fits q.total q.most q.quantum a.weight a.s.now a.d.now c.quotient-part.result c.requires.share size
+    rate-fits sharing a.weight a.s.now a.d.now c.quotient-part.result c.requires.share size
     c.quotient-part.ensures
 
 pub add-requires : goal.add-requires
 add-requires c =
     let a = c.args in
-    let q = a.queue.now in
+    let sharing = a.sharing.now in
     let size = weighs c.requires.config c.requires.terms c.if-weight-total.false in
-    waiting-fits q.total q.most q.quantum a.weight a.s.now a.d.now c.quotient-others.result c.requires.share size
+    waiting-fits sharing a.weight a.s.now a.d.now c.quotient-others.result c.requires.share size
     c.quotient-others.ensures
 
 pub mul-requires-2 : goal.mul-requires-2
 mul-requires-2 c =
     let a = c.args in
-    let q = a.queue.now in
+    let sharing = a.sharing.now in
     let size = weighs c.requires.config c.requires.terms c.if-weight-total.false in
-    slowed-fits q.total q.most q.quantum a.weight a.s.now a.d.now c.quotient-part.result c.quotient-others.result
+    slowed-fits sharing a.weight a.s.now a.d.now c.quotient-part.result c.quotient-others.result
     c.add.result c.requires.share size c.quotient-part.ensures c.quotient-others.ensures c.add.ensures
 
 pub add-requires-2 : goal.add-requires-2
 add-requires-2 c =
     let a = c.args in
-    let q = a.queue.now in
+    let sharing = a.sharing.now in
     let size = weighs c.requires.config c.requires.terms c.if-weight-total.false in
-    error-fits q.total q.most q.quantum a.weight a.s.now a.d.now c.quotient-part.result c.quotient-others.result
+    error-fits sharing a.weight a.s.now a.d.now c.quotient-part.result c.quotient-others.result
     c.add.result c.mul-2.result c.quotient-rest.result c.requires.share size c.quotient-part.ensures
     c.quotient-others.ensures c.add.ensures c.mul-2.ensures c.quotient-rest.ensures
 
 pub returns-clause-some : goal.returns-clause-some
 returns-clause-some c =
     let a = c.args in
-    let q = a.queue.now in
+    let sharing = a.sharing.now in
     let r = c.requires in
-    fractions-share q.total q.most q.quantum a.weight a.s.now a.d.now c.quotient-part.result c.quotient-others.result
+    fractions-share sharing a.weight a.s.now a.d.now c.quotient-part.result c.quotient-others.result
     c.add.result c.mul-2.result c.quotient-rest.result c.mul.result c.add-2.result r.config.1.0 r.terms.0
     c.if-weight-total.false (record {
       part_is = c.quotient-part.ensures;

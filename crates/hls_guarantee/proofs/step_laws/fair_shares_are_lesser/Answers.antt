@@ -6,6 +6,6 @@ returns c =
     let a = c.args in
     let some = c.requires.weight in
     let share = c.requires.share in (
-      fair-at_most a.total a.most a.quantum a.weight a.s a.d a.rate a.error some share,
-      fair-later a.total a.most a.quantum a.weight a.s a.d a.rate a.error some share,
+      fair-at_most a.sharing a.weight a.s a.d a.rate a.error some share,
+      fair-later a.sharing a.weight a.s a.d a.rate a.error some share,
     )

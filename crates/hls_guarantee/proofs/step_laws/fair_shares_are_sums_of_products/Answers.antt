@@ -5,7 +5,7 @@ pub returns : goal.returns
 returns c =
     let a = c.args in
     let r = c.requires in
-    let are : AreFractions a.total a.most a.quantum a.weight a.d a.part a.others a.waiting a.slowed a.rest =
+    let are : AreFractions a.sharing a.weight a.d a.part a.others a.waiting a.slowed a.rest =
     record {
       part_is = r.part;
       others_are = r.others;
@@ -13,8 +13,8 @@ returns c =
       slowed_is = r.slowed;
       rest_is = r.rest;
     } in (
-      share-fractions a.total a.most a.quantum a.weight a.s a.d a.part a.others a.waiting a.slowed a.rest a.rate a.error
+      share-fractions a.sharing a.weight a.s a.d a.part a.others a.waiting a.slowed a.rest a.rate a.error
           r.weight are,
-      fractions-share a.total a.most a.quantum a.weight a.s a.d a.part a.others a.waiting a.slowed a.rest a.rate a.error
+      fractions-share a.sharing a.weight a.s a.d a.part a.others a.waiting a.slowed a.rest a.rate a.error
           r.most r.weight r.total are,
     )
