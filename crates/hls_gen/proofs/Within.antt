@@ -14,6 +14,7 @@ use Rattle.hls_scenario.specs.Grammar.{IsCommand, IsLoad, AreItems, IsScenario}
 use Rattle.hls_chron.specs.declared.plain.Config.{Config}
 use Rattle.hls_chron.specs.declared.plain.Config.TheVariants as configs
 use Rattle.hls_chron.specs.declared.plain.Terms.TheVariants as terms
+use Rattle.hls_chron.specs.Kinds.{fair}
 use Rattle.hls_guarantee.specs.declared.Guarantee.TheVariants.{All, Null}
 use Rattle.hls_gen.specs.Draws.{next_state, drawn}
 use Rattle.hls_gen.specs.Generated.{Made, with_command, with_plain, with_reserved, with_weighted, with_wake}
@@ -164,7 +165,7 @@ schedulers made has =
     (load (codes "r") (configs.Rr 5) (under (codes "root") (terms.Prio 1) Null))
     (refl, (((omega arith, omega arith), tt), record { spot = (refl, omega arith); want = tt })) in
     plain 0 3 _ 0 (omega arith) (omega arith) third
-    (load (codes "s") (configs.Sfq 10 5 1) (under (codes "e") (terms.Res true 30 100) three_tenths)) (
+    (load (codes "s") (fair 10 5) (under (codes "e") (terms.Res true 30 100) three_tenths)) (
       refl,
       (
         (((omega arith, omega arith), (omega arith, omega arith), (omega arith, omega arith)), λ one. refl),

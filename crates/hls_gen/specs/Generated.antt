@@ -10,6 +10,7 @@ use Rattle.hls_chron.specs.declared.plain.Config.{Config}
 use Rattle.hls_chron.specs.declared.plain.Config.TheVariants as configs
 use Rattle.hls_chron.specs.declared.plain.Terms.{Terms}
 use Rattle.hls_chron.specs.declared.plain.Terms.TheVariants as terms
+use Rattle.hls_chron.specs.Kinds.{fair}
 use Rattle.hls_guarantee.specs.declared.Guarantee.{Guarantee}
 use Rattle.hls_guarantee.specs.declared.Guarantee.TheVariants.{All, Null, Resb, Psbe}
 use Rattle.hls_scenario.specs.declared.scenario.Spot.TheVariants.{Cpu, Under}
@@ -108,7 +109,7 @@ with_round tick made = with_wake tick (if tick % 2000 == 0 then with_exchange ti
 
 unfoldable pub with_schedulers : Made → Made
 with_schedulers made =
-    with_plain 0 (load (codes "s") (configs.Sfq 10 5 1) (under (codes "e") (terms.Res true 30 100) three_tenths))
+    with_plain 0 (load (codes "s") (fair 10 5) (under (codes "e") (terms.Res true 30 100) three_tenths))
     (with_plain 0 (load (codes "r") (configs.Rr 5) (under (codes "root") (terms.Prio 1) Null))
     (with_plain 0 (load (codes "e") configs.Edf (under (codes "root") (terms.Prio 0) All))
     (with_plain 0 (load (codes "root") configs.Fp (record { spot = Cpu; want = All })) made)))

@@ -87,11 +87,7 @@ impl Making {
             y: 100,
         };
         let share = under(e, reserved, three_tenths());
-        let queue = Config::Sfq {
-            total: 10,
-            most: 5,
-            quantum: 1,
-        };
+        let queue = Config::fair(10, 5);
         self.put_load(alloc, root, Config::Fp, at_processor)?;
         self.put_load(alloc, e, Config::Edf, first)?;
         self.put_load(alloc, named(b"r"), Config::Rr { quantum: 5 }, second)?;

@@ -7,7 +7,9 @@ use Rattle.std.proofs.lemmas.Bool.{leb-true}
 use Rattle.hls_text.specs.Lines.{Text}
 use Rattle.hls_chron.specs.Ranges.{most_ticks}
 use Rattle.hls_chron.specs.declared.plain.Config.{Config}
-use Rattle.hls_chron.specs.declared.plain.Config.TheVariants as configs
+use Rattle.hls_chron.specs.declared.plain.Sharing.{Sharing}
+use Rattle.hls_chron.specs.Kinds.{by_shares}
+use Rattle.hls_chron.proofs.ConfigLaws.{by_kind}
 use Rattle.hls_chron.specs.declared.plain.Terms.{Terms}
 use Rattle.hls_chron.specs.declared.plain.Terms.TheVariants as terms
 use Rattle.hls_guarantee.specs.declared.Guarantee.{Guarantee}
@@ -24,10 +26,11 @@ use Rattle.hls_scenario.specs.Forms.{the, number, pair_forms, guarantee_forms, t
 use Rattle.hls_scenario.specs.Forms.{config_forms, quantum_forms, spot_forms, perch_forms}
 use Rattle.hls_scenario.specs.Forms.{more_perches_forms, perches_forms, burst_forms, waking_forms, command_forms}
 use Rattle.hls_scenario.specs.Forms.{item_forms, depth_lines, scenario_lines}
-use Rattle.hls_scenario.specs.Grammar.{IsTerms, IsSpot, IsPerch, IsLoad, IsBurst, IsWaking, IsCommand}
+use Rattle.hls_scenario.specs.Grammar.{IsTerms, IsSpot, IsPerch, IsConfig, IsLoad, IsBurst, IsWaking, IsCommand}
 use Rattle.hls_scenario.specs.Grammar.{AreItems, IsDepth, IsScenario}
 use Rattle.hls_scenario.proofs.CanonicalLines.{Sign, IsWord, all_append, decimal_word}
 use Rattle.hls_scenario.proofs.CanonicalPrinting.{load_perches}
+use Rattle.hls_scenario.proofs.Loads.{load_config}
 use Rattle.hls_scenario.proofs.CanonicalWords.{IsPrintable, ArePrintable, IsPrintableLine, ArePrintableLines}
 use Rattle.hls_scenario.proofs.CanonicalWords.{name_word}
 
@@ -136,39 +139,33 @@ quantum_printable version quantum fits =
       | false ↦ (small_word quantum (omega arith), tt)
     ]
 
-config_printable : (version : ℕ) (config : Config) (perches : List Perch) → IsLoad version config perches
-    → ArePrintable (config_forms version config)
-config_printable version configs.Cpu perches is = tt
-config_printable version configs.Fp perches is = (word (codes "fp") refl, tt)
-config_printable version configs.Edf perches is = (word (codes "edf") refl, tt)
-config_printable version (configs.Join ports) perches is = (word (codes "join") refl, tt)
-config_printable version (configs.Sfq total most quantum) [] is = absurd is
-config_printable version (configs.Sfq total most quantum) (perch ∷ []) is =
-    let ranges = is.0.0 in
-    let fits : total ≤ 100 = ranges.0.1 in
-    let few : most ≤ 20 = ranges.1.1 in
-    let short : quantum ≤ 100 = ranges.2.1 in (
+shares_printable : (version : ℕ) (s : Sharing) → IsConfig version (by_shares s)
+    → ArePrintable (config_forms version (by_shares s))
+shares_printable version s is =
+    let ranges = is.0 in
+    let fits : s.total ≤ 100 = ranges.0.1 in
+    let few : s.most ≤ 20 = ranges.1.1 in (
       word (codes "sfq") refl,
       (
-        small_word total (omega arith),
-        (small_word most (omega arith), quantum_printable version quantum short),
+        small_word s.total (omega arith),
+        (small_word s.most (omega arith), quantum_printable version s.quantum ranges.2.1),
       ),
     )
-config_printable version (configs.Sfq total most quantum) (perch ∷ other ∷ perches) is = absurd is
-config_printable version (configs.Rr quantum) [] is = absurd is
-config_printable version (configs.Rr quantum) (perch ∷ []) is =
-    let fits : quantum ≤ 100 = is.0.0.1 in number_words (codes "rr") quantum refl (omega arith)
-config_printable version (configs.Rr quantum) (perch ∷ other ∷ perches) is = absurd is
-config_printable version (configs.Wheel frame) [] is = absurd is
-config_printable version (configs.Wheel frame) (perch ∷ []) is =
-    let fits : frame ≤ 1000 = is.0.0.1 in number_words (codes "wheel") frame refl (omega arith)
-config_printable version (configs.Wheel frame) (perch ∷ other ∷ perches) is = absurd is
+
+config_printable : (version : ℕ) (config : Config) → IsConfig version config
+    → ArePrintable (config_forms version config)
+config_printable version =
+    by_kind (λ config. IsConfig version config → ArePrintable (config_forms version config)) (λ is. tt)
+    (λ is. (word (codes "fp") refl, tt)) (λ is. (word (codes "edf") refl, tt)) (shares_printable version)
+    (λ quantum is. let fits : quantum ≤ 100 = is.0.1 in number_words (codes "rr") quantum refl (omega arith))
+    (λ frame is. let fits : frame ≤ 1000 = is.0.1 in number_words (codes "wheel") frame refl (omega arith))
+    (λ ports is. (word (codes "join") refl, tt))
 
 load_printable : (version : ℕ) (config : Config) (perches : List Perch) → IsLoad version config perches
     → ArePrintable (config_forms version config ++ the (codes "on") ∷ perches_forms perches)
 load_printable version config perches is =
     all_append IsPrintable (config_forms version config) (the (codes "on") ∷ perches_forms perches)
-    (config_printable version config perches is)
+    (config_printable version config (load_config version config perches is))
     (word (codes "on") refl, perches_printable perches (load_perches version config perches is))
 
 burst_printable : (burst : Option ℕ) → IsBurst burst → ArePrintable (burst_forms burst)

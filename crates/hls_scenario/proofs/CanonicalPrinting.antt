@@ -6,7 +6,6 @@ use Rattle.std.proofs.lemmas.List.{take_all}
 use Rattle.std.proofs.lemmas.Grind.{flat_map-append}
 use Rattle.std.proofs.lemmas.List.Folds.{flat_map-map}
 use Rattle.hls_chron.specs.declared.plain.Config.{Config}
-use Rattle.hls_chron.specs.declared.plain.Config.TheVariants as configs
 use Rattle.hls_text.specs.Lines.{Text}
 use Rattle.hls_guarantee.specs.Limits.{IsNarrow}
 use Rattle.hls_scenario.specs.declared.scenario.Perch.{Perch}
@@ -18,6 +17,7 @@ use Rattle.hls_scenario.specs.Forms.{item_forms, header_forms, horizon_forms, de
 use Rattle.hls_scenario.specs.Forms.{scenario_text}
 use Rattle.hls_scenario.specs.Grammar.{IsPerch, ArePorts, IsLoad, IsCommand, AreItems}
 use Rattle.hls_scenario.specs.Printing.{comma_text}
+use Rattle.hls_scenario.proofs.Loads.{by_load}
 
 pub spaced-append : (xs ys : List Form) → spaced (xs ++ ys) ≡ spaced xs ++ spaced ys
 spaced-append xs ys = flat_map-append (λ form. 32 ∷ canonical form) xs ys
@@ -53,23 +53,9 @@ ports_perches (perch ∷ perches) are = (are.0, ports_perches perches are.2)
 -- the perches of a load
 pub load_perches : (version : ℕ) (config : Config) (perches : List Perch) → IsLoad version config perches
     → AllByRecursion IsPerch perches
-load_perches version configs.Cpu perches is = absurd is
-load_perches version (configs.Join ports) perches is = ports_perches perches is.2
-load_perches version configs.Fp [] is = absurd is
-load_perches version configs.Fp (perch ∷ []) is = (is.1, tt)
-load_perches version configs.Fp (perch ∷ other ∷ perches) is = absurd is
-load_perches version configs.Edf [] is = absurd is
-load_perches version configs.Edf (perch ∷ []) is = (is.1, tt)
-load_perches version configs.Edf (perch ∷ other ∷ perches) is = absurd is
-load_perches version (configs.Sfq total most quantum) [] is = absurd is
-load_perches version (configs.Sfq total most quantum) (perch ∷ []) is = (is.1, tt)
-load_perches version (configs.Sfq total most quantum) (perch ∷ other ∷ perches) is = absurd is
-load_perches version (configs.Rr quantum) [] is = absurd is
-load_perches version (configs.Rr quantum) (perch ∷ []) is = (is.1, tt)
-load_perches version (configs.Rr quantum) (perch ∷ other ∷ perches) is = absurd is
-load_perches version (configs.Wheel frame) [] is = absurd is
-load_perches version (configs.Wheel frame) (perch ∷ []) is = (is.1, tt)
-load_perches version (configs.Wheel frame) (perch ∷ other ∷ perches) is = absurd is
+load_perches version =
+    by_load version (λ config perches. AllByRecursion IsPerch perches) (λ config perch solo is. (is, tt))
+    (λ ports perches is. ports_perches perches is.2)
 
 abbrev pub AreNarrow : List Perch → Type 0
 AreNarrow perches = AllByRecursion (λ perch. IsNarrow perch.want) perches

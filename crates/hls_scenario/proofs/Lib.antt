@@ -1,3 +1,4 @@
+pub mod Loads
 pub mod CanonicalPrinting
 pub mod CanonicalLines
 pub mod CanonicalWords

@@ -140,20 +140,17 @@ pub fn put_command(out: &mut Vec<u8>, version: u8, command: &Command) -> Result<
 fn put_config(out: &mut Vec<u8>, version: u8, config: &Config) -> Result<(), AllocError>
     ensures { OnOk result (out.new.items ≡ out.old.items ++ spaced (config_forms version config.now)) }
 {
+    // fair queueing, by its numbers
+    if let Some(sharing) = config.sharing() {
+        put(out, b" sfq")?;
+        put_number(out, sharing.total)?;
+        put_number(out, sharing.most)?;
+        return put_quantum(out, version, sharing.quantum);
+    }
     match config {
-        Config::Cpu => Ok(()),
+        Config::Cpu | Config::Sfq { .. } => Ok(()),
         Config::Fp => put(out, b" fp"),
         Config::Edf => put(out, b" edf"),
-        Config::Sfq {
-            total,
-            most,
-            quantum,
-        } => {
-            put(out, b" sfq")?;
-            put_number(out, *total)?;
-            put_number(out, *most)?;
-            put_quantum(out, version, *quantum)
-        }
         Config::Rr { quantum } => {
             put(out, b" rr")?;
             put_number(out, *quantum)
