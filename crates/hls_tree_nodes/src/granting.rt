@@ -1,0 +1,214 @@
+// The processor is granted down the tree.
+ghost use Rattle.std.specs.Prelude.{◌≡◌, ◌≢◌, ℕ, ◌<◌, Option, Some, None, true, IfSome, IsNone, []};
+ghost use Rattle.std.specs.Prelude.{map, option_map, slice_get};
+ghost use Rattle.slab.specs.Slab.{get};
+ghost use Rattle.hls_machine.specs.Hierarchy.{Processor, Seat};
+ghost use Rattle.hls_tree_nodes.specs.Shown.{PostedIn, ServesIn};
+ghost use Rattle.hls_tree_nodes.specs.Shown.{asks_in, place_in};
+ghost use Rattle.hls_tree_nodes.specs.Shown.{grant_in, is_sched, on_post, post_granted};
+ghost use Rattle.hls_tree_nodes.specs.Views.{shown_at, choice_at, is_place, place_view, seat_view};
+ghost use Rattle.hls_tree_nodes.specs.Known.{IsAlongRoute};
+ghost use Rattle.hls_tree_nodes.specs.TreeOf.{IsTelling, Sitter, Led, Ran, RootAt};
+ghost use Rattle.hls_tree_nodes.specs.TreeOf.{Each};
+
+use crate::node::same_place;
+use crate::telling::asks_at;
+use crate::{Node, NodeId, Place, Role, Route, TakenSeat};
+use slab::Slab;
+
+/// Grants a scheduler through a port, and names the slot that it serves; nothing at a thread.
+fn grant_at(nodes: &mut Slab<Node>, key: usize, port: u8) -> Option<u32>
+    requires posted { PostedIn (shown_at seen nodes.old key) }
+    requires asks { asks_in (shown_at seen nodes.old key) ≡ true }
+    requires free { grant_in (shown_at seen nodes.old key) ≡ None }
+    ensures others { (k : ℕ) → k ≢ key → get nodes.new k ≡ get nodes.old k }
+    ensures granted { shown_at seen nodes.new key ≡ on_post (post_granted port) (shown_at seen nodes.old key) }
+    ensures choice { choice_at choice nodes.new key ≡ choice_at choice nodes.old key }
+    ensures value { result ≡ choice_at choice nodes.old key }
+    ensures serves { IfSome result (ServesIn (shown_at seen nodes.old key)) }
+    ensures some { is_sched (shown_at seen nodes.old key) ≡ true → result ≢ None }
+{
+    match nodes.get_mut(key) {
+        Some(node) => match &mut node.role {
+            Role::Sched(station) => station.grant(port),
+            Role::Thread { .. } => None,
+        },
+        None => None,
+    }
+}
+
+/// Whether the seat of a port is at a place.
+fn sits_at(seats: &[TakenSeat], port: u8, place: Place) -> bool
+    ensures { result ≡ is_place (option_map (λ (s : Seat). s.place) (slice_get (map seat_view seats.now) port))
+        (place_view place) }
+{
+    match seats.get(port as usize) {
+        Some(seat) => same_place(seat.place, place),
+        None => false,
+    }
+}
+
+/// The port of these seats that is at a place.
+fn port_on(seats: &[TakenSeat], place: Place) -> Option<u8>
+    ensures some { IfSome result (λ port. is_place
+        (option_map (λ (s : Seat). s.place) (slice_get (map seat_view seats.now) port)) (place_view place) ≡ true) }
+    ensures none { IsNone result → (port : ℕ) → port < 4 → is_place
+        (option_map (λ (s : Seat). s.place) (slice_get (map seat_view seats.now) port)) (place_view place) ≢ true }
+{
+    for port in 0..4u8 {
+        if sits_at(seats, port, place) {
+            return Some(port);
+        }
+    }
+    None
+}
+
+/// The port of a node that sits at a place.
+fn port_at(nodes: &Slab<Node>, key: usize, place: Place) -> Option<u8>
+    ensures some { IfSome result
+        (λ port. is_place (place_in (shown_at seen nodes.now key) port) (place_view place) ≡ true) }
+    ensures none { IsNone result → (port : ℕ) → port < 4 →
+        is_place (place_in (shown_at seen nodes.now key) port) (place_view place) ≢ true }
+{
+    match nodes.get(key) {
+        Some(node) => port_on(&node.seats, place),
+        None => None,
+    }
+}
+
+/// Who sits at a place, and by which port, of all nodes.
+fn find_sitter(nodes: &Slab<Node>, place: Place) -> Option<(usize, u8)>
+    ensures some { IfSome result
+        (λ who. is_place (place_in (shown_at seen nodes.now who.0) who.1) (place_view place) ≡ true) }
+    ensures none { IsNone result → (key port : ℕ) → port < 4 →
+        is_place (place_in (shown_at seen nodes.now key) port) (place_view place) ≢ true }
+{
+    let end = nodes.capacity();
+    for key in 0..end {
+        if let Some(port) = port_at(nodes, key, place) {
+            return Some((key, port));
+        }
+    }
+    None
+}
+
+/// Who sits at a place, and by which port: the one who was seen there last, if it still does.
+fn sitter_at(nodes: &Slab<Node>, place: Place, last: usize) -> Option<(usize, u8)>
+    ensures some { IfSome result
+        (λ who. is_place (place_in (shown_at seen nodes.now who.0) who.1) (place_view place) ≡ true) }
+    ensures none { IsNone result → (key port : ℕ) → port < 4 →
+        is_place (place_in (shown_at seen nodes.now key) port) (place_view place) ≢ true }
+{
+    match port_at(nodes, last, place) {
+        Some(port) => Some((last, port)),
+        None => find_sitter(nodes, place),
+    }
+}
+
+/// Who was seen last at a slot of a scheduler.
+fn last_on(nodes: &Slab<Node>, key: usize, slot: u32) -> usize {
+    match nodes.get(key) {
+        Some(node) => match &node.role {
+            Role::Sched(station) => station.last_at(slot),
+            Role::Thread { .. } => 0,
+        },
+        None => 0,
+    }
+}
+
+/// Who was seen last at a place; at the processor the root.
+fn last_seen(nodes: &Slab<Node>, place: Place, root: usize) -> usize {
+    match place {
+        Place::Processor => root,
+        Place::At { scheduler, slot } => last_on(nodes, scheduler, slot),
+    }
+}
+
+/// Notes who was seen at a slot of a scheduler.
+fn note_on(nodes: &mut Slab<Node>, key: usize, slot: u32, id: NodeId)
+    requires posted { PostedIn (shown_at seen nodes.old key) }
+    ensures here { shown_at seen nodes.new key ≡ shown_at seen nodes.old key }
+    ensures choice { choice_at choice nodes.new key ≡ choice_at choice nodes.old key }
+    ensures others { (k : ℕ) → k ≢ key → get nodes.new k ≡ get nodes.old k }
+{
+    match nodes.get_mut(key) {
+        Some(node) => match &mut node.role {
+            Role::Sched(station) => station.note(slot, id),
+            Role::Thread { .. } => {}
+        },
+        None => {}
+    }
+}
+
+/// Notes who was seen at a place, if it is another one than the last.
+fn note_seen(nodes: &mut Slab<Node>, place: Place, last: usize, id: NodeId)
+    requires posted { (k : ℕ) → PostedIn (shown_at seen nodes.old k) }
+    ensures same { (k : ℕ) → shown_at seen nodes.new k ≡ shown_at seen nodes.old k }
+    ensures choices { (k : ℕ) → choice_at choice nodes.new k ≡ choice_at choice nodes.old k }
+{
+    if id.key() == last {
+        return;
+    }
+    match place {
+        Place::Processor => {}
+        Place::At { scheduler, slot } => note_on(nodes, scheduler, slot, id),
+    }
+}
+
+/// Grants along the choices down to a thread, and tells the way.
+fn grant_path(nodes: &mut Slab<Node>, root: NodeId, route: &mut Route)
+    requires telling { IsTelling (shown_at seen nodes.old) Each }
+    requires root { (sitter : Sitter (shown_at seen nodes.old) Processor) ×
+        (asks_in (shown_at seen nodes.old sitter.node) ≡ true) }
+    requires empty { route.old ≡ [] }
+    ensures { Led (shown_at seen nodes.old) (shown_at seen nodes.new) (choice_at choice nodes.new) route.new }
+{
+    let mut place = Place::Processor;
+    for step in 0..9u8 {
+        let last = last_seen(nodes, place, root.key());
+        let Some((key, port)) = sitter_at(nodes, place, last) else {
+            unreachable!()
+        };
+        let id = NodeId::of(key);
+        note_seen(nodes, place, last, id);
+        route.push(id);
+        match grant_at(nodes, key, port) {
+            None => return,
+            Some(slot) => {
+                place = Place::At {
+                    scheduler: key,
+                    slot,
+                }
+            }
+        }
+    }
+    unreachable!()
+}
+
+/// Grants from the root down, if it asks.
+fn grant_root(nodes: &mut Slab<Node>, root: Option<NodeId>, route: &mut Option<Route>)
+    requires telling { IsTelling (shown_at seen nodes.old) Each }
+    requires root { RootAt (shown_at seen nodes.old) root }
+    ensures { Ran (shown_at seen nodes.old) (shown_at seen nodes.new) (choice_at choice nodes.new) root route.new }
+{
+    match root {
+        None => *route = None,
+        Some(root) => {
+            if asks_at(nodes, root.key()) {
+                grant_path(nodes, root, route.insert(Route::new()));
+            } else {
+                *route = None;
+            }
+        }
+    }
+}
+
+/// Grants from the root down, if it asks, and tells the way.
+pub fn grant(nodes: &mut Slab<Node>, root: Option<NodeId>, route: &mut Option<Route>)
+    requires telling { IsTelling (shown_at seen nodes.old) Each }
+    requires root { RootAt (shown_at seen nodes.old) root }
+    ensures ran { Ran (shown_at seen nodes.old) (shown_at seen nodes.new) (choice_at choice nodes.new) root route.new }
+    ensures along { IsAlongRoute (shown_at seen nodes.new) route.new }
+{
+    grant_root(nodes, root, route);
+}

@@ -1,0 +1,523 @@
+// What is asked is told up the tree, and the processor is taken back.
+ghost use Rattle.hls_chron.specs.Ranges.{most_slots};
+ghost use Rattle.std.specs.Prelude.{◌≡◌, ◌≢◌, ℕ, ◌+◌, ◌<◌, ◌≤◌, Option, Some, None, IfSome};
+ghost use Rattle.std.specs.Prelude.{length, map, option_map, slice_get, get_or};
+ghost use Rattle.std.specs.Int.{bit_at};
+ghost use Rattle.hls_chron.specs.Seats.{terms_at};
+ghost use Rattle.hls_machine.specs.Hierarchy.{Processor, Seat};
+ghost use Rattle.hls_tree_nodes.specs.Shown.{PostedIn, ToldIn};
+ghost use Rattle.hls_tree_nodes.specs.Shown.{book_in, asks_in, level_in, place_in, seats_in};
+ghost use Rattle.hls_tree_nodes.specs.Shown.{is_sched, on_post, post_revoked};
+ghost use Rattle.hls_tree_nodes.specs.Views.{shown_at, told_place, place_view, seat_view};
+ghost use Rattle.hls_tree_nodes.specs.Levels.{IsLevel, AreByLevel};
+ghost use Rattle.hls_tree_nodes.specs.Known.{HaveTold, AreStill, AreKnown, IsKnown, IsFound, IsAlongRoute, has_bit};
+ghost use Rattle.hls_tree_nodes.specs.TreeOf.{IsLaid, IsRanked, IsAlike, IsTelling, ToldBy};
+ghost use Rattle.hls_tree_nodes.specs.TreeOf.{Tells, TellsThread, NoScheduler, IsNew, IsOn, IsRoll, AllFrom, AllUpTo};
+ghost use Rattle.hls_tree_nodes.specs.TreeOf.{AreTold, Each};
+
+use crate::known::{has_bit, with_bit};
+use crate::{Changed, Known, Node, NodeId, Place, Role, Route, TakenSeat};
+use slab::Slab;
+
+/// Tells a scheduler whether a seat on it asks.
+fn tell_at(nodes: &mut Slab<Node>, key: usize, slot: u32, asks: bool)
+    requires posted { PostedIn (shown_at seen nodes.old key) }
+    requires taken { terms_at (book_in (shown_at seen nodes.old key)) slot ≢ None }
+    requires within { slot < most_slots }
+    ensures here { ToldIn slot asks (shown_at seen nodes.old key) (shown_at seen nodes.new key) }
+    ensures others { (k : ℕ) → k ≢ key → shown_at seen nodes.new k ≡ shown_at seen nodes.old k }
+{
+    match nodes.get_mut(key) {
+        Some(node) => match &mut node.role {
+            Role::Sched(station) => station.tell(slot, asks),
+            Role::Thread { .. } => {}
+        },
+        None => {}
+    }
+}
+
+/// Whether a node asks.
+pub(crate) fn asks_at(nodes: &Slab<Node>, key: usize) -> bool
+    requires posted { PostedIn (shown_at seen nodes.now key) }
+    ensures { result ≡ asks_in (shown_at seen nodes.now key) }
+{
+    match nodes.get(key) {
+        Some(node) => node.role.asks(),
+        None => false,
+    }
+}
+
+/// The level of a node.
+pub fn level_at(nodes: &Slab<Node>, key: usize) -> u8
+    ensures { result ≡ level_in (shown_at seen nodes.now key) }
+{
+    match nodes.get(key) {
+        Some(node) => node.level,
+        None => 0,
+    }
+}
+
+/// The scheduler and the slot of a place that is not the processor.
+fn slot_of(place: Place) -> Option<(usize, u32)>
+    ensures { result ≡ told_place (Some (place_view place)) }
+{
+    match place {
+        Place::Processor => None,
+        Place::At { scheduler, slot } => Some((scheduler, slot)),
+    }
+}
+
+/// The scheduler and the slot where the seat of a port is.
+fn slot_on(seats: &[TakenSeat], port: u8) -> Option<(usize, u32)>
+    ensures { result ≡ told_place (option_map (λ (s : Seat). s.place) (slice_get (map seat_view seats.now) port)) }
+{
+    match seats.get(port as usize) {
+        Some(seat) => slot_of(seat.place),
+        None => None,
+    }
+}
+
+/// The scheduler and the slot where a port sits.
+fn slot_at(nodes: &Slab<Node>, key: usize, port: u8) -> Option<(usize, u32)>
+    ensures { result ≡ told_place (place_in (shown_at seen nodes.now key) port) }
+{
+    match nodes.get(key) {
+        Some(node) => slot_on(&node.seats, port),
+        None => None,
+    }
+}
+
+/// Tells the scheduler where somebody sits whether that one asks.
+fn tell_slot(nodes: &mut Slab<Node>, at: Option<(usize, u32)>, asks: bool)
+    requires posted { (k : ℕ) → PostedIn (shown_at seen nodes.old k) }
+    requires taken { IfSome at (λ a. terms_at (book_in (shown_at seen nodes.old a.0)) a.1 ≢ None) }
+    requires within { IfSome at (λ a. a.1 < most_slots) }
+    ensures { ToldBy at asks (shown_at seen nodes.old) (shown_at seen nodes.new) }
+{
+    match at {
+        Some((scheduler, slot)) => tell_at(nodes, scheduler, slot, asks),
+        None => {}
+    }
+}
+
+/// Tells where a port sits whether the node asks.
+fn tell_port(nodes: &mut Slab<Node>, key: usize, port: u8, asks: bool)
+    requires laid { IsLaid (shown_at seen nodes.old) }
+    requires posted { (k : ℕ) → PostedIn (shown_at seen nodes.old k) }
+    ensures { ToldBy (told_place (place_in (shown_at seen nodes.old key) port)) asks
+        (shown_at seen nodes.old) (shown_at seen nodes.new) }
+{
+    let at = slot_at(nodes, key, port);
+    tell_slot(nodes, at, asks);
+}
+
+/// Whether a node asks, how many ports it has, and the scheduler and the slot where the first one sits.
+fn voice_at(nodes: &Slab<Node>, key: usize) -> (bool, u8, Option<(usize, u32)>)
+    requires posted { PostedIn (shown_at seen nodes.now key) }
+    requires few { length (seats_in (shown_at seen nodes.now key)) ≤ 4 }
+    ensures asks { result.0 ≡ asks_in (shown_at seen nodes.now key) }
+    ensures ports { result.1 ≡ length (seats_in (shown_at seen nodes.now key)) }
+    ensures first { result.2 ≡ told_place (place_in (shown_at seen nodes.now key) 0) }
+{
+    match nodes.get(key) {
+        Some(node) => (
+            node.role.asks(),
+            node.seats.len() as u8,
+            slot_on(&node.seats, 0),
+        ),
+        None => (false, 0, None),
+    }
+}
+
+/// Tells at each port of a node what it asks. Most have one, which is found with the node.
+fn tell_ports(nodes: &mut Slab<Node>, key: usize)
+    requires laid { IsLaid (shown_at seen nodes.old) }
+    requires posted { (k : ℕ) → PostedIn (shown_at seen nodes.old k) }
+    ensures { Tells key (shown_at seen nodes.old) (shown_at seen nodes.new) }
+{
+    let (asks, ports, first) = voice_at(nodes, key);
+    tell_slot(nodes, first, asks);
+    for port in 1..ports {
+        tell_port(nodes, key, port, asks);
+    }
+}
+
+/// Whether a node is a scheduler.
+fn is_sched_at(nodes: &Slab<Node>, key: usize) -> bool
+    ensures { result ≡ is_sched (shown_at seen nodes.now key) }
+{
+    match nodes.get(key) {
+        Some(node) => !node.role.is_thread(),
+        None => false,
+    }
+}
+
+/// Tells what a thread asks; a scheduler tells nothing.
+fn tell_thread(nodes: &mut Slab<Node>, key: usize)
+    requires laid { IsLaid (shown_at seen nodes.old) }
+    requires posted { (k : ℕ) → PostedIn (shown_at seen nodes.old k) }
+    ensures { TellsThread key (shown_at seen nodes.old) (shown_at seen nodes.new) }
+{
+    if is_sched_at(nodes, key) {
+        return;
+    }
+    tell_ports(nodes, key);
+}
+
+/// Tells what each thread asks.
+fn tell_threads(nodes: &mut Slab<Node>)
+    requires telling { IsTelling (shown_at seen nodes.old)
+        (λ c. NoScheduler (shown_at seen nodes.old) c × ¬ IsNew None c) }
+    ensures telling { IsTelling (shown_at seen nodes.new) (NoScheduler (shown_at seen nodes.new)) }
+    ensures alike { IsAlike (shown_at seen nodes.old) (shown_at seen nodes.new) }
+    ensures still { AreStill (shown_at seen nodes.old) (shown_at seen nodes.new) }
+{
+    let end = nodes.capacity();
+    for key in 0..end {
+        tell_thread(nodes, key);
+    }
+}
+
+/// Tells what these threads ask.
+fn tell_listed(nodes: &mut Slab<Node>, threads: &[NodeId])
+    requires telling { IsTelling (shown_at seen nodes.old)
+        (λ c. NoScheduler (shown_at seen nodes.old) c × ¬ IsNew (Some threads.now) c) }
+    ensures telling { IsTelling (shown_at seen nodes.new) (NoScheduler (shown_at seen nodes.new)) }
+    ensures alike { IsAlike (shown_at seen nodes.old) (shown_at seen nodes.new) }
+    ensures still { AreStill (shown_at seen nodes.old) (shown_at seen nodes.new) }
+{
+    for id in threads {
+        tell_thread(nodes, id.key());
+    }
+}
+
+/// Tells what those threads ask that have something new to tell.
+fn tell_changed(nodes: &mut Slab<Node>, changed: &Option<Changed>)
+    requires telling { IsTelling (shown_at seen nodes.old)
+        (λ c. NoScheduler (shown_at seen nodes.old) c × ¬ IsNew changed.now c) }
+    ensures telling { IsTelling (shown_at seen nodes.new) (NoScheduler (shown_at seen nodes.new)) }
+    ensures alike { IsAlike (shown_at seen nodes.old) (shown_at seen nodes.new) }
+    ensures still { AreStill (shown_at seen nodes.old) (shown_at seen nodes.new) }
+{
+    match changed {
+        Some(changed) => tell_listed(nodes, changed.threads()),
+        None => tell_threads(nodes),
+    }
+}
+
+/// Tells what a scheduler asks, if it is at the level.
+fn tell_scheduler(nodes: &mut Slab<Node>, schedulers: &[NodeId], at: usize, level: u8)
+    requires roll { IsRoll (shown_at seen nodes.old) schedulers.now }
+    requires within { at < length schedulers.now }
+    requires telling { IsTelling (shown_at seen nodes.old) (AllUpTo (shown_at seen nodes.old) level schedulers.now at) }
+    ensures telling { IsTelling (shown_at seen nodes.new)
+        (AllUpTo (shown_at seen nodes.new) level schedulers.now (at + 1)) }
+    ensures alike { IsAlike (shown_at seen nodes.old) (shown_at seen nodes.new) }
+    ensures voices { (voices : ℕ) → 64 ≤ at → HaveTold (shown_at seen nodes.old) schedulers.now voices →
+        HaveTold (shown_at seen nodes.new) schedulers.now voices }
+{
+    let key = schedulers[at].key();
+    if level_at(nodes, key) != level {
+        return;
+    }
+    tell_ports(nodes, key);
+}
+
+/// Tells what the schedulers at these places of the list ask, a bit for each place.
+fn tell_places(nodes: &mut Slab<Node>, schedulers: &[NodeId], places: u64)
+    requires roll { IsRoll (shown_at seen nodes.old) schedulers.now }
+    requires within { (at : ℕ) → bit_at places at ≡ 1 → at < length schedulers.now }
+    requires laid { IsLaid (shown_at seen nodes.old) }
+    requires posted { (k : ℕ) → PostedIn (shown_at seen nodes.old k) }
+    ensures telling { (level : ℕ) → IsLevel (shown_at seen nodes.old) level schedulers.now places →
+        IsTelling (shown_at seen nodes.old) (AllFrom (shown_at seen nodes.old) (level + 1)) →
+        IsTelling (shown_at seen nodes.new) (AllUpTo (shown_at seen nodes.new) level schedulers.now 64) }
+    ensures alike { IsAlike (shown_at seen nodes.old) (shown_at seen nodes.new) }
+{
+    let mut left = places;
+    while left != 0 {
+        let at = left.trailing_zeros();
+        tell_ports(nodes, schedulers[at as usize].key());
+        left &= !(1 << at);
+    }
+}
+
+/// Tells what the schedulers at a level ask that stand past the 64th place of the list.
+fn tell_rest(nodes: &mut Slab<Node>, schedulers: &[NodeId], level: u8)
+    requires roll { IsRoll (shown_at seen nodes.old) schedulers.now }
+    requires telling { IsTelling (shown_at seen nodes.old) (AllUpTo (shown_at seen nodes.old) level schedulers.now 64) }
+    ensures telling { IsTelling (shown_at seen nodes.new) (AllFrom (shown_at seen nodes.new) level) }
+    ensures alike { IsAlike (shown_at seen nodes.old) (shown_at seen nodes.new) }
+    ensures voices { (voices : ℕ) → HaveTold (shown_at seen nodes.old) schedulers.now voices →
+        HaveTold (shown_at seen nodes.new) schedulers.now voices }
+{
+    for at in 64..schedulers.len() {
+        tell_scheduler(nodes, schedulers, at, level);
+    }
+}
+
+/// Tells what the schedulers at a level ask. They stand at these places of the list; those past the 64th are
+/// looked for.
+fn tell_level(nodes: &mut Slab<Node>, schedulers: &[NodeId], level: u8, places: u64)
+    requires roll { IsRoll (shown_at seen nodes.old) schedulers.now }
+    requires places { IsLevel (shown_at seen nodes.old) level schedulers.now places }
+    requires telling { IsTelling (shown_at seen nodes.old) (AllFrom (shown_at seen nodes.old) (level + 1)) }
+    ensures telling { IsTelling (shown_at seen nodes.new) (AllFrom (shown_at seen nodes.new) level) }
+    ensures alike { IsAlike (shown_at seen nodes.old) (shown_at seen nodes.new) }
+{
+    tell_places(nodes, schedulers, places);
+    tell_rest(nodes, schedulers, level);
+}
+
+/// Tells what those schedulers at these places of the list ask that ask otherwise than they told, and what all have
+/// told then, a bit for each place.
+fn tell_news(nodes: &mut Slab<Node>, schedulers: &[NodeId], places: u64, voices: u64) -> u64
+    requires roll { IsRoll (shown_at seen nodes.old) schedulers.now }
+    requires within { (at : ℕ) → bit_at places at ≡ 1 → at < length schedulers.now }
+    requires laid { IsLaid (shown_at seen nodes.old) }
+    requires posted { (k : ℕ) → PostedIn (shown_at seen nodes.old k) }
+    requires voices { HaveTold (shown_at seen nodes.old) schedulers.now voices }
+    ensures telling { (level : ℕ) → IsLevel (shown_at seen nodes.old) level schedulers.now places →
+        IsTelling (shown_at seen nodes.old) (AllFrom (shown_at seen nodes.old) (level + 1)) →
+        IsTelling (shown_at seen nodes.new) (AllUpTo (shown_at seen nodes.new) level schedulers.now 64) }
+    ensures alike { IsAlike (shown_at seen nodes.old) (shown_at seen nodes.new) }
+    ensures voices { HaveTold (shown_at seen nodes.new) schedulers.now result }
+{
+    let mut told = voices;
+    let mut left = places;
+    while left != 0 {
+        let at = left.trailing_zeros();
+        let key = schedulers[at as usize].key();
+        let asks = asks_at(nodes, key);
+        if asks != has_bit(told, at) {
+            tell_ports(nodes, key);
+            told = with_bit(told, at, asks);
+        }
+        left &= !(1 << at);
+    }
+    told
+}
+
+/// As `tell_level`, where it is known what each of the first 64 told.
+fn tell_level_news(
+    nodes: &mut Slab<Node>,
+    schedulers: &[NodeId],
+    level: u8,
+    places: u64,
+    voices: u64,
+) -> u64
+    requires roll { IsRoll (shown_at seen nodes.old) schedulers.now }
+    requires places { IsLevel (shown_at seen nodes.old) level schedulers.now places }
+    requires telling { IsTelling (shown_at seen nodes.old) (AllFrom (shown_at seen nodes.old) (level + 1)) }
+    requires voices { HaveTold (shown_at seen nodes.old) schedulers.now voices }
+    ensures telling { IsTelling (shown_at seen nodes.new) (AllFrom (shown_at seen nodes.new) level) }
+    ensures alike { IsAlike (shown_at seen nodes.old) (shown_at seen nodes.new) }
+    ensures voices { HaveTold (shown_at seen nodes.new) schedulers.now result }
+{
+    let told = tell_news(nodes, schedulers, places, voices);
+    tell_rest(nodes, schedulers, level);
+    told
+}
+
+/// The deepest level with a place.
+fn deepest_placed(places: &[u64; 10]) -> u8
+    ensures most { (level : ℕ) → level < 10 → get_or places.now level 0 ≢ 0 → level ≤ result }
+    ensures within { result < 10 }
+{
+    let mut deep = 0u8;
+    for level in 0..10u8 {
+        if places[usize::from(level)] != 0 {
+            deep = level;
+        }
+    }
+    deep
+}
+
+/// The deepest level of these nodes. The first 64 stand at these places by their levels.
+fn deepest(nodes: &Slab<Node>, keys: &[NodeId], places: &[u64; 10]) -> u8
+    requires ranked { IsRanked (shown_at seen nodes.now) }
+    requires places { AreByLevel (shown_at seen nodes.now) keys.now places.now }
+    ensures most { (c : ℕ) → IsOn keys.now c → level_in (shown_at seen nodes.now c) ≤ result }
+    ensures within { result < 10 }
+{
+    let mut deep = deepest_placed(places);
+    for at in 64..keys.len() {
+        deep = deep.max(level_at(nodes, keys[at].key()));
+    }
+    deep
+}
+
+/// Tells what each scheduler asks, from the deepest level up. Those at level 1 sit at the processor alone.
+fn tell_schedulers(nodes: &mut Slab<Node>, schedulers: &[NodeId], places: &[u64; 10])
+    requires roll { IsRoll (shown_at seen nodes.old) schedulers.now }
+    requires places { AreByLevel (shown_at seen nodes.old) schedulers.now places.now }
+    requires telling { IsTelling (shown_at seen nodes.old) (NoScheduler (shown_at seen nodes.old)) }
+    ensures telling { IsTelling (shown_at seen nodes.new) Each }
+    ensures alike { IsAlike (shown_at seen nodes.old) (shown_at seen nodes.new) }
+{
+    let deep = deepest(nodes, schedulers, places);
+    if deep < 2 {
+        return;
+    }
+    for step in 1..deep {
+        let level = deep - step + 1;
+        tell_level(nodes, schedulers, level, places[usize::from(level)]);
+    }
+}
+
+/// As `tell_schedulers`, where it is known what each of the first 64 told.
+fn tell_schedulers_news(nodes: &mut Slab<Node>, schedulers: &[NodeId], known: &Known) -> u64
+    requires roll { IsRoll (shown_at seen nodes.old) schedulers.now }
+    requires known { AreKnown (shown_at seen nodes.old) schedulers.now known.now }
+    requires telling { IsTelling (shown_at seen nodes.old) (NoScheduler (shown_at seen nodes.old)) }
+    ensures telling { IsTelling (shown_at seen nodes.new) Each }
+    ensures alike { IsAlike (shown_at seen nodes.old) (shown_at seen nodes.new) }
+    ensures voices { HaveTold (shown_at seen nodes.new) schedulers.now result }
+{
+    let deep = deepest(nodes, schedulers, &known.places);
+    let mut voices = known.voices;
+    for step in 1..deep {
+        let level = deep - step + 1;
+        let places = known.places[usize::from(level)];
+        voices = tell_level_news(nodes, schedulers, level, places, voices);
+    }
+    voices
+}
+
+/// Which of the first 64 schedulers ask, a bit for each.
+fn voices_of(nodes: &Slab<Node>, schedulers: &[NodeId]) -> u64
+    requires posted { (k : ℕ) → PostedIn (shown_at seen nodes.now k) }
+    ensures { (at c : ℕ) → at < 64 → slice_get schedulers.now at ≡ Some c →
+        has_bit result at ≡ asks_in (shown_at seen nodes.now c) }
+{
+    let mut voices = 0;
+    for at in 0..schedulers.len().min(64) {
+        let asks = asks_at(nodes, schedulers[at].key());
+        voices = with_bit(voices, at as u32, asks);
+    }
+    voices
+}
+
+/// Takes the processor back from a node, if it has it, and tells the level of the node.
+fn revoke_at(nodes: &mut Slab<Node>, key: usize) -> u8
+    requires posted { PostedIn (shown_at seen nodes.old key) }
+    ensures level { result ≡ level_in (shown_at seen nodes.old key) }
+    ensures here { shown_at seen nodes.new key ≡ on_post post_revoked (shown_at seen nodes.old key) }
+    ensures others { (k : ℕ) → k ≢ key → shown_at seen nodes.new k ≡ shown_at seen nodes.old k }
+{
+    match nodes.get_mut(key) {
+        Some(node) => {
+            match &mut node.role {
+                Role::Sched(station) => station.revoke(),
+                Role::Thread { .. } => {}
+            }
+            node.level
+        }
+        None => 0,
+    }
+}
+
+/// Takes the processor back from all, and tells their places by their levels, a bit for each of the first 64.
+fn revoke_all(nodes: &mut Slab<Node>, schedulers: &[NodeId]) -> [u64; 10]
+    requires roll { IsRoll (shown_at seen nodes.old) schedulers.now }
+    requires ranked { IsRanked (shown_at seen nodes.old) }
+    requires posted { (k : ℕ) → PostedIn (shown_at seen nodes.old k) }
+    ensures revoked { (k : ℕ) → shown_at seen nodes.new k ≡ on_post post_revoked (shown_at seen nodes.old k) }
+    ensures places { AreByLevel (shown_at seen nodes.old) schedulers.now result }
+{
+    let mut places = [0u64; 10];
+    for at in 0..schedulers.len() {
+        let level = revoke_at(nodes, schedulers[at].key());
+        if at < 64 {
+            places[usize::from(level)] |= 1 << at;
+        }
+    }
+    places
+}
+
+/// Takes the processor back from the nodes of a route.
+fn revoke_listed(nodes: &mut Slab<Node>, route: &[NodeId])
+    requires posted { (k : ℕ) → PostedIn (shown_at seen nodes.old k) }
+    requires along { IsAlongRoute (shown_at seen nodes.old) (Some route.now) }
+    ensures { (k : ℕ) → shown_at seen nodes.new k ≡ on_post post_revoked (shown_at seen nodes.old k) }
+{
+    for id in route {
+        let _level = revoke_at(nodes, id.key());
+    }
+}
+
+/// Takes the processor back along a route.
+fn revoke_route(nodes: &mut Slab<Node>, route: &Option<Route>)
+    requires posted { (k : ℕ) → PostedIn (shown_at seen nodes.old k) }
+    requires along { IsAlongRoute (shown_at seen nodes.old) route.now }
+    ensures { (k : ℕ) → shown_at seen nodes.new k ≡ on_post post_revoked (shown_at seen nodes.old k) }
+{
+    match route {
+        Some(route) => revoke_listed(nodes, route.nodes()),
+        None => {}
+    }
+}
+
+/// As `tell`, where nothing is known of who was granted and what was told; tells what it finds.
+fn tell_anew(nodes: &mut Slab<Node>, schedulers: &[NodeId], changed: &Option<Changed>) -> Known
+    requires roll { IsRoll (shown_at seen nodes.old) schedulers.now }
+    requires told { AreTold (shown_at seen nodes.old) changed.now }
+    requires laid { IsLaid (shown_at seen nodes.old) }
+    requires posted { (k : ℕ) → PostedIn (shown_at seen nodes.old k) }
+    ensures alike { IsAlike (shown_at seen nodes.old) (shown_at seen nodes.new) }
+    ensures telling { IsTelling (shown_at seen nodes.new) Each }
+    ensures known { AreKnown (shown_at seen nodes.new) schedulers.now result }
+{
+    let places = revoke_all(nodes, schedulers);
+    tell_changed(nodes, changed);
+    tell_schedulers(nodes, schedulers, &places);
+    let voices = voices_of(nodes, schedulers);
+    Known { places, voices }
+}
+
+/// As `tell`, where something is known.
+fn tell_again(
+    nodes: &mut Slab<Node>,
+    schedulers: &[NodeId],
+    changed: &Option<Changed>,
+    route: &Option<Route>,
+    known: &mut Known,
+)
+    requires roll { IsRoll (shown_at seen nodes.old) schedulers.now }
+    requires told { AreTold (shown_at seen nodes.old) changed.now }
+    requires laid { IsLaid (shown_at seen nodes.old) }
+    requires posted { (k : ℕ) → PostedIn (shown_at seen nodes.old k) }
+    requires known { AreKnown (shown_at seen nodes.old) schedulers.now known.old }
+    requires along { IsAlongRoute (shown_at seen nodes.old) route.now }
+    ensures alike { IsAlike (shown_at seen nodes.old) (shown_at seen nodes.new) }
+    ensures telling { IsTelling (shown_at seen nodes.new) Each }
+    ensures known { AreKnown (shown_at seen nodes.new) schedulers.now known.new }
+{
+    revoke_route(nodes, route);
+    tell_changed(nodes, changed);
+    known.voices = tell_schedulers_news(nodes, schedulers, known);
+}
+
+/// Takes the processor back, and tells what asks, where it is new. Where something is known since the last pass,
+/// only those along its way were granted, and a scheduler that asks as it told last need not tell it again.
+pub fn tell(
+    nodes: &mut Slab<Node>,
+    schedulers: &[NodeId],
+    changed: &Option<Changed>,
+    route: &Option<Route>,
+    known: &mut Option<Known>,
+)
+    requires roll { IsRoll (shown_at seen nodes.old) schedulers.now }
+    requires told { AreTold (shown_at seen nodes.old) changed.now }
+    requires laid { IsLaid (shown_at seen nodes.old) }
+    requires posted { (k : ℕ) → PostedIn (shown_at seen nodes.old k) }
+    requires known { IsKnown (shown_at seen nodes.old) schedulers.now route.now known.old }
+    ensures alike { IsAlike (shown_at seen nodes.old) (shown_at seen nodes.new) }
+    ensures telling { IsTelling (shown_at seen nodes.new) Each }
+    ensures known { IsFound (shown_at seen nodes.new) schedulers.now known.new }
+{
+    match known {
+        Some(known) => tell_again(nodes, schedulers, changed, route, known),
+        None => *known = Some(tell_anew(nodes, schedulers, changed)),
+    }
+}
