@@ -11,8 +11,8 @@ ghost use Rattle.hls_tree_nodes.specs.Known.{IsAlongRoute};
 ghost use Rattle.hls_tree_nodes.specs.TreeOf.{IsTelling, Sitter, Led, Ran, RootAt};
 ghost use Rattle.hls_tree_nodes.specs.TreeOf.{Each};
 
+use crate::asking::asks_at;
 use crate::node::same_place;
-use crate::telling::asks_at;
 use crate::{Node, NodeId, Place, Role, Route, TakenSeat};
 use slab::Slab;
 

@@ -1,0 +1,15 @@
+use Rattle.hls_tree_nodes.proofs.Snapshots.{alike_then}
+use Rattle.hls_tree_nodes.proofs.Tells.{roll_alike}
+use Rattle.hls_tree_nodes.proofs.asking.tell_level_news.Goals as goal
+
+pub tell_rest-requires : goal.tell_rest-requires
+tell_rest-requires g c = record {
+  roll = roll_alike _ _ _ c.tell_news-told.ensures.alike c.requires.roll;
+  telling = c.tell_news-told.ensures.telling c.args.level c.requires.places c.requires.telling;
+}
+
+pub returns-clause-alike : goal.returns-clause-alike
+returns-clause-alike g c = alike_then _ _ _ c.tell_news-told.ensures.alike c.tell_rest.ensures.alike
+
+pub returns-clause-voices : goal.returns-clause-voices
+returns-clause-voices g c = c.tell_rest.ensures.voices c.tell_news-told.result c.tell_news-told.ensures.voices

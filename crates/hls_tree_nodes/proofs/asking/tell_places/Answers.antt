@@ -1,0 +1,32 @@
+use Rattle.std.proofs.Common.{◌≡◌, Some, refl, arith, slice_get, ap, ◌∙◌, sym}
+use Rattle.std.specs.Int.{trailing_zeros}
+use Rattle.std.proofs.Common.{w64}
+use Rattle.std.proofs.lemmas.Option.{slice_get_read}
+use Rattle.hls_tree_nodes.proofs.Levels.{among_start, among_step, among_end, least_on, next_others, next_fewer}
+use Rattle.hls_tree_nodes.proofs.Levels.{next_smaller}
+use Rattle.hls_tree_nodes.proofs.asking.tell_places.Goals as goal
+
+pub loop-left-init : goal.loop-left-init
+loop-left-init g c = among_start _ _ _ c.requires.roll c.requires.laid c.requires.posted
+
+pub bounds-schedulers-at : goal.bounds-schedulers-at
+bounds-schedulers-at g c = c.requires.within _ (c.loop-left.invariant.some _
+    (least_on c.loop-left.left (omega (arith, c.loop-left.auto.left-fits)) c.loop-left-test.true))
+
+pub loop-left-smaller : goal.loop-left-smaller
+loop-left-smaller g c = next_smaller c.loop-left.left (omega (arith, c.loop-left.auto.left-fits)) c.loop-left-test.true
+
+pub loop-left-preserved : goal.loop-left-preserved
+loop-left-preserved g c =
+    let on = least_on c.loop-left.left (omega (arith, c.loop-left.auto.left-fits)) c.loop-left-test.true in
+    let at : slice_get c.args.schedulers.now (trailing_zeros w64 c.loop-left.left)
+    ≡ Some c.index-schedulers-at.result =
+    slice_get_read c.args.schedulers.now _ (trailing_zeros w64 c.loop-left.left) c.index-schedulers-at.result refl
+    (c.requires.within _ (c.loop-left.invariant.some _ on)) c.index-schedulers-at.is in
+    among_step _ _ _ _ _ _ _ _ _ (at ∙ ap Some (sym c.key.ensures.key)) on
+    (next_others c.loop-left.left (omega (arith, c.loop-left.auto.left-fits)) c.loop-left-test.true)
+    (next_fewer c.loop-left.left (omega (arith, c.loop-left.auto.left-fits)) c.loop-left-test.true)
+    c.loop-left.invariant c.tell_ports.ensures
+
+pub returns-clause-telling : goal.returns-clause-telling
+returns-clause-telling g c = among_end _ _ _ _ _ (omega (arith, c.loop-left-test.false)) c.loop-left.invariant

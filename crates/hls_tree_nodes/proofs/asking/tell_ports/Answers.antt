@@ -1,0 +1,21 @@
+use Rattle.std.proofs.Common.{arith}
+use Rattle.hls_tree_nodes.proofs.Tells.{first_port, next_port, ports_end}
+use Rattle.hls_tree_nodes.proofs.asking.tell_ports.Goals as goal
+
+pub voice_at-asks-requires : goal.voice_at-asks-requires
+voice_at-asks-requires g c =
+    record { posted = c.requires.posted c.args.key; few = c.requires.laid.ranked.ports c.args.key }
+
+pub loop-port-init : goal.loop-port-init
+loop-port-init g c = first_port _ _ _ _ _ c.requires.laid c.requires.posted c.voice_at-asks.ensures.asks
+    c.voice_at-asks.ensures.first c.tell_slot.ensures
+
+pub tell_port-requires : goal.tell_port-requires
+tell_port-requires g c = record { laid = c.loop-port.invariant.laid; posted = c.loop-port.invariant.posted }
+
+pub loop-port-preserved : goal.loop-port-preserved
+loop-port-preserved g c = next_port _ _ _ _ _ _ c.loop-port.invariant c.tell_port.ensures
+
+pub returns : goal.returns
+returns g c = ports_end _ _ _ _ _ c.loop-port.invariant
+    (omega (arith, c.loop-port-test.false, c.voice_at-asks.ensures.ports))
