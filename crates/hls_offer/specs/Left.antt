@@ -1,12 +1,14 @@
 -- What is left on a scheduler for further seats, by its configuration and its book.
-use Rattle.hls_chron.specs.Ranges.{most_slots}
 use Rattle.std.specs.Prelude.{◌≡◌, ℕ, ◌+◌, ◌-◌, ◌*◌, ◌/◌, ◌<◌, ◌≤◌, ◌==◌, List, [], ◌∷◌, Option, Some, None}
 use Rattle.std.specs.Prelude.{if◌then◌else◌}
 use Rattle.std.specs.List.{filter_map}
 use Rattle.hls_chron.specs.declared.plain.Config.{Config}
-use Rattle.hls_chron.specs.declared.plain.Config.TheVariants as configs
+use Rattle.hls_chron.specs.declared.plain.Kind.{Kind}
+use Rattle.hls_chron.specs.declared.plain.Kind.TheVariants as kinds
+use Rattle.hls_chron.specs.Kinds.{kind_of}
 use Rattle.hls_chron.specs.Ledger.{Ledger}
 use Rattle.hls_chron.specs.Parts.{all_parts}
+use Rattle.hls_chron.specs.Ranges.{most_slots}
 use Rattle.hls_chron.specs.Seats.{HasPriority}
 use Rattle.hls_kinds.specs.Room.{IsFull, room_total, room_used}
 use Rattle.hls_offer_text.specs.declared.left.Span.{Span}
@@ -47,18 +49,19 @@ fit_in free y = if most_ticks free y == 0 then None else Some (record { x = most
 
 -- ---- all kinds
 
--- what is left where a slot is free, with reservations in these periods
+-- what is left where a slot is free, by the kind and the room that is left, with reservations in these periods
+abbrev pub IsRoomAt : Kind → (room : ℕ) → Ledger → (periods : List ℕ) → Left → Type 0
+IsRoomAt kinds.Fp room b periods (Priorities spans) = AreFreeSpans b 0 most_slots spans
+IsRoomAt kinds.Edf room b periods (Parts free fits) = (free ≡ room) × (fits ≡ filter_map (fit_in free) periods)
+IsRoomAt kinds.Sfq room b periods (Weight weight) = weight ≡ room
+IsRoomAt kinds.Wheel room b periods (Slots places) = places ≡ room
+IsRoomAt kinds.Rr room b periods Turn = Unit {0}
+IsRoomAt kinds.Join room b periods Sole = Unit {0}
+IsRoomAt kinds.Cpu room b periods Sole = Unit {0}
+IsRoomAt _ room b periods _ = ⊥
+
 abbrev pub IsRoom : Config → Ledger → (periods : List ℕ) → Left → Type 0
-IsRoom configs.Fp b periods (Priorities spans) = AreFreeSpans b 0 most_slots spans
-IsRoom configs.Edf b periods (Parts free fits) =
-    (free ≡ room_left configs.Edf b) × (fits ≡ filter_map (fit_in free) periods)
-IsRoom (configs.Sfq total most quantum) b periods (Weight weight) =
-    weight ≡ room_left (configs.Sfq total most quantum) b
-IsRoom (configs.Wheel frame) b periods (Slots places) = places ≡ room_left (configs.Wheel frame) b
-IsRoom (configs.Rr quantum) b periods Turn = Unit {0}
-IsRoom (configs.Join ports) b periods Sole = Unit {0}
-IsRoom configs.Cpu b periods Sole = Unit {0}
-IsRoom _ b periods _ = ⊥
+IsRoom config b periods left = IsRoomAt (kind_of config) (room_left config b) b periods left
 
 -- what is left
 abbrev pub IsLeft : Config → Ledger → (periods : List ℕ) → Left → Type 0

@@ -11,7 +11,7 @@ ghost use Rattle.hls_tree.specs.Trees.{IsTreeOf, Stands};
 ghost use Rattle.hls_offer.specs.Left.{fit_in, IsLeft};
 
 use crate::priorities::free_spans;
-use hls_chron::{ALL_PARTS, Book, Config, List};
+use hls_chron::{ALL_PARTS, Book, Config, List, SLOTS};
 use hls_kinds::room_total;
 use hls_offer_text::{Fit, Left};
 use hls_sched::Scheduler;
@@ -23,10 +23,13 @@ use std::alloc::{AllocError, Global};
 fn most_seats(config: &Config) -> u32
     ensures { result ≡ most_seats config.now }
 {
+    if let Some(sharing) = config.sharing() {
+        return sharing.most;
+    }
     match config {
-        Config::Sfq { most, .. } => *most,
         Config::Join { .. } | Config::Cpu => 1,
-        Config::Fp | Config::Edf | Config::Rr { .. } | Config::Wheel { .. } => 32,
+        Config::Fp | Config::Edf | Config::Sfq { .. } | Config::Rr { .. } | Config::Wheel { .. } =>
+            SLOTS,
     }
 }
 

@@ -1,7 +1,7 @@
 // The priorities that no seat of a scheduler has.
-ghost use Rattle.hls_chron.specs.Ranges.{most_slots};
 ghost use Rattle.std.specs.Prelude.{◌≡◌, ◌≤◌, ◌<◌, ℕ, true, false, IfOk};
 ghost use Rattle.hls_chron.specs.declared.plain.Config.TheVariants.{Fp};
+ghost use Rattle.hls_chron.specs.Ranges.{most_slots};
 ghost use Rattle.hls_chron.specs.Seats.{HasPriority};
 ghost use Rattle.hls_machine.specs.Hierarchy.{Hierarchy, config_of, book_of};
 ghost use Rattle.hls_tree.specs.Reads.{IsLoaded};
@@ -9,14 +9,14 @@ ghost use Rattle.hls_tree.specs.Trees.{IsTreeOf, Stands};
 ghost use Rattle.hls_offer.specs.Left.{AreFreeSpans};
 ghost use Rattle.hls_offer.specs.Inside.Faults.{is_of_priority};
 
-use hls_chron::Terms;
+use hls_chron::{SLOTS, Terms};
 use hls_offer_text::Span;
 use hls_sched::{Scheduler, SeatFault};
 use hls_tree::{NodeId, Tree};
 use std::alloc::{AllocError, Global};
 
-/// How many priorities there are.
-const PRIORITIES: u32 = 32;
+/// How many priorities there are: one for each slot.
+const PRIORITIES: u32 = SLOTS;
 
 /// Whether a seat of a scheduler has a priority.
 fn is_taken(tree: &Tree, id: NodeId, priority: u32) -> bool

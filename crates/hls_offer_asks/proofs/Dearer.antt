@@ -9,6 +9,7 @@ use Rattle.hls_chron.specs.declared.plain.Terms.{Terms}
 use Rattle.hls_chron.specs.declared.plain.Terms.TheVariants as terms
 use Rattle.hls_chron.specs.Kinds.{kind_of, terms_kind}
 use Rattle.hls_chron.specs.Parts.{parts}
+use Rattle.hls_chron.proofs.ConfigLaws.{of_sfq}
 use Rattle.hls_kinds.specs.Fits.{Exceeds}
 use Rattle.hls_kinds.specs.Room.{room_asked}
 use Rattle.hls_kinds.specs.declared.fault.SeatFault.{SeatFault}
@@ -42,12 +43,13 @@ pub room_rises : (config : Config) (its other : Terms) → terms_kind its ≡ ki
 room_rises configs.Edf (terms.Res hard x y) (terms.Res rigid u v) is also late =
     elim (cases_lt (parts u v) (parts x y)) [ inl less ↦ absurd (late (inl less)) | inr le ↦ le ]
 room_rises configs.Edf (terms.Res hard x y) other is also late = absurd (cc)
-room_rises (configs.Sfq total most quantum) (terms.Weight w) (terms.Weight v) is also late =
-    elim (cases_lt v w) [ inl less ↦ absurd (late less) | inr le ↦ le ]
-room_rises (configs.Sfq total most quantum) (terms.Weight w) other is also late = absurd (cc)
 room_rises (configs.Wheel frame) (terms.Slots k) (terms.Slots j) is also late =
     elim (cases_lt j k) [ inl less ↦ absurd (late less) | inr le ↦ le ]
 room_rises (configs.Wheel frame) (terms.Slots k) other is also late = absurd (cc)
+room_rises config (terms.Weight w) (terms.Weight v) is also late =
+    of_sfq (λ config. room_asked config (terms.Weight w) ≤ room_asked config (terms.Weight v))
+    (λ s. elim (cases_lt v w) [ inl less ↦ absurd (late less) | inr le ↦ le ]) config (sym is)
+room_rises config (terms.Weight w) other is also late = absurd (cc)
 room_rises _ _ _ is also late = omega arith
 
 -- ---- refusals at the place are none of the whole

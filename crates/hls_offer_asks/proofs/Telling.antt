@@ -76,12 +76,7 @@ behind_none m need on terms.Sole ne = tt
 
 cpu_alone : (config : Config) → kinds.Cpu ≡ kind_of config → config ≡ configs.Cpu
 cpu_alone configs.Cpu e = refl
-cpu_alone configs.Fp e = cc
-cpu_alone configs.Edf e = cc
-cpu_alone (configs.Sfq total most quantum) e = cc
-cpu_alone (configs.Rr quantum) e = cc
-cpu_alone (configs.Wheel frame) e = cc
-cpu_alone (configs.Join ports) e = cc
+cpu_alone _ e = cc
 
 terms_by : (config : Config) (periods : Option (List ℕ)) (its : Terms) → config ≢ configs.Cpu
     → IsFit config periods its → IsTerms its

@@ -27,13 +27,8 @@ use Rattle.hls_offer_asks.proofs.Seatable.{wish_seatable}
 use Rattle.hls_offer_asks.proofs.Dearer.{none_dearer, room_rises}
 
 no_excess : (config : Config) (p : ℕ) → ¬ Exceeds config (terms.Prio p)
-no_excess configs.Cpu p more = more
 no_excess configs.Fp p more = more
-no_excess configs.Edf p more = more
-no_excess (configs.Sfq total most quantum) p more = more
-no_excess (configs.Rr quantum) p more = more
-no_excess (configs.Wheel frame) p more = more
-no_excess (configs.Join ports) p more = more
+no_excess _ p more = more
 
 module _ (m : Moment) (reached : IsReached m.hierarchy) (need : Need) (on : Text) (periods : Option (List ℕ)) where
   -- ---- what is done has a derivation, and fits

@@ -3,16 +3,18 @@ use Rattle.std.proofs.Common.{◌≡◌, ℕ, ◌+◌, ◌≤◌, ◌<◌, List,
 use Rattle.std.specs.Prelude.{Option, Some, None, Result, Ok, Err, IfOk, IfSome, slice_get}
 use Rattle.std.proofs.lemmas.Option.{slice_get_within}
 use Rattle.hls_chron.specs.declared.plain.Config.{Config}
-use Rattle.hls_chron.specs.declared.plain.Config.TheVariants as configs
+use Rattle.hls_chron.specs.declared.plain.Kind.{Kind}
+use Rattle.hls_chron.specs.declared.plain.Kind.TheVariants as kinds
 use Rattle.hls_chron.specs.declared.plain.Terms.{Terms}
 use Rattle.hls_chron.specs.declared.plain.Terms.TheVariants as terms
+use Rattle.hls_chron.specs.Kinds.{kind_of}
 use Rattle.hls_chron.specs.Ranges.{ConfigInRange, TermsInRange}
 use Rattle.hls_guarantee.specs.declared.Guarantee.{Guarantee}
 use Rattle.hls_guarantee.specs.declared.Guarantee.TheVariants.{Null}
 use Rattle.hls_guarantee.specs.Limits.{IsNarrow, IsValid}
 use Rattle.hls_search_laws.proofs.Makes.{narrow-valid}
 use Rattle.hls_search.proofs.Deriving.{lent-valid}
-use Rattle.hls_offer_laws.specs.Offered.{IsLentOf, IsLent}
+use Rattle.hls_offer_laws.specs.Offered.{IsLentAt, IsLentOf, IsLent, LendsOfShare}
 use Rattle.hls_offer_laws.specs.Candidates.{IsWindow}
 use Rattle.hls_offer_laws.proofs.Shares.{narrow-share}
 use Rattle.hls_offer_best.specs.declared.seat.Seat.{Seat}
@@ -34,19 +36,20 @@ if-ok-both (Err e) on p q = tt
 -- what is lent of a narrow guarantee is valid
 pub lent-of-valid : (config : Config) (its : Terms) (have lent : Guarantee) → ConfigInRange config
     → TermsInRange its → IsNarrow have → IsLentOf config its have lent → IsValid lent
-lent-of-valid configs.Cpu its have lent rc rt narrow lends = lent-valid configs.Cpu its have lent rc rt narrow lends
-lent-of-valid configs.Fp its have lent rc rt narrow lends = lent-valid configs.Fp its have lent rc rt narrow lends
-lent-of-valid configs.Edf its have lent rc rt narrow lends = lent-valid configs.Edf its have lent rc rt narrow lends
-lent-of-valid (configs.Rr quantum) its have lent rc rt narrow lends =
-    lent-valid (configs.Rr quantum) its lends.0 lent rc rt (narrow-share have lends.0 narrow lends.1) lends.2
-lent-of-valid (configs.Wheel frame) its have lent rc rt narrow lends =
-    lent-valid (configs.Wheel frame) its have lent rc rt narrow lends
-lent-of-valid (configs.Sfq total most quantum) its have lent rc rt narrow lends =
-    lent-valid (configs.Sfq total most quantum) its lends.0 lent rc rt (narrow-share have lends.0 narrow lends.1)
-    lends.2
-lent-of-valid (configs.Join ports) terms.Sole have lent rc rt narrow lends =
-    subst IsValid (sym lends) (narrow-valid have narrow)
-lent-of-valid (configs.Join ports) _ have lent rc rt narrow lends = absurd lends
+lent-of-valid config = valid-at (kind_of config) config
+  where
+    of-share : (config : Config) (its : Terms) (have lent : Guarantee) → ConfigInRange config → TermsInRange its
+        → IsNarrow have → LendsOfShare config its have lent → IsValid lent
+    of-share config its have lent rc rt narrow lends =
+        lent-valid config its lends.0 lent rc rt (narrow-share have lends.0 narrow lends.1) lends.2
+
+    valid-at : (kind : Kind) (config : Config) (its : Terms) (have lent : Guarantee) → ConfigInRange config
+        → TermsInRange its → IsNarrow have → IsLentAt kind config its have lent → IsValid lent
+    valid-at kinds.Join config terms.Sole have lent rc rt narrow lends =
+        subst IsValid (sym lends) (narrow-valid have narrow)
+    valid-at kinds.Sfq config its have lent rc rt narrow lends = of-share config its have lent rc rt narrow lends
+    valid-at kinds.Rr config its have lent rc rt narrow lends = of-share config its have lent rc rt narrow lends
+    valid-at _ config its have lent rc rt narrow lends = lent-valid config its have lent rc rt narrow lends
 
 -- each candidate through this port is up to the most
 abbrev pub Tried : Window → Option ℕ → (have : Guarantee) → Type 0

@@ -14,7 +14,7 @@ use Rattle.hls_guarantee.specs.declared.rule.RuleName.TheVariants.{R1, R8}
 use Rattle.hls_guarantee.specs.Satisfaction.{IsSoft}
 use Rattle.hls_guarantee.specs.Limits.{IsValid, IsNarrow}
 use Rattle.hls_guarantee.specs.Conversions.{Converts}
-use Rattle.hls_chron.specs.Kinds.{IsPort}
+use Rattle.hls_chron.specs.Kinds.{kind_of, IsPort}
 use Rattle.hls_guarantee.specs.Steps.{LendsByTerms, LendsNothing}
 use Rattle.hls_derive.specs.declared.derivation.Place.{Place}
 use Rattle.hls_derive.specs.declared.derivation.Step.{Step}
@@ -51,12 +51,7 @@ pub record Comes (place : Place) (haves : List Guarantee) (n : ℕ) (wanted : Gu
 
 nothing-null : (config : Config) (wanted : Guarantee) → LendsNothing config wanted → wanted ≡ Null
 nothing-null configs.Cpu wanted nothing = absurd nothing
-nothing-null configs.Fp wanted nothing = nothing
-nothing-null configs.Edf wanted nothing = nothing
-nothing-null (configs.Sfq total most quantum) wanted nothing = nothing
-nothing-null (configs.Rr quantum) wanted nothing = nothing
-nothing-null (configs.Wheel frame) wanted nothing = nothing
-nothing-null (configs.Join ports) wanted nothing = nothing
+nothing-null _ wanted nothing = nothing
 
 not-null : {n : ℕ} {g h : Guarantee} → Closed n g h → (h ≡ Null → ⊥) → g ≡ Null → ⊥
 not-null {n} {g} {h} c some null = some (closed-null (subst (λ v. Closed n v h) null c))
@@ -174,7 +169,7 @@ module _ (config : Config) (its : Terms) (rc : ConfigInRange config) (rt : Terms
           port = port;
           have = have;
           there = there;
-          lends = share-by config its have hit.lent of (hit.best, is, hit.lends);
+          lends = share-by (kind_of config) config its have hit.lent of (hit.best, is, hit.lends);
           some = not-null reached.2 some;
         };
         valid = vl;
@@ -220,7 +215,7 @@ module _ (config : Config) (its : Terms) (rc : ConfigInRange config) (rt : Terms
           port = port;
           have = All;
           there = there;
-          lends = share-by config its All lent of (whole, is, lends);
+          lends = share-by (kind_of config) config its All lent of (whole, is, lends);
           some = λ null. (let no : ⊥ = cc in no);
         };
         valid = vo;
@@ -294,15 +289,16 @@ module _ (haves : List Guarantee) (wanted : Guarantee) (d : Derivation) (n : ℕ
       inl (join-comes haves wanted n d.sched.port d.from is.starts p.narrow some ports (p.i + p.j)
       is.sched.through.port_of p.fits
       (p.through (subst (λ v. Closed p.i d.from v) (sym p.lends.1) p.before)))
-  come (configs.Sfq total most quantum) its can is p = by-share (configs.Sfq total most quantum) its can is tt
-  come (configs.Rr quantum) its can is p = by-share (configs.Rr quantum) its can is tt
   come configs.Cpu its can is p =
       inl (by-all (record { config = configs.Cpu; terms = its }) can is tt (λ lent lends. lends))
   come configs.Edf its can is p =
       inl (by-all (record { config = configs.Edf; terms = its }) can is tt (λ lent lends. lends))
   come (configs.Wheel frame) its can is p =
       inl (by-all (record { config = configs.Wheel frame; terms = its }) can is tt (λ lent lends. lends))
-  come _ _ can is p = absurd p.lends
+  come configs.Fp _ can is p = absurd p.lends
+  come (configs.Join ports) _ can is p = absurd p.lends
+  -- all others lend parts of shares
+  come config its can is p = by-share config its can is tt
 
 pub comes : (place : Place) (haves : List Guarantee) (n : ℕ) (wanted : Guarantee) → CanOffer place haves
     → IsNarrow wanted → (wanted ≡ Null → ⊥) → IsOffered place haves n wanted

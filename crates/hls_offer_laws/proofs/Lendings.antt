@@ -116,17 +116,16 @@ module _ (haves : List Guarantee) (n port : ℕ) (two : 2 ≤ n) (have : Guarant
   lend (configs.Join ports) terms.Sole lent can port_of lends =
       let place : Place = record { config = configs.Join ports; terms = terms.Sole } in
       subst (Lending place haves n) (sym lends) (passed place port_of (λ other soft. (soft, refl)))
-  lend (configs.Sfq total most quantum) its lent can port_of lends =
-      of-share (configs.Sfq total most quantum) its lends.0 lent can port_of tt lends.1 lends.2
-  lend (configs.Rr quantum) its lent can port_of lends =
-      of-share (configs.Rr quantum) its lends.0 lent can port_of tt lends.1 lends.2
   lend configs.Cpu its lent can port_of lends =
       of-all (record { config = configs.Cpu; terms = its }) lent can port_of lends
   lend configs.Edf its lent can port_of lends =
       of-all (record { config = configs.Edf; terms = its }) lent can port_of lends
   lend (configs.Wheel frame) its lent can port_of lends =
       of-all (record { config = configs.Wheel frame; terms = its }) lent can port_of lends
-  lend _ _ lent can port_of lends = absurd lends
+  lend configs.Fp _ lent can port_of lends = absurd lends
+  lend (configs.Join ports) _ lent can port_of lends = absurd lends
+  -- all others lend parts of shares
+  lend config its lent can port_of lends = of-share config its lends.0 lent can port_of tt lends.1 lends.2
 
 pub lending : (place : Place) (haves : List Guarantee) (n : ℕ) (lent : Guarantee) → CanOffer place haves → 2 ≤ n
     → IsLent place haves lent → Lending place haves n lent

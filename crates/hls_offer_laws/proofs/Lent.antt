@@ -3,68 +3,65 @@ use Rattle.std.proofs.Common.{refl, ◌∙◌, ◌≡◌, ℕ, ◌⊎◌, ◌↔
 use Rattle.std.specs.Prelude.{Option, Some}
 use Rattle.hls_chron.specs.declared.plain.Config.{Config}
 use Rattle.hls_chron.specs.declared.plain.Config.TheVariants as configs
+use Rattle.hls_chron.specs.declared.plain.Kind.{Kind}
+use Rattle.hls_chron.specs.declared.plain.Kind.TheVariants as kinds
 use Rattle.hls_chron.specs.declared.plain.Terms.{Terms}
 use Rattle.hls_chron.specs.declared.plain.Terms.TheVariants as terms
+use Rattle.hls_chron.specs.Kinds.{kind_of}
 use Rattle.hls_chron.specs.Ranges.{ConfigInRange}
+use Rattle.hls_chron.proofs.ConfigLaws.{of_join}
 use Rattle.hls_guarantee.proofs.Lendings.{lends-one}
 use Rattle.hls_guarantee.specs.declared.Guarantee.{Guarantee}
 use Rattle.hls_guarantee.specs.declared.Guarantee.TheVariants.{Null}
 use Rattle.hls_guarantee.specs.Steps.{LendsByTerms}
-use Rattle.hls_search.specs.Inside.Places.{LendsShares}
-use Rattle.hls_offer_laws.specs.Offered.{LendsOfShare, IsLentOf}
+use Rattle.hls_search.specs.Inside.Places.{LendsSharesOf}
+use Rattle.hls_offer_laws.specs.Offered.{LendsOfShare, IsLentAt, IsLentOf}
 use Rattle.hls_offer_laws.proofs.Shares.{share-one}
 
 -- a place that lends neither what its ports have nor parts of shares
-abbrev pub IsPlain : Config → Type 0
-IsPlain (configs.Join ports) = ⊥
-IsPlain (configs.Sfq total most quantum) = ⊥
-IsPlain (configs.Rr quantum) = ⊥
+abbrev pub IsPlain : Kind → Type 0
+IsPlain kinds.Join = ⊥
+IsPlain kinds.Sfq = ⊥
+IsPlain kinds.Rr = ⊥
 IsPlain _ = Unit {0}
 
-pub plain : {config : Config} → (config ≡ configs.Cpu) ⊎ ((config ≡ configs.Fp) ⊎ ((config ≡ configs.Edf)
-    ⊎ ((frame : ℕ) × config ≡ configs.Wheel frame))) → IsPlain config
+pub plain : {kind : Kind} → (kind ≡ kinds.Cpu) ⊎ ((kind ≡ kinds.Fp) ⊎ ((kind ≡ kinds.Edf) ⊎ (kind ≡ kinds.Wheel)))
+    → IsPlain kind
 plain (inl is) = subst IsPlain (sym is) tt
 plain (inr (inl is)) = subst IsPlain (sym is) tt
 plain (inr (inr (inl is))) = subst IsPlain (sym is) tt
-plain (inr (inr (inr is))) = subst IsPlain (sym is.1) tt
+plain (inr (inr (inr is))) = subst IsPlain (sym is) tt
 
-pub of-plain : (config : Config) (its : Terms) (have lent : Guarantee) → IsPlain config
-    → IsLentOf config its have lent → LendsByTerms config its have lent
-of-plain configs.Cpu its have lent is lends = lends
-of-plain configs.Fp its have lent is lends = lends
-of-plain configs.Edf its have lent is lends = lends
-of-plain (configs.Sfq total most quantum) its have lent is lends = absurd is
-of-plain (configs.Rr quantum) its have lent is lends = absurd is
-of-plain (configs.Wheel frame) its have lent is lends = lends
-of-plain (configs.Join ports) its have lent is lends = absurd is
+pub of-plain : (kind : Kind) (config : Config) (its : Terms) (have lent : Guarantee) → IsPlain kind
+    → IsLentAt kind config its have lent → LendsByTerms config its have lent
+of-plain kinds.Join config its have lent is lends = absurd is
+of-plain kinds.Sfq config its have lent is lends = absurd is
+of-plain kinds.Rr config its have lent is lends = absurd is
+of-plain _ config its have lent is lends = lends
 
-pub plain-of : (config : Config) (its : Terms) (have lent : Guarantee) → IsPlain config
-    → LendsByTerms config its have lent → IsLentOf config its have lent
-plain-of configs.Cpu its have lent is lends = lends
-plain-of configs.Fp its have lent is lends = lends
-plain-of configs.Edf its have lent is lends = lends
-plain-of (configs.Sfq total most quantum) its have lent is lends = absurd is
-plain-of (configs.Rr quantum) its have lent is lends = absurd is
-plain-of (configs.Wheel frame) its have lent is lends = lends
-plain-of (configs.Join ports) its have lent is lends = absurd is
+pub plain-of : (kind : Kind) (config : Config) (its : Terms) (have lent : Guarantee) → IsPlain kind
+    → LendsByTerms config its have lent → IsLentAt kind config its have lent
+plain-of kinds.Join config its have lent is lends = absurd is
+plain-of kinds.Sfq config its have lent is lends = absurd is
+plain-of kinds.Rr config its have lent is lends = absurd is
+plain-of _ config its have lent is lends = lends
 
 -- a place that lends parts of shares
-pub shares : {config : Config} → ((total most quantum : ℕ) × config ≡ configs.Sfq total most quantum)
-    ⊎ ((quantum : ℕ) × config ≡ configs.Rr quantum) → LendsShares config
-shares (inl is) = subst LendsShares (sym is.3) tt
-shares (inr is) = subst LendsShares (sym is.1) tt
+pub shares : {kind : Kind} → (kind ≡ kinds.Sfq) ⊎ (kind ≡ kinds.Rr) → LendsSharesOf kind
+shares (inl is) = subst LendsSharesOf (sym is) tt
+shares (inr is) = subst LendsSharesOf (sym is) tt
 
-pub of-share : (config : Config) (its : Terms) (have lent : Guarantee) → LendsShares config
-    → IsLentOf config its have lent → LendsOfShare config its have lent
-of-share (configs.Sfq total most quantum) its have lent of lends = lends
-of-share (configs.Rr quantum) its have lent of lends = lends
-of-share _ its have lent of lends = absurd of
+pub of-share : (kind : Kind) (config : Config) (its : Terms) (have lent : Guarantee) → LendsSharesOf kind
+    → IsLentAt kind config its have lent → LendsOfShare config its have lent
+of-share kinds.Sfq config its have lent of lends = lends
+of-share kinds.Rr config its have lent of lends = lends
+of-share _ config its have lent of lends = absurd of
 
-pub share-by : (config : Config) (its : Terms) (have lent : Guarantee) → LendsShares config
-    → LendsOfShare config its have lent → IsLentOf config its have lent
-share-by (configs.Sfq total most quantum) its have lent of lends = lends
-share-by (configs.Rr quantum) its have lent of lends = lends
-share-by _ its have lent of lends = absurd of
+pub share-by : (kind : Kind) (config : Config) (its : Terms) (have lent : Guarantee) → LendsSharesOf kind
+    → LendsOfShare config its have lent → IsLentAt kind config its have lent
+share-by kinds.Sfq config its have lent of lends = lends
+share-by kinds.Rr config its have lent of lends = lends
+share-by _ config its have lent of lends = absurd of
 
 -- two facts that say the same of each guarantee
 pub on-each : {found : Option Guarantee} {P Q : Guarantee → Type 0} → ((g : Guarantee) → P g → Q g)
@@ -84,36 +81,37 @@ by-terms config its g h found range lends exact lent = (
   λ both. (exact lent).1 (lends-one config its g lent h range both.0 lends, both.1),
 )
 
-pub by-join : (config : Config) (ports : ℕ) (its : Terms) (have lent : Guarantee) → config ≡ configs.Join ports
+pub by-join : (config : Config) (its : Terms) (have lent : Guarantee) → kind_of config ≡ kinds.Join
     → IsLentOf config its have lent → (its ≡ terms.Sole) × (lent ≡ have)
-by-join config ports its have lent is lends =
-    at-join ports its have lent (subst (λ v. IsLentOf v its have lent) is lends)
+by-join config its have lent is =
+    of_join (λ config. IsLentOf config its have lent → (its ≡ terms.Sole) × (lent ≡ have))
+    (λ ports. at-join ports its have lent) config is
   where
     at-join : (ports : ℕ) (its : Terms) (have lent : Guarantee) → IsLentOf (configs.Join ports) its have lent
         → (its ≡ terms.Sole) × (lent ≡ have)
     at-join ports terms.Sole have lent lends = (refl, lends)
     at-join ports _ have lent lends = absurd lends
 
-pub join-by : (config : Config) (ports : ℕ) (its : Terms) (have lent : Guarantee) → config ≡ configs.Join ports
+pub join-by : (config : Config) (its : Terms) (have lent : Guarantee) → kind_of config ≡ kinds.Join
     → its ≡ terms.Sole → lent ≡ have → IsLentOf config its have lent
-join-by config ports its have lent is sole same =
-    subst (λ v. IsLentOf v its have lent) (sym is)
-    (subst (λ v. IsLentOf (configs.Join ports) v have lent) (sym sole) same)
+join-by config its have lent is sole same =
+    subst (λ v. IsLentAt v config its have lent) (sym is)
+    (subst (λ v. IsLentAt kinds.Join config v have lent) (sym sole) same)
 
 -- what is lent of one guarantee is one guarantee
 pub lent-one : (config : Config) (its : Terms) (have lent other : Guarantee) → ConfigInRange config
     → IsLentOf config its have lent → IsLentOf config its have other → lent ≡ other
-lent-one configs.Cpu its have lent other range a b = lends-one configs.Cpu its have lent other range a b
-lent-one configs.Fp its have lent other range a b = lends-one configs.Fp its have lent other range a b
-lent-one configs.Edf its have lent other range a b = lends-one configs.Edf its have lent other range a b
-lent-one (configs.Wheel frame) its have lent other range a b =
-    lends-one (configs.Wheel frame) its have lent other range a b
-lent-one (configs.Join ports) its have lent other range a b =
-    (by-join (configs.Join ports) ports its have lent refl a).1
-    ∙ sym (by-join (configs.Join ports) ports its have other refl b).1
-lent-one (configs.Sfq total most quantum) its have lent other range a b =
-    lends-one (configs.Sfq total most quantum) its a.0 lent other range a.2
-    (subst (λ v. LendsByTerms (configs.Sfq total most quantum) its v other) (share-one have b.0 a.0 b.1 a.1) b.2)
-lent-one (configs.Rr quantum) its have lent other range a b =
-    lends-one (configs.Rr quantum) its a.0 lent other range a.2
-    (subst (λ v. LendsByTerms (configs.Rr quantum) its v other) (share-one have b.0 a.0 b.1 a.1) b.2)
+lent-one config = one-at (kind_of config) config
+  where
+    shared : (config : Config) (its : Terms) (have lent other : Guarantee) → ConfigInRange config
+        → LendsOfShare config its have lent → LendsOfShare config its have other → lent ≡ other
+    shared config its have lent other range a b =
+        lends-one config its a.0 lent other range a.2
+        (subst (λ v. LendsByTerms config its v other) (share-one have b.0 a.0 b.1 a.1) b.2)
+
+    one-at : (kind : Kind) (config : Config) (its : Terms) (have lent other : Guarantee) → ConfigInRange config
+        → IsLentAt kind config its have lent → IsLentAt kind config its have other → lent ≡ other
+    one-at kinds.Join config terms.Sole have lent other range a b = a ∙ sym b
+    one-at kinds.Sfq config its have lent other range a b = shared config its have lent other range a b
+    one-at kinds.Rr config its have lent other range a b = shared config its have lent other range a b
+    one-at _ config its have lent other range a b = lends-one config its have lent other range a b

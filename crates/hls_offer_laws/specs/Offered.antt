@@ -1,10 +1,11 @@
 -- What is offered at a place, and from what it follows.
 use Rattle.std.specs.Prelude.{◌≡◌, ◌≢◌, ℕ, ◌≤◌, List, length, All as Each, Some, slice_get}
 use Rattle.hls_chron.specs.declared.plain.Config.{Config}
-use Rattle.hls_chron.specs.declared.plain.Config.TheVariants as configs
+use Rattle.hls_chron.specs.declared.plain.Kind.{Kind}
+use Rattle.hls_chron.specs.declared.plain.Kind.TheVariants as kinds
 use Rattle.hls_chron.specs.declared.plain.Terms.{Terms}
 use Rattle.hls_chron.specs.declared.plain.Terms.TheVariants as terms
-use Rattle.hls_chron.specs.Kinds.{port_count}
+use Rattle.hls_chron.specs.Kinds.{kind_of, port_count}
 use Rattle.hls_chron.specs.Ranges.{ConfigInRange, TermsInRange}
 use Rattle.hls_guarantee.specs.declared.Guarantee.{Guarantee}
 use Rattle.hls_guarantee.specs.declared.Guarantee.TheVariants.{All, Null, Resb, Resc, Psbe}
@@ -43,13 +44,16 @@ abbrev pub LendsOfShare : Config → Terms → (have lent : Guarantee) → Type 
 LendsOfShare config its have lent =
     (share : Guarantee) × IsShareOf have share × LendsByTerms config its share lent
 
--- what the terms lend of a guarantee, for offers: at a join what the port has, even if it is hard, since
--- conversions may make it soft; at fair queueing and in a round a part of its share
+-- what the terms lend of a guarantee, for offers, by the kind of the configuration: at a join what the port has, even
+-- if it is hard, since conversions may make it soft; at fair queueing and in a round a part of its share
+abbrev pub IsLentAt : Kind → Config → Terms → (have lent : Guarantee) → Type 0
+IsLentAt kinds.Join config terms.Sole have lent = lent ≡ have
+IsLentAt kinds.Sfq config its have lent = LendsOfShare config its have lent
+IsLentAt kinds.Rr config its have lent = LendsOfShare config its have lent
+IsLentAt _ config its have lent = LendsByTerms config its have lent
+
 abbrev pub IsLentOf : Config → Terms → (have lent : Guarantee) → Type 0
-IsLentOf (configs.Join ports) terms.Sole have lent = lent ≡ have
-IsLentOf (configs.Sfq total most quantum) its have lent = LendsOfShare (configs.Sfq total most quantum) its have lent
-IsLentOf (configs.Rr quantum) its have lent = LendsOfShare (configs.Rr quantum) its have lent
-IsLentOf config its have lent = LendsByTerms config its have lent
+IsLentOf config its have lent = IsLentAt (kind_of config) config its have lent
 
 -- what the place lends through one of its ports, if it is more than nothing
 pub record IsLent (place : Place) (haves : List Guarantee) (lent : Guarantee) : Type 0 where

@@ -8,7 +8,7 @@ ghost use Rattle.hls_derive.specs.Derives.{IsWholeShare};
 ghost use Rattle.hls_offer_laws.specs.Offered.{IsLentOf, IsShareOf};
 
 use hls_check::lent;
-use hls_chron::{Config, Terms};
+use hls_chron::{Kind, Terms};
 use hls_derive::Place;
 use hls_guarantee::{Guarantee, RuleName};
 use hls_rules::{quotient, strongest};
@@ -46,10 +46,10 @@ pub fn lent_of(place: &Place, have: &Guarantee) -> Option<Guarantee>
     ensures { (lent : Guarantee) → (result ≡ Some lent) ↔
         (IsLentOf place.now.config place.now.terms have.now lent × (lent ≢ Guarantee.Null)) }
 {
-    match place.config {
-        Config::Join { .. } => passed_on(&place.terms, have),
-        Config::Sfq { .. } | Config::Rr { .. } => lent_by_terms(place, &share_of(have)?),
-        Config::Cpu | Config::Fp | Config::Edf | Config::Wheel { .. } => lent_by_terms(place, have),
+    match place.config.kind() {
+        Kind::Join => passed_on(&place.terms, have),
+        Kind::Sfq | Kind::Rr => lent_by_terms(place, &share_of(have)?),
+        Kind::Cpu | Kind::Fp | Kind::Edf | Kind::Wheel => lent_by_terms(place, have),
     }
 }
 

@@ -1,5 +1,5 @@
 -- Each line is offered, and within the limits of a scenario.
-use Rattle.std.proofs.Common.{◌≡◌, ℕ, ◌≤◌, ◌<◌, ◌⊎◌, inl, inr, Bool, true, false}
+use Rattle.std.proofs.Common.{◌≡◌, ℕ, ◌<◌, ◌⊎◌, inl, inr, Bool, true, false}
 use Rattle.std.proofs.Common.{List, [], ◌∷◌, ◌++◌, length, get_or, refl}
 use Rattle.std.proofs.Common.{sym, subst, arith}
 use Rattle.std.specs.Prelude.{Option, Some, None, Contains, option_to_list, if◌then◌else◌}
@@ -7,8 +7,7 @@ use Rattle.std.proofs.lemmas.Option.{slice_get_read}
 use Rattle.std.proofs.lemmas.List.Elements.{Contains-append_cases}
 use Rattle.hls_chron.specs.declared.plain.Config.{Config}
 use Rattle.hls_chron.specs.declared.plain.Config.TheVariants as configs
-use Rattle.hls_chron.specs.Kinds.{port_count, IsPort}
-use Rattle.hls_chron.specs.Ranges.{ConfigInRange}
+use Rattle.hls_chron.proofs.ConfigLaws.{first_port, some_port}
 use Rattle.hls_guarantee.specs.declared.Guarantee.{Guarantee}
 use Rattle.hls_guarantee.specs.declared.Guarantee.TheVariants.{All, Null, Resb, Resc}
 use Rattle.hls_guarantee.specs.Limits.{IsNarrow, IsValid}
@@ -30,37 +29,14 @@ IsLine seat g = Offers seat g × IsNarrow g
 
 -- ---- nothing can be had of every scheduler
 
-some-port : (config : Config) → ConfigInRange config → 1 ≤ port_count config
-some-port configs.Cpu range = omega arith
-some-port configs.Fp range = omega arith
-some-port configs.Edf range = omega arith
-some-port (configs.Sfq total most quantum) range = omega arith
-some-port (configs.Rr quantum) range = omega arith
-some-port (configs.Wheel frame) range = omega arith
-some-port (configs.Join ports) range = (let low = range.0 in omega arith)
-
-first-port : (config : Config) → ConfigInRange config → IsPort config 0
-first-port configs.Cpu range = refl
-first-port configs.Fp range = refl
-first-port configs.Edf range = refl
-first-port (configs.Sfq total most quantum) range = refl
-first-port (configs.Rr quantum) range = refl
-first-port (configs.Wheel frame) range = refl
-first-port (configs.Join ports) range = (let low = range.0 in omega arith)
-
 lends-nothing : (config : Config) → (config ≡ configs.Cpu → ⊥) → LendsNothing config Null
 lends-nothing configs.Cpu loaded = absurd (loaded refl)
-lends-nothing configs.Fp loaded = refl
-lends-nothing configs.Edf loaded = refl
-lends-nothing (configs.Sfq total most quantum) loaded = refl
-lends-nothing (configs.Rr quantum) loaded = refl
-lends-nothing (configs.Wheel frame) loaded = refl
-lends-nothing (configs.Join ports) loaded = refl
+lends-nothing _ loaded = refl
 
 nothing-offered : (seat : Seat) → CanAsk seat → (seat.place.config ≡ configs.Cpu → ⊥) → Offers seat Null
 nothing-offered seat can loaded =
     let haves = seat.haves.now in
-    let some = some-port seat.place.config can.config in
+    let some = some_port seat.place.config can.config in
     let within : 0 < length haves = (let ports = can.ports in omega arith) in
     let have = get_or haves 0 Null in
     let there = slice_get_read haves (length haves) 0 have refl within (same-read haves within) in
@@ -69,7 +45,7 @@ nothing-offered seat can loaded =
     (record {
       from = valid;
       to = tt;
-      port_of = first-port seat.place.config can.config;
+      port_of = first_port seat.place.config can.config;
       lends = inr (lends-nothing seat.place.config loaded);
     }) (record { follows = tt; ends = refl; fits = omega arith })
     (record { follows = tt; ends = refl; fits = omega arith }) (omega arith)

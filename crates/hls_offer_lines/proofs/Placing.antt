@@ -8,18 +8,14 @@ use Rattle.hls_chron.specs.declared.plain.Config.TheVariants as configs
 use Rattle.hls_chron.specs.declared.plain.Terms.{Terms}
 use Rattle.hls_chron.specs.declared.plain.Terms.TheVariants as terms
 use Rattle.hls_chron.specs.Kinds.{kind_of}
+use Rattle.hls_chron.proofs.ConfigLaws.{of_edf, of_sfq}
+use Rattle.hls_kinds.specs.Fits.{Exceeds}
 use Rattle.hls_offer_lines.specs.declared.terms.TermsAsked.{TermsAsked}
 use Rattle.hls_offer_lines.specs.Cost.{ComesBefore, IsFirst, IsFirstIfAny, IsFit, IsHadOn}
 use Rattle.hls_offer_lines.specs.Inside.Places.{NoneBelow, place_count, place_of}
 
 pub edf-alone : (config : Config) → kinds.Edf ≡ kind_of config → config ≡ configs.Edf
-edf-alone configs.Edf e = refl
-edf-alone configs.Cpu e = cc
-edf-alone configs.Fp e = cc
-edf-alone (configs.Sfq total most quantum) e = cc
-edf-alone (configs.Rr quantum) e = cc
-edf-alone (configs.Wheel frame) e = cc
-edf-alone (configs.Join ports) e = cc
+edf-alone config e = of_edf (λ config. config ≡ configs.Edf) refl config (sym e)
 
 -- the periods of a list matter to reservations alone
 pub fit-anyhow : (config : Config) (some other : Option (List ℕ)) (its : Terms) → (config ≡ configs.Edf → ⊥)
@@ -48,10 +44,11 @@ below-slots frame places some within = omega arith
 
 pub fit-below : (config : Config) (its : Terms) → (config ≡ configs.Edf → ⊥) → IsFit config None its
     → place_of its < place_count config
+fit-below config (terms.Weight weight) apart fit =
+    of_sfq (λ config. ¬ Exceeds config (terms.Weight weight) → weight - 1 < place_count config)
+    (λ s within. below-weights s.total weight fit.range.0 fit.range.1 within) config (sym fit.of_kind) fit.within
 fit-below configs.Edf its apart fit = absurd (apart refl)
 fit-below configs.Fp (terms.Prio priority) apart fit = omega arith
-fit-below (configs.Sfq total most quantum) (terms.Weight weight) apart fit =
-    below-weights total weight fit.range.0 fit.range.1 fit.within
 fit-below (configs.Wheel frame) (terms.Slots places) apart fit =
     below-slots frame places fit.range.0 fit.within
 fit-below (configs.Rr quantum) terms.Turn apart fit = omega arith

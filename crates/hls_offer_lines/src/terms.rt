@@ -13,7 +13,7 @@ ghost use Rattle.hls_offer_lines.specs.Cost.{
 };
 ghost use Rattle.hls_offer_lines.specs.Inside.Places.{place_count, place_of};
 
-use hls_chron::{Config, Terms};
+use hls_chron::{Config, SLOTS, Terms};
 use hls_derive::Place;
 use hls_guarantee::Guarantee;
 use hls_offer_best::{Budget, Need, Seat, cheapest};
@@ -103,11 +103,14 @@ fn first_place(
 fn place_count(config: &Config) -> u32
     ensures { result ≡ place_count config.now }
 {
+    if let Some(sharing) = config.sharing() {
+        return sharing.total.min(20);
+    }
     match config {
-        Config::Fp => 32,
-        Config::Sfq { total, .. } => (*total).min(20),
+        Config::Fp => SLOTS,
         Config::Wheel { frame } => *frame,
-        Config::Cpu | Config::Edf | Config::Rr { .. } | Config::Join { .. } => 1,
+        Config::Cpu | Config::Edf | Config::Sfq { .. } | Config::Rr { .. } | Config::Join { .. } =>
+            1,
     }
 }
 

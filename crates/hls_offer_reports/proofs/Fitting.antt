@@ -4,9 +4,11 @@ use Rattle.std.specs.Prelude.{◌≢◌, ◌↔◌}
 use Rattle.std.proofs.lemmas.Bool.{cases_lt}
 use Rattle.hls_chron.specs.declared.plain.Config.{Config}
 use Rattle.hls_chron.specs.declared.plain.Config.TheVariants as configs
+use Rattle.hls_chron.specs.declared.plain.Sharing.{Sharing}
 use Rattle.hls_chron.specs.declared.plain.Terms.{Terms}
 use Rattle.hls_chron.specs.declared.plain.Terms.TheVariants as terms
-use Rattle.hls_chron.specs.Kinds.{kind_of, terms_kind}
+use Rattle.hls_chron.specs.Kinds.{by_shares, kind_of, terms_kind}
+use Rattle.hls_chron.proofs.ConfigLaws.{by_kind}
 use Rattle.hls_chron.specs.Ledger.{Ledger}
 use Rattle.hls_chron.specs.Ranges.{TermsInRange}
 use Rattle.hls_chron.specs.Seats.{HasPriority, most_seats}
@@ -84,20 +86,16 @@ edf_fits b periods (Parts some fits) its free room =
     (λ none. absurd (unfit configs.Edf b its (λ e. absurd (let no : ⊥ = cc in no)) none), λ has. absurd has)
 edf_fits b periods _ its free room = absurd room
 
-sfq_fits : (total most quantum : ℕ) (b : Ledger) (periods : List ℕ) (left : Left) (its : Terms)
-    → ¬ IsFull (configs.Sfq total most quantum) b → IsRoom (configs.Sfq total most quantum) b periods left
-    → Fitting (configs.Sfq total most quantum) b its ↔ HasTerms left its
-sfq_fits total most quantum b periods (Weight some) (terms.Weight asked) free room = (
-  λ none. subst (λ (n : ℕ). asked ≤ n) (sym room)
-      (room_of (configs.Sfq total most quantum) b (terms.Weight asked) none),
-  λ has. no_fault (configs.Sfq total most quantum) b (terms.Weight asked) refl (λ over. omega (arith, over, has, room))
+sfq_fits : (s : Sharing) (b : Ledger) (periods : List ℕ) (left : Left) (its : Terms) → ¬ IsFull (by_shares s) b
+    → IsRoom (by_shares s) b periods left → Fitting (by_shares s) b its ↔ HasTerms left its
+sfq_fits s b periods (Weight some) (terms.Weight asked) free room = (
+  λ none. subst (λ (n : ℕ). asked ≤ n) (sym room) (room_of (by_shares s) b (terms.Weight asked) none),
+  λ has. no_fault (by_shares s) b (terms.Weight asked) refl (λ over. omega (arith, over, has, room))
       (λ p same. absurd (let no : ⊥ = cc in no)) free (subst (λ (n : ℕ). asked ≤ n) room has),
 )
-sfq_fits total most quantum b periods (Weight some) its free room = (
-  λ none. absurd (unfit (configs.Sfq total most quantum) b its (λ e. absurd (let no : ⊥ = cc in no)) none),
-  λ has. absurd has,
-)
-sfq_fits total most quantum b periods _ its free room = absurd room
+sfq_fits s b periods (Weight some) its free room =
+    (λ none. absurd (unfit (by_shares s) b its (λ e. absurd (let no : ⊥ = cc in no)) none), λ has. absurd has)
+sfq_fits s b periods _ its free room = absurd room
 
 wheel_fits : (frame : ℕ) (b : Ledger) (periods : List ℕ) (left : Left) (its : Terms)
     → ¬ IsFull (configs.Wheel frame) b → IsRoom (configs.Wheel frame) b periods left
@@ -137,14 +135,12 @@ join_fits ports b periods _ its free room = absurd room
 
 room_fits : (config : Config) (b : Ledger) (periods : List ℕ) (left : Left) (its : Terms) → config ≢ configs.Cpu
     → TermsInRange its → ¬ IsFull config b → IsRoom config b periods left → Fitting config b its ↔ HasTerms left its
-room_fits configs.Cpu b periods left its some small free room = absurd (some refl)
-room_fits configs.Fp b periods left its some small free room = fp_fits b periods left its small free room
-room_fits configs.Edf b periods left its some small free room = edf_fits b periods left its free room
-room_fits (configs.Sfq total most quantum) b periods left its some small free room =
-    sfq_fits total most quantum b periods left its free room
-room_fits (configs.Wheel frame) b periods left its some small free room = wheel_fits frame b periods left its free room
-room_fits (configs.Rr quantum) b periods left its some small free room = rr_fits quantum b periods left its free room
-room_fits (configs.Join ports) b periods left its some small free room = join_fits ports b periods left its free room
+room_fits config b periods left its some small =
+    by_kind (λ config. config ≢ configs.Cpu → ¬ IsFull config b → IsRoom config b periods left
+    → Fitting config b its ↔ HasTerms left its) (λ some. absurd (some refl))
+    (λ some. fp_fits b periods left its small) (λ some. edf_fits b periods left its)
+    (λ s some. sfq_fits s b periods left its) (λ quantum some. rr_fits quantum b periods left its)
+    (λ frame some. wheel_fits frame b periods left its) (λ ports some. join_fits ports b periods left its) config some
 
 pub left_fits : (config : Config) (b : Ledger) (periods : List ℕ) (left : Left) (its : Terms) → config ≢ configs.Cpu
     → TermsInRange its → IsLeft config b periods left → Fitting config b its ↔ HasTerms left its

@@ -73,19 +73,15 @@ pub fn put_free(
 fn put_config(out: &mut Vec<u8>, version: u8, config: &Config) -> Result<(), AllocError>
     ensures { OnOk result (out.new.items ≡ out.old.items ++ spaced (config_forms version config.now)) }
 {
+    if let Some(sharing) = config.sharing() {
+        put_counted(out, b" sfq ", u128::from(sharing.total))?;
+        put_counted(out, b" ", u128::from(sharing.most))?;
+        return put_quantum(out, version, sharing.quantum);
+    }
     match config {
-        Config::Cpu => Ok(()),
+        Config::Cpu | Config::Sfq { .. } => Ok(()),
         Config::Fp => put(out, b" fp"),
         Config::Edf => put(out, b" edf"),
-        Config::Sfq {
-            total,
-            most,
-            quantum,
-        } => {
-            put_counted(out, b" sfq ", u128::from(*total))?;
-            put_counted(out, b" ", u128::from(*most))?;
-            put_quantum(out, version, *quantum)
-        }
         Config::Rr { quantum } => put_counted(out, b" rr ", u128::from(*quantum)),
         Config::Wheel { frame } => put_counted(out, b" wheel ", u128::from(*frame)),
         Config::Join { .. } => put(out, b" join"),
