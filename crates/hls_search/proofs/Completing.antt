@@ -52,12 +52,7 @@ pub record Parts (place : Place) (have want : Guarantee) (n : ℕ) : Type 0 wher
 nothing-on : (config : Config) (h want : Guarantee) (n : ℕ) → LendsNothing config h → Closed n h want
     → LendsNothing config want
 nothing-on configs.Cpu h want n lends c = lends
-nothing-on configs.Fp h want n lends c = closed-null (subst (λ v. Closed n v want) lends c)
-nothing-on configs.Edf h want n lends c = closed-null (subst (λ v. Closed n v want) lends c)
-nothing-on (configs.Sfq total most quantum) h want n lends c = closed-null (subst (λ v. Closed n v want) lends c)
-nothing-on (configs.Rr quantum) h want n lends c = closed-null (subst (λ v. Closed n v want) lends c)
-nothing-on (configs.Wheel frame) h want n lends c = closed-null (subst (λ v. Closed n v want) lends c)
-nothing-on (configs.Join ports) h want n lends c = closed-null (subst (λ v. Closed n v want) lends c)
+nothing-on config h want n lends c = closed-null (subst (λ v. Closed n v want) lends c)
 
 -- from the place's terms, where nothing is wanted of it that it lends anyway
 by-terms : (config : Config) (its : Terms) (g h want : Guarantee) (n : ℕ) → (LendsNothing config want → ⊥)
@@ -131,11 +126,10 @@ after-hits (configs.Wheel frame) (terms.Slots places) n i j have All out want vh
   subst (λ v. LendsByTerms (configs.Wheel frame) (terms.Slots places) v out) (sym (closed-all before)) lends,
   found-more n (omega arith) (found-closed j vo (narrow-valid want vw) after),
 )
-after-hits configs.Fp its n i j have into out want vh vw vo of lends before after room = absurd of
-after-hits (configs.Sfq total most quantum) its n i j have into out want vh vw vo of lends before after room = absurd of
-after-hits (configs.Rr quantum) its n i j have into out want vh vw vo of lends before after room = absurd of
-after-hits (configs.Join ports) its n i j have into out want vh vw vo of lends before after room = absurd of
-after-hits config its n i j have into out want vh vw vo of lends before after room = absurd lends
+after-hits configs.Cpu its n i j have into out want vh vw vo of lends before after room = absurd lends
+after-hits configs.Edf its n i j have into out want vh vw vo of lends before after room = absurd lends
+after-hits (configs.Wheel frame) its n i j have into out want vh vw vo of lends before after room = absurd lends
+after-hits config its n i j have into out want vh vw vo of lends before after room = absurd of
 
 -- where it lends parts of shares, conversions may stand on both sides
 share-hits : (config : Config) (its : Terms) (n i j : ℕ) (have into out want : Guarantee)

@@ -4,13 +4,14 @@ use Rattle.std.specs.Prelude.{Some, slice_get}
 use Rattle.std.proofs.lemmas.Option.{slice_get_within}
 use Rattle.hls_chron.specs.declared.plain.Config.{Config}
 use Rattle.hls_chron.specs.declared.plain.Config.TheVariants as configs
+use Rattle.hls_chron.specs.declared.plain.Sharing.{Sharing}
 use Rattle.hls_chron.specs.declared.plain.Terms.{Terms}
 use Rattle.hls_chron.specs.declared.plain.Terms.TheVariants as terms
 use Rattle.hls_chron.specs.Ranges.{ConfigInRange, TermsInRange}
 use Rattle.hls_guarantee.specs.declared.Guarantee.{Guarantee}
 use Rattle.hls_guarantee.specs.declared.Guarantee.TheVariants.{All, Psbe}
 use Rattle.hls_guarantee.specs.Limits.{IsValid, IsNarrow}
-use Rattle.hls_chron.specs.Kinds.{IsPort, kind_of}
+use Rattle.hls_chron.specs.Kinds.{IsPort, kind_of, by_shares}
 use Rattle.hls_guarantee.specs.Steps.{LendsByTerms, LendsNothing, LendsThrough}
 use Rattle.hls_derive.specs.declared.derivation.Place.{Place}
 use Rattle.hls_derive.specs.declared.derivation.Step.{Step}
@@ -22,28 +23,37 @@ use Rattle.hls_chron.specs.declared.plain.Kind.{Kind}
 use Rattle.hls_chron.specs.declared.plain.Kind.TheVariants as kinds
 use Rattle.hls_search.proofs.Shares.{part-valid}
 use Rattle.hls_search.proofs.Taking.{others_of, fair-size, fair-part, turn-size, turn-part}
-use Rattle.hls_chron.proofs.ConfigLaws.{first_port, sole_port}
+use Rattle.hls_chron.proofs.ConfigLaws.{first_port, sole_port, sharing_or_not}
 
 -- what is lent of a narrow guarantee is valid
+abbrev LendsValid : Config → Type 0
+LendsValid config = (its : Terms) (g h : Guarantee) → ConfigInRange config → TermsInRange its → IsNarrow g
+    → LendsByTerms config its g h → IsValid h
+
+fair_valid : (sharing : Sharing) → LendsValid (by_shares sharing)
+fair_valid sharing (terms.Weight weight) (Psbe s d) (Psbe p e) rc rt narrow lends =
+    let fits : weight ≤ sharing.total = (let sum = lends.weights in omega arith) in
+    part-valid weight sharing.total (others_of sharing weight) s d p e (fair-size sharing weight rc rt fits) narrow
+    (fair-part sharing weight s d p e lends)
+fair_valid sharing _ _ _ rc rt narrow lends = absurd lends
+
+other_valid : (config : Config) → kind_of config ≢ kinds.Sfq → LendsValid config
+other_valid configs.Cpu ne terms.Cpu All h rc rt narrow lends = subst IsValid (sym lends) tt
+other_valid configs.Fp ne (terms.Prio priority) g h rc rt narrow lends =
+    subst IsValid (sym lends.1) (narrow-valid g narrow)
+other_valid configs.Edf ne (terms.Res hard x y) All h rc rt narrow lends =
+    subst IsValid (sym lends) (record { some = rt.0; fits = rt.1; size = omega (arith, rt.2) })
+other_valid (configs.Wheel frame) ne (terms.Slots places) All h rc rt narrow lends =
+    subst IsValid (sym lends.1) (record { some = rt.0; fits = lends.0; size = omega (arith, rc.1) })
+other_valid (configs.Rr quantum) ne terms.Turn (Psbe s d) (Psbe p e) rc rt narrow lends =
+    part-valid 1 32 (31 * quantum) s d p e (turn-size quantum rc) narrow (turn-part quantum s d p e lends)
+other_valid (configs.Join ports) ne terms.Sole g h rc rt narrow lends =
+    subst IsValid (sym lends.1) (narrow-valid g narrow)
+other_valid config ne _ _ _ rc rt narrow lends = absurd (grind (arith, ne, lends))
+
 pub lent-valid : (config : Config) (its : Terms) (g h : Guarantee) → ConfigInRange config → TermsInRange its
     → IsNarrow g → LendsByTerms config its g h → IsValid h
-lent-valid configs.Cpu terms.Cpu All h rc rt narrow lends = subst IsValid (sym lends) tt
-lent-valid configs.Fp (terms.Prio priority) g h rc rt narrow lends =
-    subst IsValid (sym lends.1) (narrow-valid g narrow)
-lent-valid configs.Edf (terms.Res hard x y) All h rc rt narrow lends =
-    subst IsValid (sym lends) (record { some = rt.0; fits = rt.1; size = omega (arith, rt.2) })
-lent-valid (configs.Wheel frame) (terms.Slots places) All h rc rt narrow lends =
-    subst IsValid (sym lends.1) (record { some = rt.0; fits = lends.0; size = omega (arith, rc.1) })
-lent-valid (configs.Sfq total most quantum) (terms.Weight weight) (Psbe s d) (Psbe p e) rc rt narrow lends =
-    let fits : weight ≤ total = (let sum = lends.weights in omega arith) in
-    part-valid weight total (others_of total most quantum weight) s d p e
-    (fair-size total most quantum weight rc rt fits) narrow
-    (fair-part total most quantum weight s d p e lends)
-lent-valid (configs.Rr quantum) terms.Turn (Psbe s d) (Psbe p e) rc rt narrow lends =
-    part-valid 1 32 (31 * quantum) s d p e (turn-size quantum rc) narrow (turn-part quantum s d p e lends)
-lent-valid (configs.Join ports) terms.Sole g h rc rt narrow lends =
-    subst IsValid (sym lends.1) (narrow-valid g narrow)
-lent-valid _ _ _ _ rc rt narrow lends = absurd lends
+lent-valid = sharing_or_not LendsValid fair_valid other_valid
 
 -- what lends nothing anyway is lent at each port
 pub nothing-lent : (config : Config) (its : Terms) (have want : Guarantee) → ConfigInRange config → IsValid have

@@ -7,7 +7,7 @@ ghost use Rattle.hls_search_laws.specs.Rates.{pace_of, IsFaster};
 ghost use Rattle.hls_search.specs.Inside.Parts.{HasPartRate};
 ghost use Rattle.hls_search.specs.Inside.Places.{HitsByBest, HitsByGoal, LendsShares};
 
-use hls_chron::{Config, Terms};
+use hls_chron::Terms;
 use hls_derive::Place;
 use hls_guarantee::Guarantee;
 
@@ -69,8 +69,11 @@ fn part_at(place: &Place) -> Part
     ensures some { 1 ≤ result.total }
     ensures few { result.total ≤ 100 }
 {
-    match (place.config, place.terms) {
-        (Config::Sfq { total, .. }, Terms::Weight(weight)) => Part { weight, total },
+    match (place.config.sharing(), place.terms) {
+        (Some(sharing), Terms::Weight(weight)) => Part {
+            weight,
+            total: sharing.total,
+        },
         _ => Part {
             weight: 1,
             total: 32,

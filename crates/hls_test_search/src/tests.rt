@@ -2,11 +2,11 @@
 ghost use Rattle.std.specs.Prelude.{◌≡◌, ◌<◌, IfOk};
 ghost use Rattle.hls_chron.specs.Ranges.{ConfigInRange, IsWithin, TermsInRange};
 ghost use Rattle.hls_guarantee.specs.Limits.{IsNarrow, IsValid};
-ghost use Rattle.hls_chron.specs.Kinds.{port_count};
+ghost use Rattle.hls_chron.specs.Kinds.{by_shares, port_count};
 
 use crate::chains::differences;
 use hls_check::lent;
-use hls_chron::{Config, Terms};
+use hls_chron::{Config, Sharing, Terms};
 use hls_derive::{Derivation, Place, read_derivation};
 use hls_guarantee::{Guarantee, RuleName, narrow, read_guarantee, valid};
 use hls_rules::{RULES, Rule, RuleBook, strongest};
@@ -335,13 +335,13 @@ fn with_lent(
 }
 
 fn by_weights(rt: &impl Abort, alloc: Global, book: &RuleBook) -> Result<(), Fail> {
-    let light = otherwise(alloc, book, &fair_queueing(1, 1), &AT_LIGHT_WEIGHT)?;
+    let light = otherwise(alloc, book, &fair_queueing(4, 1, 1), &AT_LIGHT_WEIGHT)?;
     assert_eq!(rt; light, None, "a light weight");
-    let heavy = otherwise(alloc, book, &fair_queueing(3, 1), &AT_HEAVY_WEIGHT)?;
+    let heavy = otherwise(alloc, book, &fair_queueing(4, 3, 1), &AT_HEAVY_WEIGHT)?;
     assert_eq!(rt; heavy, None, "a heavy weight");
-    let light = otherwise(alloc, book, &fair_queueing(1, 2), &AT_LIGHT_TURNS)?;
+    let light = otherwise(alloc, book, &fair_queueing(4, 1, 2), &AT_LIGHT_TURNS)?;
     assert_eq!(rt; light, None, "a light weight, by turns");
-    let heavy = otherwise(alloc, book, &fair_queueing(3, 2), &AT_HEAVY_TURNS)?;
+    let heavy = otherwise(alloc, book, &fair_queueing(4, 3, 2), &AT_HEAVY_TURNS)?;
     assert_eq!(rt; heavy, None, "a heavy weight, by turns");
     Ok(())
 }
@@ -387,18 +387,23 @@ fn worked_derivations(rt: &impl Abort, alloc: Global, book: &RuleBook) -> Result
     Ok(())
 }
 
-/// A seat of this weight of four, beside one other, in turns of a quantum.
-fn fair_queueing(weight: u32, quantum: u32) -> Place
-    requires weight { IsWithin 1 4 weight }
+/// A seat of this weight of a total, beside one other, in turns of a quantum.
+fn fair_queueing(total: u32, weight: u32, quantum: u32) -> Place
+    requires total { IsWithin 1 100 total }
+    requires weight { IsWithin 1 20 weight }
     requires quantum { IsWithin 1 100 quantum }
-    ensures { result ≡ record { config = Config.Sfq 4 2 quantum; terms = Terms.Weight weight } }
+    ensures { result ≡ record {
+      config = by_shares (record { total = total; most = 2; quantum = quantum });
+      terms = Terms.Weight weight;
+    } }
 {
+    let sharing = Sharing {
+        total,
+        most: 2,
+        quantum,
+    };
     Place {
-        config: Config::Sfq {
-            total: 4,
-            most: 2,
-            quantum,
-        },
+        config: sharing.config(),
         terms: Terms::Weight(weight),
     }
 }
@@ -450,14 +455,7 @@ fn small_chains(rt: &impl Abort, alloc: Global, book: &RuleBook) -> Result<(), F
         assert_eq!(rt; differ, (0, 0), "fixed priority, depth {depth}");
     }
     for quantum in 1..3 {
-        let fair = Place {
-            config: Config::Sfq {
-                total: 3,
-                most: 2,
-                quantum,
-            },
-            terms: Terms::Weight(2),
-        };
+        let fair = fair_queueing(3, 2, quantum);
         assert_eq!(rt;
             missed_of_shares(alloc, book, &fair)?,
             0,
