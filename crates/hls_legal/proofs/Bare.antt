@@ -2,10 +2,10 @@
 use Rattle.std.proofs.Common.{◌≡◌, ℕ, inl, inr, refl, sym, ap, ◌∙◌, subst, arith}
 use Rattle.std.proofs.lemmas.Bool.{cases_lt}
 use Rattle.hls_chron.specs.declared.plain.Config.{Config}
-use Rattle.hls_chron.specs.declared.plain.Config.TheVariants.{Cpu, Fp, Edf, Sfq, Rr, Wheel, Join}
 use Rattle.hls_chron.specs.declared.plain.Terms.{Terms}
 use Rattle.hls_chron.specs.Ledger.{Ledger, now_of, row_at}
 use Rattle.hls_chron.specs.Seats.{terms_at, asked, served}
+use Rattle.hls_chron.proofs.ConfigLaws.{by_kind}
 use Rattle.hls_kinds.specs.declared.fault.SeatFault.{SeatFault}
 use Rattle.hls_kinds.specs.declared.fault.SeatFault.TheVariants as faults
 use Rattle.hls_kinds.specs.Faults as seats
@@ -34,17 +34,14 @@ turn-bare quantum b key mask slot turn = record { goes_on = turn.goes_on; passes
 serves-bare : (config : Config) (b : Ledger) (mask slot : ℕ) → Serves config (roomless b) mask slot
     → Serves config b mask slot
 unfolding asked served row_at claim_at tenant_at owner_at
-serves-bare Cpu b mask slot serves = serves
-serves-bare Fp b mask slot serves = least-bare b mask slot serves
-serves-bare Edf b mask slot serves = serves
-serves-bare (Sfq total most quantum) b mask slot serves =
-    subst (λ (key : ℕ → ℕ). TakesTurn quantum b key mask slot) (tag-room quantum b (now_of b))
-    (turn-bare quantum b (start_tag quantum (roomless b) (now_of b)) mask slot serves)
-serves-bare (Rr quantum) b mask slot serves =
-    subst (λ (n : ℕ). TakesTurn quantum b (turns_after n) mask slot) (slot-room b)
-    (turn-bare quantum b (turns_after (turn_slot (roomless b))) mask slot serves)
-serves-bare (Wheel frame) b mask slot serves = record { owns = serves.owns; asks = serves.asks }
-serves-bare (Join ports) b mask slot serves = serves
+serves-bare config b mask slot = by_kind (λ config. Serves config (roomless b) mask slot → Serves config b mask slot)
+    (λ serves. serves) (λ serves. least-bare b mask slot serves) (λ serves. serves)
+    (λ sharing serves. subst (λ (key : ℕ → ℕ). TakesTurn sharing.quantum b key mask slot)
+    (tag-room sharing.quantum b (now_of b))
+    (turn-bare sharing.quantum b (start_tag sharing.quantum (roomless b) (now_of b)) mask slot serves))
+    (λ quantum serves. subst (λ (n : ℕ). TakesTurn quantum b (turns_after n) mask slot) (slot-room b)
+    (turn-bare quantum b (turns_after (turn_slot (roomless b))) mask slot serves))
+    (λ frame serves. record { owns = serves.owns; asks = serves.asks }) (λ ports serves. serves) config
 
 pub serves_like : (config : Config) (b c : Ledger) (mask slot : ℕ) → roomless b ≡ roomless c
     → Serves config c mask slot → Serves config b mask slot
@@ -55,13 +52,8 @@ serves_like config b c mask slot same serves =
 occupant-bare : (config : Config) (b : Ledger) (slot : ℕ) → occupant_at config (roomless b) slot
     ≡ occupant_at config b slot
 unfolding terms_at tenant_at is_held asked served row_at
-occupant-bare Edf b slot = refl
-occupant-bare Cpu b slot = refl
-occupant-bare Fp b slot = refl
-occupant-bare (Sfq total most quantum) b slot = refl
-occupant-bare (Rr quantum) b slot = refl
-occupant-bare (Wheel frame) b slot = refl
-occupant-bare (Join ports) b slot = refl
+occupant-bare config b slot = by_kind (λ config. occupant_at config (roomless b) slot ≡ occupant_at config b slot)
+    refl refl refl (λ sharing. refl) (λ quantum. refl) (λ frame. refl) (λ ports. refl) config
 
 pub occupant_like : (config : Config) (b c : Ledger) (slot : ℕ) → roomless b ≡ roomless c
     → occupant_at config b slot ≡ occupant_at config c slot
@@ -71,13 +63,8 @@ occupant_like config b c slot same =
 
 used-bare : (config : Config) (b : Ledger) → room_used config (roomless b) ≡ room_used config b
 unfolding terms_at tenant_at is_held asked served row_at owner_at
-used-bare Edf b = refl
-used-bare (Sfq total most quantum) b = refl
-used-bare (Wheel frame) b = refl
-used-bare Cpu b = refl
-used-bare Fp b = refl
-used-bare (Rr quantum) b = refl
-used-bare (Join ports) b = refl
+used-bare config b = by_kind (λ config. room_used config (roomless b) ≡ room_used config b)
+    refl refl refl (λ sharing. refl) (λ quantum. refl) (λ frame. refl) (λ ports. refl) config
 
 used_like : (config : Config) (b c : Ledger) → roomless b ≡ roomless c → room_used config b ≡ room_used config c
 used_like config b c same =

@@ -7,8 +7,9 @@ use Rattle.hls_text.specs.Lines.{Text}
 use Rattle.hls_chron.specs.declared.plain.Config.{Config}
 use Rattle.hls_chron.specs.declared.plain.Config.TheVariants as configs
 use Rattle.hls_chron.specs.declared.plain.Kind.TheVariants as kinds
-use Rattle.hls_chron.specs.Kinds.{kind_of}
+use Rattle.hls_chron.specs.Kinds.{kind_of, by_shares}
 use Rattle.hls_chron.specs.Ranges.{ConfigInRange}
+use Rattle.hls_chron.proofs.ConfigLaws.{by_kind}
 use Rattle.hls_scenario.specs.declared.scenario.Spot.{Spot}
 use Rattle.hls_scenario.specs.declared.scenario.Spot.TheVariants.{Cpu, Under}
 use Rattle.hls_scenario.specs.declared.scenario.Perch.{Perch}
@@ -74,26 +75,33 @@ ports_apart (p ∷ perches) are (suc port) zero one two lt e f = absurd (omega (
 ports_apart (p ∷ perches) are (suc port) (suc other) one two lt e f =
     ports_apart perches are.2 port other one two (omega (arith, lt)) e f
 
+-- a load with one perch
+abbrev IsLone : (version : ℕ) → Config → List Perch → Type 0
+IsLone version config (perch ∷ []) = grammar.IsConfig version config × grammar.IsPerch perch
+IsLone version config _ = ⊥
+
+lone_load : (version : ℕ) (config : Config) → kind_of config ≢ kinds.Cpu → port_count config ≡ 1
+    → (perches : List Perch) → IsLone version config perches → IsLoadShape config perches
+lone_load version config kind one (perch ∷ []) is = lone_shape config perch kind one is.0.0 is.1
+lone_load version config kind one [] is = absurd is
+lone_load version config kind one (perch ∷ other ∷ perches) is = absurd is
+
 pub load_shape : (version : ℕ) (config : Config) (perches : List Perch) → grammar.IsLoad version config perches
     → IsLoadShape config perches
-load_shape version configs.Cpu perches is = absurd is
-load_shape version (configs.Join ports) perches is = record {
-  kind = λ e. cc;
-  in_range = is.1;
-  ports = sym is.0;
-  each = ports_each perches is.2;
-  apart = ports_apart perches is.2;
-}
-load_shape version configs.Fp (perch ∷ []) is = lone_shape configs.Fp perch (λ e. cc) refl is.0.0 is.1
-load_shape version configs.Edf (perch ∷ []) is = lone_shape configs.Edf perch (λ e. cc) refl is.0.0 is.1
-load_shape version (configs.Sfq total most quantum) (perch ∷ []) is =
-    lone_shape (configs.Sfq total most quantum) perch (λ e. cc) refl is.0.0 is.1
-load_shape version (configs.Rr quantum) (perch ∷ []) is =
-    lone_shape (configs.Rr quantum) perch (λ e. cc) refl is.0.0 is.1
-load_shape version (configs.Wheel frame) (perch ∷ []) is =
-    lone_shape (configs.Wheel frame) perch (λ e. cc) refl is.0.0 is.1
-load_shape version _ [] is = absurd is
-load_shape version _ (perch ∷ other ∷ perches) is = absurd is
+load_shape version = by_kind (λ config. (perches : List Perch) → grammar.IsLoad version config perches
+    → IsLoadShape config perches)
+    (λ perches is. absurd is) (lone_load version configs.Fp (λ e. cc) refl)
+    (lone_load version configs.Edf (λ e. cc) refl)
+    (λ sharing. lone_load version (by_shares sharing) (λ e. cc) refl)
+    (λ quantum. lone_load version (configs.Rr quantum) (λ e. cc) refl)
+    (λ frame. lone_load version (configs.Wheel frame) (λ e. cc) refl)
+    (λ ports perches is. record {
+      kind = λ e. cc;
+      in_range = is.1;
+      ports = sym is.0;
+      each = ports_each perches is.2;
+      apart = ports_apart perches is.2;
+    })
 
 -- ---- the seats of a load
 

@@ -1,12 +1,12 @@
 -- A burst is unserved by those ticks alone in which it may have been served, and a release stays the last one.
-use Rattle.std.proofs.Common.{◌≡◌, ℕ, zero, suc, inl, inr, ◌+◌, ◌-◌, ◌%◌, ◌<◌, ◌≤◌, Option, Some, None, Bool}
+use Rattle.std.proofs.Common.{◌≡◌, ℕ, zero, suc, inl, inr, ◌-◌, ◌<◌, ◌≤◌, Option, Some, None, Bool}
 use Rattle.std.proofs.Common.{refl, ap, arith}
 use Rattle.std.specs.Prelude.{nat_lt}
 use Rattle.std.proofs.Math.Nat.{mod-le, mod-zero}
 use Rattle.std.proofs.lemmas.Bool.{cases_lt}
 use Rattle.hls_chron.proofs.CountLaws.{count-agree}
 use Rattle.hls_releases.specs.Releases.{last_release, is_unserved}
-use Rattle.hls_releases.proofs.Releases.{last_from, last_upto, last_of, last_is_release, period_ahead}
+use Rattle.hls_releases.proofs.Releases.{last_of, last_is_release, period_ahead}
 
 pub unserved_agree : (serves other : ℕ → Bool) (every : Option ℕ) (burst since t : ℕ)
     → ((x : ℕ) → since ≤ x → x < t → serves x ≡ other x)

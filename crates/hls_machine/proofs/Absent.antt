@@ -2,13 +2,10 @@
 use Rattle.std.proofs.Common.{◌≡◌, ℕ, inl, inr, ◌+◌, ◌<◌, ◌≤◌, List, [], ◌∷◌, ◌++◌, length, Option, Some}
 use Rattle.std.proofs.Common.{None, Bool, true, false, if◌then◌else◌, ◌==◌, refl, sym, ap, ◌∙◌, arith, cond}
 use Rattle.std.proofs.lemmas.Bool.{cases_eq}
-use Rattle.hls_chron.specs.declared.plain.Config.{Config}
-use Rattle.hls_chron.specs.declared.plain.Config.TheVariants as configs
 use Rattle.hls_machine.specs.Hierarchy.{Hierarchy, Node, Loaded, Admitted, Asleep, seats_of, config_of}
 use Rattle.hls_machine.specs.Steps.{Step, Refuse, Load, Admit, End, Unload, Move, Rouse, Block, Elapse, after}
 use Rattle.hls_machine.specs.Steps.{nobody, marked, renewed, reseated, roused, wake_by, ticked, seatings}
 use Rattle.hls_machine.specs.Steps.{leavings, nodes_after, loaded, admitted, hop_at, hops_of}
-use Rattle.hls_chron.specs.Kinds.{fair_queue}
 use Rattle.hls_machine.specs.Legal.{SitsUnder, IsChain, IsShallow, fair_queues}
 use Rattle.hls_machine.proofs.Kept.{at_same, at_other}
 use Rattle.hls_chron.proofs.ConfigLaws.{one_queue}

@@ -3,8 +3,6 @@ use Rattle.std.proofs.Common.{◌≡◌, ℕ, inl, inr, ◌<◌, List, [], ◌�
 use Rattle.std.proofs.Common.{is_some, sym, ap, ◌∙◌, subst, arith}
 use Rattle.std.proofs.lemmas.Bool.{cases_eq}
 use Rattle.std.proofs.lemmas.Option.{slice_get_within}
-use Rattle.hls_chron.specs.declared.plain.Config.{Config}
-use Rattle.hls_chron.specs.declared.plain.Config.TheVariants as configs
 use Rattle.hls_kinds.specs.Discipline.{Serves}
 use Rattle.hls_chron.specs.Kinds.{IsPort, port_count}
 use Rattle.hls_machine.specs.Hierarchy.{Hierarchy, Loaded, Scheduler, Place, Processor, At}

@@ -1,20 +1,17 @@
 -- Plainer words for the steps of a legal run.
 use Rattle.std.proofs.Common.{◌≡◌, ◌≢◌, ℕ, zero, suc, inl, inr, ◌+◌, ◌<◌, List, [], ◌∷◌, ◌++◌, Option, Some}
 use Rattle.std.proofs.Common.{None, Bool, true, false, if◌then◌else◌, ◌==◌, refl, sym, ap, ◌∙◌, subst, arith}
-use Rattle.std.proofs.Common.{fold, cond, ◌&&◌}
+use Rattle.std.proofs.Common.{fold, cond}
 use Rattle.std.proofs.lemmas.Bool.{cases_eq, cases_lt, cases_Bool, eq-eqb, ne_eqb, eqb-true}
 use Rattle.std.proofs.lemmas.List.Sums.{fold-append}
 use Rattle.hls_chron.specs.declared.plain.Config.{Config}
-use Rattle.hls_chron.specs.declared.plain.Config.TheVariants as configs
 use Rattle.hls_chron.specs.declared.plain.Terms.{Terms}
 use Rattle.hls_chron.specs.declared.book.Event.{Event}
 use Rattle.hls_chron.specs.Ledger.{Ledger, now_of, row_at, before}
 use Rattle.hls_chron.specs.Seats.{asked, served}
-use Rattle.hls_kinds.specs.Turns.{turn_slot, turn_goes_on}
 use Rattle.hls_kinds.specs.Tenants.{settled_after, settled_at}
-use Rattle.hls_kinds.specs.Slots.{any_below}
-use Rattle.hls_kinds.specs.Asks.{slot_asks, asks_in_budget, asks_softly}
-use Rattle.hls_kinds.specs.Discipline.{Serves, TakesTurn, may_go, KeepsDiscipline}
+use Rattle.hls_kinds.specs.Asks.{slot_asks}
+use Rattle.hls_kinds.specs.Discipline.{Serves, KeepsDiscipline}
 use Rattle.hls_book.proofs.PromiseLaws.{served-to, row_at-later}
 use Rattle.hls_machine.specs.Hierarchy.{Hierarchy, Node, Loaded, Admitted, Thread, Wake, Asleep, Place}
 use Rattle.hls_machine.specs.Hierarchy.{Processor, At, Seat, seats_of, since_of, is_ready, is_just, was_served}

@@ -1,15 +1,10 @@
 -- Seats that are newly taken.
 use Rattle.std.proofs.Common.{◌≡◌, ℕ, zero, suc, ◌+◌, ◌<◌, ◌≢◌, max, List, [], ◌∷◌, slice_get, Option, None}
 use Rattle.std.proofs.Common.{Some, true, false, refl, sym, ap, ◌∙◌, subst, arith, cond}
-use Rattle.hls_chron.specs.declared.plain.Config.{Config}
-use Rattle.hls_chron.specs.declared.plain.Config.TheVariants as configs
 use Rattle.hls_chron.specs.declared.plain.Terms.{Terms}
-use Rattle.hls_chron.specs.Ledger.{Ledger, now_of}
+use Rattle.hls_chron.specs.Ledger.{now_of}
 use Rattle.hls_kinds.specs.declared.tenant.Tenant.TheVariants.{Sits}
 use Rattle.hls_kinds.specs.Tenants.{tenant_at}
-use Rattle.hls_kinds.specs.Reservations.{is_held}
-use Rattle.hls_kinds.specs.Room.{occupant_at}
-use Rattle.hls_kinds.proofs.MarkLaws.{sits_on}
 use Rattle.hls_machine.specs.Ledgers.{with_marks}
 use Rattle.hls_machine.specs.Hierarchy.{Hierarchy, Place, Processor, At, Seat, book_of}
 use Rattle.hls_machine.specs.Steps.{leavings, root_with, root_without, is_processor}

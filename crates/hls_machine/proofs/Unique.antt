@@ -3,19 +3,13 @@
 use Rattle.std.proofs.Common.{◌≡◌, ℕ, zero, suc, inl, inr, ◌+◌, ◌<◌, ◌≤◌, max, List, [], ◌∷◌, Option}
 use Rattle.std.proofs.Common.{Some, None, Bool, refl, sym, ap, ◌∙◌, subst, arith}
 use Rattle.std.specs.Int.{bit_at}
-use Rattle.std.proofs.lemmas.Bool.{cases_eq, cases_lt, cases_Bool, eq-eqb, eqb-true}
+use Rattle.std.proofs.lemmas.Bool.{cases_eq, cases_lt, eq-eqb, eqb-true}
 use Rattle.std.proofs.lemmas.Nat.Bits.{same_from_bits, bit_at-lt}
-use Rattle.hls_chron.specs.declared.plain.Config.{Config}
-use Rattle.hls_chron.specs.declared.plain.Config.TheVariants as configs
 use Rattle.hls_chron.specs.declared.plain.Terms.{Terms}
-use Rattle.hls_chron.specs.Ledger.{Ledger}
-use Rattle.hls_chron.specs.Seats.{terms_at, priority_at}
-use Rattle.hls_kinds.specs.Slots.{IsFirst}
-use Rattle.hls_kinds.specs.Turns.{turn_goes_on}
+use Rattle.hls_chron.specs.Seats.{terms_at}
 use Rattle.hls_kinds.specs.Asks.{slot_asks}
-use Rattle.hls_kinds.specs.Discipline.{HasLeastPriority, TakesTurn, Serves}
+use Rattle.hls_kinds.specs.Discipline.{Serves}
 use Rattle.hls_kinds.specs.Room.{IsFree}
-use Rattle.hls_kinds.specs.Fits.{HasSeats}
 use Rattle.hls_machine.specs.Ledgers.{with_marks}
 use Rattle.hls_machine.specs.Hierarchy.{Hierarchy, Loaded, Admitted, Scheduler, Place, Processor, At, Seat}
 use Rattle.hls_machine.specs.Hierarchy.{seat_of, book_of}

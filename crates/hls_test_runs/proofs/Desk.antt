@@ -4,9 +4,8 @@ use Rattle.std.proofs.Common.{false, refl, sym, ap, ◌∙◌, arith}
 use Rattle.std.specs.Prelude.{codes, ◌&&◌, ◌%◌}
 use Rattle.std.proofs.Math.Nat.{mod-lt}
 use Rattle.hls_chron.specs.declared.plain.Config.{Config}
-use Rattle.hls_chron.specs.declared.plain.Config.TheVariants.{Sfq}
 use Rattle.hls_chron.specs.declared.plain.Kind.TheVariants as kinds
-use Rattle.hls_chron.specs.Kinds.{kind_of}
+use Rattle.hls_chron.specs.Kinds.{kind_of, port_count, fair}
 use Rattle.hls_chron.specs.Ranges.{ConfigInRange}
 use Rattle.hls_chron.specs.Ledger.{Ledger, now_of, with_row}
 use Rattle.hls_chron.specs.Seats.{terms_at}
@@ -19,7 +18,6 @@ use Rattle.hls_machine.specs.Ledgers.{empty_book}
 use Rattle.hls_machine.specs.Hierarchy.{Hierarchy, Node, Loaded, Admitted, Thread, Awake, At, start}
 use Rattle.hls_machine.specs.Steps.{Step, Load, Elapse, Hop, Path, after, row_by, hop_at, hops_of, ticked}
 use Rattle.hls_machine.specs.Legal.{IsAsking, IsShallow, Can, asks_now, root_asks}
-use Rattle.hls_chron.specs.Kinds.{port_count}
 use Rattle.hls_test_runs.specs.Moves.{root_seat}
 use Rattle.hls_test_runs.proofs.Small.{Few, few_after, each_of_three, LowSeats, low_seat, no_low}
 use Rattle.hls_test_runs.proofs.Small.{thread_low, flat, take_one, root_all, SeatsAsk, seat_asks, root_asks_so}
@@ -38,7 +36,7 @@ none_on b mask =
     rw whole (none_of (slot_asks mask (turn_slot b)))
 
 pub least_served : (total most : ℕ) (b : Ledger) (mask slot : ℕ)
-    → IsFirst 32 (slot_asks mask) (start_tag 1 b (now_of b)) slot → Serves (Sfq total most 1) b mask slot
+    → IsFirst 32 (slot_asks mask) (start_tag 1 b (now_of b)) slot → Serves (fair total most) b mask slot
 least_served total most b mask slot is =
     record { goes_on = λ on. absurd (let no = sym on ∙ none_on b mask in cc); passes = λ off. is }
 

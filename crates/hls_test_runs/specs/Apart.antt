@@ -4,8 +4,8 @@
 -- at 2. Only the third tick is the other's.
 use Rattle.std.specs.Prelude.{ℕ, ◌==◌, ◌||◌, List, [], ◌∷◌, Option, Some, None, Bool, false, if◌then◌else◌, codes}
 use Rattle.hls_chron.specs.declared.plain.Config.{Config}
-use Rattle.hls_chron.specs.declared.plain.Config.TheVariants.{Sfq}
 use Rattle.hls_chron.specs.declared.plain.Terms.TheVariants.{Weight}
+use Rattle.hls_chron.specs.Kinds.{fair}
 use Rattle.hls_guarantee.specs.declared.Guarantee.TheVariants.{Resc}
 use Rattle.hls_machine.specs.Hierarchy.{At, Seat}
 use Rattle.hls_machine.specs.Steps.{Step, Load, Admit, Rouse, Elapse, Path}
@@ -19,7 +19,7 @@ starter = 2
 
 -- a total weight of 2, and two seats at most
 abbrev pub couple : Config
-couple = Sfq 2 2 1
+couple = fair 2 2
 
 abbrev pub sleeper_seat : Seat
 sleeper_seat = record { place = At root 0; terms = Weight 1; kept = Resc false 1 4 }

@@ -5,8 +5,8 @@
 use Rattle.std.specs.Prelude.{ℕ, ◌==◌, ◌||◌, List, [], ◌∷◌, Option, Some, None, Bool, false, if◌then◌else◌}
 use Rattle.std.specs.Prelude.{codes, take}
 use Rattle.hls_chron.specs.declared.plain.Config.{Config}
-use Rattle.hls_chron.specs.declared.plain.Config.TheVariants.{Sfq}
 use Rattle.hls_chron.specs.declared.plain.Terms.TheVariants.{Weight}
+use Rattle.hls_chron.specs.Kinds.{fair}
 use Rattle.hls_guarantee.specs.declared.Guarantee.TheVariants.{Resc}
 use Rattle.hls_machine.specs.Hierarchy.{At, Seat, Stay}
 use Rattle.hls_machine.specs.Steps.{Step, Load, Admit, Move, Rouse, Elapse, Path}
@@ -20,7 +20,7 @@ heavier = 2
 
 -- a total weight of 4, and three seats at most
 abbrev pub queue : Config
-queue = Sfq 4 3 1
+queue = fair 4 3
 
 abbrev pub lighter_seat : Seat
 lighter_seat = record { place = At root 0; terms = Weight 1; kept = Resc false 1 12 }

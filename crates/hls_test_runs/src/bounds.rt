@@ -1,9 +1,10 @@
 //! Worked runs that reach the bounds of the laws: each function's contract is a fact about one, and its body does
 //! nothing.
 
-ghost use Rattle.std.specs.Prelude.{◌≡◌, ℕ, ◌+◌, ◌*◌, ◌-◌, ◌<◌, ◌≤◌, List, [], ◌∷◌, map, false};
+ghost use Rattle.std.specs.Prelude.{◌≡◌, ℕ, ◌+◌, ◌*◌, ◌-◌, ◌<◌, ◌≤◌, List, [], ◌∷◌, map, false, MatchOption};
 ghost use Rattle.hls_book_fairness.specs.Delays.{delay};
 ghost use Rattle.hls_book_isolation.specs.Demand.{demand};
+ghost use Rattle.hls_chron.specs.Kinds.{sharing_of};
 ghost use Rattle.hls_chron.specs.Ledger.{now_of};
 ghost use Rattle.hls_chron.specs.Parts.{all_parts, parts};
 ghost use Rattle.hls_chron.specs.Ticks.{count};
@@ -17,7 +18,7 @@ ghost use Rattle.hls_machine.specs.Supplied.{KeepsStays};
 ghost use Rattle.hls_legal_jobs.specs.Jobs.{AsksForJobs};
 ghost use Rattle.hls_legal_jobs.specs.Reports.{due_in};
 ghost use Rattle.hls_legal_jobs.specs.Runs.{HasReservation};
-ghost use Rattle.hls_test_runs.specs.Apart.{apart, apart_ticks, sleeper, starter};
+ghost use Rattle.hls_test_runs.specs.Apart.{couple, apart, apart_ticks, sleeper, starter};
 ghost use Rattle.hls_test_runs.specs.Crowded.{crowded, before_crowd, crowded_ticks, shorter};
 ghost use Rattle.hls_test_runs.specs.Moves.{root};
 ghost use Rattle.hls_test_runs.specs.Paced.{paced, paced_ticks, latter, latter_reserved, is_first, two_periods};
@@ -59,7 +60,7 @@ pub fn a_fair_seat_waits_as_long_as_it_may()
     ensures ahead { count (was_served (state start apart).past sleeper) 1 2 ≡ 2 }
     ensures waits { count (was_served (state start apart).past starter) 1 2 ≡ 0 }
     ensures third { count (was_served (state start apart).past starter) 1 3 ≡ 1 }
-    ensures bound { delay 2 2 1 1 1 ≡ 3 }
+    ensures bound { MatchOption (sharing_of couple) ⊥ (λ sharing. delay sharing 1 1 ≡ 3) }
     ensures no_less { (s d : Frac) → s.num ≡ 1 → s.den ≡ 2 →
         Satisfies (Psbe s d) (was_served (state start apart).past starter) 1 3 → d.den ≤ d.num }
 {}

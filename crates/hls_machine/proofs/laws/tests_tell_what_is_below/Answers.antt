@@ -1,4 +1,4 @@
-use Rattle.std.proofs.Common.{ℕ, suc, arith}
+use Rattle.std.proofs.Common.{suc, arith}
 use Rattle.hls_machine.specs.Hierarchy.{start}
 use Rattle.hls_machine.specs.Steps.{state}
 use Rattle.hls_machine.proofs.Readings.{under_below, below_rank}
