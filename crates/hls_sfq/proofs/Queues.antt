@@ -278,13 +278,12 @@ pub queue_lent : (s : Seen) (keys : List (Option ℕ)) (time : ℕ) (seats : Lis
     → IsConfigured s → KeepsTags (fair_quantum (config_of s)) s.book time seats → IsQueue keys time seats s.mask
     → QueuesTags (fair_quantum (config_of s)) s.book s.mask keys
 queue_lent s keys time seats sound configured held q slot lt =
-    let l = calls.limits s time seats sound held configured in
     let quantum_is = calls.quantum_is s time seats sound held configured in
     q.tags slot lt
     ∙ asked_tag (slot_asks s.mask slot) time (get_or seats slot None)
     (start_tag (fair_quantum (config_of s)) s.book (now_of s.book) slot)
-    (λ on. asks_tag l.total l.most l.quantum s.book time seats (calls.made s time seats sound held configured)
-    (calls.keeps s time seats sound held configured) s.mask slot lt
+    (λ on. asks_tag (calls.sharing s time seats sound held configured) s.book time seats
+    (calls.made s time seats sound held configured) (calls.keeps s time seats sound held configured) s.mask slot lt
     (sound.seated slot (eqb-true (bit_at s.mask slot) 1 on)) on
     ∙ ap (λ quantum. Some (start_tag quantum s.book (now_of s.book) slot)) (sym quantum_is))
 
