@@ -20,6 +20,7 @@ use Rattle.hls_scenario.specs.declared.scenario.Command.{Command}
 use Rattle.hls_scenario.specs.declared.scenario.Command.TheVariants as said
 use Rattle.hls_scenario.specs.Grammar.{IsConfig, IsLoad, IsPerch}
 use Rattle.hls_scenario.proofs.CanonicalPrinting.{load_perches}
+use Rattle.hls_scenario.proofs.Loads.{by_load}
 use Rattle.hls_report_text.specs.declared.report.Answered.{Answered}
 use Rattle.hls_legal.specs.Commands.{is_done}
 use Rattle.hls_legal.proofs.GoodStays.{valid_narrow}
@@ -58,32 +59,18 @@ one_valid g is = All-cons IsValid g [] is (All-nil IsValid)
 
 load_fits : (version : ℕ) (config : Config) (perches : List Perch) → IsLoad version config perches
     → IsFitAt config (wants perches)
-load_fits version configs.Cpu perches is = absurd is
-load_fits version (configs.Join ports) perches is = record {
-  config = is.1;
-  ports = length-map perches (λ (perch : Perch). perch.want) ∙ sym is.0;
-  haves = wants_valid perches (load_perches version (configs.Join ports) perches is);
-}
-load_fits version configs.Fp [] is = absurd is
-load_fits version configs.Fp (perch ∷ []) is =
-    record { config = is.0.0; ports = refl; haves = one_valid perch.want (valid_narrow perch.want is.1.want) }
-load_fits version configs.Fp (perch ∷ other ∷ perches) is = absurd is
-load_fits version configs.Edf [] is = absurd is
-load_fits version configs.Edf (perch ∷ []) is =
-    record { config = is.0.0; ports = refl; haves = one_valid perch.want (valid_narrow perch.want is.1.want) }
-load_fits version configs.Edf (perch ∷ other ∷ perches) is = absurd is
-load_fits version (configs.Sfq total most quantum) [] is = absurd is
-load_fits version (configs.Sfq total most quantum) (perch ∷ []) is =
-    record { config = is.0.0; ports = refl; haves = one_valid perch.want (valid_narrow perch.want is.1.want) }
-load_fits version (configs.Sfq total most quantum) (perch ∷ other ∷ perches) is = absurd is
-load_fits version (configs.Rr quantum) [] is = absurd is
-load_fits version (configs.Rr quantum) (perch ∷ []) is =
-    record { config = is.0.0; ports = refl; haves = one_valid perch.want (valid_narrow perch.want is.1.want) }
-load_fits version (configs.Rr quantum) (perch ∷ other ∷ perches) is = absurd is
-load_fits version (configs.Wheel frame) [] is = absurd is
-load_fits version (configs.Wheel frame) (perch ∷ []) is =
-    record { config = is.0.0; ports = refl; haves = one_valid perch.want (valid_narrow perch.want is.1.want) }
-load_fits version (configs.Wheel frame) (perch ∷ other ∷ perches) is = absurd is
+load_fits version =
+    by_load version (λ config perches. IsFitAt config (wants perches))
+    (λ config perch solo is. record {
+      config = solo.within.0;
+      ports = one_port config solo.no_join;
+      haves = one_valid perch.want (valid_narrow perch.want is.want);
+    })
+    (λ ports perches is. record {
+      config = is.1;
+      ports = length-map perches (λ (perch : Perch). perch.want) ∙ sym is.0;
+      haves = wants_valid perches (load_perches version (configs.Join ports) perches is);
+    })
 
 -- whoever is found is fit
 IsFitFound : Option Member → Type 0

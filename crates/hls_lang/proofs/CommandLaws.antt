@@ -10,6 +10,7 @@ use Rattle.hls_chron.specs.Name.{IsName}
 use Rattle.hls_chron.specs.Ranges.{IsWithin}
 use Rattle.hls_chron.specs.declared.plain.Config.{Config}
 use Rattle.hls_chron.specs.declared.plain.Config.TheVariants as configs
+use Rattle.hls_chron.proofs.ConfigLaws.{by_kind}
 use Rattle.hls_lang.specs.declared.fault.Cause.{Cause}
 use Rattle.hls_scenario.specs.declared.scenario.Perch.{Perch}
 use Rattle.hls_scenario.specs.declared.scenario.Command.{Command}
@@ -29,6 +30,7 @@ use Rattle.hls_lang.proofs.Fronts.{Front, front_join, front_split, line_of_front
 use Rattle.hls_lang.proofs.WordLaws.{none_left, word_is, word_next, name_front, name_next}
 use Rattle.hls_lang.proofs.WordLaws.{number_front, number_next, tick_front, tick_next}
 use Rattle.hls_lang.proofs.ConfigLaws.{IsPlain, config_front, config_next, last_perch_front, last_perch_next}
+use Rattle.hls_scenario.proofs.Loads.{IsSolo, by_load}
 use Rattle.hls_lang.proofs.PortLaws.{ports_front, ports_next}
 
 -- a command that is all of the tokens
@@ -43,13 +45,16 @@ token_is (t ∷ ts) w e = carried (λ (q : Text × List Text). t ∷ ts ≡ q.0 
 
 plain_load : (version : ℕ) (config : Config) (perch : Perch) → IsPlain version config → IsPerch perch
     → IsLoad version config (perch ∷ [])
-plain_load version configs.Cpu perch plain is = absurd plain
-plain_load version (configs.Join ports) perch plain is = absurd plain
-plain_load version configs.Fp perch plain is = (plain, is)
-plain_load version configs.Edf perch plain is = (plain, is)
-plain_load version (configs.Sfq total most quantum) perch plain is = (plain, is)
-plain_load version (configs.Rr quantum) perch plain is = (plain, is)
-plain_load version (configs.Wheel frame) perch plain is = (plain, is)
+plain_load version config perch =
+    by_kind (λ c. IsPlain version c → IsPerch perch → IsLoad version c (perch ∷ [])) (λ plain is. absurd plain)
+    (λ plain is. (plain, is)) (λ plain is. (plain, is)) (λ sharing plain is. (plain, is))
+    (λ quantum plain is. (plain, is)) (λ frame plain is. (plain, is)) (λ ports plain is. absurd plain) config
+
+solo_plain : (version : ℕ) (config : Config) → IsSolo version config → IsPlain version config
+solo_plain version =
+    by_kind (λ c. IsSolo version c → IsPlain version c) (λ solo. absurd (solo.no_cpu refl)) (λ solo. solo.within)
+    (λ solo. solo.within) (λ sharing solo. solo.within) (λ quantum solo. solo.within) (λ frame solo. solo.within)
+    (λ ports solo. absurd (solo.no_join refl))
 
 -- what stands after the name of a load
 abbrev load_tail : (version : ℕ) → Config → List Perch → List Form
@@ -385,29 +390,11 @@ plain_next version name config perch ts t plain is a =
 load_by_next : (version : ℕ) (name : Text) (config : Config) (perches : List Perch) (t : Text) (ts : List Text)
     → IsLoad version config perches → Front (load_tail version config perches) (t ∷ ts) []
     → load_by version name t ts ≡ Ok (Load name config perches)
-load_by_next version name configs.Cpu perches t ts is a = absurd is
-load_by_next version name (configs.Join ports) perches t ts is a =
-    join_next version name ports perches t ts is a
-load_by_next version name configs.Fp [] t ts is a = absurd is
-load_by_next version name configs.Fp (p ∷ []) t ts is a =
-    plain_next version name configs.Fp p ts t is.0 is.1 a
-load_by_next version name configs.Fp (p ∷ q ∷ ps) t ts is a = absurd is
-load_by_next version name configs.Edf [] t ts is a = absurd is
-load_by_next version name configs.Edf (p ∷ []) t ts is a =
-    plain_next version name configs.Edf p ts t is.0 is.1 a
-load_by_next version name configs.Edf (p ∷ q ∷ ps) t ts is a = absurd is
-load_by_next version name (configs.Sfq total most quantum) [] t ts is a = absurd is
-load_by_next version name (configs.Sfq total most quantum) (p ∷ []) t ts is a =
-    plain_next version name (configs.Sfq total most quantum) p ts t is.0 is.1 a
-load_by_next version name (configs.Sfq total most quantum) (p ∷ q ∷ ps) t ts is a = absurd is
-load_by_next version name (configs.Rr quantum) [] t ts is a = absurd is
-load_by_next version name (configs.Rr quantum) (p ∷ []) t ts is a =
-    plain_next version name (configs.Rr quantum) p ts t is.0 is.1 a
-load_by_next version name (configs.Rr quantum) (p ∷ q ∷ ps) t ts is a = absurd is
-load_by_next version name (configs.Wheel frame) [] t ts is a = absurd is
-load_by_next version name (configs.Wheel frame) (p ∷ []) t ts is a =
-    plain_next version name (configs.Wheel frame) p ts t is.0 is.1 a
-load_by_next version name (configs.Wheel frame) (p ∷ q ∷ ps) t ts is a = absurd is
+load_by_next version name config perches t ts =
+    by_load version (λ c ps. Front (load_tail version c ps) (t ∷ ts) [] → load_by version name t ts ≡ Ok
+    (Load name c ps))
+    (λ c p solo is. plain_next version name c p ts t (solo_plain version c solo) is)
+    (λ ports ps is. join_next version name ports ps t ts is) config perches
 
 -- the tail of a load is not empty
 tail_some : (version : ℕ) (name : Text) (config : Config) (perches : List Perch) (ts : List Text)
@@ -419,14 +406,10 @@ tail_some version name config perches [] is a =
   where
     no_on : (config : Config) (fs : List Form) (mid : List Text) → Front (config_forms version config) [] mid
         → Front (the (codes "on") ∷ fs) mid [] → ⊥
-    no_on configs.Cpu fs mid a b = let c : Front (the (codes "on") ∷ fs) [] [] = subst
-        (λ (x : List Text). Front (the (codes "on") ∷ fs) x []) (sym a) b in c
-    no_on configs.Fp fs mid a b = a
-    no_on configs.Edf fs mid a b = a
-    no_on (configs.Sfq total most quantum) fs mid a b = a
-    no_on (configs.Rr quantum) fs mid a b = a
-    no_on (configs.Wheel frame) fs mid a b = a
-    no_on (configs.Join ports) fs mid a b = a
+    no_on config fs mid =
+        by_kind (λ c. Front (config_forms version c) [] mid → Front (the (codes "on") ∷ fs) mid [] → ⊥)
+        (λ a b. subst (λ (x : List Text). Front (the (codes "on") ∷ fs) x []) (sym a) b)
+        (λ a b. a) (λ a b. a) (λ sharing a b. a) (λ quantum a b. a) (λ frame a b. a) (λ ports a b. a) config
 tail_some version name config perches (t ∷ ts) is a = load_by_next version name config perches t ts is a
 
 load_next : (version : ℕ) (name : Text) (config : Config) (perches : List Perch) (ts : List Text) → IsName name

@@ -10,6 +10,9 @@ use Rattle.hls_chron.specs.declared.plain.Config.{Config}
 use Rattle.hls_chron.specs.declared.plain.Config.TheVariants as configs
 use Rattle.hls_chron.specs.declared.plain.Terms.{Terms}
 use Rattle.hls_chron.specs.Ranges.{IsWithin}
+use Rattle.hls_chron.specs.declared.plain.Sharing.{Sharing}
+use Rattle.hls_chron.specs.Kinds.{by_shares}
+use Rattle.hls_chron.proofs.ConfigLaws.{by_kind}
 use Rattle.hls_guarantee.specs.declared.Guarantee.{Guarantee}
 use Rattle.hls_lang.specs.declared.fault.Cause.{Cause}
 use Rattle.hls_lang.specs.declared.fault.Cause.TheVariants as causes
@@ -64,7 +67,7 @@ quantum_front version ts p e = elim (eqb_tells version 1) [
 
 -- the three numbers, from the last one on
 s2 : (total most : ℕ) → ℕ × List Text → Result (Config × List Text) Cause
-s2 total most q = Ok (configs.Sfq total most q.0, q.1)
+s2 total most q = Ok (by_shares (record { total = total; most = most; quantum = q.0 }), q.1)
 
 s1 : (version total : ℕ) → ℕ × List Text → Result (Config × List Text) Cause
 s1 version total m = quantum_at version m.1 >>= s2 total m.0
@@ -83,7 +86,7 @@ shares_front version t ts p is e =
     let k = number_front 1 20 a.0.1 b.0 (lit< tt) b.1 in
     let q = quantum_front version b.0.1 d.0 d.1 in
     let last = front_join (number b.0.0 ∷ []) (quantum_forms version d.0.0) a.0.1 b.0.1 d.0.1 k.2 q.front in
-    carried (ConfigFront version (t ∷ ts)) (configs.Sfq a.0.0 b.0.0 d.0.0, d.0.1) p d.2 (
+    carried (ConfigFront version (t ∷ ts)) _ p d.2 (
       (((h.0, h.1), (k.0, k.1), q.range), q.one),
       (
         is,
@@ -150,55 +153,45 @@ quantum_next version quantum ts rest within one a = elim (eqb_tells version 1) [
       ∙ number_next 1 100 ts quantum rest (lit< tt) within.0 within.1 front
 ]
 
-shares_next : (version total most quantum : ℕ) (ts rest : List Text)
-    → IsPlain version (configs.Sfq total most quantum)
-    → Front (number total ∷ number most ∷ quantum_forms version quantum) ts rest
-    → shares_at version ts ≡ Ok (configs.Sfq total most quantum, rest)
+shares_next : (version : ℕ) (s : Sharing) (ts rest : List Text) → IsPlain version (by_shares s)
+    → Front (number s.total ∷ number s.most ∷ quantum_forms version s.quantum) ts rest
+    → shares_at version ts ≡ Ok (by_shares s, rest)
 unfolding shares_at s0 s1 s2
-shares_next version total most quantum [] rest ok a = absurd a
-shares_next version total most quantum (t ∷ ts) rest ok a =
-    let more = front_split (number most ∷ []) (quantum_forms version quantum) ts rest a.1 in
+shares_next version s [] rest ok a = absurd a
+shares_next version s (t ∷ ts) rest ok a =
+    let more = front_split (number s.most ∷ []) (quantum_forms version s.quantum) ts rest a.1 in
     let ranges = ok.0 in
-    bind_again (number_at 1 100 (t ∷ ts)) (s0 version) (total, ts) (configs.Sfq total most quantum, rest)
-    (number_next 1 100 (t ∷ ts) total ts (lit< tt) ranges.0.0 ranges.0.1 (a.0, refl))
-    (bind_again (number_at 1 20 ts) (s1 version total) (most, more.0) (configs.Sfq total most quantum, rest)
-    (number_next 1 20 ts most more.0 (lit< tt) ranges.1.0 ranges.1.1 more.1)
-    (bind_again (quantum_at version more.0) (s2 total most) (quantum, rest)
-    (configs.Sfq total most quantum, rest)
-    (quantum_next version quantum more.0 rest ranges.2 ok.1 more.2) refl))
+    bind_again (number_at 1 100 (t ∷ ts)) (s0 version) (s.total, ts) (by_shares s, rest)
+    (number_next 1 100 (t ∷ ts) s.total ts (lit< tt) ranges.0.0 ranges.0.1 (a.0, refl))
+    (bind_again (number_at 1 20 ts) (s1 version s.total) (s.most, more.0) (by_shares s, rest)
+    (number_next 1 20 ts s.most more.0 (lit< tt) ranges.1.0 ranges.1.1 more.1)
+    (bind_again (quantum_at version more.0) (s2 s.total s.most) (s.quantum, rest) (by_shares s, rest)
+    (quantum_next version s.quantum more.0 rest ranges.2 ok.1 more.2) refl))
+
+abbrev is_join_word : Text → Bool
+is_join_word w = bytes_eq w (codes "join")
 
 -- the word of a plain configuration is not join
 pub config_next : (version : ℕ) (config : Config) (t : Text) (ts rest : List Text) → IsPlain version config
     → Front (config_forms version config) (t ∷ ts) rest
     → (config_by version t ts ≡ Ok (config, rest)) × (bytes_eq t (codes "join") ≡ false)
 unfolding config_by
-config_next version configs.Cpu t ts rest ok a = absurd ok
-config_next version (configs.Join ports) t ts rest ok a = absurd ok
-config_next version configs.Fp t ts rest ok a = (
-  ap (λ w. config_by version w ts) a.0 ∙ ap (λ (x : List Text). Ok (configs.Fp, x)) a.1,
-  ap
-      (λ w. bytes_eq w (codes "join")) a.0,
-)
-config_next version configs.Edf t ts rest ok a = (
-  ap (λ w. config_by version w ts) a.0 ∙ ap (λ (x : List Text). Ok (configs.Edf, x)) a.1,
-  ap
-      (λ w. bytes_eq w (codes "join")) a.0,
-)
-config_next version (configs.Sfq total most quantum) t ts rest ok a = (
-  ap (λ w. config_by version w ts) a.0 ∙ shares_next version total most quantum ts rest ok a.1,
-  ap
-      (λ w. bytes_eq w (codes "join")) a.0,
-)
-config_next version (configs.Rr n) t ts rest ok a = (
-  ap (λ w. config_by version w ts) a.0 ∙ numbered_next 100 (λ m. configs.Rr m) n ts rest (lit< tt) ok.0.0 ok.0.1
-      a.1,
-  ap (λ w. bytes_eq w (codes "join")) a.0,
-)
-config_next version (configs.Wheel n) t ts rest ok a = (
-  ap (λ w. config_by version w ts) a.0 ∙ numbered_next 1000 (λ m. configs.Wheel m) n ts rest (lit< tt) ok.0.0
-      ok.0.1 a.1,
-  ap (λ w. bytes_eq w (codes "join")) a.0,
-)
+config_next version config t ts rest =
+    by_kind (λ c. IsPlain version c → Front (config_forms version c) (t ∷ ts) rest
+    → (config_by version t ts ≡ Ok (c, rest)) × (bytes_eq t (codes "join") ≡ false))
+    (λ ok a. absurd ok)
+    (λ ok a. (ap (λ w. config_by version w ts) a.0 ∙ ap (λ (x : List Text). Ok (configs.Fp, x)) a.1, ap is_join_word a.0))
+    (λ ok a. (ap (λ w. config_by version w ts) a.0 ∙ ap (λ (x : List Text). Ok (configs.Edf, x)) a.1, ap is_join_word a.0))
+    (λ s ok a. (ap (λ w. config_by version w ts) a.0 ∙ shares_next version s ts rest ok a.1, ap is_join_word a.0))
+    (λ n ok a. (
+      ap (λ w. config_by version w ts) a.0 ∙ numbered_next 100 (λ m. configs.Rr m) n ts rest (lit< tt) ok.0.0 ok.0.1 a.1,
+      ap is_join_word a.0,
+    ))
+    (λ n ok a. (
+      ap (λ w. config_by version w ts) a.0 ∙ numbered_next 1000 (λ m. configs.Wheel m) n ts rest (lit< tt) ok.0.0 ok.0.1 a.1,
+      ap is_join_word a.0,
+    ))
+    (λ ports ok a. absurd ok) config
 
 -- ---- places
 
