@@ -20,7 +20,7 @@ pub fn lends(place: &Place, port: u8, g: &Guarantee, h: &Guarantee) -> bool
     requires to { IsValid h.now }
     ensures { IsTrue result ↔ LendsThrough place.now.config place.now.terms port g.now h.now }
 {
-    has_port(&place.config, port) && (is_lent(place, g, h) || lends_nothing(&place.config, h))
+    place.config.has_port(port) && (is_lent(place, g, h) || lends_nothing(&place.config, h))
 }
 
 /// What terms of the scheduler's kind lend a seat where the scheduler has `g`, if they lend anything.
@@ -144,14 +144,5 @@ fn lends_nothing(config: &Config, h: &Guarantee) -> bool
         (Config::Cpu, _) => false,
         (_, Guarantee::Null) => true,
         _ => false,
-    }
-}
-
-fn has_port(config: &Config, port: u8) -> bool
-    ensures { IsTrue result ↔ IsPort config.now port }
-{
-    match config {
-        Config::Join { ports } => port < *ports,
-        _ => port == 0,
     }
 }

@@ -6,6 +6,7 @@ use Rattle.std.specs.Prelude.{Option, slice_set, replicate, if◌then◌else◌,
 use Rattle.std.specs.Prelude.{◌==◌, ◌&&◌}
 use Rattle.std.specs.Int.{bit_at}
 use Rattle.std.proofs.lemmas.Bool.{cases_eq, eqb-true, eq-eqb}
+use Rattle.hls_chron.specs.Kinds.{quantum_of}
 use Rattle.hls_chron.specs.declared.plain.Kind.TheVariants as kinds
 use Rattle.hls_chron.specs.Ledger.{now_of}
 use Rattle.hls_chron.specs.Seats.{SlotAsks}
@@ -28,7 +29,7 @@ use Rattle.hls_box.proofs.LeastLaws.{least_first}
 use Rattle.hls_order.specs.Order.{key_of, IsEmpty, IsLeast}
 use Rattle.hls_order.proofs.Winning.{present_within}
 use Rattle.hls_sfq.specs.declared.shares.FairSeat.{FairSeat}
-use Rattle.hls_sfq.specs.Choice.{tag_of, tag_asking, first_of, choice_of, fair_quantum}
+use Rattle.hls_sfq.specs.Choice.{tag_of, tag_asking, first_of, choice_of}
 use Rattle.hls_sfq.specs.Changes.{time_after, seats_after, served_seat, leapt_seat, time_leapt, seats_leapt, placed}
 use Rattle.hls_sfq.specs.Changes.{start_or, step_of, rest_in}
 use Rattle.hls_sfq.specs.Queue.{IsNext, IsQueue, QueuesTags}
@@ -275,13 +276,13 @@ asked_tag true time seat start is = is refl
 asked_tag false time seat start is = refl
 
 pub queue_lent : (s : Seen) (keys : List (Option ℕ)) (time : ℕ) (seats : List (Option FairSeat)) → IsSound kinds.Sfq s
-    → IsConfigured s → KeepsTags (fair_quantum (config_of s)) s.book time seats → IsQueue keys time seats s.mask
-    → QueuesTags (fair_quantum (config_of s)) s.book s.mask keys
+    → IsConfigured s → KeepsTags (quantum_of (config_of s)) s.book time seats → IsQueue keys time seats s.mask
+    → QueuesTags (quantum_of (config_of s)) s.book s.mask keys
 queue_lent s keys time seats sound configured held q slot lt =
     let quantum_is = calls.quantum_is s time seats sound held configured in
     q.tags slot lt
     ∙ asked_tag (slot_asks s.mask slot) time (get_or seats slot None)
-    (start_tag (fair_quantum (config_of s)) s.book (now_of s.book) slot)
+    (start_tag (quantum_of (config_of s)) s.book (now_of s.book) slot)
     (λ on. asks_tag (calls.sharing s time seats sound held configured) s.book time seats
     (calls.made s time seats sound held configured) (calls.keeps s time seats sound held configured) s.mask slot lt
     (sound.seated slot (eqb-true (bit_at s.mask slot) 1 on)) on

@@ -5,7 +5,6 @@ ghost use Rattle.hls_sched.specs.Boxed.{boxed};
 ghost use Rattle.hls_tree_nodes.specs.Views.{shown_at};
 ghost use Rattle.hls_tree_depths.specs.Inside.Sums.{fair_in, count_in};
 
-use hls_chron::Config;
 use hls_sched::Scheduler;
 use hls_tree_nodes::{Node, Role};
 use slab::Slab;
@@ -32,23 +31,13 @@ pub(crate) struct Question {
     pub(crate) moved: Option<Moved>,
 }
 
-/// 1 for a configuration of a fair queue, and else 0.
-fn fair_queue(config: &Config) -> u8
-    ensures { result ≡ fair_queue config.now }
-{
-    match config {
-        Config::Sfq { .. } => 1,
-        _ => 0,
-    }
-}
-
 /// 1 where a node is a fair queueing scheduler, and else 0.
 fn fair_queue_at(nodes: &Slab<Node>, key: usize) -> u8
     ensures { result ≡ fair_in (shown_at (boxed seen) nodes.now key) }
 {
     match nodes.get(key) {
         Some(node) => match &node.role {
-            Role::Sched(station) => fair_queue(&station.config),
+            Role::Sched(station) => station.config.fair_queues(),
             Role::Thread { .. } => 0,
         },
         None => 0,
