@@ -5,9 +5,9 @@ use Rattle.std.specs.Prelude.{Option, Some, None, is_some, option_map, min, max}
 use Rattle.std.proofs.lemmas.Bool.{cases_lt, eq-eqb, ltb-true}
 use Rattle.hls_chron.specs.declared.book.TickRow.{TickRow}
 use Rattle.hls_chron.specs.declared.plain.Config.{Config}
-use Rattle.hls_chron.specs.declared.plain.Config.TheVariants.{Cpu, Fp, Edf, Sfq, Rr, Wheel, Join}
 use Rattle.hls_chron.specs.Ledger.{Ledger, now_of}
 use Rattle.hls_chron.specs.Ticks.{count}
+use Rattle.hls_chron.proofs.ConfigLaws.{by_kind}
 use Rattle.hls_kinds.specs.Asks.{slot_asks}
 use Rattle.hls_kinds.specs.Reservations.{deadline_at}
 use Rattle.hls_kinds.specs.Stands.{always, stands_of, to_deadlines}
@@ -55,25 +55,18 @@ deadlines_within b mask (suc n) =
 
 ungranted : (config : Config) (b : Ledger) (mask : ℕ) (choice : Option ℕ)
     → stands_of config b mask false None ≡ stands_of config b mask false choice
-ungranted Cpu b mask choice = refl
-ungranted Fp b mask choice = refl
-ungranted Edf b mask choice = refl
-ungranted (Sfq total most quantum) b mask choice = refl
-ungranted (Rr quantum) b mask choice = refl
-ungranted (Wheel frame) b mask choice = refl
-ungranted (Join ports) b mask choice = refl
+ungranted config b mask choice =
+    by_kind (λ config. stands_of config b mask false None ≡ stands_of config b mask false choice) refl refl refl
+    (λ sharing. refl) (λ quantum. refl) (λ frame. refl) (λ ports. refl) config
 
 unserved : (config : Config) (b : Ledger) (mask : ℕ)
     → stands_of config b mask false None ≡ stands_of config b mask true None
-unserved Cpu b mask = refl
-unserved Fp b mask = refl
-unserved Edf b mask =
-    let within = deadlines_within b mask 32 in
-    let least : to_deadlines b mask 32 ≡ min (to_deadlines b mask 32) always = omega (arith, within) in ap (max 1) least
-unserved (Sfq total most quantum) b mask = refl
-unserved (Rr quantum) b mask = refl
-unserved (Wheel frame) b mask = refl
-unserved (Join ports) b mask = refl
+unserved config b mask =
+    by_kind (λ config. stands_of config b mask false None ≡ stands_of config b mask true None) refl refl
+    (let within = deadlines_within b mask 32 in
+    let least : to_deadlines b mask 32 ≡ min (to_deadlines b mask 32) always = omega (arith, within) in
+    ap (max 1) least)
+    (λ sharing. refl) (λ quantum. refl) (λ frame. refl) (λ ports. refl) config
 
 row_stands : (config : Config) (b : Ledger) (mask : ℕ) (grant choice : Option ℕ) (other : ℕ) (hop : Option Hop)
     → tick_row mask grant choice ≡ row_by other hop

@@ -1,11 +1,11 @@
 // Boxes taken through lists of steps, each against the definitions as plain functions of the book.
 ghost use Rattle.std.specs.Prelude.{◌≡◌, ◌≢◌, ◌+◌, ◌^◌, ◌<◌, ◌≤◌, None, true, false};
-ghost use Rattle.hls_chron.specs.Kinds.{kind_of};
+ghost use Rattle.hls_chron.specs.Kinds.{kind_of, by_shares};
 ghost use Rattle.hls_chron.specs.Ranges.{ConfigInRange, TermsInRange};
 ghost use Rattle.hls_chron.specs.Seats.{SlotAsks, terms_at as seated_at};
 ghost use Rattle.hls_sched.specs.Seen.{IsBlank, IsConfigured, seated};
 
-use hls_chron::{Book, Config, RunRow, Terms, TickRow};
+use hls_chron::{Book, Config, RunRow, Sharing, Terms, TickRow};
 use hls_kinds::terms_at;
 use hls_sched::{Scheduler, SeatFault};
 use hls_test_kinds::{asks_at, discipline_choice, occupant, room_used};
@@ -53,6 +53,18 @@ pub struct Known {
     pub mask: u32,
     pub ticks: u32,
     pub marks: u32,
+}
+
+/// Fair queueing in turns of so many ticks.
+pub fn fair_turns(total: u32, most: u32, quantum: u32) -> Config
+    ensures { result ≡ by_shares (record { total = total; most = most; quantum = quantum }) }
+{
+    Sharing {
+        total,
+        most,
+        quantum,
+    }
+    .config()
 }
 
 /// How many seats a scheduler has.

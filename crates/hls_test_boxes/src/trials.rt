@@ -6,7 +6,9 @@ ghost use Rattle.hls_chron.specs.Kinds.{kind_of};
 ghost use Rattle.hls_chron.specs.Ranges.{ConfigInRange};
 ghost use Rattle.hls_sched.specs.Seen.{IsBlank, IsConfigured};
 
-use crate::harness::{Known, Step, compare, free_in, is_asking, most_seats, rows_of, take};
+use crate::harness::{
+    Known, Step, compare, fair_turns, free_in, is_asking, most_seats, rows_of, take,
+};
 use hls_chron::{Book, Config, Terms, TickRow};
 use hls_edf::Edf;
 use hls_fp::Fp;
@@ -456,11 +458,7 @@ fn keeps_tags_in_drawn_calls(rt: HostRuntime) -> Result<(), Fail> {
         let total = 1 + series.below(10);
         let most = 1 + series.below(4);
         let quantum = 1 + series.below(4);
-        let config = Config::Sfq {
-            total,
-            most,
-            quantum,
-        };
+        let config = fair_turns(total, most, quantum);
         let mut sfq = Sfq::blank(rt.alloc());
         play(&mut sfq, &config, &mut series, &rt, rt.alloc())?;
     }

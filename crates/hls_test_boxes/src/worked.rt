@@ -1,5 +1,5 @@
 // Worked schedules.
-use crate::harness::{Step, check_served, rows_of, take_all};
+use crate::harness::{Step, check_served, fair_turns, rows_of, take_all};
 use hls_chron::{Config, Event, Mark, Terms, TickRow};
 use hls_fp::Fp;
 use hls_join::Join;
@@ -270,11 +270,7 @@ fn serves_by_weight(rt: HostRuntime) -> Result<(), Fail> {
         tick,
     ];
     let served = [1, 1, 0, 1, 1, 1, 0, 1, 1, 1, 0].map(|slot| Some(slot));
-    let config = Config::Sfq {
-        total: 4,
-        most: 2,
-        quantum: 1,
-    };
+    let config = Config::fair(4, 2);
     let mut sfq = Sfq::blank(rt.alloc());
     take_all(&mut sfq, &config, &steps, &rt)?;
     check_served(&rows_of(sfq.book(), rt.alloc())?, &served, &rt);
@@ -304,11 +300,7 @@ fn serves_by_weight_and_turns_of_a_quantum(rt: HostRuntime) -> Result<(), Fail> 
         tick,
     ];
     let served = [1, 1, 1, 1, 0, 0, 1, 1, 1, 1, 1].map(|slot| Some(slot));
-    let config = Config::Sfq {
-        total: 4,
-        most: 2,
-        quantum: 2,
-    };
+    let config = fair_turns(4, 2, 2);
     let mut sfq = Sfq::blank(rt.alloc());
     take_all(&mut sfq, &config, &steps, &rt)?;
     check_served(&rows_of(sfq.book(), rt.alloc())?, &served, &rt);
@@ -330,11 +322,7 @@ fn weights_fill_up(rt: HostRuntime) -> Result<(), Fail> {
         Step::Refuse(Terms::Weight(2), room),
     ];
     let mut sfq = Sfq::blank(rt.alloc());
-    let config = Config::Sfq {
-        total: 4,
-        most: 3,
-        quantum: 1,
-    };
+    let config = Config::fair(4, 3);
     take_all(&mut sfq, &config, &steps, &rt)?;
     check_served(&rows_of(sfq.book(), rt.alloc())?, &[None], &rt);
     Ok(())

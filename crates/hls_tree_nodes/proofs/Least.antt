@@ -3,9 +3,9 @@ use Rattle.std.proofs.Common.{◌≡◌, ℕ, ◌+◌, ◌-◌, ◌%◌, ◌<◌
 use Rattle.std.specs.Prelude.{◌==◌, Option, Some, None, is_some, min, max}
 use Rattle.std.proofs.lemmas.Nat.{mod_below}
 use Rattle.hls_chron.specs.declared.plain.Config.{Config}
-use Rattle.hls_chron.specs.declared.plain.Config.TheVariants.{Cpu, Fp, Edf, Sfq, Rr, Wheel, Join}
 use Rattle.hls_chron.specs.Ledger.{Ledger}
 use Rattle.hls_chron.specs.Ranges.{ConfigInRange}
+use Rattle.hls_chron.proofs.ConfigLaws.{by_kind}
 use Rattle.hls_kinds.specs.Asks.{without_slot}
 use Rattle.hls_kinds.specs.Turns.{turn_ticks}
 use Rattle.hls_kinds.specs.Stands.{always, rest_of_turn, rest_of_share, stands_of}
@@ -44,17 +44,18 @@ share_some quantum b mask (Some slot) some =
     by_test true lt = omega arith
     by_test false lt = lt
 
+granted_some : (granted : Bool) (n : ℕ) → 0 < n → 0 < cond granted n always
+granted_some true n some = some
+granted_some false n some = omega arith
+
 some_ticks : (config : Config) (b : Ledger) (mask : ℕ) (granted : Bool) (choice : Option ℕ) → ConfigInRange config
     → 0 < stands_of config b mask granted choice
-some_ticks Cpu b mask granted choice ranges = omega arith
-some_ticks Fp b mask granted choice ranges = omega arith
-some_ticks Edf b mask granted choice ranges = one_at_least _
-some_ticks (Sfq total most quantum) b mask true choice ranges = share_some quantum b mask choice ranges.2.0
-some_ticks (Sfq total most quantum) b mask false choice ranges = omega arith
-some_ticks (Rr quantum) b mask true choice ranges = turn_some quantum b mask choice ranges.0
-some_ticks (Rr quantum) b mask false choice ranges = omega arith
-some_ticks (Wheel frame) b mask granted choice ranges = one_at_least _
-some_ticks (Join ports) b mask granted choice ranges = omega arith
+some_ticks config b mask granted choice =
+    by_kind (λ config. ConfigInRange config → 0 < stands_of config b mask granted choice)
+    (λ ranges. omega arith) (λ ranges. omega arith) (λ ranges. one_at_least _)
+    (λ sharing ranges. granted_some granted _ (share_some sharing.quantum b mask choice ranges.2.0))
+    (λ quantum ranges. granted_some granted _ (turn_some quantum b mask choice ranges.0))
+    (λ frame ranges. one_at_least _) (λ ports ranges. omega arith) config
 
 node_some : (choice : Option ℕ) (what : What) → PostedWhat what → 0 < stands_what choice what
 node_some choice (Scheduler post) posted =
