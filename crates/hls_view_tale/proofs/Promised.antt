@@ -5,12 +5,12 @@ use Rattle.std.specs.Prelude.{if◌then◌else◌}
 use Rattle.std.specs.List.{AllByRecursion}
 use Rattle.hls_text.specs.Lines.{Text}
 use Rattle.hls_chron.specs.declared.plain.Config.{Config}
-use Rattle.hls_chron.specs.declared.plain.Config.TheVariants as configs
 use Rattle.hls_guarantee.specs.Limits.{IsValid}
 use Rattle.hls_scenario.specs.declared.scenario.Perch.{Perch}
 use Rattle.hls_scenario.specs.declared.scenario.Command.{Command}
 use Rattle.hls_scenario.specs.declared.scenario.Command.TheVariants.{Load, Thread, End, Unload, Move, Wake, Block}
 use Rattle.hls_scenario.specs.Grammar.{IsCommand, IsLoad, ArePorts}
+use Rattle.hls_scenario.proofs.Loads.{by_load}
 use Rattle.hls_report_text.specs.declared.report.Answered.{Answered}
 use Rattle.hls_report_text.specs.Content.{Content}
 use Rattle.hls_report_text.specs.WellFormed.{AreAnswered, IsContent}
@@ -73,23 +73,9 @@ ports_valid (perch ∷ perches) are = (valid_narrow perch.want are.0.want, ports
 
 load_valid : (version : ℕ) (config : Config) (perches : List Perch) → IsLoad version config perches
     → AllByRecursion IsSeatValid perches
-load_valid version configs.Cpu perches is = absurd is
-load_valid version (configs.Join ports) perches is = ports_valid perches is.2
-load_valid version configs.Fp (perch ∷ []) is = (valid_narrow perch.want is.1.want, tt)
-load_valid version configs.Edf (perch ∷ []) is = (valid_narrow perch.want is.1.want, tt)
-load_valid version (configs.Sfq total most quantum) (perch ∷ []) is = (valid_narrow perch.want is.1.want, tt)
-load_valid version (configs.Rr quantum) (perch ∷ []) is = (valid_narrow perch.want is.1.want, tt)
-load_valid version (configs.Wheel frame) (perch ∷ []) is = (valid_narrow perch.want is.1.want, tt)
-load_valid version configs.Fp [] is = tt
-load_valid version configs.Edf [] is = tt
-load_valid version (configs.Sfq total most quantum) [] is = tt
-load_valid version (configs.Rr quantum) [] is = tt
-load_valid version (configs.Wheel frame) [] is = tt
-load_valid version configs.Fp (one ∷ two ∷ perches) is = absurd is
-load_valid version configs.Edf (one ∷ two ∷ perches) is = absurd is
-load_valid version (configs.Sfq total most quantum) (one ∷ two ∷ perches) is = absurd is
-load_valid version (configs.Rr quantum) (one ∷ two ∷ perches) is = absurd is
-load_valid version (configs.Wheel frame) (one ∷ two ∷ perches) is = absurd is
+load_valid version =
+    by_load version (λ config perches. AllByRecursion IsSeatValid perches)
+    (λ config perch solo is. (valid_narrow perch.want is.want, tt)) (λ ports perches is. ports_valid perches is.2)
 
 without_valid : (tree : List Member) (name : Text) → AllByRecursion HasValid tree
     → AllByRecursion HasValid (without name tree)

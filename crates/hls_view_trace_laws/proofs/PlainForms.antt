@@ -7,7 +7,7 @@ use Rattle.hls_chron.specs.Name.{IsName}
 use Rattle.hls_chron.specs.declared.plain.Kind.{Kind}
 use Rattle.hls_chron.specs.declared.plain.Kind.TheVariants as kinds
 use Rattle.hls_chron.specs.declared.plain.Config.{Config}
-use Rattle.hls_chron.specs.declared.plain.Config.TheVariants as configs
+use Rattle.hls_chron.proofs.ConfigLaws.{by_kind}
 use Rattle.hls_chron.specs.declared.plain.Terms.{Terms}
 use Rattle.hls_chron.specs.declared.plain.Terms.TheVariants as terms
 use Rattle.hls_guarantee.specs.declared.Guarantee.{Guarantee}
@@ -19,7 +19,8 @@ use Rattle.hls_scenario.specs.declared.scenario.Command.{Command}
 use Rattle.hls_scenario.specs.declared.scenario.Command.TheVariants.{Load, Thread, End, Unload, Move, Wake, Block}
 use Rattle.hls_scenario.specs.Forms as forms
 use Rattle.hls_scenario.specs.Forms.{Form, the, fraction}
-use Rattle.hls_scenario.specs.Grammar.{IsSpot, IsPerch, ArePorts, IsLoad, IsCommand}
+use Rattle.hls_scenario.specs.Grammar.{IsSpot, IsPerch, IsCommand}
+use Rattle.hls_scenario.proofs.CanonicalPrinting.{load_perches}
 use Rattle.hls_report_text.specs.declared.refusal.Refusal.{Refusal}
 use Rattle.hls_report_text.specs.declared.refusal.Refusal.TheVariants as refusals
 use Rattle.hls_report_text.specs.ReportText.{two_words, kind_text, place_text, refusal_text}
@@ -79,14 +80,11 @@ plain_quantum version quantum =
     [ true ↦ tt | false ↦ (plain_number quantum, tt) ]
 
 pub plain_config : (version : ℕ) (config : Config) → ArePlain (forms.config_forms version config)
-plain_config version configs.Cpu = tt
-plain_config version configs.Fp = (refl, tt)
-plain_config version configs.Edf = (refl, tt)
-plain_config version (configs.Sfq total most quantum) =
-    (refl, (plain_number total, (plain_number most, plain_quantum version quantum)))
-plain_config version (configs.Rr quantum) = (refl, (plain_number quantum, tt))
-plain_config version (configs.Wheel frame) = (refl, (plain_number frame, tt))
-plain_config version (configs.Join ports) = (refl, tt)
+plain_config version =
+    by_kind (λ config. ArePlain (forms.config_forms version config)) tt (refl, tt) (refl, tt)
+    (λ s. (refl, (plain_number s.total, (plain_number s.most, plain_quantum version s.quantum))))
+    (λ quantum. (refl, (plain_number quantum, tt))) (λ frame. (refl, (plain_number frame, tt)))
+    (λ ports. (refl, tt))
 
 -- ---- seats
 
@@ -110,30 +108,6 @@ plain_perches [] all = tt
 plain_perches (perch ∷ perches) all =
     all-append IsPlainForm (forms.perch_forms perch) (forms.more_perches_forms perches) (plain_perch perch all.0)
     (plain_more perches all.1)
-
-pub ports_perches : (perches : List Perch) → ArePorts perches → AllByRecursion IsPerch perches
-ports_perches [] are = tt
-ports_perches (perch ∷ perches) are = (are.0, ports_perches perches are.2)
-
-pub load_perches : (version : ℕ) (config : Config) (perches : List Perch) → IsLoad version config perches
-    → AllByRecursion IsPerch perches
-load_perches version configs.Cpu perches is = absurd is
-load_perches version (configs.Join ports) perches is = ports_perches perches is.2
-load_perches version configs.Fp [] is = absurd is
-load_perches version configs.Fp (perch ∷ []) is = (is.1, tt)
-load_perches version configs.Fp (perch ∷ other ∷ perches) is = absurd is
-load_perches version configs.Edf [] is = absurd is
-load_perches version configs.Edf (perch ∷ []) is = (is.1, tt)
-load_perches version configs.Edf (perch ∷ other ∷ perches) is = absurd is
-load_perches version (configs.Sfq total most quantum) [] is = absurd is
-load_perches version (configs.Sfq total most quantum) (perch ∷ []) is = (is.1, tt)
-load_perches version (configs.Sfq total most quantum) (perch ∷ other ∷ perches) is = absurd is
-load_perches version (configs.Rr quantum) [] is = absurd is
-load_perches version (configs.Rr quantum) (perch ∷ []) is = (is.1, tt)
-load_perches version (configs.Rr quantum) (perch ∷ other ∷ perches) is = absurd is
-load_perches version (configs.Wheel frame) [] is = absurd is
-load_perches version (configs.Wheel frame) (perch ∷ []) is = (is.1, tt)
-load_perches version (configs.Wheel frame) (perch ∷ other ∷ perches) is = absurd is
 
 -- ---- commands
 
