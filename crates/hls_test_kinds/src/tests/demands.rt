@@ -207,11 +207,7 @@ fn tells_what_is_held_and_used(rt: HostRuntime) -> Result<(), Fail> {
             false,
         ),
         (
-            Config::Sfq {
-                total: 4,
-                most: 3,
-                quantum: 1,
-            },
+            Config::fair(4, 3),
             &[(
                 0,
                 Event::Seat {
