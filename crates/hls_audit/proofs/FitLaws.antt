@@ -18,9 +18,9 @@ use Rattle.hls_scenario.specs.declared.scenario.Spot.TheVariants.{Cpu, Under}
 use Rattle.hls_scenario.specs.declared.scenario.Perch.{Perch}
 use Rattle.hls_scenario.specs.declared.scenario.Command.{Command}
 use Rattle.hls_scenario.specs.declared.scenario.Command.TheVariants as said
-use Rattle.hls_scenario.specs.Grammar.{IsConfig, IsLoad, IsPerch}
+use Rattle.hls_scenario.specs.Grammar.{IsLoad, IsPerch}
 use Rattle.hls_scenario.proofs.CanonicalPrinting.{load_perches}
-use Rattle.hls_scenario.proofs.Loads.{by_load}
+use Rattle.hls_scenario.proofs.Loads.{by_load, solo_load}
 use Rattle.hls_report_text.specs.declared.report.Answered.{Answered}
 use Rattle.hls_legal.specs.Commands.{is_done}
 use Rattle.hls_legal.proofs.GoodStays.{valid_narrow}
@@ -250,24 +250,18 @@ without_fit : (test : Member → Bool) (tree : List Member) → AllByRecursion I
 without_fit test [] fit = tt
 without_fit test (m ∷ tree) fit = either_all IsFit (test m) m (filter test tree) fit.0 (without_fit test tree fit.1)
 
--- what is loaded, and is no join, has its numbers in their ranges
-load_config : (version : ℕ) (config : Config) (perches : List Perch) → IsLoad version config perches
-    → is_join_sort (Some (Scheduler config)) ≡ false → IsConfig version config
-load_config version configs.Cpu perches load single = absurd load
-load_config version (configs.Join ports) perches load single = absurd (cc)
-load_config version config (perch ∷ []) load single = load.0
-load_config version config _ load single = absurd load
-
-one_seat : (version : ℕ) (config : Config) (perches : List Perch) (perch : Perch) → IsLoad version config perches
-    → IsPerch perch → is_join_sort (Some (Scheduler config)) ≡ false → IsLoad version config (perch ∷ [])
-one_seat version configs.Cpu perches perch load is single = absurd load
-one_seat version (configs.Join ports) perches perch load is single = absurd (cc)
-one_seat version config perches perch load is single = (load_config version config perches load single, is)
+one_seat : (version : ℕ) (perch : Perch) → IsPerch perch → (config : Config) (perches : List Perch)
+    → IsLoad version config perches → is_join_sort (Some (Scheduler config)) ≡ false
+    → IsLoad version config (perch ∷ [])
+one_seat version perch is =
+    by_load version (λ config perches. is_join_sort (Some (Scheduler config)) ≡ false
+    → IsLoad version config (perch ∷ []))
+    (λ config mine solo are single. solo_load version perch config solo is) (λ ports perches are single. absurd cc)
 
 sort_seat : (sort : Sort) (perches : List Perch) (perch : Perch) → HasSeats sort perches → IsPerch perch
     → is_join_sort (Some sort) ≡ false → HasSeats sort (perch ∷ [])
 sort_seat (Scheduler config) perches perch fit is single =
-    (fit.0, one_seat fit.0 config perches perch fit.1 is single)
+    (fit.0, one_seat fit.0 perch is config perches fit.1 single)
 sort_seat Thread perches perch fit is single = is
 
 moved_fit : (tree : List Member) (perch : Perch) (found : Option Member) → AllByRecursion IsFit tree

@@ -37,7 +37,12 @@ fn port_count(config: &Config) -> u8
 {
     match config {
         Config::Join { ports } => *ports,
-        _ => 1,
+        Config::Cpu
+        | Config::Fp
+        | Config::Edf
+        | Config::Sfq { .. }
+        | Config::Rr { .. }
+        | Config::Wheel { .. } => 1,
     }
 }
 

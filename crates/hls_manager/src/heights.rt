@@ -55,7 +55,12 @@ fn share_of(config: &Config) -> u32
 {
     match config {
         Config::Sfq { .. } => 1,
-        _ => 0,
+        Config::Cpu
+        | Config::Fp
+        | Config::Edf
+        | Config::Rr { .. }
+        | Config::Wheel { .. }
+        | Config::Join { .. } => 0,
     }
 }
 

@@ -1,5 +1,5 @@
 // Texts, with the scenarios that they are of or their faults.
-use hls_chron::{Config, Terms};
+use hls_chron::{Config, Sharing, Terms};
 use hls_lang::{Cause, Command, ScenarioFault, Spot, read_scenario};
 use std::alloc::Global;
 use std::test::Fail;
@@ -316,14 +316,14 @@ fn reads_a_quantum_in_version_two(rt: HostRuntime) {
         ),
     ];
     for (text, version, quantum) in table {
-        let config = Config::Sfq {
+        let sharing = Sharing {
             total: 4,
             most: 2,
             quantum,
         };
         assert_eq!(rt;
             loaded(rt.alloc(), text),
-            Some((version, config)),
+            Some((version, sharing.config())),
             "at {text:?}"
         );
     }

@@ -1,5 +1,5 @@
 -- A label reads as itself, and so does a way. Joins read alike, however many ports they have.
-use Rattle.std.proofs.Common.{◌≡◌, ◌⊎◌, List, [], ◌∷◌, Bool, true, false, ◌&&◌, inl, inr, arith}
+use Rattle.std.proofs.Common.{◌≡◌, ◌≢◌, ◌⊎◌, List, [], ◌∷◌, Bool, true, false, ◌&&◌, inl, inr, arith}
 use Rattle.std.proofs.Common.{refl, ap, sym, subst, ◌∙◌}
 use Rattle.std.specs.Prelude.{Some}
 use Rattle.std.specs.Str.{bytes_eq}
@@ -8,8 +8,12 @@ use Rattle.std.proofs.lemmas.Grind.{common_steps}
 use Rattle.hls_text.specs.Lines.{Text}
 use Rattle.hls_chron.specs.declared.plain.Terms.{Terms}
 use Rattle.hls_chron.specs.declared.plain.Terms.TheVariants as t
+use Rattle.hls_chron.specs.declared.plain.Kind.TheVariants as kinds
 use Rattle.hls_chron.specs.declared.plain.Config.{Config}
 use Rattle.hls_chron.specs.declared.plain.Config.TheVariants as k
+use Rattle.hls_chron.specs.declared.plain.Sharing.{Sharing}
+use Rattle.hls_chron.specs.Kinds.{kind_of, by_shares}
+use Rattle.hls_chron.proofs.ConfigLaws.{by_kind, sharing_or_not}
 use Rattle.hls_chron.specs.contracts.plain.TermsPartialEq.TheImpl as terms
 use Rattle.hls_chron.specs.contracts.plain.ConfigPartialEq.TheImpl as configs
 use Rattle.hls_guarantee.specs.declared.Guarantee.{Guarantee}
@@ -33,13 +37,10 @@ terms-self t.Turn = refl
 terms-self t.Sole = refl
 
 config-self : (c : Config) → configs.eq-value.it c c ≡ true
-config-self k.Cpu = refl
-config-self k.Fp = refl
-config-self k.Edf = refl
-config-self (k.Sfq total most quantum) = grind (arith, common_steps)
-config-self (k.Rr quantum) = grind (arith, common_steps)
-config-self (k.Wheel frame) = grind (arith, common_steps)
-config-self (k.Join ports) = grind (arith, common_steps)
+config-self =
+    by_kind (λ c. configs.eq-value.it c c ≡ true) refl refl refl (λ sharing. grind (arith, common_steps))
+    (λ quantum. grind (arith, common_steps)) (λ frame. grind (arith, common_steps))
+    (λ ports. grind (arith, common_steps))
 
 sort-self : (s : Sort) → sorts.eq-value.it s s ≡ true
 sort-self (Scheduler config) = config-self config
@@ -84,15 +85,29 @@ terms-same t.Turn t.Turn e = refl
 terms-same t.Sole t.Sole e = refl
 terms-same a b e = cc
 
-config-same : (a b : Config) → configs.eq-value.it a b ≡ true → a ≡ b
-config-same k.Cpu k.Cpu e = refl
-config-same k.Fp k.Fp e = refl
-config-same k.Edf k.Edf e = refl
-config-same (k.Sfq total most quantum) (k.Sfq other few turn) e = grind (arith, common_steps)
-config-same (k.Rr m) (k.Rr n) e = grind (arith, common_steps)
-config-same (k.Wheel m) (k.Wheel n) e = grind (arith, common_steps)
-config-same (k.Join m) (k.Join n) e = grind (arith, common_steps)
-config-same a b e = cc
+abbrev AreSame : (a b : Config) → Type 0
+AreSame a b = configs.eq-value.it a b ≡ true → a ≡ b
+
+sharing-same : (s : Sharing) (b : Config) → AreSame (by_shares s) b
+sharing-same s =
+    by_kind (AreSame (by_shares s)) (λ e. cc) (λ e. cc) (λ e. cc) (λ other e. grind (arith, common_steps))
+    (λ quantum e. cc) (λ frame e. cc) (λ ports e. cc)
+
+never : (a b : Config) → kind_of a ≢ kinds.Sfq → kind_of a ≡ kinds.Sfq → a ≡ b
+never a b ne is = absurd (ne is)
+
+other-same : (a b : Config) → kind_of a ≢ kinds.Sfq → AreSame a b
+other-same k.Cpu k.Cpu ne e = refl
+other-same k.Fp k.Fp ne e = refl
+other-same k.Edf k.Edf ne e = refl
+other-same (k.Rr m) (k.Rr n) ne e = grind (arith, common_steps)
+other-same (k.Wheel m) (k.Wheel n) ne e = grind (arith, common_steps)
+other-same (k.Join m) (k.Join n) ne e = grind (arith, common_steps)
+other-same a b ne e = first_of (search (never, refl), cc)
+
+config-same : (a b : Config) → AreSame a b
+config-same a b =
+    sharing_or_not (λ c. AreSame c b) (λ sharing. sharing-same sharing b) (λ c ne. other-same c b ne) a
 
 sort-same : (a b : Sort) → sorts.eq-value.it a b ≡ true → a ≡ b
 sort-same (Scheduler one) (Scheduler other) e = ap (λ (c : Config). Scheduler c) (config-same one other e)

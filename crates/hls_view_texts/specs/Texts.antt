@@ -1,9 +1,10 @@
 -- Short texts about seats and promises.
-use Rattle.std.specs.Prelude.{ℕ, List, [], ◌++◌, ◌==◌, if◌then◌else◌, codes}
+use Rattle.std.specs.Prelude.{ℕ, List, [], ◌++◌, ◌==◌, if◌then◌else◌, codes, Option, Some, None}
 use Rattle.hls_text.specs.Lines.{Text}
 use Rattle.hls_guarantee.specs.Spelling.{fraction_text}
 use Rattle.hls_chron.specs.declared.plain.Config.{Config}
-use Rattle.hls_chron.specs.declared.plain.Config.TheVariants.{Sfq}
+use Rattle.hls_chron.specs.declared.plain.Sharing.{Sharing}
+use Rattle.hls_chron.specs.Kinds.{sharing_of}
 use Rattle.hls_scenario.specs.Forms as forms
 use Rattle.hls_scenario.specs.Forms.{Form, joined}
 use Rattle.hls_audit_clauses.specs.declared.member.Sort.{Sort}
@@ -15,9 +16,12 @@ use Rattle.hls_view_margins.specs.declared.margin.Distance.TheVariants.{Above, B
 abbrev pub version_with : (quantum : ℕ) → ℕ
 version_with quantum = if quantum == 1 then 1 else 2
 
+abbrev pub version_by : Option Sharing → ℕ
+version_by (Some sharing) = version_with sharing.quantum
+version_by None = 1
+
 abbrev pub version_for : Config → ℕ
-version_for (Sfq total most quantum) = version_with quantum
-version_for config = 1
+version_for config = version_by (sharing_of config)
 
 abbrev pub config_forms : Config → List Form
 config_forms config = forms.config_forms (version_for config) config

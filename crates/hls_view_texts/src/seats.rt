@@ -1,11 +1,11 @@
 // Configurations and terms as texts.
 ghost use Rattle.std.specs.Prelude.{◌≡◌, ◌∷◌, ◌++◌, OnOk, IfOk, decimal};
-ghost use Rattle.hls_chron.specs.declared.plain.Config.TheVariants as configs;
+ghost use Rattle.hls_chron.specs.Kinds.{by_shares};
 ghost use Rattle.hls_scenario.specs.Forms.{joined, quantum_forms, spaced, terms_forms};
 ghost use Rattle.hls_view_texts.specs.Texts as texts;
 
 use hls_audit_clauses::Sort;
-use hls_chron::{Config, Terms};
+use hls_chron::{Config, Sharing, Terms};
 use hls_text::{put, put_number};
 use std::alloc::{AllocError, Global};
 
@@ -28,29 +28,27 @@ fn put_quantum(text: &mut Vec<u8>, quantum: u32) -> Result<(), AllocError>
     put_blank_number(text, quantum)
 }
 
-fn put_queue(text: &mut Vec<u8>, total: u32, most: u32, quantum: u32) -> Result<(), AllocError>
-    ensures { OnOk result (text.new.items ≡ text.old.items
-        ++ joined (texts.config_forms (configs.Sfq total most quantum))) }
+fn put_sharing(text: &mut Vec<u8>, sharing: Sharing) -> Result<(), AllocError>
+    ensures { OnOk result (text.new.items ≡ text.old.items ++ joined (texts.config_forms (by_shares sharing))) }
 {
     put(text, b"sfq")?;
-    put_blank_number(text, total)?;
-    put_blank_number(text, most)?;
-    put_quantum(text, quantum)
+    put_blank_number(text, sharing.total)?;
+    put_blank_number(text, sharing.most)?;
+    put_quantum(text, sharing.quantum)
 }
 
 fn config_text(alloc: Global, config: &Config) -> Result<Vec<u8>, AllocError>
     ensures { IfOk result (λ text. text.items ≡ joined (texts.config_forms config.now)) }
 {
     let mut text = Vec::new(alloc);
+    if let Some(sharing) = config.sharing() {
+        put_sharing(&mut text, sharing)?;
+        return Ok(text);
+    }
     match config {
-        Config::Cpu => {}
+        Config::Cpu | Config::Sfq { .. } => {}
         Config::Fp => put(&mut text, b"fp")?,
         Config::Edf => put(&mut text, b"edf")?,
-        Config::Sfq {
-            total,
-            most,
-            quantum,
-        } => put_queue(&mut text, *total, *most, *quantum)?,
         Config::Rr { quantum } => {
             put(&mut text, b"rr")?;
             put_blank_number(&mut text, *quantum)?;
