@@ -3,7 +3,6 @@ ghost use Rattle.std.specs.Prelude.{◌≡◌, ◌≤◌, ℕ, IfOk, IfSome, IsN
 ghost use Rattle.hls_text.specs.Lines.{Text};
 ghost use Rattle.hls_chron.specs.Ranges.{TermsInRange};
 ghost use Rattle.hls_guarantee.specs.Limits.{IsNarrow};
-ghost use Rattle.hls_chron.specs.Kinds.{port_count};
 ghost use Rattle.hls_machine.specs.Hierarchy.{Hierarchy, haves_of};
 ghost use Rattle.hls_legal.specs.Dues.{Derives, IsUnderivable};
 ghost use Rattle.hls_tree.specs.Reads.{IsLoaded, IsParent};
@@ -31,21 +30,6 @@ fn config_at(tree: &Tree, parent: Option<NodeId>) -> Config
     }
 }
 
-/// How many ports a scheduler of this configuration has.
-fn port_count(config: &Config) -> u8
-    ensures { result ≡ port_count config.now }
-{
-    match config {
-        Config::Join { ports } => *ports,
-        Config::Cpu
-        | Config::Fp
-        | Config::Edf
-        | Config::Sfq { .. }
-        | Config::Rr { .. }
-        | Config::Wheel { .. } => 1,
-    }
-}
-
 /// What the ports of a scheduler are guaranteed, in their order.
 ///
 /// # Errors
@@ -56,7 +40,7 @@ pub fn haves_of(alloc: Global, tree: &Tree, id: NodeId) -> Result<Vec<Guarantee>
         haves.items ≡ haves_of (h.nodes id)) }
 {
     let mut haves = Vec::new(alloc);
-    for port in 0..port_count(&tree.config(id)) {
+    for port in 0..tree.config(id).ports() {
         haves.push(tree.kept(id, port))?;
     }
     Ok(haves)

@@ -53,15 +53,7 @@ fn share_of(config: &Config) -> u32
     ensures share { result ≡ fair_queue config.now }
     ensures within { result ≤ 1 }
 {
-    match config {
-        Config::Sfq { .. } => 1,
-        Config::Cpu
-        | Config::Fp
-        | Config::Edf
-        | Config::Rr { .. }
-        | Config::Wheel { .. }
-        | Config::Join { .. } => 0,
-    }
+    u32::from(config.fair_queues())
 }
 
 /// Why a scheduler on these seats would be too deep, or below too many fair queueing ones.

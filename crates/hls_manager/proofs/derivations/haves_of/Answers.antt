@@ -7,7 +7,7 @@ use Rattle.hls_manager.proofs.derivations.haves_of.Goals as goal
 pub kept-requires : goal.kept-requires
 kept-requires g c =
     stands_so _ c.args.tree.now _ _ c.requires (λ h tree seated listed is.
-    (let end = c.port_count-port-end.ensures ∙ ap port_count (c.config.ensures h tree) in
+    (let end = c.ports-port-end.ensures ∙ ap port_count (c.config.ensures h tree) in
     has_port (h.nodes c.args.id) is (tree.ported c.args.id) c.loop-port.port
     (omega (arith, end, c.loop-port-test.true))))
 
@@ -18,7 +18,7 @@ loop-port-preserved g c = λ h tree.
 
 pub returns : goal.returns
 returns g c = λ h tree.
-    (let end = c.port_count-port-end.ensures ∙ ap port_count (c.config.ensures h tree) in
+    (let end = c.ports-port-end.ensures ∙ ap port_count (c.config.ensures h tree) in
     c.loop-port.invariant h tree
     ∙ all_read (h.nodes c.args.id) (tree.ported c.args.id) c.loop-port.port
     (omega (arith, end, c.loop-port-test.false)))

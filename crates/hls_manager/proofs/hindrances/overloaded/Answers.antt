@@ -3,8 +3,8 @@ use Rattle.hls_manager.proofs.Outcomes.{reached_seated}
 use Rattle.hls_manager.proofs.Askings.{levels_low, shares_few}
 use Rattle.hls_manager.proofs.hindrances.overloaded.Goals as goal
 
-pub returns-then-level-gt-MOST_LEVEL-clause-some : goal.returns-then-level-gt-MOST_LEVEL-clause-some
-returns-then-level-gt-MOST_LEVEL-clause-some g c =
+pub returns-then-level-gt-LEVELS-clause-some : goal.returns-then-level-gt-LEVELS-clause-some
+returns-then-level-gt-LEVELS-clause-some g c =
     let above : 8 < c.level_after-level.result = omega arith in
     λ h spot tree is. (
       c.requires.acyclic h tree,
@@ -12,8 +12,8 @@ returns-then-level-gt-MOST_LEVEL-clause-some g c =
       λ seat at. c.level_after-level.ensures h seat tree (reached_seated h is) at,
     )
 
-pub returns-then-count-gt-MOST_SHARES-clause-some : goal.returns-then-count-gt-MOST_SHARES-clause-some
-returns-then-count-gt-MOST_SHARES-clause-some g c =
+pub returns-then-count-gt-SHARES-clause-some : goal.returns-then-count-gt-SHARES-clause-some
+returns-then-count-gt-SHARES-clause-some g c =
     let low : c.level_after-level.result ≤ 8 = omega arith in
     let above : 4 < c.shares_after-count.result = omega arith in
     λ h spot tree is. (
