@@ -3,25 +3,29 @@ ghost use Rattle.std.specs.Prelude.{◌≡◌, true};
 ghost use Rattle.hls_chron.specs.Ranges.{ConfigInRange, TermsInRange};
 ghost use Rattle.hls_chron.specs.Kinds as kinds;
 
-use hls_chron::{Config, Terms};
+use hls_chron::{Config, Sharing, Terms};
 
 /// Whether the numbers of a configuration are in their ranges.
 pub fn config_in_range(config: &Config) -> bool
     ensures { result ≡ true → ConfigInRange config.now }
 {
+    if let Some(sharing) = config.sharing() {
+        return sharing_in_range(&sharing);
+    }
     match *config {
-        Config::Sfq {
-            total,
-            most,
-            quantum,
-        } => {
-            1 <= total && total <= 100 && 1 <= most && most <= 20 && 1 <= quantum && quantum <= 100
-        }
         Config::Rr { quantum } => 1 <= quantum && quantum <= 100,
         Config::Wheel { frame } => 1 <= frame && frame <= 1000,
         Config::Join { ports } => 2 <= ports && ports <= 4,
         _ => true,
     }
+}
+
+fn sharing_in_range(sharing: &Sharing) -> bool
+    ensures { result ≡ true → ConfigInRange (kinds.by_shares sharing.now) }
+{
+    (1 <= sharing.total && sharing.total <= 100)
+        && (1 <= sharing.most && sharing.most <= 20)
+        && (1 <= sharing.quantum && sharing.quantum <= 100)
 }
 
 /// Whether the numbers of terms are in their ranges.

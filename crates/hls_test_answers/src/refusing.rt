@@ -5,7 +5,7 @@ use crate::ranges::config_in_range;
 use crate::reach::{Counted, counts, is_within, most_to};
 use crate::seating::{fault_of, seats_taken};
 use crate::{Hierarchy, Seat};
-use hls_chron::{Config, Kind, Name, Terms};
+use hls_chron::{Config, Kind, LEVELS, Name, SHARES, Terms};
 use hls_kinds::SeatFault;
 use hls_report_text::{Answered, Refusal};
 use hls_scenario::{Command, Perch, Spot};
@@ -15,11 +15,6 @@ use std::alloc::{AllocError, Global};
 const MOST_NODES: u32 = 64;
 
 const MOST_THREADS: u32 = 256;
-
-/// How many levels there can be, and how many fair queueing schedulers on a path.
-const MOST_LEVELS: u32 = 8;
-
-const MOST_SHARES: u32 = 4;
 
 /// The hierarchy as it stands, the commands so far with their answers, and how many boxes of each kind there were
 /// at first.
@@ -254,7 +249,7 @@ fn too_deep(
     command: &Command,
 ) -> Result<Option<Refusal>, AllocError> {
     let level = most_after(alloc, hierarchy, Counted::All, command)?;
-    if level > MOST_LEVELS {
+    if level > LEVELS {
         Ok(Some(Refusal::TooDeep { level }))
     } else {
         Ok(None)
@@ -267,7 +262,7 @@ fn too_many_shares(
     command: &Command,
 ) -> Result<Option<Refusal>, AllocError> {
     let count = most_after(alloc, hierarchy, Counted::Shares, command)?;
-    if count > MOST_SHARES {
+    if count > SHARES {
         Ok(Some(Refusal::TooManyShares { count }))
     } else {
         Ok(None)

@@ -1,7 +1,7 @@
 // Which seats of a scheduler can be taken, by its configuration and its book alone.
 ghost use Rattle.std.specs.Prelude.{◌≡◌, ℕ, ◌↔◌, Some, IsTrue, IfSome, IsNone};
 ghost use Rattle.hls_chron.specs.Ledger.{Ledger};
-ghost use Rattle.hls_chron.specs.Ranges.{ConfigInRange};
+ghost use Rattle.hls_chron.specs.Ranges.{ConfigInRange, most_slots};
 ghost use Rattle.hls_chron.specs.Seats.{priority_at, most_seats as seats_in};
 ghost use Rattle.hls_kinds.specs.Faults.{Applies, fault_number};
 ghost use Rattle.hls_kinds.specs.Fits.{Exceeds};
@@ -9,7 +9,7 @@ ghost use Rattle.hls_kinds.specs.Room.{IsFree, IsFull, LacksRoom};
 ghost use Rattle.hls_legal.specs.Refusals.{seats_taken as taken_in};
 ghost use Rattle.hls_test_answers.specs.Taking.{HasPriorityBelow};
 
-use hls_chron::{Book, Config, Terms};
+use hls_chron::{Book, Config, SLOTS, Terms};
 use hls_kinds::{SeatFault, room_asked, room_total, terms_at};
 use hls_test_kinds::{occupant, room_used};
 
@@ -17,10 +17,12 @@ use hls_test_kinds::{occupant, room_used};
 pub fn most_seats(config: &Config) -> u32
     ensures { result ≡ seats_in config.now }
 {
+    if let Some(sharing) = config.sharing() {
+        return sharing.most;
+    }
     match *config {
-        Config::Sfq { most, .. } => most,
         Config::Join { .. } | Config::Cpu => 1,
-        _ => 32,
+        _ => SLOTS,
     }
 }
 
@@ -30,7 +32,7 @@ pub fn seats_taken(book: &Book) -> u32
     ensures { result ≡ taken_in book.now }
 {
     let mut taken = 0;
-    for slot in 0..32 {
+    for slot in 0..SLOTS {
         if terms_at(book, slot).is_some() {
             taken += 1;
         }
@@ -55,8 +57,10 @@ pub fn free_slot(book: &Book, config: &Config) -> Option<u32>
 fn exceeds(config: &Config, terms: &Terms) -> bool
     ensures { IsTrue result ↔ Exceeds config.now terms.now }
 {
+    if let (Some(sharing), Terms::Weight(weight)) = (config.sharing(), *terms) {
+        return sharing.total < weight;
+    }
     match (*config, *terms) {
-        (Config::Sfq { total, .. }, Terms::Weight(weight)) => total < weight,
         (Config::Wheel { frame }, Terms::Slots(places)) => frame < places,
         _ => false,
     }
@@ -87,9 +91,9 @@ fn is_of_priority(book: &Book, slot: u32, priority: u32) -> bool
 
 /// Whether one of the seats has a priority number.
 fn has_priority(book: &Book, priority: u32) -> bool
-    ensures { IsTrue result ↔ HasPriorityBelow 32 book.now priority }
+    ensures { IsTrue result ↔ HasPriorityBelow most_slots book.now priority }
 {
-    for slot in 0..32 {
+    for slot in 0..SLOTS {
         if is_of_priority(book, slot, priority) {
             return true;
         }
@@ -101,7 +105,7 @@ fn has_priority(book: &Book, priority: u32) -> bool
 fn outranked(book: &Book, config: &Config, terms: &Terms) -> Option<SeatFault>
     ensures some { IfSome result (λ fault. Applies config.now book.now terms.now fault × (fault_number fault ≡ 17)) }
     ensures none { IsNone result → (priority : ℕ) → terms.now ≡ Terms.Prio priority →
-        ¬ HasPriorityBelow 32 book.now priority }
+        ¬ HasPriorityBelow most_slots book.now priority }
 {
     match *terms {
         Terms::Prio(priority) if has_priority(book, priority) => {

@@ -1,7 +1,7 @@
 // The ticks between commands, by the runs of a report.
 use crate::ranges::config_in_range;
 use crate::{Hierarchy, Scheduler};
-use hls_chron::{Book, Name, TickRow};
+use hls_chron::{Book, Name, SLOTS, TickRow};
 use hls_report_text::{Path, Report};
 use hls_test_accounts::is_ready;
 use hls_test_kinds::asks_at;
@@ -40,7 +40,7 @@ pub fn mask_of(
         return mask;
     }
     for seat in hierarchy.seats.iter() {
-        if seat.sched == Some(*sched) && seat.slot < 32 {
+        if seat.sched == Some(*sched) && u32::from(seat.slot) < SLOTS {
             if asks(hierarchy, report, tick, steps - 1, &seat.child) {
                 mask |= 1 << seat.slot;
             }
