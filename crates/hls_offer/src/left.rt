@@ -2,7 +2,6 @@
 ghost use Rattle.std.specs.Prelude.{◌≡◌, ◌≤◌, ℕ, true, false, All, IfOk};
 ghost use Rattle.std.specs.List.{filter_map};
 ghost use Rattle.hls_chron.specs.Parts.{all_parts};
-ghost use Rattle.hls_chron.specs.Seats.{most_seats};
 ghost use Rattle.hls_kinds.specs.Room.{IsFull};
 ghost use Rattle.hls_machine.specs.Hierarchy.{Hierarchy, config_of, book_of};
 ghost use Rattle.hls_machine.specs.Legal.{IsReached};
@@ -11,7 +10,7 @@ ghost use Rattle.hls_tree.specs.Trees.{IsTreeOf, Stands};
 ghost use Rattle.hls_offer.specs.Left.{fit_in, IsLeft};
 
 use crate::priorities::free_spans;
-use hls_chron::{ALL_PARTS, Book, Config, List, SLOTS};
+use hls_chron::{ALL_PARTS, Book, Config, List};
 use hls_kinds::room_total;
 use hls_offer_text::{Fit, Left};
 use hls_sched::Scheduler;
@@ -19,26 +18,12 @@ use hls_test_kinds::{occupant, room_used};
 use hls_tree::{NodeId, Tree};
 use std::alloc::{AllocError, Global};
 
-/// How many seats a scheduler of this configuration has.
-fn most_seats(config: &Config) -> u32
-    ensures { result ≡ most_seats config.now }
-{
-    if let Some(sharing) = config.sharing() {
-        return sharing.most;
-    }
-    match config {
-        Config::Join { .. } | Config::Cpu => 1,
-        Config::Fp | Config::Edf | Config::Sfq { .. } | Config::Rr { .. } | Config::Wheel { .. } =>
-            SLOTS,
-    }
-}
-
 /// Whether every slot of a scheduler is taken up.
 fn is_full(book: &Book, config: &Config) -> bool
     ensures full { result ≡ true → IsFull config.now book.now }
     ensures free { result ≡ false → ¬ IsFull config.now book.now }
 {
-    for slot in 0..most_seats(config) {
+    for slot in 0..config.most_seats() {
         if occupant(book, config, slot).is_none() {
             return false;
         }

@@ -67,18 +67,9 @@ pub fn fair_turns(total: u32, most: u32, quantum: u32) -> Config
     .config()
 }
 
-/// How many seats a scheduler has.
-pub fn most_seats(config: &Config) -> u32 {
-    match config {
-        Config::Sfq { most, .. } => *most,
-        Config::Join { .. } => 1,
-        _ => 32,
-    }
-}
-
 /// The least free slot, by the definition.
 pub fn free_in(book: &Book, config: &Config) -> Option<u32> {
-    for slot in 0..most_seats(config) {
+    for slot in 0..config.most_seats() {
         if occupant(book, config, slot).is_none() {
             return Some(slot);
         }

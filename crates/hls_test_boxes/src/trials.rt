@@ -6,9 +6,7 @@ ghost use Rattle.hls_chron.specs.Kinds.{kind_of};
 ghost use Rattle.hls_chron.specs.Ranges.{ConfigInRange};
 ghost use Rattle.hls_sched.specs.Seen.{IsBlank, IsConfigured};
 
-use crate::harness::{
-    Known, Step, compare, fair_turns, free_in, is_asking, most_seats, rows_of, take,
-};
+use crate::harness::{Known, Step, compare, fair_turns, free_in, is_asking, rows_of, take};
 use hls_chron::{Book, Config, Terms, TickRow};
 use hls_edf::Edf;
 use hls_fp::Fp;
@@ -131,7 +129,7 @@ fn fault_in(book: &Book, config: &Config, terms: &Terms) -> Option<SeatFault>
         }
     }
     if free_in(book, config).is_none() {
-        let seats = most_seats(config);
+        let seats = config.most_seats();
         return Some(SeatFault::Full { seats });
     }
     let free = room_total(config).saturating_sub(room_used(book, config));
