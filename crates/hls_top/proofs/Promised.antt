@@ -39,7 +39,7 @@ use Rattle.hls_legal.proofs.Removal.{removed}
 use Rattle.hls_audit_clauses.proofs.Kept.{report_kept as never_fails}
 use Rattle.hls_core.specs.Texts.{IsLegalText}
 use Rattle.hls_top.specs.Outputs.{IsReportOf}
-use Rattle.hls_top.specs.Promises.{IsRefusal, HasRoom, IsAnswerIn, moment_before, AnswersEach}
+use Rattle.hls_top.specs.Promises.{IsRefusal, HasRoom, IsAnswerIn, AnswersEach}
 use Rattle.hls_top.specs.Promises.{KeepsPromises}
 
 -- ---- one thread at most
@@ -173,7 +173,7 @@ answers_each boxes c steps legal tells along = record {
         rest = b.rest;
         whole = b.whole;
         tells = b.tells;
-        answer = answer_in (moment_before c boxes b.past at) a.command a.answer b.answer;
+        answer = answer_in _ a.command a.answer b.answer;
       };
 }
 

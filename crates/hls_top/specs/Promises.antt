@@ -45,22 +45,19 @@ pub record IsAnswerIn (m : Moment) (command : Command) (answer : Answer) : Type 
   pub refused : HasRoom m command
       → (IsRefusal answer ↔ ((name : Text) × IsUnderived m.hierarchy m.depth command name))
 
--- the hierarchy where these steps lead, with the boxes that the commands before one have left
-abbrev pub moment_before : Content → Boxes → (past : List Step) → (at : ℕ) → Moment
-moment_before c boxes past at = record {
-  hierarchy = state start past;
-  boxes = boxes_left boxes (take at c.answered);
-  depth = c.depth;
-}
-
 -- a run is cut before a command of the report: its first steps are those that the report has told by then, of the
--- commands before it and the ticks before its tick, and where they lead the answer is the defined one
+-- commands before it and the ticks before its tick, and where they lead, with the boxes that those commands have left,
+-- the answer is the defined one
 pub record IsAnsweredBehind (boxes : Boxes) (c : Content) (steps : List Step) (at : ℕ) (a : Answered) : Type 0 where
   pub past : List Step
   pub rest : List Step
   pub whole : past ++ rest ≡ steps
   pub tells : Tells (record c { horizon = a.tick; answered = take at c.answered }) past
-  pub answer : IsAnswerIn (moment_before c boxes past at) a.command a.answer
+  pub answer : IsAnswerIn (record {
+    hierarchy = state start past;
+    boxes = boxes_left boxes (take at c.answered);
+    depth = c.depth;
+  }) a.command a.answer
 
 -- the report tells one legal run, and along it each of its commands is answered so
 pub record AnswersEach (boxes : Boxes) (c : Content) : Type 0 where
@@ -68,12 +65,6 @@ pub record AnswersEach (boxes : Boxes) (c : Content) : Type 0 where
   pub legal : IsLegal start steps
   pub tells : Tells c steps
   pub each : (at : ℕ) (a : Answered) → slice_get c.answered at ≡ Some a → IsAnsweredBehind boxes c steps at a
-
--- a refused command changes nothing: without it the same report, with its answer left out, is legal
-abbrev pub RefusesIdly : Scenario → (given : ℕ) → Boxes → Content → Type 0
-RefusesIdly s given boxes c = (at : ℕ) (a : Answered) (refusal : Refusal) → slice_get c.answered at ≡ Some a
-    → a.answer ≡ Refused refusal
-    → IsLegalContent (scenario_without at s) given boxes (content_without at c)
 
 -- the promises of a report
 pub record KeepsPromises (s : Scenario) (given : ℕ) (boxes : Boxes) (c : Content) : Type 0 where
@@ -83,6 +74,8 @@ pub record KeepsPromises (s : Scenario) (given : ℕ) (boxes : Boxes) (c : Conte
   -- what each release of a wake asks for is served in time, by the thread's reservation and by its guarantee
   pub jobs : KeepsJobs c
   pub answers : AnswersEach boxes c
-  pub refusals : RefusesIdly s given boxes c
+  -- a refused command changes nothing: without it the same report, with its answer left out, is legal
+  pub refusals : (at : ℕ) (a : Answered) (refusal : Refusal) → slice_get c.answered at ≡ Some a
+      → a.answer ≡ Refused refusal → IsLegalContent (scenario_without at s) given boxes (content_without at c)
   -- no clause of the audit fails at any tick: `check` finds the report kept
   pub kept : IsKept c

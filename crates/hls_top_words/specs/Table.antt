@@ -8,14 +8,10 @@ use Rattle.hls_top_words.specs.declared.jobs.Job.TheVariants.{Run, Check, Gen, T
 abbrev pub usual_depth : ℕ
 usual_depth = 3
 
--- a depth is stated in a word of its own, or in one word with the option
-abbrev pub StatesDepth : List Text → ℕ → Type 0
-StatesDepth words depth =
-    (words ≡ codes "--depth" ∷ decimal depth ∷ []) ⊎ (words ≡ (codes "--depth=" ++ decimal depth) ∷ [])
-
--- the words after `run` leave the depth open, or state one of at most 6
+-- the words after `run` leave the depth open, or state one of at most 6, in a word of its own or in one with the option
 abbrev pub HasDepth : List Text → ℕ → Type 0
-HasDepth words depth = ((words ≡ []) × (depth ≡ usual_depth)) ⊎ ((depth ≤ 6) × StatesDepth words depth)
+HasDepth words depth = ((words ≡ []) × (depth ≡ usual_depth)) ⊎ ((depth ≤ 6) × (
+    (words ≡ codes "--depth" ∷ decimal depth ∷ []) ⊎ (words ≡ (codes "--depth=" ++ decimal depth) ∷ [])))
 
 -- the words after `gen` or `trial` are a number of 32 bits
 abbrev pub HasNumber : List Text → ℕ → Type 0
