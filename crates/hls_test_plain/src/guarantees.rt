@@ -3,7 +3,7 @@
 ghost use Rattle.std.specs.Prelude.{ℕ, ◌≤◌, ◌<◌, length};
 
 use hls_frac::Frac;
-use hls_guarantee::{Guarantee, holds, keeps_cap, read_guarantee, valid, write_guarantee};
+use hls_guarantee::{Guarantee, holds, keeps_cap, valid};
 use std::process::Abort;
 use std::test::Fail;
 
@@ -188,73 +188,4 @@ fn decides_as_the_promises_read(rt: HostRuntime) -> Result<(), Fail> {
         }
     }
     Ok(())
-}
-
-#[test]
-fn spells(rt: HostRuntime) -> Result<(), Fail> {
-    let cases: [(Guarantee, &[u8]); 11] = [
-        (Guarantee::All, b"ALL"),
-        (Guarantee::Null, b"NULL"),
-        (blocks(true, 3, 10), b"RESBH 3 10"),
-        (blocks(false, 1, 20_000), b"RESBS 1 20000"),
-        (windows(true, 20_000, 20_000), b"RESCH 20000 20000"),
-        (windows(false, 1, 1), b"RESCS 1 1"),
-        (share((3, 10), (42, 10))?, b"PSBE 3/10 21/5"),
-        (share((1, 1), (0, 7))?, b"PSBE 1 0"),
-        (share((9, 40), (83, 20))?, b"PSBE 9/40 83/20"),
-        (
-            share((99_999_999, 100_000_000), (10_000_000_000_000, 1))?,
-            b"PSBE 99999999/100000000 10000000000000",
-        ),
-        (
-            share((1, 100_000_000), (9_999_999_999_999, 100_000_000))?,
-            b"PSBE 1/100000000 9999999999999/100000000",
-        ),
-    ];
-    for (g, text) in cases {
-        assert!(rt; valid(&g));
-        let mut out = Vec::from_slice(rt.alloc(), b"as ")?;
-        write_guarantee(&g, &mut out)?;
-        assert_eq!(rt; &out[..3], b"as ".as_slice());
-        assert_eq!(rt; &out[3..], text, "{g:?}");
-        assert_eq!(rt; read_guarantee(text), Some(g));
-    }
-    Ok(())
-}
-
-#[test]
-fn reads_no_other_text(rt: HostRuntime) {
-    let texts: [&[u8]; 28] = [
-        b"",
-        b"all",
-        b"ALL ",
-        b" ALL",
-        b"NULL\n",
-        b"RESBH",
-        b"RESBH 3",
-        b"RESBH 3 10 ",
-        b"RESBH  3 10",
-        b"RESBH 3\t10",
-        b"RESBX 3 10",
-        b"RESBH 03 10",
-        b"RESBH 3 010",
-        b"RESBH +3 10",
-        b"RESBH 0 10",
-        b"RESBH 11 10",
-        b"RESCS 1 20001",
-        b"RESCS 1 340282366920938463463374607431768211456",
-        b"PSBE 1/2",
-        b"PSBE 2/4 1",
-        b"PSBE 1/2 2/1",
-        b"PSBE 0 1",
-        b"PSBE 3/2 1",
-        b"PSBE 1/0 1",
-        b"PSBE 1/2/3 1",
-        b"PSBE 1/100000001 1",
-        b"PSBE 1/2 10000000000001",
-        b"PSBE 1/2 1 1",
-    ];
-    for text in texts {
-        assert_eq!(rt; read_guarantee(text), None, "{text:?}");
-    }
 }

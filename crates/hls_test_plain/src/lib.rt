@@ -1,23 +1,13 @@
-//! Values worked out by hand of what stands below the rest: fractions, texts, books, guarantees, derivations and rules, watches,
-//! agendas, scenarios that are made, and traces.
+//! Values worked out by hand of what stands below the rest: what lists of ticks keep of guarantees, what rules answer,
+//! watches, a scenario that is made, and a trace.
 #![tactic(auto)]
 
-#[cfg(test)]
-mod agendas;
-#[cfg(test)]
-mod books;
-#[cfg(test)]
-mod derivations;
-#[cfg(test)]
-mod fractions;
 #[cfg(test)]
 mod generated;
 #[cfg(test)]
 mod guarantees;
 #[cfg(test)]
 mod rules;
-#[cfg(test)]
-mod texts;
 #[cfg(test)]
 mod traces;
 #[cfg(test)]
