@@ -73,7 +73,8 @@ slowed-fits sharing weight s d part others waiting share size first second sum =
 
 pub error-fits : (sharing : Sharing) (weight : ℕ) (s d part others waiting slowed rest : Frac)
     → IsShare (10 ^ 13) (10 ^ 8) s d → IsWeight sharing weight → IsQuotient part weight sharing.total
-    → IsQuotient others ((sharing.most - 1) * sharing.quantum) 1 → IsSum waiting d others → IsProduct slowed waiting part
+    → IsQuotient others ((sharing.most - 1) * sharing.quantum) 1 → IsSum waiting d others
+    → IsProduct slowed waiting part
     → IsQuotient rest ((sharing.total - weight) * sharing.quantum) sharing.total → SumFits slowed rest
 error-fits sharing weight s d part others waiting slowed rest share size first second sum product left =
     let wait = waiting-within sharing weight s d others waiting share size second sum in

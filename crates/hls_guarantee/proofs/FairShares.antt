@@ -98,7 +98,8 @@ share-fractions sharing weight s d part others waiting slowed rest rate error so
     let o : share.others ≡ sharing.most - 1 = omega arith in
     let r : share.rest ≡ sharing.total - weight = omega arith in
     let quantum : ℕ = sharing.quantum in
-    let first : IsQuotient error ((d.num + (sharing.most - 1) * quantum * d.den) * weight + share.rest * quantum * d.den)
+    let first : IsQuotient error
+    ((d.num + (sharing.most - 1) * quantum * d.den) * weight + share.rest * quantum * d.den)
     (d.den * sharing.total) =
     subst (λ n. IsQuotient error ((d.num + n * quantum * d.den) * weight + share.rest * quantum * d.den)
     (d.den * sharing.total)) o share.error in

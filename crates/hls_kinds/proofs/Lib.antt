@@ -12,3 +12,4 @@ pub mod Props
 pub mod Sums
 pub mod Occupants
 pub mod Choices
+pub mod Idle

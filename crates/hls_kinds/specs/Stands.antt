@@ -88,8 +88,19 @@ stands_of (Join ports) b mask granted choice = always
 stands_of (Rr quantum) b mask granted choice =
     if granted then rest_of_turn quantum b mask choice else always
 stands_of Edf b mask granted choice =
-    max 1 (if granted then min (to_deadlines b mask most_slots) (rest_of_budget b mask choice) else to_deadlines b mask most_slots)
+    max 1 (if granted then min (to_deadlines b mask most_slots) (rest_of_budget b mask choice)
+    else to_deadlines b mask most_slots)
 stands_of (Sfq total most quantum) b mask granted choice =
     if granted then rest_of_share quantum b mask choice else always
 stands_of (Wheel frame) b mask granted choice = max 1 (owned_for (owner_at b) frame (now_of b) frame)
 stands_of Cpu b mask granted choice = always
+
+-- while it is not granted, a scheduler of this kind stands always
+abbrev pub stands_idle : Config → Bool
+stands_idle Cpu = true
+stands_idle Fp = true
+stands_idle Edf = false
+stands_idle (Sfq total most quantum) = true
+stands_idle (Rr quantum) = true
+stands_idle (Wheel frame) = false
+stands_idle (Join ports) = true

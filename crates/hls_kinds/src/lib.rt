@@ -6,6 +6,7 @@ mod fault;
 pub mod laws;
 mod reservations;
 mod room;
+mod stands;
 mod tags;
 mod tenant;
 
@@ -13,5 +14,6 @@ pub use fault::SeatFault;
 pub use hls_chron::parts;
 pub use reservations::{Claim, Reservation};
 pub use room::{room_asked, room_total};
+pub use stands::stands_idle;
 pub use tags::Share;
 pub use tenant::{Tenant, terms_at};

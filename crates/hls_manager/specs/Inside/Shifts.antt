@@ -65,7 +65,8 @@ abbrev pub IsMisplaced : Hierarchy → (k : ℕ) → (parent : Option ℕ) → S
 IsMisplaced h k parent spot (Cycle name) = (spot_name spot ≡ Some name) × IsLoop h k parent
 IsMisplaced h k parent spot (TooDeep level) = IsNoCycle h k parent × (most_levels < level)
     × ((seat : TakenSeat) → scheduler_at seat.place ≡ parent → IsGreatestLevel (moved_to h k seat) level)
-IsMisplaced h k parent spot (TooManyShares shares) = IsNoCycle h k parent × LevelsWithin h k parent most_levels × (most_shares < shares)
+IsMisplaced h k parent spot (TooManyShares shares) = IsNoCycle h k parent × LevelsWithin h k parent most_levels
+    × (most_shares < shares)
     × ((seat : TakenSeat) → scheduler_at seat.place ≡ parent → AreMostShares (moved_to h k seat) shares)
 IsMisplaced h k parent spot _ = ⊥
 
