@@ -181,20 +181,22 @@ config_next version config t ts rest =
     → (config_by version t ts ≡ Ok (c, rest)) × (bytes_eq t (codes "join") ≡ false))
     (λ ok a. absurd ok)
     (λ ok a. (
-      ap (λ w. config_by version w ts) a.0 ∙ ap (λ (x : List Text). Ok (configs.Fp, x)) a.1, ap is_join_word a.0,
+      ap (λ w. config_by version w ts) a.0 ∙ ap (λ (x : List Text). Ok (configs.Fp, x)) a.1,
+      ap is_join_word a.0,
     ))
     (λ ok a. (
-      ap (λ w. config_by version w ts) a.0 ∙ ap (λ (x : List Text). Ok (configs.Edf, x)) a.1, ap is_join_word a.0,
+      ap (λ w. config_by version w ts) a.0 ∙ ap (λ (x : List Text). Ok (configs.Edf, x)) a.1,
+      ap is_join_word a.0,
     ))
     (λ s ok a. (ap (λ w. config_by version w ts) a.0 ∙ shares_next version s ts rest ok a.1, ap is_join_word a.0))
     (λ n ok a. (
       ap (λ w. config_by version w ts) a.0
-      ∙ numbered_next 100 (λ m. configs.Rr m) n ts rest (lit< tt) ok.0.0 ok.0.1 a.1,
+          ∙ numbered_next 100 (λ m. configs.Rr m) n ts rest (lit< tt) ok.0.0 ok.0.1 a.1,
       ap is_join_word a.0,
     ))
     (λ n ok a. (
       ap (λ w. config_by version w ts) a.0
-      ∙ numbered_next 1000 (λ m. configs.Wheel m) n ts rest (lit< tt) ok.0.0 ok.0.1 a.1,
+          ∙ numbered_next 1000 (λ m. configs.Wheel m) n ts rest (lit< tt) ok.0.0 ok.0.1 a.1,
       ap is_join_word a.0,
     ))
     (λ ports ok a. absurd ok) config
