@@ -3,7 +3,8 @@ use crate::harness::{Step, check_served, rows_of, take_all};
 use hls_chron::{Config, Terms};
 use hls_edf::{Edf, parts};
 use hls_sched::{Scheduler, SeatFault};
-use std::alloc::AllocError;
+use std::alloc::{AllocError, Global};
+use std::process::Abort;
 use std::test::Fail;
 
 /// What is done to a box of reservations, or the ticks that pass: each serves the slot of its digit, is not
@@ -176,19 +177,30 @@ fn push_act(
     Ok(())
 }
 
-#[test]
-fn keeps_the_worked_schedules(rt: HostRuntime) -> Result<(), Fail> {
-    for acts in SCHEDULES {
-        let mut steps: Vec<Step> = Vec::new(rt.alloc());
-        let mut served: Vec<Option<u8>> = Vec::new(rt.alloc());
-        for act in *acts {
-            push_act(*act, &mut steps, &mut served)?;
-        }
-        let mut edf = Edf::blank(rt.alloc());
-        take_all(&mut edf, &Config::Edf, &steps, &rt)?;
-        check_served(&rows_of(edf.book(), rt.alloc())?, &served, &rt);
+/// Takes a new box through these acts, and compares whom its ticks serve.
+fn keeps(rt: &impl Abort, alloc: Global, acts: &[Act]) -> Result<(), Fail> {
+    let mut steps: Vec<Step> = Vec::new(alloc);
+    let mut served: Vec<Option<u8>> = Vec::new(alloc);
+    for act in acts {
+        push_act(*act, &mut steps, &mut served)?;
+    }
+    let mut edf = Edf::blank(alloc);
+    take_all(&mut edf, &Config::Edf, &steps, rt)?;
+    check_served(&rows_of(edf.book(), alloc)?, &served, rt);
+    Ok(())
+}
+
+/// Takes a new box through each of these schedules.
+fn all_are_kept(rt: &impl Abort, alloc: Global, schedules: &[&[Act]]) -> Result<(), Fail> {
+    for at in 0..schedules.len() {
+        keeps(rt, alloc, schedules[at])?;
     }
     Ok(())
+}
+
+#[test]
+fn keeps_the_worked_schedules(rt: HostRuntime) -> Result<(), Fail> {
+    all_are_kept(&rt, rt.alloc(), SCHEDULES)
 }
 
 #[test]

@@ -10,63 +10,71 @@ use hls_wheel::Wheel;
 use std::process::Abort;
 use std::test::Fail;
 
+const TICK: Step = Step::Tick(Some(0));
+
+const TICK_AT_ONE: Step = Step::Tick(Some(1));
+
+const PASSED: Step = Step::Tick(None);
+
+const TURNS_STEPS: &[Step] = &[
+    Step::Seat(Terms::Turn, 0),
+    Step::Seat(Terms::Turn, 1),
+    Step::Seat(Terms::Turn, 2),
+    Step::Request(0),
+    Step::Request(1),
+    Step::Request(2),
+    TICK,
+    TICK,
+    TICK,
+    Step::Release(1),
+    TICK,
+    TICK,
+    TICK,
+    TICK,
+    TICK,
+];
+
+const TURNS_SERVED: &[Option<u8>] = &[
+    Some(0),
+    Some(0),
+    Some(1),
+    Some(2),
+    Some(2),
+    Some(0),
+    Some(0),
+    Some(2),
+];
+
 #[test]
 fn takes_turns_of_a_quantum(rt: HostRuntime) -> Result<(), Fail> {
-    let tick = Step::Tick(Some(0));
-    let steps = [
-        Step::Seat(Terms::Turn, 0),
-        Step::Seat(Terms::Turn, 1),
-        Step::Seat(Terms::Turn, 2),
-        Step::Request(0),
-        Step::Request(1),
-        Step::Request(2),
-        tick,
-        tick,
-        tick,
-        Step::Release(1),
-        tick,
-        tick,
-        tick,
-        tick,
-        tick,
-    ];
-    let served = [
-        Some(0),
-        Some(0),
-        Some(1),
-        Some(2),
-        Some(2),
-        Some(0),
-        Some(0),
-        Some(2),
-    ];
     let mut rr = Rr::blank(rt.alloc());
-    take_all(&mut rr, &Config::Rr { quantum: 2 }, &steps, &rt)?;
-    check_served(&rows_of(rr.book(), rt.alloc())?, &served, &rt);
+    take_all(&mut rr, &Config::Rr { quantum: 2 }, TURNS_STEPS, &rt)?;
+    check_served(&rows_of(rr.book(), rt.alloc())?, TURNS_SERVED, &rt);
     Ok(())
 }
 
+const OWNERS_STEPS: &[Step] = &[
+    Step::Seat(Terms::Slots(2), 0),
+    Step::Seat(Terms::Slots(3), 1),
+    Step::Refuse(Terms::Slots(1), SeatFault::NoRoom { free: 0, asked: 1 }),
+    Step::Refuse(Terms::Slots(6), SeatFault::Unfit),
+    Step::Request(0),
+    TICK,
+    TICK,
+    TICK,
+    TICK,
+    TICK,
+    TICK,
+    TICK,
+];
+
+const OWNERS_SERVED: &[Option<u8>] = &[Some(0), Some(0), None, None, None, Some(0), Some(0)];
+
 #[test]
 fn serves_owners_of_places_alone(rt: HostRuntime) -> Result<(), Fail> {
-    let tick = Step::Tick(Some(0));
-    let steps = [
-        Step::Seat(Terms::Slots(2), 0),
-        Step::Seat(Terms::Slots(3), 1),
-        Step::Refuse(Terms::Slots(1), SeatFault::NoRoom { free: 0, asked: 1 }),
-        Step::Refuse(Terms::Slots(6), SeatFault::Unfit),
-        Step::Request(0),
-        tick,
-        tick,
-        tick,
-        tick,
-        tick,
-        tick,
-        tick,
-    ];
-    let served = [Some(0), Some(0), None, None, None, Some(0), Some(0)];
     let mut wheel = Wheel::blank(rt.alloc());
-    take_all(&mut wheel, &Config::Wheel { frame: 5 }, &steps, &rt)?;
-    check_served(&rows_of(wheel.book(), rt.alloc())?, &served, &rt);
+    take_all(&mut wheel, &Config::Wheel { frame: 5 }, OWNERS_STEPS, &rt)?;
+    check_served(&rows_of(wheel.book(), rt.alloc())?, OWNERS_SERVED, &rt);
     Ok(())
 }
 
@@ -78,109 +86,110 @@ fn check_ports(rows: &[TickRow], ports: &[Option<u8>], rt: &impl Abort) {
     }
 }
 
+const JOINED_STEPS: &[Step] = &[
+    Step::Seat(Terms::Sole, 0),
+    Step::Request(0),
+    TICK,
+    TICK,
+    TICK_AT_ONE,
+    PASSED,
+    TICK_AT_ONE,
+    PASSED,
+    TICK_AT_ONE,
+    PASSED,
+    TICK_AT_ONE,
+    PASSED,
+    TICK,
+    TICK,
+];
+
+const JOINED_PORTS: &[Option<u8>] = &[
+    Some(0),
+    Some(0),
+    Some(1),
+    None,
+    Some(1),
+    None,
+    Some(1),
+    None,
+    Some(1),
+    None,
+    Some(0),
+    Some(0),
+];
+
 /// A join asks at a reservation of two ticks in ten, its port 0, and at turns of a tick, its port 1, where a
 /// thread has the other turns.
 #[test]
 fn serves_its_seat_by_reservation_and_by_turns(rt: HostRuntime) -> Result<(), Fail> {
-    let reserved = Step::Tick(Some(0));
-    let turn = Step::Tick(Some(1));
-    let passed = Step::Tick(None);
-    let steps = [
-        Step::Seat(Terms::Sole, 0),
-        Step::Request(0),
-        reserved,
-        reserved,
-        turn,
-        passed,
-        turn,
-        passed,
-        turn,
-        passed,
-        turn,
-        passed,
-        reserved,
-        reserved,
-    ];
-    let ports = [
-        Some(0),
-        Some(0),
-        Some(1),
-        None,
-        Some(1),
-        None,
-        Some(1),
-        None,
-        Some(1),
-        None,
-        Some(0),
-        Some(0),
-    ];
     let mut join = Join::blank(rt.alloc());
-    take_all(&mut join, &Config::Join { ports: 2 }, &steps, &rt)?;
-    check_ports(&rows_of(join.book(), rt.alloc())?, &ports, &rt);
+    take_all(&mut join, &Config::Join { ports: 2 }, JOINED_STEPS, &rt)?;
+    check_ports(&rows_of(join.book(), rt.alloc())?, JOINED_PORTS, &rt);
     Ok(())
 }
+
+const WAITING_STEPS: &[Step] = &[
+    Step::Seat(Terms::Turn, 0),
+    Step::Seat(Terms::Turn, 1),
+    Step::Request(0),
+    Step::Request(1),
+    PASSED,
+    PASSED,
+    TICK,
+    TICK,
+    TICK,
+    TICK,
+    TICK,
+    TICK,
+    TICK,
+    TICK,
+    PASSED,
+    PASSED,
+];
+
+const WAITING_SERVED: &[Option<u8>] = &[
+    None,
+    None,
+    Some(0),
+    Some(1),
+    Some(0),
+    Some(1),
+    Some(0),
+    Some(1),
+    Some(0),
+    Some(1),
+    None,
+    None,
+];
 
 /// The turns of that join, at slot 0, and of the thread.
 #[test]
 fn waits_with_its_turns_while_it_is_not_granted(rt: HostRuntime) -> Result<(), Fail> {
-    let turn = Step::Tick(Some(0));
-    let passed = Step::Tick(None);
-    let steps = [
-        Step::Seat(Terms::Turn, 0),
-        Step::Seat(Terms::Turn, 1),
-        Step::Request(0),
-        Step::Request(1),
-        passed,
-        passed,
-        turn,
-        turn,
-        turn,
-        turn,
-        turn,
-        turn,
-        turn,
-        turn,
-        passed,
-        passed,
-    ];
-    let served = [
-        None,
-        None,
-        Some(0),
-        Some(1),
-        Some(0),
-        Some(1),
-        Some(0),
-        Some(1),
-        Some(0),
-        Some(1),
-        None,
-        None,
-    ];
     let mut rr = Rr::blank(rt.alloc());
-    take_all(&mut rr, &Config::Rr { quantum: 1 }, &steps, &rt)?;
-    check_served(&rows_of(rr.book(), rt.alloc())?, &served, &rt);
+    take_all(&mut rr, &Config::Rr { quantum: 1 }, WAITING_STEPS, &rt)?;
+    check_served(&rows_of(rr.book(), rt.alloc())?, WAITING_SERVED, &rt);
     Ok(())
 }
 
+const PORTS_STEPS: &[Step] = &[
+    Step::Seat(Terms::Sole, 0),
+    Step::Refuse(Terms::Sole, SeatFault::Full { seats: 1 }),
+    Step::Tick(Some(0)),
+    Step::Request(0),
+    Step::Tick(Some(0)),
+    Step::Tick(Some(1)),
+    Step::Tick(None),
+    Step::Leave(0),
+    Step::Tick(Some(1)),
+];
+
+const PORTS_SERVED: &[Option<u8>] = &[None, Some(0), Some(0), None, None];
+
 #[test]
 fn serves_its_seat_through_any_port(rt: HostRuntime) -> Result<(), Fail> {
-    let steps = [
-        Step::Seat(Terms::Sole, 0),
-        Step::Refuse(Terms::Sole, SeatFault::Full { seats: 1 }),
-        Step::Tick(Some(0)),
-        Step::Request(0),
-        Step::Tick(Some(0)),
-        Step::Tick(Some(1)),
-        Step::Tick(None),
-        Step::Leave(0),
-        Step::Tick(Some(1)),
-    ];
-    let served = [None, Some(0), Some(0), None, None];
     let mut join = Join::blank(rt.alloc());
-    take_all(&mut join, &Config::Join { ports: 2 }, &steps, &rt)?;
-    check_served(&rows_of(join.book(), rt.alloc())?, &served, &rt);
+    take_all(&mut join, &Config::Join { ports: 2 }, PORTS_STEPS, &rt)?;
+    check_served(&rows_of(join.book(), rt.alloc())?, PORTS_SERVED, &rt);
     Ok(())
 }
 
@@ -196,28 +205,29 @@ fn seat_mark(tick: u32, slot: u8, priority: u32) -> Mark {
     }
 }
 
+const LEAST_STEPS: &[Step] = &[
+    Step::Seat(Terms::Prio(7), 0),
+    Step::Seat(Terms::Prio(2), 1),
+    Step::Seat(Terms::Prio(9), 2),
+    Step::Refuse(Terms::Prio(2), SeatFault::PriorityTaken { priority: 2 }),
+    Step::Tick(Some(0)),
+    Step::Request(0),
+    Step::Request(2),
+    Step::Tick(Some(1)),
+    Step::Request(1),
+    Step::Tick(Some(2)),
+    Step::Tick(None),
+    Step::Release(0),
+    Step::Tick(Some(0)),
+    Step::Leave(1),
+    Step::Tick(Some(3)),
+    Step::Settle,
+    Step::Seat(Terms::Prio(0), 1),
+    Step::Tick(Some(0)),
+];
+
 #[test]
 fn serves_the_least_priority_number(rt: HostRuntime) -> Result<(), Fail> {
-    let steps = [
-        Step::Seat(Terms::Prio(7), 0),
-        Step::Seat(Terms::Prio(2), 1),
-        Step::Seat(Terms::Prio(9), 2),
-        Step::Refuse(Terms::Prio(2), SeatFault::PriorityTaken { priority: 2 }),
-        Step::Tick(Some(0)),
-        Step::Request(0),
-        Step::Request(2),
-        Step::Tick(Some(1)),
-        Step::Request(1),
-        Step::Tick(Some(2)),
-        Step::Tick(None),
-        Step::Release(0),
-        Step::Tick(Some(0)),
-        Step::Leave(1),
-        Step::Tick(Some(3)),
-        Step::Settle,
-        Step::Seat(Terms::Prio(0), 1),
-        Step::Tick(Some(0)),
-    ];
     let rows = [
         row(0, None, 0),
         row(5, Some(0), 1),
@@ -242,68 +252,94 @@ fn serves_the_least_priority_number(rt: HostRuntime) -> Result<(), Fail> {
         seat_mark(6, 1, 0),
     ];
     let mut fp = Fp::blank(rt.alloc());
-    take_all(&mut fp, &Config::Fp, &steps, &rt)?;
+    take_all(&mut fp, &Config::Fp, LEAST_STEPS, &rt)?;
     assert_eq!(rt; rows_of(fp.book(), rt.alloc())?.as_slice(), rows.as_slice());
     assert_eq!(rt; fp.book().marks(), marks.as_slice());
     Ok(())
 }
 
+const WEIGHTS_STEPS: &[Step] = &[
+    Step::Seat(Terms::Weight(1), 0),
+    Step::Seat(Terms::Weight(3), 1),
+    Step::Request(0),
+    Step::Request(1),
+    Step::Refuse(Terms::Weight(1), SeatFault::Full { seats: 2 }),
+    TICK,
+    TICK,
+    TICK,
+    TICK,
+    TICK,
+    TICK,
+    TICK,
+    TICK,
+    TICK,
+    TICK,
+    TICK,
+];
+
+const WEIGHTS_SERVED: &[Option<u8>] = &[
+    Some(1),
+    Some(1),
+    Some(0),
+    Some(1),
+    Some(1),
+    Some(1),
+    Some(0),
+    Some(1),
+    Some(1),
+    Some(1),
+    Some(0),
+];
+
 #[test]
 fn serves_by_weight(rt: HostRuntime) -> Result<(), Fail> {
-    let tick = Step::Tick(Some(0));
-    let steps = [
-        Step::Seat(Terms::Weight(1), 0),
-        Step::Seat(Terms::Weight(3), 1),
-        Step::Request(0),
-        Step::Request(1),
-        Step::Refuse(Terms::Weight(1), SeatFault::Full { seats: 2 }),
-        tick,
-        tick,
-        tick,
-        tick,
-        tick,
-        tick,
-        tick,
-        tick,
-        tick,
-        tick,
-        tick,
-    ];
-    let served = [1, 1, 0, 1, 1, 1, 0, 1, 1, 1, 0].map(|slot| Some(slot));
     let config = Config::fair(4, 2);
     let mut sfq = Sfq::blank(rt.alloc());
-    take_all(&mut sfq, &config, &steps, &rt)?;
-    check_served(&rows_of(sfq.book(), rt.alloc())?, &served, &rt);
+    take_all(&mut sfq, &config, WEIGHTS_STEPS, &rt)?;
+    check_served(&rows_of(sfq.book(), rt.alloc())?, WEIGHTS_SERVED, &rt);
     Ok(())
 }
+
+const QUANTA_STEPS: &[Step] = &[
+    Step::Seat(Terms::Weight(1), 0),
+    Step::Seat(Terms::Weight(3), 1),
+    Step::Request(0),
+    Step::Request(1),
+    TICK,
+    TICK,
+    TICK,
+    TICK,
+    TICK,
+    TICK,
+    TICK,
+    TICK,
+    TICK,
+    TICK,
+    TICK,
+];
+
+const QUANTA_SERVED: &[Option<u8>] = &[
+    Some(1),
+    Some(1),
+    Some(1),
+    Some(1),
+    Some(0),
+    Some(0),
+    Some(1),
+    Some(1),
+    Some(1),
+    Some(1),
+    Some(1),
+];
 
 /// With a quantum of two ticks. A tick adds 3 at weight 1 and 1 at weight 3: the first tags are 6 and 2, and after
 /// two turns of slot 1 both are 6.
 #[test]
 fn serves_by_weight_and_turns_of_a_quantum(rt: HostRuntime) -> Result<(), Fail> {
-    let tick = Step::Tick(Some(0));
-    let steps = [
-        Step::Seat(Terms::Weight(1), 0),
-        Step::Seat(Terms::Weight(3), 1),
-        Step::Request(0),
-        Step::Request(1),
-        tick,
-        tick,
-        tick,
-        tick,
-        tick,
-        tick,
-        tick,
-        tick,
-        tick,
-        tick,
-        tick,
-    ];
-    let served = [1, 1, 1, 1, 0, 0, 1, 1, 1, 1, 1].map(|slot| Some(slot));
     let config = fair_turns(4, 2, 2);
     let mut sfq = Sfq::blank(rt.alloc());
-    take_all(&mut sfq, &config, &steps, &rt)?;
-    check_served(&rows_of(sfq.book(), rt.alloc())?, &served, &rt);
+    take_all(&mut sfq, &config, QUANTA_STEPS, &rt)?;
+    check_served(&rows_of(sfq.book(), rt.alloc())?, QUANTA_SERVED, &rt);
     Ok(())
 }
 

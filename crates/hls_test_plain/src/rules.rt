@@ -5,6 +5,7 @@ ghost use Rattle.hls_guarantee.specs.Limits.{IsValid};
 use hls_guarantee::{Guarantee, RuleName, read_guarantee};
 use hls_rules::{RULES, Rule, RuleBook};
 use hls_rules2::answer_of;
+use std::process::Abort;
 use std::test::Fail;
 
 /// The guarantee of that text.
@@ -14,22 +15,44 @@ fn read(text: &str) -> Result<Guarantee, Fail>
     Ok(read_guarantee(text.as_bytes()).ok_or("a guarantee")?)
 }
 
-/// What the stored rule of that name answers.
-fn told(book: &RuleBook, name: RuleName, have: Guarantee, want: Guarantee) -> Option<Guarantee>
-    requires have { IsValid have }
-    requires want { IsValid want }
-{
+/// The place of the stored rule of that name.
+fn place_of(book: &RuleBook, name: RuleName) -> Option<usize> {
     for at in 0..book.len() {
-        let rule = book.rule(at);
-        if rule.name == name {
-            return rule.call(have, want);
+        if book.rule(at).name == name {
+            return Some(at);
         }
     }
     None
 }
 
+/// What the stored rule at that place answers, if there is one.
+fn told_at(book: &RuleBook, at: usize, have: Guarantee, want: Guarantee) -> Option<Guarantee>
+    requires have { IsValid have }
+    requires want { IsValid want }
+{
+    if at < book.len() {
+        return book.rule(at).call(have, want);
+    }
+    None
+}
+
+/// What the stored rule of that name answers.
+fn told(
+    book: &RuleBook,
+    name: RuleName,
+    have: &str,
+    want: &str,
+) -> Result<Option<Guarantee>, Fail> {
+    match place_of(book, name) {
+        Some(at) => Ok(told_at(book, at, read(have)?, read(want)?)),
+        None => Ok(None),
+    }
+}
+
 /// A rule, what is there, what is wanted, and the answer, which is empty for none.
-const CASES: [(RuleName, &str, &str, &str); 30] = [
+type Case = (RuleName, &'static str, &'static str, &'static str);
+
+const CASES: [Case; 30] = [
     (RuleName::R1, "RESCS 3 17", "RESCS 2 20", "RESCS 2 20"),
     (RuleName::R1, "RESCS 3 17", "RESCS 4 20", "RESCS 3 17"),
     (RuleName::R1, "ALL", "ALL", ""),
@@ -67,6 +90,24 @@ const CASES: [(RuleName, &str, &str, &str); 30] = [
     (RuleName::R11, "ALL", "RESCS 1 2", ""),
 ];
 
+/// The guarantee of that text, and none for an empty one.
+fn expected(answer: &str) -> Result<Option<Guarantee>, Fail> {
+    if answer.is_empty() {
+        return Ok(None);
+    }
+    Ok(Some(read(answer)?))
+}
+
+/// Compares what the stored rules answer in all these cases.
+fn all_answer(rt: &impl Abort, book: &RuleBook, cases: &[Case]) -> Result<(), Fail> {
+    for at in 0..cases.len() {
+        let (rule, have, want, answer) = cases[at];
+        let answered = told(book, rule, have, want)?;
+        assert_eq!(rt; answered, expected(answer)?, "{rule:?} {have} {want}");
+    }
+    Ok(())
+}
+
 #[test]
 fn stored_rules_answer(rt: HostRuntime) -> Result<(), Fail> {
     let alloc = rt.alloc();
@@ -82,13 +123,5 @@ fn stored_rules_answer(rt: HostRuntime) -> Result<(), Fail> {
         rules.push(Rule::new(name, step))?;
     }
     let book = RuleBook::new(rules);
-    for (rule, have, want, answer) in CASES {
-        let expected = match answer {
-            "" => None,
-            text => Some(read(text)?),
-        };
-        let answered = told(&book, rule, read(have)?, read(want)?);
-        assert_eq!(rt; answered, expected, "{rule:?} {have} {want}");
-    }
-    Ok(())
+    all_answer(&rt, &book, &CASES)
 }

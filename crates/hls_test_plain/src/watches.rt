@@ -25,6 +25,12 @@ fn share(s: (u128, u128), d: (u128, u128)) -> Result<Guarantee, Fail> {
     })
 }
 
+/// Compares what a watch answers.
+fn answers(rt: &impl Abort, watch: &Watch, kept: bool, capped: bool, digits: &[u8]) {
+    assert_eq!(rt; watch.kept(), kept, "{digits:?}");
+    assert_eq!(rt; watch.capped(), capped, "cap of {digits:?}");
+}
+
 /// Tells a list, and compares what is answered after each tick, as digits.
 fn tell(rt: &impl Abort, watch: &mut Watch, digits: &[u8], kept: &[u8], capped: &[u8])
     requires ticks { watch.old.ticks ≡ 8 }
@@ -35,31 +41,57 @@ fn tell(rt: &impl Abort, watch: &mut Watch, digits: &[u8], kept: &[u8], capped: 
     watch.restart();
     for at in 0..digits.len() {
         watch.push(digits[at] == b'1');
-        assert_eq!(rt; watch.kept(), kept[at] == b'1', "{digits:?}");
-        assert_eq!(rt; watch.capped(), capped[at] == b'1', "cap of {digits:?}");
+        answers(rt, watch, kept[at] == b'1', capped[at] == b'1', digits);
     }
+}
+
+/// A guarantee, a list, and what is answered after each tick: whether it is kept, and capped.
+type Told<'a> = (Guarantee, &'a [u8], &'a [u8], &'a [u8]);
+
+/// Compares a list with a new watch.
+fn tell_new(rt: &impl Abort, alloc: Global, case: Told) -> Result<(), Fail> {
+    let (g, digits, kept, capped) = case;
+    assert!(rt; valid(&g));
+    assert!(rt; digits.len() <= 8);
+    assert_eq!(rt; kept.len(), digits.len());
+    assert_eq!(rt; capped.len(), digits.len());
+    let mut watch = Watch::new(alloc, &g, 8)?;
+    tell(rt, &mut watch, digits, kept, capped);
+    Ok(())
 }
 
 #[test]
 fn watches_lists(rt: HostRuntime) -> Result<(), Fail> {
-    let cases: [(Guarantee, &[u8], &[u8], &[u8]); 7] = [
-        (Guarantee::All, b"110", b"110", b"111"),
-        (blocks(false, 1, 2), b"1001", b"1111", b"1111"),
-        (blocks(false, 1, 2), b"000", b"110", b"111"),
+    let alloc = rt.alloc();
+    let half = share((1, 2), (1, 1))?;
+    tell_new(&rt, alloc, (Guarantee::All, b"110", b"110", b"111"))?;
+    tell_new(&rt, alloc, (blocks(false, 1, 2), b"1001", b"1111", b"1111"))?;
+    tell_new(&rt, alloc, (blocks(false, 1, 2), b"000", b"110", b"111"))?;
+    tell_new(
+        &rt,
+        alloc,
         (blocks(true, 1, 2), b"11111", b"11000", b"11110"),
+    )?;
+    tell_new(
+        &rt,
+        alloc,
         (windows(false, 1, 2), b"1001", b"1100", b"1111"),
-        (windows(true, 1, 2), b"1011", b"1110", b"1110"),
-        (share((1, 2), (1, 1))?, b"0001", b"1100", b"1111"),
-    ];
-    for (g, digits, kept, capped) in cases {
-        assert!(rt; valid(&g));
-        assert!(rt; digits.len() <= 8);
-        assert_eq!(rt; kept.len(), digits.len());
-        assert_eq!(rt; capped.len(), digits.len());
-        let mut watch = Watch::new(rt.alloc(), &g, 8)?;
-        tell(&rt, &mut watch, digits, kept, capped);
-    }
-    Ok(())
+    )?;
+    tell_new(&rt, alloc, (windows(true, 1, 2), b"1011", b"1110", b"1110"))?;
+    tell_new(&rt, alloc, (half, b"0001", b"1100", b"1111"))
+}
+
+/// Compares what a watch answers with what is decided of the list.
+fn as_decided(rt: &impl Abort, watch: &Watch, g: &Guarantee, list: &[bool])
+    requires few { length list.now ≤ 8 }
+    requires valid { IsValid g.now }
+{
+    assert_eq!(rt; watch.kept(), holds(g, list), "{g:?} at {list:?}");
+    assert_eq!(rt;
+        watch.capped(),
+        keeps_cap(g, list),
+        "cap of {g:?} at {list:?}"
+    );
 }
 
 /// Tells a list, and compares what is answered with what is decided of each list so far.
@@ -72,13 +104,7 @@ fn compare(rt: &impl Abort, watch: &mut Watch, g: &Guarantee, list: &[bool])
     watch.restart();
     for at in 0..list.len() {
         watch.push(list[at]);
-        let so_far = &list[..at + 1];
-        assert_eq!(rt; watch.kept(), holds(g, so_far), "{g:?} at {so_far:?}");
-        assert_eq!(rt;
-            watch.capped(),
-            keeps_cap(g, so_far),
-            "cap of {g:?} at {so_far:?}"
-        );
+        as_decided(rt, watch, g, &list[..at + 1]);
     }
 }
 

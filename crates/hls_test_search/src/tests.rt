@@ -20,11 +20,10 @@ use std::test::Fail;
 fn read(text: &str) -> Result<Guarantee, Fail>
     ensures { IfOk result (λ g. IsNarrow g) }
 {
-    let g = read_guarantee(text.as_bytes()).ok_or("a guarantee")?;
-    if narrow(&g) {
-        return Ok(g);
+    match read_guarantee(text.as_bytes()) {
+        Some(g) if narrow(&g) => Ok(g),
+        _ => Err(Fail::new("a narrow guarantee")),
     }
-    Err(Fail::from("a narrow guarantee"))
 }
 
 /// What is found at a place with one port.
@@ -63,9 +62,14 @@ fn joined(
     Ok(search(alloc, book, &place, &haves, &want, depth)?)
 }
 
+/// The derivation of that text.
+fn derivation(alloc: Global, text: &str) -> Result<Option<Derivation>, AllocError> {
+    read_derivation(alloc, text.as_bytes())
+}
+
 /// Whether a derivation is the one of that text, which is empty for none.
 fn is_text(alloc: Global, found: &Option<Derivation>, text: &str) -> Result<bool, AllocError> {
-    let told = read_derivation(alloc, text.as_bytes())?;
+    let told = derivation(alloc, text)?;
     match (found, &told) {
         (Some(d), Some(e)) => Ok(
             d.from == e.from
@@ -84,7 +88,9 @@ const PASSING: Place = Place {
 };
 
 /// What is there, what is wanted, the least depth at which it is found, and whether it is found at all.
-const AT_FIXED_PRIORITY: [(&str, &str, u8, bool); 38] = [
+type Least = (&'static str, &'static str, u8, bool);
+
+const AT_FIXED_PRIORITY: [Least; 38] = [
     ("RESBH 1 2", "RESBS 1 2", 1, true),
     ("RESBH 1 2", "RESCS 1 3", 1, true),
     ("RESBH 1 2", "PSBE 1/2 1", 1, true),
@@ -275,22 +281,33 @@ fn otherwise(
     Ok(None)
 }
 
-/// The first pair at fixed priority that is not found from its least depth on.
-fn not_from_depth(alloc: Global, book: &RuleBook) -> Result<Option<usize>, Fail> {
-    for at in 0..AT_FIXED_PRIORITY.len() {
-        let (have, want, least, is_there) = AT_FIXED_PRIORITY[at];
-        let deep = found(alloc, book, &PASSING, have, want, 6)?;
-        if deep.is_some() != is_there {
-            return Ok(Some(at));
-        }
-        if is_there && found(alloc, book, &PASSING, have, want, least)?.is_none() {
-            return Ok(Some(at));
-        }
-        if least > 0 && found(alloc, book, &PASSING, have, want, least - 1)?.is_some() {
+/// Whether anything is found at fixed priority.
+fn passes(alloc: Global, book: &RuleBook, have: &str, want: &str, depth: u8) -> Result<bool, Fail> {
+    Ok(found(alloc, book, &PASSING, have, want, depth)?.is_some())
+}
+
+/// Whether a pair is found at fixed priority from its least depth on.
+fn is_from_depth(alloc: Global, book: &RuleBook, pair: Least) -> Result<bool, Fail> {
+    let (have, want, least, is_there) = pair;
+    let deep = passes(alloc, book, have, want, 6)?;
+    let there = !is_there || passes(alloc, book, have, want, least)?;
+    let before = least > 0 && passes(alloc, book, have, want, least - 1)?;
+    Ok(deep == is_there && there && !before)
+}
+
+/// The first of these pairs that is not found at fixed priority from its least depth on.
+fn not_from_depth(alloc: Global, book: &RuleBook, pairs: &[Least]) -> Result<Option<usize>, Fail> {
+    for at in 0..pairs.len() {
+        if !is_from_depth(alloc, book, pairs[at])? {
             return Ok(Some(at));
         }
     }
     Ok(None)
+}
+
+/// The share that these blocks, or windows, are by that rule.
+fn share_of(rule: RuleName, g: &Guarantee) -> Option<Guarantee> {
+    if valid(g) { strongest(rule, g) } else { None }
 }
 
 /// The reservations of at most `size` ticks, and the shares that they are.
@@ -305,14 +322,22 @@ fn known_up_to(alloc: Global, size: u32) -> Result<Vec<Guarantee>, AllocError>
                 let windows = Guarantee::Resc { hard, x, y };
                 known.push(blocks)?;
                 known.push(windows)?;
-                if !hard && valid(&blocks) && valid(&windows) {
-                    known.extend(strongest(RuleName::R4, &blocks))?;
-                    known.extend(strongest(RuleName::R5, &windows))?;
+                if !hard {
+                    known.extend(share_of(RuleName::R4, &blocks))?;
+                    known.extend(share_of(RuleName::R5, &windows))?;
                 }
             }
         }
     }
     Ok(known)
+}
+
+/// What a place lends of a guarantee, if anything.
+fn lent_of_valid(place: &Place, g: &Guarantee) -> Option<Guarantee>
+    requires config { ConfigInRange place.now.config }
+    requires terms { TermsInRange place.now.terms }
+{
+    if valid(g) { lent(place, g) } else { None }
 }
 
 /// These and what a place lends of them.
@@ -327,64 +352,65 @@ fn with_lent(
     let mut all = Vec::new(alloc);
     for g in known {
         all.push(*g)?;
-        if valid(g) {
-            all.extend(lent(place, g))?;
-        }
+        all.extend(lent_of_valid(place, g))?;
     }
     Ok(all)
 }
 
-fn by_weights(rt: &impl Abort, alloc: Global, book: &RuleBook) -> Result<(), Fail> {
-    let light = otherwise(alloc, book, &fair_queueing(4, 1, 1), &AT_LIGHT_WEIGHT)?;
-    assert_eq!(rt; light, None, "a light weight");
-    let heavy = otherwise(alloc, book, &fair_queueing(4, 3, 1), &AT_HEAVY_WEIGHT)?;
-    assert_eq!(rt; heavy, None, "a heavy weight");
-    let light = otherwise(alloc, book, &fair_queueing(4, 1, 2), &AT_LIGHT_TURNS)?;
-    assert_eq!(rt; light, None, "a light weight, by turns");
-    let heavy = otherwise(alloc, book, &fair_queueing(4, 3, 2), &AT_HEAVY_TURNS)?;
-    assert_eq!(rt; heavy, None, "a heavy weight, by turns");
+/// Compares all cases of a place.
+fn agrees(
+    rt: &impl Abort,
+    alloc: Global,
+    book: &RuleBook,
+    place: &Place,
+    cases: &[Case],
+) -> Result<(), Fail>
+    requires config { ConfigInRange place.now.config }
+    requires terms { TermsInRange place.now.terms }
+    requires ports { port_count place.now.config ≡ 1 }
+{
+    let other = otherwise(alloc, book, place, cases)?;
+    assert_eq!(rt; other, None, "{:?} {:?}", place.config, place.terms);
     Ok(())
 }
 
+fn by_weights(rt: &impl Abort, alloc: Global, book: &RuleBook) -> Result<(), Fail> {
+    agrees(rt, alloc, book, &fair_queueing(4, 1, 1), &AT_LIGHT_WEIGHT)?;
+    agrees(rt, alloc, book, &fair_queueing(4, 3, 1), &AT_HEAVY_WEIGHT)?;
+    agrees(rt, alloc, book, &fair_queueing(4, 1, 2), &AT_LIGHT_TURNS)?;
+    agrees(rt, alloc, book, &fair_queueing(4, 3, 2), &AT_HEAVY_TURNS)
+}
+
+const RESERVED: Place = Place {
+    config: Config::Edf,
+    terms: Terms::Res {
+        hard: true,
+        x: 20,
+        y: 40,
+    },
+};
+
+const FRAMED: Place = Place {
+    config: Config::Wheel { frame: 5 },
+    terms: Terms::Slots(2),
+};
+
+const TURNING: Place = Place {
+    config: Config::Rr { quantum: 5 },
+    terms: Terms::Turn,
+};
+
+const PROCESSOR: Place = Place {
+    config: Config::Cpu,
+    terms: Terms::Cpu,
+};
+
 fn worked_derivations(rt: &impl Abort, alloc: Global, book: &RuleBook) -> Result<(), Fail> {
     by_weights(rt, alloc, book)?;
-    let reserved = Place {
-        config: Config::Edf,
-        terms: Terms::Res {
-            hard: true,
-            x: 20,
-            y: 40,
-        },
-    };
-    assert_eq!(rt;
-        otherwise(alloc, book, &reserved, &AT_RESERVATION)?,
-        None,
-        "a reservation"
-    );
-    let framed = Place {
-        config: Config::Wheel { frame: 5 },
-        terms: Terms::Slots(2),
-    };
-    assert_eq!(rt;
-        otherwise(alloc, book, &framed, &AT_FRAME)?,
-        None,
-        "a frame"
-    );
-    let turning = Place {
-        config: Config::Rr { quantum: 5 },
-        terms: Terms::Turn,
-    };
-    assert_eq!(rt; otherwise(alloc, book, &turning, &AT_TURNS)?, None, "turns");
-    let processor = Place {
-        config: Config::Cpu,
-        terms: Terms::Cpu,
-    };
-    assert_eq!(rt;
-        otherwise(alloc, book, &processor, &AT_PROCESSOR)?,
-        None,
-        "the processor"
-    );
-    Ok(())
+    agrees(rt, alloc, book, &RESERVED, &AT_RESERVATION)?;
+    agrees(rt, alloc, book, &FRAMED, &AT_FRAME)?;
+    agrees(rt, alloc, book, &TURNING, &AT_TURNS)?;
+    agrees(rt, alloc, book, &PROCESSOR, &AT_PROCESSOR)
 }
 
 /// A seat of this weight of a total, beside one other, in turns of a quantum.
@@ -408,28 +434,39 @@ fn fair_queueing(total: u32, weight: u32, quantum: u32) -> Place
     }
 }
 
-fn joins(rt: &impl Abort, alloc: Global, book: &RuleBook) -> Result<(), Fail> {
-    let cases = [
-        (
-            "RESBH 2 10",
-            "NULL",
-            "RESBS 2 10",
-            "RESBH 2 10 R2 RESBS 2 10 JOIN 0 RESBS 2 10",
-        ),
-        (
-            "NULL",
-            "RESBH 2 10",
-            "RESBS 2 10",
-            "RESBH 2 10 R2 RESBS 2 10 JOIN 1 RESBS 2 10",
-        ),
-        ("RESBH 2 10", "NULL", "NULL", "RESBH 2 10 JOIN 0 NULL"),
-        ("RESBH 2 10", "NULL", "RESBH 2 10", ""),
-    ];
-    for (first, second, want, told) in cases {
-        let found = joined(alloc, book, first, second, want, 3)?;
-        assert!(rt; is_text(alloc, &found, told)?, "{first} {second} {want}");
+/// What the two ports have, what is wanted, and the one derivation, which is empty for none.
+type Joined = (&'static str, &'static str, &'static str, &'static str);
+
+const AT_JOIN: [Joined; 4] = [
+    (
+        "RESBH 2 10",
+        "NULL",
+        "RESBS 2 10",
+        "RESBH 2 10 R2 RESBS 2 10 JOIN 0 RESBS 2 10",
+    ),
+    (
+        "NULL",
+        "RESBH 2 10",
+        "RESBS 2 10",
+        "RESBH 2 10 R2 RESBS 2 10 JOIN 1 RESBS 2 10",
+    ),
+    ("RESBH 2 10", "NULL", "NULL", "RESBH 2 10 JOIN 0 NULL"),
+    ("RESBH 2 10", "NULL", "RESBH 2 10", ""),
+];
+
+/// The first of these cases that goes otherwise at a join.
+fn joined_otherwise(
+    alloc: Global,
+    book: &RuleBook,
+    cases: &[Joined],
+) -> Result<Option<usize>, Fail> {
+    for at in 0..cases.len() {
+        let (first, second, want, told) = cases[at];
+        if !is_text(alloc, &joined(alloc, book, first, second, want, 3)?, told)? {
+            return Ok(Some(at));
+        }
     }
-    Ok(())
+    Ok(None)
 }
 
 /// How many searches at the place miss a derivation by way of small guarantees.
@@ -448,26 +485,52 @@ fn missed_of_shares(alloc: Global, book: &RuleBook, place: &Place) -> Result<u32
     Ok(all)
 }
 
+/// Whether no search at the place misses a derivation.
+fn misses_none(rt: &impl Abort, alloc: Global, book: &RuleBook, place: &Place) -> Result<(), Fail>
+    requires config { ConfigInRange place.now.config }
+    requires terms { TermsInRange place.now.terms }
+    requires ports { port_count place.now.config ≡ 1 }
+{
+    let missed = missed_of_shares(alloc, book, place)?;
+    assert_eq!(rt; missed, 0, "{:?}", place.config);
+    Ok(())
+}
+
+/// Compares all searches of this depth at fixed priority.
+fn differs_in_none(
+    rt: &impl Abort,
+    alloc: Global,
+    book: &RuleBook,
+    known: &[Guarantee],
+    depth: u8,
+) -> Result<(), Fail> {
+    let differ = differences(alloc, book, known, &PASSING, depth)?;
+    assert_eq!(rt; differ, (0, 0), "fixed priority, depth {depth}");
+    Ok(())
+}
+
+const TURN: Place = Place {
+    config: Config::Rr { quantum: 1 },
+    terms: Terms::Turn,
+};
+
 fn small_chains(rt: &impl Abort, alloc: Global, book: &RuleBook) -> Result<(), Fail> {
     let known = known_up_to(alloc, 3)?;
     for depth in 0..4 {
-        let differ = differences(alloc, book, &known, &PASSING, depth)?;
-        assert_eq!(rt; differ, (0, 0), "fixed priority, depth {depth}");
+        differs_in_none(rt, alloc, book, &known, depth)?;
     }
     for quantum in 1..3 {
-        let fair = fair_queueing(3, 2, quantum);
-        assert_eq!(rt;
-            missed_of_shares(alloc, book, &fair)?,
-            0,
-            "fair queueing, turns of {quantum}"
-        );
+        misses_none(rt, alloc, book, &fair_queueing(3, 2, quantum))?;
     }
-    let turning = Place {
-        config: Config::Rr { quantum: 1 },
-        terms: Terms::Turn,
-    };
-    assert_eq!(rt; missed_of_shares(alloc, book, &turning)?, 0, "turns");
-    Ok(())
+    misses_none(rt, alloc, book, &TURN)
+}
+
+/// Compares all that a book of rules finds.
+fn searches(rt: &impl Abort, alloc: Global, book: &RuleBook) -> Result<(), Fail> {
+    assert_eq!(rt; not_from_depth(alloc, book, &AT_FIXED_PRIORITY)?, None);
+    worked_derivations(rt, alloc, book)?;
+    assert_eq!(rt; joined_otherwise(alloc, book, &AT_JOIN)?, None);
+    small_chains(rt, alloc, book)
 }
 
 #[test]
@@ -485,8 +548,5 @@ fn searches_by_stored_rules(rt: HostRuntime) -> Result<(), Fail> {
         rules.push(Rule::new(name, step))?;
     }
     let book = RuleBook::new(rules);
-    assert_eq!(rt; not_from_depth(alloc, &book)?, None);
-    worked_derivations(&rt, alloc, &book)?;
-    joins(&rt, alloc, &book)?;
-    small_chains(&rt, alloc, &book)
+    searches(&rt, alloc, &book)
 }

@@ -1,7 +1,8 @@
 // Texts, and the canonical texts of the scenarios that they are of.
 use hls_chron::Name;
 use hls_lang::{Command, print_command, print_scenario, read_scenario};
-use std::alloc::Global;
+use std::alloc::{AllocError, Global};
+use std::process::Abort;
 use std::test::Fail;
 
 /// The canonical text of the scenario of a text.
@@ -15,20 +16,24 @@ fn printed(alloc: Global, text: &[u8]) -> Result<Vec<u8>, Fail> {
     }
 }
 
-/// A text of that one line, and its canonical spelling.
-fn printed_line(alloc: Global, line: &[u8]) -> Result<Vec<u8>, Fail> {
+/// A text of that one line.
+fn behind_head(alloc: Global, line: &[u8]) -> Result<Vec<u8>, AllocError> {
     let mut text = Vec::new(alloc);
     text.extend_from_slice(b"hls 1\nhorizon 9\n")?;
     text.extend_from_slice(line)?;
+    Ok(text)
+}
+
+/// The canonical spelling of a text of that one line.
+fn printed_line(alloc: Global, line: &[u8]) -> Result<Vec<u8>, Fail> {
+    let text = behind_head(alloc, line)?;
     printed(alloc, &text)
 }
 
-#[test]
-fn prints_a_canonical_text_as_it_is(rt: HostRuntime) -> Result<(), Fail> {
-    let table = [
-        b"hls 1\nhorizon 1\n".as_slice(),
-        b"hls 1\nhorizon 100000\ndepth 0\n".as_slice(),
-        b"hls 1
+const CANONICAL: [&[u8]; 5] = [
+    b"hls 1\nhorizon 1\n",
+    b"hls 1\nhorizon 100000\ndepth 0\n",
+    b"hls 1
 horizon 6
 at 0 load root fp on cpu as ALL
 at 0 thread a on root prio 0 as ALL
@@ -36,10 +41,9 @@ at 0 thread b on root prio 1 as NULL
 at 0 wake b
 at 1 wake a for 2
 at 4 wake a for 1
-"
-            .as_slice(),
-        b"hls 2\nhorizon 1000000\ndepth 6\n".as_slice(),
-        b"hls 2
+",
+    b"hls 2\nhorizon 1000000\ndepth 6\n",
+    b"hls 2
 horizon 6
 at 0 load root sfq 4 2 2 on cpu as ALL
 at 0 load below sfq 100 20 1 on root weight 1 as NULL
@@ -48,68 +52,84 @@ at 5 thread a on below weight 20 as NULL
 at 5 wake a every 4 burst 2
 at 5 wake a for 3
 at 5 wake a
-"
-            .as_slice(),
-    ];
-    for text in table {
-        assert_eq!(rt; printed(rt.alloc(), text)?.as_slice(), text);
+",
+];
+
+/// Compares that all these texts are printed as they are.
+fn all_stay(rt: &impl Abort, alloc: Global, texts: &[&[u8]]) -> Result<(), Fail> {
+    for at in 0..texts.len() {
+        let text = texts[at];
+        assert_eq!(rt; printed(alloc, text)?.as_slice(), text);
+    }
+    Ok(())
+}
+
+#[test]
+fn prints_a_canonical_text_as_it_is(rt: HostRuntime) -> Result<(), Fail> {
+    all_stay(&rt, rt.alloc(), &CANONICAL)
+}
+
+/// A line, and what is printed of it.
+type Line = (&'static [u8], &'static [u8]);
+
+const PARTS: [Line; 11] = [
+    (
+        b"at 0  load\tr fp on cpu as ALL # the root",
+        b"at 0 load r fp on cpu as ALL\n",
+    ),
+    (
+        b"at 0 load r edf on s weight 20 as NULL\r\n",
+        b"at 0 load r edf on s weight 20 as NULL\n",
+    ),
+    (
+        b"\n# seats\nat 1 load s sfq 10 5 on e res 3 10 hard as PSBE 30/100 42/1",
+        b"at 1 load s sfq 10 5 on e res 3 10 hard as PSBE 3/10 42\n",
+    ),
+    (
+        b"at 2 load r rr 5 on w slots 40 as PSBE 7/7 0/3",
+        b"at 2 load r rr 5 on w slots 40 as PSBE 1 0\n",
+    ),
+    (
+        b"at 3 load w wheel 1000 on j sole as RESBS 3 10",
+        b"at 3 load w wheel 1000 on j sole as RESBS 3 10\n",
+    ),
+    (
+        b"at 4 load j join on e res 2 10 soft as RESBH 2 10  , r turn as RESCS 3 17 , f turn as NULL",
+        b"at 4 load j join on e res 2 10 soft as RESBH 2 10 , r turn as RESCS 3 17 , f turn as NULL\n",
+    ),
+    (
+        b" at 5 thread at on hard turn as RESCH 2 5",
+        b"at 5 thread at on hard turn as RESCH 2 5\n",
+    ),
+    (
+        b"at 6 move e to root prio 2 as PSBE 6/40 830/200",
+        b"at 6 move e to root prio 2 as PSBE 3/20 83/20\n",
+    ),
+    (
+        b"at 7 wake a for 100000\nat 7 wake b",
+        b"at 7 wake a for 100000\nat 7 wake b\n",
+    ),
+    (
+        b"at 8 block a\nat 8 end a\nat 8 unload r",
+        b"at 8 block a\nat 8 end a\nat 8 unload r\n",
+    ),
+    (b"depth\t6\n\n", b"depth 6\n"),
+];
+
+/// Compares what is printed of all these lines.
+fn all_are_printed(rt: &impl Abort, alloc: Global, cases: &[Line]) -> Result<(), Fail> {
+    for at in 0..cases.len() {
+        let (line, want) = cases[at];
+        let text = printed_line(alloc, line)?;
+        let whole = behind_head(alloc, want)?;
+        assert_eq!(rt; text.as_slice(), whole.as_slice(), "at {line:?}");
     }
     Ok(())
 }
 
 #[test]
 fn prints_each_part_in_one_way(rt: HostRuntime) -> Result<(), Fail> {
-    let table = [
-        (
-            b"at 0  load\tr fp on cpu as ALL # the root".as_slice(),
-            b"at 0 load r fp on cpu as ALL\n".as_slice(),
-        ),
-        (
-            b"at 0 load r edf on s weight 20 as NULL\r\n".as_slice(),
-            b"at 0 load r edf on s weight 20 as NULL\n".as_slice(),
-        ),
-        (
-            b"\n# seats\nat 1 load s sfq 10 5 on e res 3 10 hard as PSBE 30/100 42/1".as_slice(),
-            b"at 1 load s sfq 10 5 on e res 3 10 hard as PSBE 3/10 42\n".as_slice(),
-        ),
-        (
-            b"at 2 load r rr 5 on w slots 40 as PSBE 7/7 0/3".as_slice(),
-            b"at 2 load r rr 5 on w slots 40 as PSBE 1 0\n".as_slice(),
-        ),
-        (
-            b"at 3 load w wheel 1000 on j sole as RESBS 3 10".as_slice(),
-            b"at 3 load w wheel 1000 on j sole as RESBS 3 10\n".as_slice(),
-        ),
-        (
-            b"at 4 load j join on e res 2 10 soft as RESBH 2 10  , r turn as RESCS 3 17 , f turn as NULL".as_slice(),
-            b"at 4 load j join on e res 2 10 soft as RESBH 2 10 , r turn as RESCS 3 17 , f turn as NULL\n".as_slice(),
-        ),
-        (
-            b" at 5 thread at on hard turn as RESCH 2 5".as_slice(),
-            b"at 5 thread at on hard turn as RESCH 2 5\n".as_slice(),
-        ),
-        (
-            b"at 6 move e to root prio 2 as PSBE 6/40 830/200".as_slice(),
-            b"at 6 move e to root prio 2 as PSBE 3/20 83/20\n".as_slice(),
-        ),
-        (
-            b"at 7 wake a for 100000\nat 7 wake b".as_slice(),
-            b"at 7 wake a for 100000\nat 7 wake b\n".as_slice(),
-        ),
-        (
-            b"at 8 block a\nat 8 end a\nat 8 unload r".as_slice(),
-            b"at 8 block a\nat 8 end a\nat 8 unload r\n".as_slice(),
-        ),
-        (b"depth\t6\n\n".as_slice(), b"depth 6\n".as_slice()),
-    ];
-    for (line, want) in table {
-        let text = printed_line(rt.alloc(), line)?;
-        let mut whole = Vec::new(rt.alloc());
-        whole.extend_from_slice(b"hls 1\nhorizon 9\n")?;
-        whole.extend_from_slice(want)?;
-        assert_eq!(rt; text.as_slice(), whole.as_slice(), "at {line:?}");
-    }
-    Ok(())
+    all_are_printed(&rt, rt.alloc(), &PARTS)
 }
 
 #[test]

@@ -4,7 +4,7 @@ use crate::room::{occupant, room_used};
 use crate::tests::{HALF, LATE, LONG, SHORT, in_range, pass, push_marks, seat};
 use hls_chron::{Book, Config, Event, Terms};
 use hls_kinds::Claim;
-use std::alloc::AllocError;
+use std::alloc::{AllocError, Global};
 use std::process::Abort;
 use std::test::Fail;
 
@@ -51,16 +51,26 @@ fn tells_deadlines_and_budgets(rt: HostRuntime) -> Result<(), Fail> {
         })
     );
     assert_eq!(rt; claim_at(&book, 3, 2), None);
-    let cases: [(&[u8], u64, u32); 5] = [
-        (b"1", 4, 1),
-        (b"11", 4, 0),
-        (b"10", 4, 1),
-        (b"100", 7, 2),
-        (b"1111", 8, 2),
-    ];
-    for (masks, deadline, budget) in cases {
-        let mut book = Book::new(rt.alloc(), 0);
-        fill(&rt, &mut book, &Config::Edf, &[(0, seat(0, SHORT))], masks)?;
+    all_claim(&rt, rt.alloc(), &CLAIMS)
+}
+
+/// Masks of a short reservation, and the deadline and the budget after them.
+type Claimed = (&'static [u8], u64, u32);
+
+const CLAIMS: [Claimed; 5] = [
+    (b"1", 4, 1),
+    (b"11", 4, 0),
+    (b"10", 4, 1),
+    (b"100", 7, 2),
+    (b"1111", 8, 2),
+];
+
+/// Compares the claims of all these cases.
+fn all_claim(rt: &impl Abort, alloc: Global, cases: &[Claimed]) -> Result<(), Fail> {
+    for at in 0..cases.len() {
+        let (masks, deadline, budget) = cases[at];
+        let mut book = Book::new(alloc, 0);
+        fill(rt, &mut book, &Config::Edf, &[(0, seat(0, SHORT))], masks)?;
         assert!(rt; book.now() < 1000);
         assert_eq!(rt; claim_at(&book, 1, 0), Some(Claim { deadline, budget }));
     }
@@ -69,186 +79,206 @@ fn tells_deadlines_and_budgets(rt: HostRuntime) -> Result<(), Fail> {
 
 const WHOLE: u128 = 133573286426580000;
 
-#[test]
-fn tells_what_is_held_and_used(rt: HostRuntime) -> Result<(), Fail> {
-    let cases: [(Config, &[(u32, Event)], &[u8], u128, bool); 9] = [
-        (
-            Config::Edf,
-            &[
-                (
-                    0,
-                    Event::Seat {
-                        slot: 0,
-                        terms: HALF,
-                    },
-                ),
-                (
-                    0,
-                    Event::Seat {
-                        slot: 1,
-                        terms: LONG,
-                    },
-                ),
-            ],
-            b"33333",
-            WHOLE,
-            true,
-        ),
-        (
-            Config::Edf,
-            &[
-                (
-                    0,
-                    Event::Seat {
-                        slot: 0,
-                        terms: HALF,
-                    },
-                ),
-                (
-                    0,
-                    Event::Seat {
-                        slot: 1,
-                        terms: LONG,
-                    },
-                ),
-                (5, Event::Leave { slot: 0 }),
-            ],
-            b"33333",
-            WHOLE,
-            true,
-        ),
-        (
-            Config::Edf,
-            &[
-                (
-                    0,
-                    Event::Seat {
-                        slot: 0,
-                        terms: HALF,
-                    },
-                ),
-                (
-                    0,
-                    Event::Seat {
-                        slot: 1,
-                        terms: LONG,
-                    },
-                ),
-                (5, Event::Leave { slot: 0 }),
-            ],
-            b"3333322222",
-            WHOLE / 2,
-            false,
-        ),
-        (
-            Config::Edf,
-            &[
-                (
-                    0,
-                    Event::Seat {
-                        slot: 0,
-                        terms: HALF,
-                    },
-                ),
-                (0, Event::Leave { slot: 0 }),
-            ],
-            b"",
-            0,
-            false,
-        ),
-        (
-            Config::Edf,
-            &[
-                (
-                    0,
-                    Event::Seat {
-                        slot: 0,
-                        terms: HALF,
-                    },
-                ),
-                (2, Event::Settle),
-                (2, Event::Leave { slot: 0 }),
-            ],
-            b"11",
-            0,
-            false,
-        ),
-        (
-            Config::Edf,
-            &[
-                (
-                    0,
-                    Event::Seat {
-                        slot: 0,
-                        terms: HALF,
-                    },
-                ),
-                (2, Event::Leave { slot: 0 }),
-                (2, Event::Settle),
-            ],
-            b"11",
-            0,
-            false,
-        ),
-        (
-            Config::Edf,
-            &[
-                (
-                    0,
-                    Event::Seat {
-                        slot: 0,
-                        terms: HALF,
-                    },
-                ),
-                (2, Event::Leave { slot: 0 }),
-            ],
-            b"00",
-            0,
-            false,
-        ),
-        (
-            Config::fair(4, 3),
-            &[(
+/// Marks and masks of a scheduler, the room that is then used, and whether its first slot is held.
+type Held = (Config, &'static [(u32, Event)], &'static [u8], u128, bool);
+
+const HELD: [Held; 9] = [
+    (
+        Config::Edf,
+        &[
+            (
                 0,
                 Event::Seat {
                     slot: 0,
-                    terms: Terms::Weight(3),
+                    terms: HALF,
                 },
-            )],
-            b"1",
-            3,
-            true,
-        ),
-        (
-            Config::Wheel { frame: 5 },
-            &[
-                (
-                    0,
-                    Event::Seat {
-                        slot: 0,
-                        terms: Terms::Slots(2),
-                    },
-                ),
-                (
-                    0,
-                    Event::Seat {
-                        slot: 1,
-                        terms: Terms::Slots(3),
-                    },
-                ),
-                (1, Event::Leave { slot: 0 }),
-            ],
-            b"1",
-            3,
-            false,
-        ),
-    ];
-    for (config, marks, masks, used, taken) in cases {
-        let mut book = Book::new(rt.alloc(), 0);
-        fill(&rt, &mut book, &config, marks, masks)?;
-        assert!(rt; in_range(&config));
-        assert_eq!(rt; room_used(&book, &config), used);
-        assert_eq!(rt; occupant(&book, &config, 0).is_some(), taken);
+            ),
+            (
+                0,
+                Event::Seat {
+                    slot: 1,
+                    terms: LONG,
+                },
+            ),
+        ],
+        b"33333",
+        WHOLE,
+        true,
+    ),
+    (
+        Config::Edf,
+        &[
+            (
+                0,
+                Event::Seat {
+                    slot: 0,
+                    terms: HALF,
+                },
+            ),
+            (
+                0,
+                Event::Seat {
+                    slot: 1,
+                    terms: LONG,
+                },
+            ),
+            (5, Event::Leave { slot: 0 }),
+        ],
+        b"33333",
+        WHOLE,
+        true,
+    ),
+    (
+        Config::Edf,
+        &[
+            (
+                0,
+                Event::Seat {
+                    slot: 0,
+                    terms: HALF,
+                },
+            ),
+            (
+                0,
+                Event::Seat {
+                    slot: 1,
+                    terms: LONG,
+                },
+            ),
+            (5, Event::Leave { slot: 0 }),
+        ],
+        b"3333322222",
+        WHOLE / 2,
+        false,
+    ),
+    (
+        Config::Edf,
+        &[
+            (
+                0,
+                Event::Seat {
+                    slot: 0,
+                    terms: HALF,
+                },
+            ),
+            (0, Event::Leave { slot: 0 }),
+        ],
+        b"",
+        0,
+        false,
+    ),
+    (
+        Config::Edf,
+        &[
+            (
+                0,
+                Event::Seat {
+                    slot: 0,
+                    terms: HALF,
+                },
+            ),
+            (2, Event::Settle),
+            (2, Event::Leave { slot: 0 }),
+        ],
+        b"11",
+        0,
+        false,
+    ),
+    (
+        Config::Edf,
+        &[
+            (
+                0,
+                Event::Seat {
+                    slot: 0,
+                    terms: HALF,
+                },
+            ),
+            (2, Event::Leave { slot: 0 }),
+            (2, Event::Settle),
+        ],
+        b"11",
+        0,
+        false,
+    ),
+    (
+        Config::Edf,
+        &[
+            (
+                0,
+                Event::Seat {
+                    slot: 0,
+                    terms: HALF,
+                },
+            ),
+            (2, Event::Leave { slot: 0 }),
+        ],
+        b"00",
+        0,
+        false,
+    ),
+    (
+        Config::Sfq {
+            total: 4,
+            most: 3,
+            quantum: 1,
+        },
+        &[(
+            0,
+            Event::Seat {
+                slot: 0,
+                terms: Terms::Weight(3),
+            },
+        )],
+        b"1",
+        3,
+        true,
+    ),
+    (
+        Config::Wheel { frame: 5 },
+        &[
+            (
+                0,
+                Event::Seat {
+                    slot: 0,
+                    terms: Terms::Slots(2),
+                },
+            ),
+            (
+                0,
+                Event::Seat {
+                    slot: 1,
+                    terms: Terms::Slots(3),
+                },
+            ),
+            (1, Event::Leave { slot: 0 }),
+        ],
+        b"1",
+        3,
+        false,
+    ),
+];
+
+/// Compares what is held and used in a case.
+fn is_held(rt: &impl Abort, alloc: Global, case: Held) -> Result<(), Fail> {
+    let (config, marks, masks, used, taken) = case;
+    let mut book = Book::new(alloc, 0);
+    fill(rt, &mut book, &config, marks, masks)?;
+    assert!(rt; in_range(&config));
+    assert_eq!(rt; room_used(&book, &config), used);
+    assert_eq!(rt; occupant(&book, &config, 0).is_some(), taken);
+    Ok(())
+}
+
+/// Compares what is held and used in all these cases.
+fn all_are_held(rt: &impl Abort, alloc: Global, cases: &[Held]) -> Result<(), Fail> {
+    for at in 0..cases.len() {
+        is_held(rt, alloc, cases[at])?;
     }
     Ok(())
+}
+
+#[test]
+fn tells_what_is_held_and_used(rt: HostRuntime) -> Result<(), Fail> {
+    all_are_held(&rt, rt.alloc(), &HELD)
 }
