@@ -107,6 +107,9 @@ module _ {V : Type 0} {P : V → Type 0} (seen : (x : V) × P x → Seen) where
     told = is.told;
     ported = λ k. ported_still (flag_wake (flag k)) (h.nodes k) (is.ported k);
     known = is.known;
+    late = is.late;
+    quiet = is.quiet;
+    clock = is.clock;
   }
 
   ready_flagged : (t : Tree V P) (h : Hierarchy) → IsReadyOf seen t (flagged (ready_of seen t) h)

@@ -5,7 +5,6 @@ use Rattle.hls_chron.specs.declared.book.TickRow.{TickRow}
 use Rattle.hls_chron.specs.Seats.{terms_at}
 use Rattle.hls_kinds.specs.Discipline.{Serves}
 use Rattle.hls_sched.specs.Seen.{Seen, config_of, leapt, tick_row}
-use Rattle.hls_sched.specs.Stands.{Stands}
 use Rattle.hls_machine.specs.Hierarchy.{Hierarchy, Node, Loaded, Admitted, Scheduler as LoadedScheduler, Seat}
 use Rattle.hls_machine.specs.Steps.{Hop, Path, hop_at, hops_of, row_by}
 use Rattle.hls_machine.specs.Legal.{IsReached}
@@ -15,8 +14,9 @@ use Rattle.hls_book.proofs.Books.{admission_made}
 use Rattle.hls_tree_nodes.specs.Shown.{Post, What, Scheduler, Shown, SchedulerNode, bare, bare_in, is_sched}
 use Rattle.hls_tree_nodes.specs.Shown.{ServesIn, on_post, mask_in, grant_in}
 use Rattle.hls_tree_nodes.specs.Shown as shown
-use Rattle.hls_tree_nodes.specs.Leapt.{StandsIn, StandsWhat, nodes_by, post_leapt}
+use Rattle.hls_tree_nodes.specs.Leapt.{StandsLate, StandsIn, StandsWhat, nodes_by, post_leapt}
 use Rattle.hls_tree_nodes.specs.TreeOf.{IsOf, IsPassing}
+use Rattle.hls_tree_nodes.proofs.Leaps.{granted_by_row}
 
 made_here : (node : Option Node) (s : LoadedScheduler) → bare node ≡ Some (SchedulerNode s) → IsMadeNode node
     → IsMadeNode (Some (Loaded s))
@@ -42,14 +42,14 @@ chosen_serves u (Some other) n slot is serves =
     let same : other ≡ slot = cc in
     subst (λ at. Serves (config_of u) (leapt n (Some other) u).book u.mask at) same serves
 
--- of a box with a made book: what serves while it stands is its choice
+-- of a box with a made book that is granted: what serves while it stands is its choice
 unit_one : (name : List ℕ) (seats : List Seat) (u : Seen) (choice : Option ℕ) (n j at slot : ℕ)
     → IsMadeNode (Some (Loaded (record { name = name; config = config_of u; book = u.book; ports = seats })))
-    → Stands n choice u → j < n → choice ≡ Some at → Serves (config_of u) (leapt j choice u).book u.mask slot
-    → choice ≡ Some slot
+    → StandsLate n choice u → u.grant ≢ None → j < n → choice ≡ Some at
+    → Serves (config_of u) (leapt j choice u).book u.mask slot → choice ≡ Some slot
 unfolding terms_at
-unit_one name seats u choice n j at slot made stands lt is serves =
-    let mine = chosen_serves u choice j at is (stands.serves j lt) in
+unit_one name seats u choice n j at slot made stands granted lt is serves =
+    let mine = chosen_serves u choice j at is (stands.serves granted j lt) in
     let sits = (admission_made (config_of u) u.book made).seats in
     is ∙ ap (λ k. Some k) (serves_one (config_of u) (leapt j choice u).book u.mask at slot
     (record { within = sits.within; of_kind = sits.of_kind; apart = sits.apart }) mine serves)
@@ -67,7 +67,9 @@ node_one (Some x) node choice n j mask slot hop is made stands lt row serves =
           ≡ row_by mask (Some hop))
           → ServesIn (on_post (post_leapt j choice) (Some (record x { what = w }))) slot → choice ≡ Some slot
       by_what (Scheduler post) same on tick serves_so =
-          unit_one x.name x.seats post.unit choice n j hop.slot slot (made_here node _ same made) on lt
+          unit_one x.name x.seats post.unit choice n j hop.slot slot (made_here node _ same made) on
+          (granted_by_row post.unit.mask post.unit.grant choice mask (Some hop) (tick refl)
+          (λ none. let no : Some hop ≡ None = none in cc)) lt
           (choice_is post.unit.mask post.unit.grant choice mask hop (tick refl)) serves_so
       by_what (shown.Thread ready) same on tick serves_so = absurd serves_so
 

@@ -14,8 +14,7 @@ use crate::question::{Counted, Question};
 use crate::rounds::sums;
 use crate::sum::{Sums, greatest_over, place_of_first, sum_near};
 use hls_sched::Scheduler;
-use hls_tree_nodes::{Node, NodeId, Place, TakenSeat};
-use slab::Slab;
+use hls_tree_nodes::{NodeId, Nodes, Place, TakenSeat};
 
 /// The schedulers that are a node or below it. It is asked about over the nodes that it was found in.
 #[derive(Clone, Copy)]
@@ -59,13 +58,7 @@ fn is_over(schedulers: &[NodeId], sums: &Sums, seats: &[TakenSeat], near: &mut u
 }
 
 /// Whether a node sits on a scheduler whose sum is more than 0.
-fn sits_in(
-    nodes: &Slab<Node>,
-    schedulers: &[NodeId],
-    sums: &Sums,
-    key: usize,
-    near: &mut usize,
-) -> bool
+fn sits_in(nodes: &Nodes, schedulers: &[NodeId], sums: &Sums, key: usize, near: &mut usize) -> bool
     requires few { length schedulers.now ≤ 64 }
     requires apart { AllPairs (λ (k c : ℕ). k ≢ c) schedulers.now }
     ensures yes { result ≡ true → 0 < greatest_over (sum_at schedulers.now sums.now)
@@ -73,7 +66,7 @@ fn sits_in(
     ensures no { result ≡ false → greatest_over (sum_at schedulers.now sums.now)
         (seats_in (shown_at (boxed seen) nodes.now key)) ≡ 0 }
 {
-    match nodes.get(key) {
+    match nodes.slab.get(key) {
         Some(node) => is_over(schedulers, sums, &node.seats, near),
         None => false,
     }
@@ -81,7 +74,7 @@ fn sits_in(
 
 impl Subtree {
     /// The schedulers that are a node or below it.
-    pub fn of(nodes: &Slab<Node>, schedulers: &[NodeId], upper: NodeId) -> Subtree
+    pub fn of(nodes: &Nodes, schedulers: &[NodeId], upper: NodeId) -> Subtree
         requires few { length schedulers.now ≤ 64 }
         requires apart { AllPairs (λ (k c : ℕ). k ≢ c) schedulers.now }
         ensures { (h : Hierarchy) → AreNodesOf (shown_at (boxed seen) nodes.now) schedulers.now h →
@@ -101,7 +94,7 @@ impl Subtree {
     /// one after another: the place at which the last one's was found is kept between the calls, and is first 0.
     pub fn has_near(
         &self,
-        nodes: &Slab<Node>,
+        nodes: &Nodes,
         schedulers: &[NodeId],
         lower: NodeId,
         near: &mut usize,

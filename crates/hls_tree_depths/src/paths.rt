@@ -12,8 +12,7 @@ use crate::question::{Counted, Moved, Question};
 use crate::rounds::sums;
 use crate::sum::{greatest_of, sum_of};
 use hls_sched::Scheduler;
-use hls_tree_nodes::{Node, NodeId};
-use slab::Slab;
+use hls_tree_nodes::{NodeId, Nodes};
 
 /// The key of a parent.
 fn key_of(parent: Option<NodeId>) -> Option<usize>
@@ -26,7 +25,7 @@ fn key_of(parent: Option<NodeId>) -> Option<usize>
 }
 
 /// The most fair queueing schedulers on a path to a scheduler, itself included.
-pub fn shares(nodes: &Slab<Node>, schedulers: &[NodeId], id: NodeId) -> u32
+pub fn shares(nodes: &Nodes, schedulers: &[NodeId], id: NodeId) -> u32
     requires few { length schedulers.now ≤ 64 }
     requires apart { AllPairs (λ (k c : ℕ). k ≢ c) schedulers.now }
     ensures { (h : Hierarchy) → AreNodesOf (shown_at (boxed seen) nodes.now) schedulers.now h →
@@ -43,7 +42,7 @@ pub fn shares(nodes: &Slab<Node>, schedulers: &[NodeId], id: NodeId) -> u32
 /// The greatest sum of counts on a path, if this scheduler sat at that parent in place of its present
 /// one.
 fn greatest_after(
-    nodes: &Slab<Node>,
+    nodes: &Nodes,
     schedulers: &[NodeId],
     counted: Counted,
     id: NodeId,
@@ -66,12 +65,7 @@ fn greatest_after(
 }
 
 /// The greatest level of a scheduler, if this one sat at that parent in place of its present one.
-pub fn level_after(
-    nodes: &Slab<Node>,
-    schedulers: &[NodeId],
-    id: NodeId,
-    parent: Option<NodeId>,
-) -> u32
+pub fn level_after(nodes: &Nodes, schedulers: &[NodeId], id: NodeId, parent: Option<NodeId>) -> u32
     requires few { length schedulers.now ≤ 64 }
     requires apart { AllPairs (λ (k c : ℕ). k ≢ c) schedulers.now }
     ensures { (h later : Hierarchy) → AreNodesOf (shown_at (boxed seen) nodes.now) schedulers.now h →
@@ -82,12 +76,7 @@ pub fn level_after(
 
 /// The most fair queueing schedulers on a path, if this one sat at that parent in place of its
 /// present one.
-pub fn shares_after(
-    nodes: &Slab<Node>,
-    schedulers: &[NodeId],
-    id: NodeId,
-    parent: Option<NodeId>,
-) -> u32
+pub fn shares_after(nodes: &Nodes, schedulers: &[NodeId], id: NodeId, parent: Option<NodeId>) -> u32
     requires few { length schedulers.now ≤ 64 }
     requires apart { AllPairs (λ (k c : ℕ). k ≢ c) schedulers.now }
     ensures { (h later : Hierarchy) → AreNodesOf (shown_at (boxed seen) nodes.now) schedulers.now h →

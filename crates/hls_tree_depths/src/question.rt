@@ -6,8 +6,7 @@ ghost use Rattle.hls_tree_nodes.specs.Views.{shown_at};
 ghost use Rattle.hls_tree_depths.specs.Inside.Sums.{fair_in, count_in};
 
 use hls_sched::Scheduler;
-use hls_tree_nodes::{Node, Role};
-use slab::Slab;
+use hls_tree_nodes::{Nodes, Role};
 
 /// Which schedulers count on a path.
 #[derive(Clone, Copy)]
@@ -32,10 +31,10 @@ pub(crate) struct Question {
 }
 
 /// 1 where a node is a fair queueing scheduler, and else 0.
-fn fair_queue_at(nodes: &Slab<Node>, key: usize) -> u8
+fn fair_queue_at(nodes: &Nodes, key: usize) -> u8
     ensures { result ≡ fair_in (shown_at (boxed seen) nodes.now key) }
 {
-    match nodes.get(key) {
+    match nodes.slab.get(key) {
         Some(node) => match &node.role {
             Role::Sched(station) => station.config.fair_queues(),
             Role::Thread { .. } => 0,
@@ -45,7 +44,7 @@ fn fair_queue_at(nodes: &Slab<Node>, key: usize) -> u8
 }
 
 /// What a node counts.
-pub(crate) fn count_of(nodes: &Slab<Node>, counted: &Counted, key: usize) -> u8
+pub(crate) fn count_of(nodes: &Nodes, counted: &Counted, key: usize) -> u8
     ensures { result ≡ count_in counted.now key (shown_at (boxed seen) nodes.now key) }
 {
     match counted {

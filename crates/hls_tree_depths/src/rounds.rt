@@ -10,21 +10,20 @@ ghost use Rattle.hls_tree_depths.specs.Subtrees.{sum_at};
 use crate::question::{Moved, Question, count_of};
 use crate::sum::{Sums, greatest_over, sum_under};
 use hls_sched::Scheduler;
-use hls_tree_nodes::{Node, NodeId};
-use slab::Slab;
+use hls_tree_nodes::{NodeId, Nodes};
 
 /// How many rounds lead to all sums at most: one for each level up to 8 and, after these, for each level
 /// of those below a scheduler that is thought to sit elsewhere.
 const ROUNDS: u8 = 18;
 
 /// The greatest sum of those that a node sits on.
-fn sum_seated(nodes: &Slab<Node>, schedulers: &[NodeId], sums: &Sums, key: usize) -> u8
+fn sum_seated(nodes: &Nodes, schedulers: &[NodeId], sums: &Sums, key: usize) -> u8
     requires few { length schedulers.now ≤ 64 }
     requires apart { AllPairs (λ (k c : ℕ). k ≢ c) schedulers.now }
     ensures { result ≡ greatest_over (sum_at schedulers.now sums.now)
         (seats_in (shown_at (boxed seen) nodes.now key)) }
 {
-    match nodes.get(key) {
+    match nodes.slab.get(key) {
         Some(node) => greatest_over(schedulers, sums, 0, &node.seats),
         None => 0,
     }
@@ -32,7 +31,7 @@ fn sum_seated(nodes: &Slab<Node>, schedulers: &[NodeId], sums: &Sums, key: usize
 
 /// The greatest sum of those that a node is thought to sit on.
 fn sum_moved(
-    nodes: &Slab<Node>,
+    nodes: &Nodes,
     schedulers: &[NodeId],
     moved: &Option<Moved>,
     sums: &Sums,
@@ -57,7 +56,7 @@ fn sum_moved(
 
 /// What the sum of a node is, by those that it sits on. Sums stay far below the greatest of their type.
 fn next_sum(
-    nodes: &Slab<Node>,
+    nodes: &Nodes,
     schedulers: &[NodeId],
     question: &Question,
     sums: &Sums,
@@ -74,7 +73,7 @@ fn next_sum(
 
 /// Sets the sum of a scheduler by those that it sits on, and returns whether it has changed.
 fn raise(
-    nodes: &Slab<Node>,
+    nodes: &Nodes,
     schedulers: &[NodeId],
     question: &Question,
     at: usize,
@@ -96,12 +95,7 @@ fn raise(
 }
 
 /// Sets each sum once, and returns whether one has changed.
-fn raise_all(
-    nodes: &Slab<Node>,
-    schedulers: &[NodeId],
-    question: &Question,
-    sums: &mut Sums,
-) -> bool
+fn raise_all(nodes: &Nodes, schedulers: &[NodeId], question: &Question, sums: &mut Sums) -> bool
     requires few { length schedulers.now ≤ 64 }
     requires apart { AllPairs (λ (k c : ℕ). k ≢ c) schedulers.now }
     ensures higher { (rank : ℕ → ℕ) (now : ℕ) →
@@ -123,7 +117,7 @@ fn raise_all(
 }
 
 /// All sums. Rounds are made until one changes none of them, which is mostly the second or third.
-pub(crate) fn sums(nodes: &Slab<Node>, schedulers: &[NodeId], question: &Question) -> Sums
+pub(crate) fn sums(nodes: &Nodes, schedulers: &[NodeId], question: &Question) -> Sums
     requires few { length schedulers.now ≤ 64 }
     requires apart { AllPairs (λ (k c : ℕ). k ≢ c) schedulers.now }
     ensures { AreSums question.now (shown_at (boxed seen) nodes.now) schedulers.now result }

@@ -9,7 +9,6 @@ use Rattle.hls_chron.specs.Ledger.{with_row}
 use Rattle.hls_kinds.specs.Asks.{asks}
 use Rattle.hls_kinds.specs.Discipline.{Serves}
 use Rattle.hls_sched.specs.Seen.{Seen, config_of, seen_asks, leapt, tick_row}
-use Rattle.hls_sched.specs.Stands.{Stands}
 use Rattle.hls_sched.proofs.Leaps.{leapt-none, leapt-more}
 use Rattle.hls_machine.specs.Hierarchy.{Hierarchy, Node, Loaded, Scheduler as LoadedScheduler, Seat}
 use Rattle.hls_machine.specs.Steps.{Hop, Path, hop_at, hops_of, row_by, Elapse}
@@ -17,7 +16,7 @@ use Rattle.hls_machine.specs.Legal.{Can}
 use Rattle.hls_tree_nodes.specs.Shown.{Post, What, Scheduler, Shown, SchedulerNode, bare, bare_in, on_post, post_turned}
 use Rattle.hls_tree_nodes.specs.Shown.{is_sched, name_in, mask_in, grant_in, asks_in, ServesIn, book_in}
 use Rattle.hls_tree_nodes.specs.Shown as shown
-use Rattle.hls_tree_nodes.specs.Leapt.{post_leapt, nodes_by, StandsWhat, StandsIn, later, MayLeap}
+use Rattle.hls_tree_nodes.specs.Leapt.{post_leapt, nodes_by, StandsLate, StandsWhat, StandsIn, later, MayLeap}
 use Rattle.hls_tree_nodes.specs.TreeOf.{IsOf, IsPassing, AreTold}
 use Rattle.hls_tree_nodes.proofs.Snapshots.{Nodes}
 use Rattle.hls_tree_nodes.proofs.Again.{again}
@@ -61,7 +60,7 @@ same_in choice n None = record { sched = refl; mask = refl; grant = refl }
 same_in choice n (Some s) = same_what choice n s.level s.name s.seats s.what
 
 -- of a box: after one tick more it asks as it does, and serves whom it serves
-unit_asks : (u : Seen) (choice : Option ℕ) (n : ℕ) → Stands (suc (suc n)) choice u
+unit_asks : (u : Seen) (choice : Option ℕ) (n : ℕ) → StandsLate (suc (suc n)) choice u
     → asks (config_of u) (with_row (leapt n choice u).book (tick_row u.mask u.grant choice)) u.mask
     ≡ asks (config_of u) (leapt n choice u).book u.mask
 unit_asks u choice n stands =
@@ -76,11 +75,20 @@ chosen_serves u (Some other) n slot is serves =
     let same : other ≡ slot = cc in
     subst (λ at. Serves (config_of u) (leapt n (Some other) u).book u.mask at) same serves
 
-unit_serves : (u : Seen) (choice : Option ℕ) (n slot : ℕ) → Stands (suc (suc n)) choice u → choice ≡ Some slot
+unit_serves : (u : Seen) (choice : Option ℕ) (n slot : ℕ) → StandsLate (suc (suc n)) choice u → u.grant ≢ None
+    → choice ≡ Some slot
     → Serves (config_of u) (with_row (leapt n choice u).book (tick_row u.mask u.grant choice)) u.mask slot
-unit_serves u choice n slot stands is =
+unit_serves u choice n slot stands granted is =
     subst (λ (s : Seen). Serves (config_of u) s.book u.mask slot) (leapt-more choice u n)
-    (chosen_serves u choice (suc n) slot is (stands.serves (suc n) (omega arith)))
+    (chosen_serves u choice (suc n) slot is (stands.serves granted (suc n) (omega arith)))
+
+-- who is on a path is granted
+pub granted_by_row : (mask : ℕ) (grant choice : Option ℕ) (other : ℕ) (hop : Option Hop)
+    → tick_row mask grant choice ≡ row_by other hop → hop ≢ None → grant ≢ None
+granted_by_row mask (Some port) choice other hop row on = λ none. let no : Some port ≡ None = none in cc
+granted_by_row mask None choice other None row on = absurd (on refl)
+granted_by_row mask None choice other (Some hop) row on =
+    absurd (let no : None ≡ Some hop.slot = ap (λ (r : TickRow). r.to) row in cc)
 
 -- of a node
 record NodeStands (mask : ℕ) (hop : Option Hop) (s : LoadedScheduler) : Type 0 where
@@ -90,7 +98,7 @@ record NodeStands (mask : ℕ) (hop : Option Hop) (s : LoadedScheduler) : Type 0
 
 post_stands : (name : List ℕ) (seats : List Seat) (post : Post) (choice : Option ℕ) (n mask : ℕ) (hop : Option Hop)
     (s : LoadedScheduler)
-    → Stands (suc (suc n)) choice post.unit
+    → StandsLate (suc (suc n)) choice post.unit
     → s ≡ record {
       name = name;
       config = config_of post.unit;
@@ -111,7 +119,8 @@ post_stands name seats post choice n mask hop s stands same row of_mask one =
       ports = seats;
     }) = record {
       asks = rw (← here) (unit_asks post.unit choice n stands);
-      serves = λ there slot serves. rw (← here) (unit_serves post.unit choice n slot stands (one there slot serves));
+      serves = λ there slot serves. rw (← here) (unit_serves post.unit choice n slot stands
+          (granted_by_row post.unit.mask post.unit.grant choice mask hop row there) (one there slot serves));
     } in
     rw (same, ← of_mask) kept
 
@@ -168,7 +177,7 @@ mask_of mask (Some hop) = refl
 pub fewer_what : (n m : ℕ) (choice : Option ℕ) (w : What) → m ≤ n → StandsWhat n choice w → StandsWhat m choice w
 fewer_what n m choice (Scheduler post) le stands = record {
   asks = λ k lt. stands.asks k (omega (arith, lt, le));
-  serves = λ k lt. stands.serves k (omega (arith, lt, le));
+  serves = λ granted k lt. stands.serves granted k (omega (arith, lt, le));
 }
 fewer_what n m choice (shown.Thread ready) le stands = tt
 

@@ -14,6 +14,8 @@ use Rattle.hls_tree_nodes.proofs.Snapshots as snapshots
 use Rattle.hls_tree_nodes.proofs.Snapshots.{Nodes}
 use Rattle.hls_tree_nodes.proofs.Walks.{before_cases, IsChangedOn}
 use Rattle.hls_tree_nodes.proofs.Passes.{chosen}
+use Rattle.hls_tree_nodes.specs.Behind.{behind_at, place_what}
+use Rattle.hls_tree_nodes.proofs.Behind.{no_place}
 
 -- twice is once
 twice_what : (w : What) → on_what post_revoked (on_what post_revoked w) ≡ on_what post_revoked w
@@ -24,18 +26,25 @@ twice : (o : Option Shown) → on_post post_revoked (on_post post_revoked o) ≡
 twice None = refl
 twice (Some s) = ap (λ (w : What). Some (record s { what = w })) (twice_what s.what)
 
--- who is not granted stays as it is
-free_what : (w : What) → PostedWhat w → grant_what w ≡ None → on_what post_revoked w ≡ w
-free_what (Scheduler post) posted free =
+-- who is neither granted nor behind stays as it is
+free_what : (w : What) → PostedWhat w → grant_what w ≡ None → place_what w ≡ None → on_what post_revoked w ≡ w
+free_what (Scheduler post) posted free up =
     let off : post.granted ≡ false = posted.granted ∙ ap is_some free in
     let unit : revoked post.unit ≡ post.unit =
     ap (λ (grant : Option ℕ). record post.unit { grant = grant }) (sym free) in
-    λ i. Scheduler (record { unit = unit i; config = post.config; mask = post.mask; granted = sym off i })
-free_what (Thread r) posted free = refl
+    let lag : None ≡ post.lag = sym (no_place post.lag up) in
+    λ i. Scheduler (record {
+      unit = unit i;
+      config = post.config;
+      mask = post.mask;
+      granted = sym off i;
+      lag = lag i;
+    })
+free_what (Thread r) posted free up = refl
 
-free_kept : (o : Option Shown) → PostedIn o → grant_in o ≡ None → on_post post_revoked o ≡ o
-free_kept None posted free = refl
-free_kept (Some s) posted free = ap (λ (w : What). Some (record s { what = w })) (free_what s.what posted free)
+free_kept : (o : Option Shown) → PostedIn o → grant_in o ≡ None → behind_at o ≡ None → on_post post_revoked o ≡ o
+free_kept None posted free up = refl
+free_kept (Some s) posted free up = ap (λ (w : What). Some (record s { what = w })) (free_what s.what posted free up)
 
 -- one node of the route more, which may have been on it before
 pub revoked_step : (old mid new : Nodes) (l : List ℕ) (i key : ℕ) → slice_get l i ≡ Some key
@@ -76,15 +85,15 @@ none_or None never = refl
 none_or (Some n) never = absurd (never (λ e. cc))
 
 pub revoked_listed : (old new : Nodes) (l : List ℕ) (i : ℕ) → ((k : ℕ) → PostedIn (old k))
-    → IsAlongRoute old (Some l) → length l ≤ i
+    → IsAlongRoute old (Some l) → ((k : ℕ) → behind_at (old k) ≡ None) → length l ≤ i
     → IsChangedOn (λ o. o) (λ k. on_post post_revoked) old new l i
     → (k : ℕ) → new k ≡ on_post post_revoked (old k)
-revoked_listed old new l i posted along le w k = elim (before_cases l i k) [
+revoked_listed old new l i posted along up le w k = elim (before_cases l i k) [
   | inl b ↦ w.done k b
   | inr not ↦ w.rest k not ∙ sym (free_kept (old k) (posted k) (none_or (grant_in (old k)) (λ some.
       let on = along k some in
       let lt = slice_get_within l on.0 k on.1 in
-      not (on.0, omega (arith, lt, le), on.1))))
+      not (on.0, omega (arith, lt, le), on.1))) (up k))
 ]
 
 -- what is granted lies on the route

@@ -1,5 +1,6 @@
 -- What a telling leaves of a scheduler.
-use Rattle.std.proofs.Common.{◌≡◌, ◌≢◌, inl, inr, ℕ, ◌^◌, ◌<◌, ◌==◌, Bool, true, false, None, refl, sym, ap, ◌∙◌}
+use Rattle.std.proofs.Common.{◌≡◌, ◌≢◌, inl, inr, ℕ, ◌^◌, ◌<◌, ◌==◌, Bool, true, false, Option, None, refl, sym, ap}
+use Rattle.std.proofs.Common.{◌∙◌}
 use Rattle.std.proofs.Common.{subst, arith, w32}
 use Rattle.std.specs.Int.{bit_at, bit_not}
 use Rattle.std.proofs.Math.Pow.{pow-lt}
@@ -12,6 +13,7 @@ use Rattle.hls_kinds.specs.Asks.{slot_asks}
 use Rattle.hls_kinds.specs.Asks.{with_slot, without_slot}
 use Rattle.hls_sched.specs.Seen.{Seen, requested, released}
 use Rattle.hls_tree_nodes.specs.Shown.{Post, IsPosted, IsTold}
+use Rattle.hls_tree_nodes.specs.declared.station.Lag.{Lag}
 
 set_same : (mask slot : ℕ) → slot_asks (with_slot slot mask) slot ≡ true
 set_same mask slot =
@@ -63,22 +65,23 @@ clear_other mask slot k lt fits ne =
     ] in
     ap (λ b. b == 1) same
 
-post_is : {new : Post} {unit : Seen} {config : Config} {mask : ℕ} {granted : Bool} → new.unit ≡ unit
-    → new.config ≡ config → new.mask ≡ mask → new.granted ≡ granted
-    → new ≡ record { unit = unit; config = config; mask = mask; granted = granted }
-post_is u c m g = λ i. record { unit = u i; config = c i; mask = m i; granted = g i }
+post_is : {new : Post} {unit : Seen} {config : Config} {mask : ℕ} {granted : Bool} {lag : Option Lag} → new.unit ≡ unit
+    → new.config ≡ config → new.mask ≡ mask → new.granted ≡ granted → new.lag ≡ lag
+    → new ≡ record { unit = unit; config = config; mask = mask; granted = granted; lag = lag }
+post_is u c m g l = λ i. record { unit = u i; config = c i; mask = m i; granted = g i; lag = l i }
 
 pub told_set : (slot : ℕ) (asks : Bool) (old new : Post) → asks ≡ true → IsPosted old
     → terms_at old.unit.book slot ≢ None
     → new.unit ≡ requested slot old.unit → new.mask ≡ with_slot slot old.mask → new.granted ≡ old.granted
-    → new.config ≡ old.config → IsTold slot asks old new
-told_set slot asks old new is posted taken unit mask granted config =
+    → new.config ≡ old.config → new.lag ≡ old.lag → IsTold slot asks old new
+told_set slot asks old new is posted taken unit mask granted config lag =
     let same : IsTold slot true old
     (record {
       unit = requested slot old.unit;
       config = old.config;
       mask = with_slot slot old.mask;
       granted = old.granted;
+      lag = old.lag;
     }) =
     record {
       here = set_same old.unit.mask slot;
@@ -86,6 +89,7 @@ told_set slot asks old new is posted taken unit mask granted config =
       config = refl;
       book = refl;
       grant = refl;
+      lag = refl;
       posted = record {
         configured = posted.configured;
         mask = ap (with_slot slot) posted.mask;
@@ -98,13 +102,13 @@ told_set slot asks old new is posted taken unit mask granted config =
         ];
       };
     } in
-    let whole = post_is unit config mask granted in
+    let whole = post_is unit config mask granted lag in
     rw is (subst (IsTold slot true old) (sym whole) same)
 
 pub told_clear : (slot : ℕ) (asks : Bool) (old new : Post) → asks ≡ false → slot < 32 → old.mask < 2 ^ 32 → IsPosted old
     → new.unit ≡ released slot old.unit → new.mask ≡ without_slot slot old.mask → new.granted ≡ old.granted
-    → new.config ≡ old.config → IsTold slot asks old new
-told_clear slot asks old new is lt range posted unit mask granted config =
+    → new.config ≡ old.config → new.lag ≡ old.lag → IsTold slot asks old new
+told_clear slot asks old new is lt range posted unit mask granted config lag =
     let fits : old.unit.mask < 2 ^ 32 = subst (λ m. m < 2 ^ 32) posted.mask range in
     let same : IsTold slot false old
     (record {
@@ -112,6 +116,7 @@ told_clear slot asks old new is lt range posted unit mask granted config =
       config = old.config;
       mask = without_slot slot old.mask;
       granted = old.granted;
+      lag = old.lag;
     }) =
     record {
       here = clear_same old.unit.mask slot lt;
@@ -119,6 +124,7 @@ told_clear slot asks old new is lt range posted unit mask granted config =
       config = refl;
       book = refl;
       grant = refl;
+      lag = refl;
       posted = record {
         configured = posted.configured;
         mask = ap (without_slot slot) posted.mask;
@@ -133,5 +139,5 @@ told_clear slot asks old new is lt range posted unit mask granted config =
         ];
       };
     } in
-    let whole = post_is unit config mask granted in
+    let whole = post_is unit config mask granted lag in
     rw is (subst (IsTold slot false old) (sym whole) same)

@@ -11,7 +11,9 @@ use Rattle.hls_sched.specs.Seen.{Seen}
 use Rattle.hls_tree_nodes.specs.Shown.{Post, What, Scheduler, Thread, Shown, is_sched, is_sched_what, on_post, on_what}
 use Rattle.hls_tree_nodes.specs.TreeOf.{IsRoll, IsOn}
 use Rattle.hls_tree_nodes.specs.declared.node.Node.{Node}
-use Rattle.hls_tree_nodes.specs.Views.{shown_opt, shown_at, choice_opt, choice_at}
+use Rattle.hls_tree_nodes.specs.declared.nodes.Nodes.{Nodes}
+use Rattle.hls_tree_nodes.specs.Behind.{late}
+use Rattle.hls_tree_nodes.specs.Views.{shown_opt, stored_at, shown_at, choice_opt, choice_at}
 
 -- below i what is shown of each was changed by f, and from i on each is the old one
 pub record IsShown {A B : Type 0} (show : A → B) (f : ℕ → A → B) (old new : ℕ → A) (i : ℕ) : Type 0 where
@@ -135,17 +137,17 @@ pub get_none : {V : Type 0} {P : V → Type 0} (nodes : Slab (Node V P)) (k : �
     → get nodes k ≡ None
 get_none nodes k le = get_or-eq_default nodes.slots None le
 
-pub none_at : {V : Type 0} {P : V → Type 0} (show : DynBox V Global P → Seen) (nodes : Slab (Node V P))
-    (k : ℕ) → length nodes.slots ≤ k → shown_at show nodes k ≡ None
-none_at show nodes k le = ap (shown_opt show) (get_none nodes k le)
+pub none_at : {V : Type 0} {P : V → Type 0} (show : DynBox V Global P → Seen) (nodes : Nodes V P)
+    (k : ℕ) → length nodes.slab.slots ≤ k → shown_at show nodes k ≡ None
+none_at show nodes k le = ap (λ n. late nodes.behind nodes.tick (shown_opt show n)) (get_none nodes.slab k le)
 
 -- what stays of each other node where one is changed
-pub shown_others : {V : Type 0} {P : V → Type 0} (show : DynBox V Global P → Seen) (old new : Slab (Node V P)) (key : ℕ)
-    → ((k : ℕ) → k ≢ key → get new k ≡ get old k)
-    → (k : ℕ) → k ≢ key → shown_at show new k ≡ shown_at show old k
-shown_others show old new key others k ne = ap (shown_opt show) (others k ne)
-
-pub choice_others : {V : Type 0} {P : V → Type 0} (choice : DynBox V Global P → Option ℕ) (old new : Slab (Node V P))
+pub stored_others : {V : Type 0} {P : V → Type 0} (show : DynBox V Global P → Seen) (old new : Slab (Node V P))
     (key : ℕ) → ((k : ℕ) → k ≢ key → get new k ≡ get old k)
+    → (k : ℕ) → k ≢ key → stored_at show new k ≡ stored_at show old k
+stored_others show old new key others k ne = ap (shown_opt show) (others k ne)
+
+pub choice_others : {V : Type 0} {P : V → Type 0} (choice : DynBox V Global P → Option ℕ) (old new : Nodes V P)
+    (key : ℕ) → ((k : ℕ) → k ≢ key → get new.slab k ≡ get old.slab k)
     → (k : ℕ) → k ≢ key → choice_at choice new k ≡ choice_at choice old k
 choice_others choice old new key others k ne = ap (choice_opt choice) (others k ne)

@@ -1,10 +1,11 @@
 -- What many ticks, one after the other, leave of nodes, and for how many they stand.
-use Rattle.std.specs.Prelude.{◌≡◌, ◌≢◌, ℕ, zero, suc, ◌+◌, ◌<◌, Bool, Option, Some, None}
+use Rattle.std.specs.Prelude.{◌≡◌, ◌≢◌, ℕ, zero, suc, ◌+◌, ◌<◌, Bool, Option, Some, None, IfSome}
 use Rattle.hls_machine.specs.Hierarchy.{Hierarchy, Thread, Admitted, is_ready, was_served}
 use Rattle.hls_machine.specs.Steps.{Path, Elapse, after, elapsed, hop_at, hops_of}
-use Rattle.hls_sched.specs.Seen.{leapt}
+use Rattle.hls_kinds.specs.Discipline.{Serves}
 use Rattle.hls_kinds.specs.Stands.{always}
-use Rattle.hls_sched.specs.Stands.{Stands, seen_stands}
+use Rattle.hls_sched.specs.Seen.{Seen, config_of, seen_asks, leapt}
+use Rattle.hls_sched.specs.Stands.{seen_stands}
 use Rattle.hls_tree_nodes.specs.Shown.{Post, What, Scheduler, Shown, on_post, ServesIn}
 use Rattle.hls_tree_nodes.specs.Shown as shown
 
@@ -16,8 +17,14 @@ post_leapt n choice post = record post { unit = leapt n choice post.unit }
 abbrev pub nodes_by : (ℕ → Option Shown) → (choices : ℕ → Option ℕ) → ℕ → ℕ → Option Shown
 nodes_by s choices n k = on_post (post_leapt n (choices k)) (s k)
 
+-- A box asks in each of the next n ticks as it does in the present one, and where it is granted, the slot to serve is
+-- the same.
+pub record StandsLate (n : ℕ) (choice : Option ℕ) (s : Seen) : Type 0 where
+  pub asks : (k : ℕ) → k < n → seen_asks (leapt k choice s) ≡ seen_asks s
+  pub serves : s.grant ≢ None → (k : ℕ) → k < n → IfSome choice (Serves (config_of s) (leapt k choice s).book s.mask)
+
 abbrev pub StandsWhat : ℕ → Option ℕ → What → Type 0
-StandsWhat n choice (Scheduler post) = Stands n choice post.unit
+StandsWhat n choice (Scheduler post) = StandsLate n choice post.unit
 StandsWhat n choice (shown.Thread ready) = Unit {0}
 
 abbrev pub StandsIn : ℕ → Option ℕ → Option Shown → Type 0

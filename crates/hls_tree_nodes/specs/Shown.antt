@@ -16,13 +16,15 @@ use Rattle.hls_chron.specs.Ledger.{Ledger}
 use Rattle.hls_machine.specs.Ledgers.{empty_book}
 use Rattle.hls_machine.specs.Hierarchy.{Node, Loaded, Admitted, Seat, Place}
 use Rattle.hls_machine.specs.Hierarchy.{Scheduler as LoadedScheduler}
+use Rattle.hls_tree_nodes.specs.declared.station.Lag.{Lag}
 
--- a box, its configuration, the slots that it was told to ask, and whether it is granted
+-- a box, its configuration, the slots that it was told to ask, whether it is granted, and whether it is behind
 pub record Post : Type 0 where
   pub unit : Seen
   pub config : Config
   pub mask : ℕ
   pub granted : Bool
+  pub lag : Option Lag
 
 pub data What : Type 0 where
   Scheduler : (post : Post) → What
@@ -50,13 +52,18 @@ pub record IsTold (slot : ℕ) (asks : Bool) (old new : Post) : Type 0 where
   pub config : new.unit.config ≡ old.unit.config
   pub book : new.unit.book ≡ old.unit.book
   pub grant : new.unit.grant ≡ old.unit.grant
+  pub lag : new.lag ≡ old.lag
   pub posted : IsPosted new
 
 abbrev pub post_granted : ℕ → Post → Post
 post_granted port post = record post { unit = granted port post.unit; granted = true }
 
+abbrev pub post_freed : Post → Post
+post_freed post = record post { unit = revoked post.unit; granted = false }
+
+-- and as one that is not behind
 abbrev pub post_revoked : Post → Post
-post_revoked post = record post { unit = revoked post.unit; granted = false }
+post_revoked post = record post { unit = revoked post.unit; granted = false; lag = None }
 
 abbrev pub post_turned : Option ℕ → Post → Post
 post_turned choice post = record post { unit = turned choice post.unit }

@@ -7,6 +7,7 @@ use Rattle.hls_sched.specs.Seen.{Seen}
 use Rattle.hls_machine.specs.Hierarchy.{Processor, At}
 use Rattle.hls_machine.specs.Hierarchy as legal
 use Rattle.hls_tree_nodes.specs.Shown.{Post, What, Scheduler, Thread, Shown}
+use Rattle.hls_tree_nodes.specs.Behind.{late}
 use Rattle.hls_tree_nodes.specs.declared.node.Place.{Place}
 use Rattle.hls_tree_nodes.specs.declared.node.Place.TheVariants as places
 use Rattle.hls_tree_nodes.specs.declared.node.TakenSeat.{TakenSeat}
@@ -16,6 +17,7 @@ use Rattle.hls_tree_nodes.specs.declared.node.Body.TheVariants as bodies
 use Rattle.hls_tree_nodes.specs.declared.node.Role.{Role}
 use Rattle.hls_tree_nodes.specs.declared.node.Role.TheVariants as roles
 use Rattle.hls_tree_nodes.specs.declared.station.Station.{Station}
+use Rattle.hls_tree_nodes.specs.declared.nodes.Nodes.{Nodes}
 
 abbrev pub place_view : Place → legal.Place
 place_view places.Processor = Processor
@@ -47,7 +49,13 @@ is_place (Some here) place = same_place here place
 -- V and P are what the checker knows a box by
 module _ {V : Type 0} {P : V → Type 0} where
   abbrev pub post_of : (DynBox V Global P → Seen) → Station V P → Post
-  post_of show s = record { unit = show s.unit; config = s.config; mask = s.mask; granted = s.granted }
+  post_of show s = record {
+    unit = show s.unit;
+    config = s.config;
+    mask = s.mask;
+    granted = s.granted;
+    lag = s.lag;
+  }
 
   abbrev pub what_of : (DynBox V Global P → Seen) → Role V P → What
   what_of show (roles.Sched station) = Scheduler (post_of show station)
@@ -65,9 +73,13 @@ module _ {V : Type 0} {P : V → Type 0} where
   shown_opt show None = None
   shown_opt show (Some n) = Some (shown show n)
 
-  -- what is shown of the node of a number, if there is one
-  abbrev pub shown_at : (DynBox V Global P → Seen) → Slab (Node V P) → ℕ → Option Shown
-  shown_at show nodes key = shown_opt show (get nodes key)
+  -- what is stored of the node of a number, if there is one
+  abbrev pub stored_at : (DynBox V Global P → Seen) → Slab (Node V P) → ℕ → Option Shown
+  stored_at show slab key = shown_opt show (get slab key)
+
+  -- what is shown of it: boxes that are behind are shown as they would be if they were not
+  abbrev pub shown_at : (DynBox V Global P → Seen) → Nodes V P → ℕ → Option Shown
+  shown_at show nodes key = late nodes.behind nodes.tick (stored_at show nodes.slab key)
 
   -- the choice of a scheduler
   abbrev pub choice_body : (DynBox V Global P → Option ℕ) → Role V P → Option ℕ
@@ -78,8 +90,8 @@ module _ {V : Type 0} {P : V → Type 0} where
   choice_opt choice None = None
   choice_opt choice (Some n) = choice_body choice n.role
 
-  abbrev pub choice_at : (DynBox V Global P → Option ℕ) → Slab (Node V P) → ℕ → Option ℕ
-  choice_at choice nodes key = choice_opt choice (get nodes key)
+  abbrev pub choice_at : (DynBox V Global P → Option ℕ) → Nodes V P → ℕ → Option ℕ
+  choice_at choice nodes key = choice_opt choice (get nodes.slab key)
 
   -- a body that was taken out, by what was shown of the node
   abbrev pub IsBody : (DynBox V Global P → Seen) → Body V P → What → Type 0

@@ -1,14 +1,17 @@
 // What is asked is told up the tree, and the processor is taken back.
 ghost use Rattle.hls_chron.specs.Ranges.{most_slots};
-ghost use Rattle.std.specs.Prelude.{◌≡◌, ◌≢◌, ℕ, ◌+◌, ◌<◌, ◌≤◌, Option, Some, None, IfSome};
+ghost use Rattle.std.specs.Prelude.{◌≡◌, ◌≢◌, ℕ, ◌+◌, ◌<◌, ◌≤◌, Option, Some, None, IfSome, true, false};
+ghost use Rattle.slab.specs.Slab.{get};
+ghost use Rattle.hls_kinds.specs.Asks.{slot_asks};
 ghost use Rattle.std.specs.Prelude.{length, map, option_map, slice_get, get_or};
 ghost use Rattle.std.specs.Int.{bit_at};
 ghost use Rattle.hls_chron.specs.Seats.{terms_at};
 ghost use Rattle.hls_machine.specs.Hierarchy.{Processor, Seat};
-ghost use Rattle.hls_tree_nodes.specs.Shown.{PostedIn, ToldIn};
+ghost use Rattle.hls_tree_nodes.specs.Shown.{PostedIn, ToldIn, mask_in};
 ghost use Rattle.hls_tree_nodes.specs.Shown.{book_in, asks_in, level_in, place_in, seats_in};
-ghost use Rattle.hls_tree_nodes.specs.Shown.{is_sched, on_post, post_revoked};
-ghost use Rattle.hls_tree_nodes.specs.Views.{shown_at, told_place, place_view, seat_view};
+ghost use Rattle.hls_tree_nodes.specs.Shown.{is_sched, on_post, post_freed, post_revoked};
+ghost use Rattle.hls_tree_nodes.specs.Views.{shown_at, stored_at, told_place, place_view, seat_view};
+ghost use Rattle.hls_tree_nodes.specs.Late.{IsLate, IsQuiet, AreQuiet, StaysLate};
 ghost use Rattle.hls_tree_nodes.specs.Levels.{IsLevel, AreByLevel};
 ghost use Rattle.hls_tree_nodes.specs.Known.{HaveTold, AreStill, AreKnown, IsKnown, IsFound, IsAlongRoute, has_bit};
 ghost use Rattle.hls_tree_nodes.specs.TreeOf.{IsLaid, IsRanked, IsAlike, IsTelling, ToldBy};
@@ -16,18 +19,19 @@ ghost use Rattle.hls_tree_nodes.specs.TreeOf.{Tells, TellsThread, NoScheduler, I
 ghost use Rattle.hls_tree_nodes.specs.TreeOf.{AreTold, Each};
 
 use crate::known::{has_bit, with_bit};
-use crate::{Changed, Known, Node, NodeId, Place, Role, Route, TakenSeat};
+use crate::nodes::rouse;
+use crate::{Changed, Known, Node, NodeId, Nodes, Place, Role, Route, TakenSeat};
 use slab::Slab;
 
-/// Tells a scheduler whether a seat on it asks.
-fn tell_at(nodes: &mut Slab<Node>, key: usize, slot: u32, asks: bool)
-    requires posted { PostedIn (shown_at seen nodes.old key) }
-    requires taken { terms_at (book_in (shown_at seen nodes.old key)) slot ≢ None }
+/// Tells a scheduler that is not behind whether a seat on it asks.
+fn tell_on(slab: &mut Slab<Node>, key: usize, slot: u32, asks: bool)
+    requires posted { PostedIn (stored_at seen slab.old key) }
+    requires taken { terms_at (book_in (stored_at seen slab.old key)) slot ≢ None }
     requires within { slot < most_slots }
-    ensures here { ToldIn slot asks (shown_at seen nodes.old key) (shown_at seen nodes.new key) }
-    ensures others { (k : ℕ) → k ≢ key → shown_at seen nodes.new k ≡ shown_at seen nodes.old k }
+    ensures here { ToldIn slot asks (stored_at seen slab.old key) (stored_at seen slab.new key) }
+    ensures others { (k : ℕ) → k ≢ key → get slab.new k ≡ get slab.old k }
 {
-    match nodes.get_mut(key) {
+    match slab.get_mut(key) {
         Some(node) => match &mut node.role {
             Role::Sched(station) => station.tell(slot, asks),
             Role::Thread { .. } => {}
@@ -36,25 +40,66 @@ fn tell_at(nodes: &mut Slab<Node>, key: usize, slot: u32, asks: bool)
     }
 }
 
-/// Whether a node asks.
-pub(crate) fn asks_at(nodes: &Slab<Node>, key: usize) -> bool
+/// Whether it is new to a scheduler that a seat on it asks, or does not.
+fn is_new(nodes: &Nodes, key: usize, slot: u32, asks: bool) -> bool
     requires posted { PostedIn (shown_at seen nodes.now key) }
+    requires within { slot < most_slots }
+    ensures old { result ≡ false → is_sched (shown_at seen nodes.now key) ≡ true →
+        slot_asks (mask_in (shown_at seen nodes.now key)) slot ≡ asks }
+{
+    match nodes.slab.get(key) {
+        Some(node) => match &node.role {
+            Role::Sched(station) => station.is_new(slot, asks),
+            Role::Thread { .. } => false,
+        },
+        None => false,
+    }
+}
+
+/// Tells a scheduler whether a seat on it asks, where that is new; if it is behind, it catches up before.
+fn tell_at(nodes: &mut Nodes, key: usize, slot: u32, asks: bool)
+    requires posted { PostedIn (shown_at seen nodes.old key) }
+    requires taken { terms_at (book_in (shown_at seen nodes.old key)) slot ≢ None }
+    requires within { slot < most_slots }
+    requires late { IsLate seen nodes.old }
+    ensures here { ToldIn slot asks (shown_at seen nodes.old key) (shown_at seen nodes.new key) }
+    ensures others { (k : ℕ) → k ≢ key → shown_at seen nodes.new k ≡ shown_at seen nodes.old k }
+    ensures late { StaysLate seen nodes.old nodes.new }
+{
+    if !is_new(nodes, key, slot, asks) {
+        return;
+    }
+    rouse(nodes, key);
+    tell_on(&mut nodes.slab, key, slot, asks);
+}
+
+/// Whether a node asks.
+pub(crate) fn asks_at(nodes: &Nodes, key: usize) -> bool
+    requires posted { PostedIn (shown_at seen nodes.now key) }
+    requires late { IsLate seen nodes.now }
     ensures { result ≡ asks_in (shown_at seen nodes.now key) }
 {
-    match nodes.get(key) {
+    match nodes.slab.get(key) {
         Some(node) => node.role.asks(),
         None => false,
     }
 }
 
 /// The level of a node.
-pub fn level_at(nodes: &Slab<Node>, key: usize) -> u8
-    ensures { result ≡ level_in (shown_at seen nodes.now key) }
+pub fn stored_level(slab: &Slab<Node>, key: usize) -> u8
+    ensures { result ≡ level_in (stored_at seen slab.now key) }
 {
-    match nodes.get(key) {
+    match slab.get(key) {
         Some(node) => node.level,
         None => 0,
     }
+}
+
+/// The level of a node.
+pub fn level_at(nodes: &Nodes, key: usize) -> u8
+    ensures { result ≡ level_in (shown_at seen nodes.now key) }
+{
+    stored_level(&nodes.slab, key)
 }
 
 /// The scheduler and the slot of a place that is not the processor.
@@ -78,21 +123,23 @@ fn slot_on(seats: &[TakenSeat], port: u8) -> Option<(usize, u32)>
 }
 
 /// The scheduler and the slot where a port sits.
-fn slot_at(nodes: &Slab<Node>, key: usize, port: u8) -> Option<(usize, u32)>
+fn slot_at(nodes: &Nodes, key: usize, port: u8) -> Option<(usize, u32)>
     ensures { result ≡ told_place (place_in (shown_at seen nodes.now key) port) }
 {
-    match nodes.get(key) {
+    match nodes.slab.get(key) {
         Some(node) => slot_on(&node.seats, port),
         None => None,
     }
 }
 
 /// Tells the scheduler where somebody sits whether that one asks.
-fn tell_slot(nodes: &mut Slab<Node>, at: Option<(usize, u32)>, asks: bool)
+fn tell_slot(nodes: &mut Nodes, at: Option<(usize, u32)>, asks: bool)
     requires posted { (k : ℕ) → PostedIn (shown_at seen nodes.old k) }
     requires taken { IfSome at (λ a. terms_at (book_in (shown_at seen nodes.old a.0)) a.1 ≢ None) }
     requires within { IfSome at (λ a. a.1 < most_slots) }
-    ensures { ToldBy at asks (shown_at seen nodes.old) (shown_at seen nodes.new) }
+    requires late { IsLate seen nodes.old }
+    ensures told { ToldBy at asks (shown_at seen nodes.old) (shown_at seen nodes.new) }
+    ensures late { StaysLate seen nodes.old nodes.new }
 {
     match at {
         Some((scheduler, slot)) => tell_at(nodes, scheduler, slot, asks),
@@ -101,25 +148,28 @@ fn tell_slot(nodes: &mut Slab<Node>, at: Option<(usize, u32)>, asks: bool)
 }
 
 /// Tells where a port sits whether the node asks.
-fn tell_port(nodes: &mut Slab<Node>, key: usize, port: u8, asks: bool)
+fn tell_port(nodes: &mut Nodes, key: usize, port: u8, asks: bool)
     requires laid { IsLaid (shown_at seen nodes.old) }
     requires posted { (k : ℕ) → PostedIn (shown_at seen nodes.old k) }
-    ensures { ToldBy (told_place (place_in (shown_at seen nodes.old key) port)) asks
+    requires late { IsLate seen nodes.old }
+    ensures told { ToldBy (told_place (place_in (shown_at seen nodes.old key) port)) asks
         (shown_at seen nodes.old) (shown_at seen nodes.new) }
+    ensures late { StaysLate seen nodes.old nodes.new }
 {
     let at = slot_at(nodes, key, port);
     tell_slot(nodes, at, asks);
 }
 
 /// Whether a node asks, how many ports it has, and the scheduler and the slot where the first one sits.
-fn voice_at(nodes: &Slab<Node>, key: usize) -> (bool, u8, Option<(usize, u32)>)
+fn voice_at(nodes: &Nodes, key: usize) -> (bool, u8, Option<(usize, u32)>)
     requires posted { PostedIn (shown_at seen nodes.now key) }
     requires few { length (seats_in (shown_at seen nodes.now key)) ≤ 4 }
+    requires late { IsLate seen nodes.now }
     ensures asks { result.0 ≡ asks_in (shown_at seen nodes.now key) }
     ensures ports { result.1 ≡ length (seats_in (shown_at seen nodes.now key)) }
     ensures first { result.2 ≡ told_place (place_in (shown_at seen nodes.now key) 0) }
 {
-    match nodes.get(key) {
+    match nodes.slab.get(key) {
         Some(node) => (
             node.role.asks(),
             node.seats.len() as u8,
@@ -130,10 +180,12 @@ fn voice_at(nodes: &Slab<Node>, key: usize) -> (bool, u8, Option<(usize, u32)>)
 }
 
 /// Tells at each port of a node what it asks. Most have one, which is found with the node.
-fn tell_ports(nodes: &mut Slab<Node>, key: usize)
+fn tell_ports(nodes: &mut Nodes, key: usize)
     requires laid { IsLaid (shown_at seen nodes.old) }
     requires posted { (k : ℕ) → PostedIn (shown_at seen nodes.old k) }
-    ensures { Tells key (shown_at seen nodes.old) (shown_at seen nodes.new) }
+    requires late { IsLate seen nodes.old }
+    ensures tells { Tells key (shown_at seen nodes.old) (shown_at seen nodes.new) }
+    ensures late { StaysLate seen nodes.old nodes.new }
 {
     let (asks, ports, first) = voice_at(nodes, key);
     tell_slot(nodes, first, asks);
@@ -143,20 +195,22 @@ fn tell_ports(nodes: &mut Slab<Node>, key: usize)
 }
 
 /// Whether a node is a scheduler.
-fn is_sched_at(nodes: &Slab<Node>, key: usize) -> bool
+fn is_sched_at(nodes: &Nodes, key: usize) -> bool
     ensures { result ≡ is_sched (shown_at seen nodes.now key) }
 {
-    match nodes.get(key) {
+    match nodes.slab.get(key) {
         Some(node) => !node.role.is_thread(),
         None => false,
     }
 }
 
 /// Tells what a thread asks; a scheduler tells nothing.
-fn tell_thread(nodes: &mut Slab<Node>, key: usize)
+fn tell_thread(nodes: &mut Nodes, key: usize)
     requires laid { IsLaid (shown_at seen nodes.old) }
     requires posted { (k : ℕ) → PostedIn (shown_at seen nodes.old k) }
-    ensures { TellsThread key (shown_at seen nodes.old) (shown_at seen nodes.new) }
+    requires late { IsLate seen nodes.old }
+    ensures tells { TellsThread key (shown_at seen nodes.old) (shown_at seen nodes.new) }
+    ensures late { StaysLate seen nodes.old nodes.new }
 {
     if is_sched_at(nodes, key) {
         return;
@@ -165,26 +219,30 @@ fn tell_thread(nodes: &mut Slab<Node>, key: usize)
 }
 
 /// Tells what each thread asks.
-fn tell_threads(nodes: &mut Slab<Node>)
+fn tell_threads(nodes: &mut Nodes)
     requires telling { IsTelling (shown_at seen nodes.old)
         (λ c. NoScheduler (shown_at seen nodes.old) c × ¬ IsNew None c) }
+    requires late { IsLate seen nodes.old }
     ensures telling { IsTelling (shown_at seen nodes.new) (NoScheduler (shown_at seen nodes.new)) }
     ensures alike { IsAlike (shown_at seen nodes.old) (shown_at seen nodes.new) }
     ensures still { AreStill (shown_at seen nodes.old) (shown_at seen nodes.new) }
+    ensures late { StaysLate seen nodes.old nodes.new }
 {
-    let end = nodes.capacity();
+    let end = nodes.slab.capacity();
     for key in 0..end {
         tell_thread(nodes, key);
     }
 }
 
 /// Tells what these threads ask.
-fn tell_listed(nodes: &mut Slab<Node>, threads: &[NodeId])
+fn tell_listed(nodes: &mut Nodes, threads: &[NodeId])
     requires telling { IsTelling (shown_at seen nodes.old)
         (λ c. NoScheduler (shown_at seen nodes.old) c × ¬ IsNew (Some threads.now) c) }
+    requires late { IsLate seen nodes.old }
     ensures telling { IsTelling (shown_at seen nodes.new) (NoScheduler (shown_at seen nodes.new)) }
     ensures alike { IsAlike (shown_at seen nodes.old) (shown_at seen nodes.new) }
     ensures still { AreStill (shown_at seen nodes.old) (shown_at seen nodes.new) }
+    ensures late { StaysLate seen nodes.old nodes.new }
 {
     for id in threads {
         tell_thread(nodes, id.key());
@@ -192,12 +250,14 @@ fn tell_listed(nodes: &mut Slab<Node>, threads: &[NodeId])
 }
 
 /// Tells what those threads ask that have something new to tell.
-fn tell_changed(nodes: &mut Slab<Node>, changed: &Option<Changed>)
+fn tell_changed(nodes: &mut Nodes, changed: &Option<Changed>)
     requires telling { IsTelling (shown_at seen nodes.old)
         (λ c. NoScheduler (shown_at seen nodes.old) c × ¬ IsNew changed.now c) }
+    requires late { IsLate seen nodes.old }
     ensures telling { IsTelling (shown_at seen nodes.new) (NoScheduler (shown_at seen nodes.new)) }
     ensures alike { IsAlike (shown_at seen nodes.old) (shown_at seen nodes.new) }
     ensures still { AreStill (shown_at seen nodes.old) (shown_at seen nodes.new) }
+    ensures late { StaysLate seen nodes.old nodes.new }
 {
     match changed {
         Some(changed) => tell_listed(nodes, changed.threads()),
@@ -206,15 +266,17 @@ fn tell_changed(nodes: &mut Slab<Node>, changed: &Option<Changed>)
 }
 
 /// Tells what a scheduler asks, if it is at the level.
-fn tell_scheduler(nodes: &mut Slab<Node>, schedulers: &[NodeId], at: usize, level: u8)
+fn tell_scheduler(nodes: &mut Nodes, schedulers: &[NodeId], at: usize, level: u8)
     requires roll { IsRoll (shown_at seen nodes.old) schedulers.now }
     requires within { at < length schedulers.now }
     requires telling { IsTelling (shown_at seen nodes.old) (AllUpTo (shown_at seen nodes.old) level schedulers.now at) }
+    requires late { IsLate seen nodes.old }
     ensures telling { IsTelling (shown_at seen nodes.new)
         (AllUpTo (shown_at seen nodes.new) level schedulers.now (at + 1)) }
     ensures alike { IsAlike (shown_at seen nodes.old) (shown_at seen nodes.new) }
     ensures voices { (voices : ℕ) → 64 ≤ at → HaveTold (shown_at seen nodes.old) schedulers.now voices →
         HaveTold (shown_at seen nodes.new) schedulers.now voices }
+    ensures late { StaysLate seen nodes.old nodes.new }
 {
     let key = schedulers[at].key();
     if level_at(nodes, key) != level {
@@ -224,15 +286,17 @@ fn tell_scheduler(nodes: &mut Slab<Node>, schedulers: &[NodeId], at: usize, leve
 }
 
 /// Tells what the schedulers at these places of the list ask, a bit for each place.
-fn tell_places(nodes: &mut Slab<Node>, schedulers: &[NodeId], places: u64)
+fn tell_places(nodes: &mut Nodes, schedulers: &[NodeId], places: u64)
     requires roll { IsRoll (shown_at seen nodes.old) schedulers.now }
     requires within { (at : ℕ) → bit_at places at ≡ 1 → at < length schedulers.now }
     requires laid { IsLaid (shown_at seen nodes.old) }
     requires posted { (k : ℕ) → PostedIn (shown_at seen nodes.old k) }
+    requires late { IsLate seen nodes.old }
     ensures telling { (level : ℕ) → IsLevel (shown_at seen nodes.old) level schedulers.now places →
         IsTelling (shown_at seen nodes.old) (AllFrom (shown_at seen nodes.old) (level + 1)) →
         IsTelling (shown_at seen nodes.new) (AllUpTo (shown_at seen nodes.new) level schedulers.now 64) }
     ensures alike { IsAlike (shown_at seen nodes.old) (shown_at seen nodes.new) }
+    ensures late { StaysLate seen nodes.old nodes.new }
 {
     let mut left = places;
     while left != 0 {
@@ -243,13 +307,15 @@ fn tell_places(nodes: &mut Slab<Node>, schedulers: &[NodeId], places: u64)
 }
 
 /// Tells what the schedulers at a level ask that stand past the 64th place of the list.
-fn tell_rest(nodes: &mut Slab<Node>, schedulers: &[NodeId], level: u8)
+fn tell_rest(nodes: &mut Nodes, schedulers: &[NodeId], level: u8)
     requires roll { IsRoll (shown_at seen nodes.old) schedulers.now }
     requires telling { IsTelling (shown_at seen nodes.old) (AllUpTo (shown_at seen nodes.old) level schedulers.now 64) }
+    requires late { IsLate seen nodes.old }
     ensures telling { IsTelling (shown_at seen nodes.new) (AllFrom (shown_at seen nodes.new) level) }
     ensures alike { IsAlike (shown_at seen nodes.old) (shown_at seen nodes.new) }
     ensures voices { (voices : ℕ) → HaveTold (shown_at seen nodes.old) schedulers.now voices →
         HaveTold (shown_at seen nodes.new) schedulers.now voices }
+    ensures late { StaysLate seen nodes.old nodes.new }
 {
     for at in 64..schedulers.len() {
         tell_scheduler(nodes, schedulers, at, level);
@@ -258,33 +324,39 @@ fn tell_rest(nodes: &mut Slab<Node>, schedulers: &[NodeId], level: u8)
 
 /// Tells what the schedulers at a level ask. They stand at these places of the list; those past the 64th are
 /// looked for.
-fn tell_level(nodes: &mut Slab<Node>, schedulers: &[NodeId], level: u8, places: u64)
+fn tell_level(nodes: &mut Nodes, schedulers: &[NodeId], level: u8, places: u64)
     requires roll { IsRoll (shown_at seen nodes.old) schedulers.now }
     requires places { IsLevel (shown_at seen nodes.old) level schedulers.now places }
     requires telling { IsTelling (shown_at seen nodes.old) (AllFrom (shown_at seen nodes.old) (level + 1)) }
+    requires late { IsLate seen nodes.old }
     ensures telling { IsTelling (shown_at seen nodes.new) (AllFrom (shown_at seen nodes.new) level) }
     ensures alike { IsAlike (shown_at seen nodes.old) (shown_at seen nodes.new) }
+    ensures late { StaysLate seen nodes.old nodes.new }
 {
     tell_places(nodes, schedulers, places);
     tell_rest(nodes, schedulers, level);
 }
 
 /// Tells what those schedulers at these places of the list ask that ask otherwise than they told, and what all have
-/// told then, a bit for each place.
-fn tell_news(nodes: &mut Slab<Node>, schedulers: &[NodeId], places: u64, voices: u64) -> u64
+/// told then, a bit for each place. Who is quiet asks as it told.
+fn tell_news(nodes: &mut Nodes, schedulers: &[NodeId], places: u64, voices: u64) -> u64
     requires roll { IsRoll (shown_at seen nodes.old) schedulers.now }
     requires within { (at : ℕ) → bit_at places at ≡ 1 → at < length schedulers.now }
     requires laid { IsLaid (shown_at seen nodes.old) }
     requires posted { (k : ℕ) → PostedIn (shown_at seen nodes.old k) }
     requires voices { HaveTold (shown_at seen nodes.old) schedulers.now voices }
+    requires late { IsLate seen nodes.old }
+    requires quiet { IsQuiet seen nodes.old schedulers.now voices }
     ensures telling { (level : ℕ) → IsLevel (shown_at seen nodes.old) level schedulers.now places →
         IsTelling (shown_at seen nodes.old) (AllFrom (shown_at seen nodes.old) (level + 1)) →
         IsTelling (shown_at seen nodes.new) (AllUpTo (shown_at seen nodes.new) level schedulers.now 64) }
     ensures alike { IsAlike (shown_at seen nodes.old) (shown_at seen nodes.new) }
     ensures voices { HaveTold (shown_at seen nodes.new) schedulers.now result }
+    ensures late { StaysLate seen nodes.old nodes.new }
+    ensures quiet { IsQuiet seen nodes.new schedulers.now result }
 {
     let mut told = voices;
-    let mut left = places;
+    let mut left = places & !nodes.quiet;
     while left != 0 {
         let at = left.trailing_zeros();
         let key = schedulers[at as usize].key();
@@ -300,7 +372,7 @@ fn tell_news(nodes: &mut Slab<Node>, schedulers: &[NodeId], places: u64, voices:
 
 /// As `tell_level`, where it is known what each of the first 64 told.
 fn tell_level_news(
-    nodes: &mut Slab<Node>,
+    nodes: &mut Nodes,
     schedulers: &[NodeId],
     level: u8,
     places: u64,
@@ -310,9 +382,13 @@ fn tell_level_news(
     requires places { IsLevel (shown_at seen nodes.old) level schedulers.now places }
     requires telling { IsTelling (shown_at seen nodes.old) (AllFrom (shown_at seen nodes.old) (level + 1)) }
     requires voices { HaveTold (shown_at seen nodes.old) schedulers.now voices }
+    requires late { IsLate seen nodes.old }
+    requires quiet { IsQuiet seen nodes.old schedulers.now voices }
     ensures telling { IsTelling (shown_at seen nodes.new) (AllFrom (shown_at seen nodes.new) level) }
     ensures alike { IsAlike (shown_at seen nodes.old) (shown_at seen nodes.new) }
     ensures voices { HaveTold (shown_at seen nodes.new) schedulers.now result }
+    ensures late { StaysLate seen nodes.old nodes.new }
+    ensures quiet { IsQuiet seen nodes.new schedulers.now result }
 {
     let told = tell_news(nodes, schedulers, places, voices);
     tell_rest(nodes, schedulers, level);
@@ -334,7 +410,7 @@ fn deepest_placed(places: &[u64; 10]) -> u8
 }
 
 /// The deepest level of these nodes. The first 64 stand at these places by their levels.
-fn deepest(nodes: &Slab<Node>, keys: &[NodeId], places: &[u64; 10]) -> u8
+fn deepest(nodes: &Nodes, keys: &[NodeId], places: &[u64; 10]) -> u8
     requires ranked { IsRanked (shown_at seen nodes.now) }
     requires places { AreByLevel (shown_at seen nodes.now) keys.now places.now }
     ensures most { (c : ℕ) → IsOn keys.now c → level_in (shown_at seen nodes.now c) ≤ result }
@@ -348,12 +424,14 @@ fn deepest(nodes: &Slab<Node>, keys: &[NodeId], places: &[u64; 10]) -> u8
 }
 
 /// Tells what each scheduler asks, from the deepest level up. Those at level 1 sit at the processor alone.
-fn tell_schedulers(nodes: &mut Slab<Node>, schedulers: &[NodeId], places: &[u64; 10])
+fn tell_schedulers(nodes: &mut Nodes, schedulers: &[NodeId], places: &[u64; 10])
     requires roll { IsRoll (shown_at seen nodes.old) schedulers.now }
     requires places { AreByLevel (shown_at seen nodes.old) schedulers.now places.now }
     requires telling { IsTelling (shown_at seen nodes.old) (NoScheduler (shown_at seen nodes.old)) }
+    requires late { IsLate seen nodes.old }
     ensures telling { IsTelling (shown_at seen nodes.new) Each }
     ensures alike { IsAlike (shown_at seen nodes.old) (shown_at seen nodes.new) }
+    ensures late { StaysLate seen nodes.old nodes.new }
 {
     let deep = deepest(nodes, schedulers, places);
     if deep < 2 {
@@ -366,13 +444,17 @@ fn tell_schedulers(nodes: &mut Slab<Node>, schedulers: &[NodeId], places: &[u64;
 }
 
 /// As `tell_schedulers`, where it is known what each of the first 64 told.
-fn tell_schedulers_news(nodes: &mut Slab<Node>, schedulers: &[NodeId], known: &Known) -> u64
+fn tell_schedulers_news(nodes: &mut Nodes, schedulers: &[NodeId], known: &Known) -> u64
     requires roll { IsRoll (shown_at seen nodes.old) schedulers.now }
     requires known { AreKnown (shown_at seen nodes.old) schedulers.now known.now }
     requires telling { IsTelling (shown_at seen nodes.old) (NoScheduler (shown_at seen nodes.old)) }
+    requires late { IsLate seen nodes.old }
+    requires quiet { IsQuiet seen nodes.old schedulers.now known.now.voices }
     ensures telling { IsTelling (shown_at seen nodes.new) Each }
     ensures alike { IsAlike (shown_at seen nodes.old) (shown_at seen nodes.new) }
     ensures voices { HaveTold (shown_at seen nodes.new) schedulers.now result }
+    ensures late { StaysLate seen nodes.old nodes.new }
+    ensures quiet { IsQuiet seen nodes.new schedulers.now result }
 {
     let deep = deepest(nodes, schedulers, &known.places);
     let mut voices = known.voices;
@@ -385,8 +467,9 @@ fn tell_schedulers_news(nodes: &mut Slab<Node>, schedulers: &[NodeId], known: &K
 }
 
 /// Which of the first 64 schedulers ask, a bit for each.
-fn voices_of(nodes: &Slab<Node>, schedulers: &[NodeId]) -> u64
+fn voices_of(nodes: &Nodes, schedulers: &[NodeId]) -> u64
     requires posted { (k : ℕ) → PostedIn (shown_at seen nodes.now k) }
+    requires late { IsLate seen nodes.now }
     ensures { (at c : ℕ) → at < 64 → slice_get schedulers.now at ≡ Some c →
         has_bit result at ≡ asks_in (shown_at seen nodes.now c) }
 {
@@ -398,17 +481,44 @@ fn voices_of(nodes: &Slab<Node>, schedulers: &[NodeId]) -> u64
     voices
 }
 
-/// Takes the processor back from a node, if it has it, and tells the level of the node.
-fn revoke_at(nodes: &mut Slab<Node>, key: usize) -> u8
+/// Takes the processor back from a node, if it has it.
+fn revoke_on(slab: &mut Slab<Node>, key: usize)
+    requires posted { PostedIn (stored_at seen slab.old key) }
+    ensures here { stored_at seen slab.new key ≡ on_post post_freed (stored_at seen slab.old key) }
+    ensures others { (k : ℕ) → k ≢ key → get slab.new k ≡ get slab.old k }
+{
+    match slab.get_mut(key) {
+        Some(node) => match &mut node.role {
+            Role::Sched(station) => station.revoke(),
+            Role::Thread { .. } => {}
+        },
+        None => {}
+    }
+}
+
+/// The same, and it may be behind.
+fn revoke_at(nodes: &mut Nodes, key: usize)
     requires posted { PostedIn (shown_at seen nodes.old key) }
-    ensures level { result ≡ level_in (shown_at seen nodes.old key) }
+    requires late { IsLate seen nodes.old }
+    requires behind { nodes.old.behind ≡ true }
     ensures here { shown_at seen nodes.new key ≡ on_post post_revoked (shown_at seen nodes.old key) }
     ensures others { (k : ℕ) → k ≢ key → shown_at seen nodes.new k ≡ shown_at seen nodes.old k }
+    ensures late { StaysLate seen nodes.old nodes.new }
 {
-    match nodes.get_mut(key) {
+    revoke_on(&mut nodes.slab, key);
+}
+
+/// Takes the processor back from a node, if it has it, as from one that is not behind, and tells its level.
+fn begin_at(slab: &mut Slab<Node>, key: usize) -> u8
+    requires posted { PostedIn (stored_at seen slab.old key) }
+    ensures level { result ≡ level_in (stored_at seen slab.old key) }
+    ensures here { stored_at seen slab.new key ≡ on_post post_revoked (stored_at seen slab.old key) }
+    ensures others { (k : ℕ) → k ≢ key → stored_at seen slab.new k ≡ stored_at seen slab.old k }
+{
+    match slab.get_mut(key) {
         Some(node) => {
             match &mut node.role {
-                Role::Sched(station) => station.revoke(),
+                Role::Sched(station) => station.begin(),
                 Role::Thread { .. } => {}
             }
             node.level
@@ -417,40 +527,55 @@ fn revoke_at(nodes: &mut Slab<Node>, key: usize) -> u8
     }
 }
 
-/// Takes the processor back from all, and tells their places by their levels, a bit for each of the first 64.
-fn revoke_all(nodes: &mut Slab<Node>, schedulers: &[NodeId]) -> [u64; 10]
+/// Takes the processor back from all, and tells their places by their levels, a bit for each of the first 64. None is
+/// behind then, and any may be from here on.
+fn begin_all(nodes: &mut Nodes, schedulers: &[NodeId]) -> [u64; 10]
     requires roll { IsRoll (shown_at seen nodes.old) schedulers.now }
     requires ranked { IsRanked (shown_at seen nodes.old) }
     requires posted { (k : ℕ) → PostedIn (shown_at seen nodes.old k) }
+    requires flat { nodes.old.behind ≡ false }
     ensures revoked { (k : ℕ) → shown_at seen nodes.new k ≡ on_post post_revoked (shown_at seen nodes.old k) }
     ensures places { AreByLevel (shown_at seen nodes.old) schedulers.now result }
+    ensures late { IsLate seen nodes.new }
+    ensures behind { nodes.new.behind ≡ true }
+    ensures tick { nodes.new.tick ≡ 0 }
+    ensures quiet { nodes.new.quiet ≡ 0 }
 {
     let mut places = [0u64; 10];
     for at in 0..schedulers.len() {
-        let level = revoke_at(nodes, schedulers[at].key());
+        let level = begin_at(&mut nodes.slab, schedulers[at].key());
         if at < 64 {
             places[usize::from(level)] |= 1 << at;
         }
     }
+    nodes.behind = true;
+    nodes.tick = 0;
+    nodes.quiet = 0;
     places
 }
 
 /// Takes the processor back from the nodes of a route.
-fn revoke_listed(nodes: &mut Slab<Node>, route: &[NodeId])
+fn revoke_listed(nodes: &mut Nodes, route: &[NodeId])
     requires posted { (k : ℕ) → PostedIn (shown_at seen nodes.old k) }
     requires along { IsAlongRoute (shown_at seen nodes.old) (Some route.now) }
-    ensures { (k : ℕ) → shown_at seen nodes.new k ≡ on_post post_revoked (shown_at seen nodes.old k) }
+    requires late { IsLate seen nodes.old }
+    requires behind { nodes.old.behind ≡ true }
+    ensures revoked { (k : ℕ) → shown_at seen nodes.new k ≡ on_post post_revoked (shown_at seen nodes.old k) }
+    ensures late { StaysLate seen nodes.old nodes.new }
 {
     for id in route {
-        let _level = revoke_at(nodes, id.key());
+        revoke_at(nodes, id.key());
     }
 }
 
 /// Takes the processor back along a route.
-fn revoke_route(nodes: &mut Slab<Node>, route: &Option<Route>)
+fn revoke_route(nodes: &mut Nodes, route: &Option<Route>)
     requires posted { (k : ℕ) → PostedIn (shown_at seen nodes.old k) }
     requires along { IsAlongRoute (shown_at seen nodes.old) route.now }
-    ensures { (k : ℕ) → shown_at seen nodes.new k ≡ on_post post_revoked (shown_at seen nodes.old k) }
+    requires late { IsLate seen nodes.old }
+    requires behind { nodes.old.behind ≡ true }
+    ensures revoked { (k : ℕ) → shown_at seen nodes.new k ≡ on_post post_revoked (shown_at seen nodes.old k) }
+    ensures late { StaysLate seen nodes.old nodes.new }
 {
     match route {
         Some(route) => revoke_listed(nodes, route.nodes()),
@@ -459,16 +584,20 @@ fn revoke_route(nodes: &mut Slab<Node>, route: &Option<Route>)
 }
 
 /// As `tell`, where nothing is known of who was granted and what was told; tells what it finds.
-fn tell_anew(nodes: &mut Slab<Node>, schedulers: &[NodeId], changed: &Option<Changed>) -> Known
+fn tell_anew(nodes: &mut Nodes, schedulers: &[NodeId], changed: &Option<Changed>) -> Known
     requires roll { IsRoll (shown_at seen nodes.old) schedulers.now }
     requires told { AreTold (shown_at seen nodes.old) changed.now }
     requires laid { IsLaid (shown_at seen nodes.old) }
     requires posted { (k : ℕ) → PostedIn (shown_at seen nodes.old k) }
+    requires flat { nodes.old.behind ≡ false }
     ensures alike { IsAlike (shown_at seen nodes.old) (shown_at seen nodes.new) }
     ensures telling { IsTelling (shown_at seen nodes.new) Each }
     ensures known { AreKnown (shown_at seen nodes.new) schedulers.now result }
+    ensures late { IsLate seen nodes.new }
+    ensures quiet { IsQuiet seen nodes.new schedulers.now result.voices }
+    ensures tick { nodes.new.tick ≡ 0 }
 {
-    let places = revoke_all(nodes, schedulers);
+    let places = begin_all(nodes, schedulers);
     tell_changed(nodes, changed);
     tell_schedulers(nodes, schedulers, &places);
     let voices = voices_of(nodes, schedulers);
@@ -477,7 +606,7 @@ fn tell_anew(nodes: &mut Slab<Node>, schedulers: &[NodeId], changed: &Option<Cha
 
 /// As `tell`, where something is known.
 fn tell_again(
-    nodes: &mut Slab<Node>,
+    nodes: &mut Nodes,
     schedulers: &[NodeId],
     changed: &Option<Changed>,
     route: &Option<Route>,
@@ -489,9 +618,13 @@ fn tell_again(
     requires posted { (k : ℕ) → PostedIn (shown_at seen nodes.old k) }
     requires known { AreKnown (shown_at seen nodes.old) schedulers.now known.old }
     requires along { IsAlongRoute (shown_at seen nodes.old) route.now }
+    requires late { IsLate seen nodes.old }
+    requires quiet { IsQuiet seen nodes.old schedulers.now known.old.voices }
     ensures alike { IsAlike (shown_at seen nodes.old) (shown_at seen nodes.new) }
     ensures telling { IsTelling (shown_at seen nodes.new) Each }
     ensures known { AreKnown (shown_at seen nodes.new) schedulers.now known.new }
+    ensures late { StaysLate seen nodes.old nodes.new }
+    ensures quiet { IsQuiet seen nodes.new schedulers.now known.new.voices }
 {
     revoke_route(nodes, route);
     tell_changed(nodes, changed);
@@ -501,7 +634,7 @@ fn tell_again(
 /// Takes the processor back, and tells what asks, where it is new. Where something is known since the last pass,
 /// only those along its way were granted, and a scheduler that asks as it told last need not tell it again.
 pub fn tell(
-    nodes: &mut Slab<Node>,
+    nodes: &mut Nodes,
     schedulers: &[NodeId],
     changed: &Option<Changed>,
     route: &Option<Route>,
@@ -512,9 +645,14 @@ pub fn tell(
     requires laid { IsLaid (shown_at seen nodes.old) }
     requires posted { (k : ℕ) → PostedIn (shown_at seen nodes.old k) }
     requires known { IsKnown (shown_at seen nodes.old) schedulers.now route.now known.old }
+    requires late { IsLate seen nodes.old }
+    requires quiet { AreQuiet seen nodes.old schedulers.now known.old }
     ensures alike { IsAlike (shown_at seen nodes.old) (shown_at seen nodes.new) }
     ensures telling { IsTelling (shown_at seen nodes.new) Each }
     ensures known { IsFound (shown_at seen nodes.new) schedulers.now known.new }
+    ensures late { IsLate seen nodes.new }
+    ensures quiet { AreQuiet seen nodes.new schedulers.now known.new }
+    ensures tick { nodes.new.tick ≤ nodes.old.tick }
 {
     match known {
         Some(known) => tell_again(nodes, schedulers, changed, route, known),

@@ -6,35 +6,55 @@ ghost use Rattle.hls_machine.specs.Hierarchy.{Processor, Seat};
 ghost use Rattle.hls_tree_nodes.specs.Shown.{PostedIn, ServesIn};
 ghost use Rattle.hls_tree_nodes.specs.Shown.{asks_in, place_in};
 ghost use Rattle.hls_tree_nodes.specs.Shown.{grant_in, is_sched, on_post, post_granted};
-ghost use Rattle.hls_tree_nodes.specs.Views.{shown_at, choice_at, is_place, place_view, seat_view};
+ghost use Rattle.hls_tree_nodes.specs.Views.{shown_at, stored_at, choice_at, choice_opt, is_place, place_view};
+ghost use Rattle.hls_tree_nodes.specs.Views.{seat_view};
+ghost use Rattle.hls_tree_nodes.specs.Late.{IsLate, StaysLate};
 ghost use Rattle.hls_tree_nodes.specs.Known.{IsAlongRoute};
 ghost use Rattle.hls_tree_nodes.specs.TreeOf.{IsTelling, Sitter, Led, Ran, RootAt};
 ghost use Rattle.hls_tree_nodes.specs.TreeOf.{Each};
 
 use crate::asking::asks_at;
 use crate::node::same_place;
-use crate::{Node, NodeId, Place, Role, Route, TakenSeat};
+use crate::nodes::rouse;
+use crate::{Node, NodeId, Nodes, Place, Role, Route, TakenSeat};
 use slab::Slab;
 
-/// Grants a scheduler through a port, and names the slot that it serves; nothing at a thread.
-fn grant_at(nodes: &mut Slab<Node>, key: usize, port: u8) -> Option<u32>
-    requires posted { PostedIn (shown_at seen nodes.old key) }
-    requires asks { asks_in (shown_at seen nodes.old key) ≡ true }
-    requires free { grant_in (shown_at seen nodes.old key) ≡ None }
-    ensures others { (k : ℕ) → k ≢ key → get nodes.new k ≡ get nodes.old k }
-    ensures granted { shown_at seen nodes.new key ≡ on_post (post_granted port) (shown_at seen nodes.old key) }
-    ensures choice { choice_at choice nodes.new key ≡ choice_at choice nodes.old key }
-    ensures value { result ≡ choice_at choice nodes.old key }
-    ensures serves { IfSome result (ServesIn (shown_at seen nodes.old key)) }
-    ensures some { is_sched (shown_at seen nodes.old key) ≡ true → result ≢ None }
+/// Grants a scheduler that is not behind through a port, and names the slot that it serves; nothing at a thread.
+fn grant_on(slab: &mut Slab<Node>, key: usize, port: u8) -> Option<u32>
+    requires posted { PostedIn (stored_at seen slab.old key) }
+    requires asks { asks_in (stored_at seen slab.old key) ≡ true }
+    requires free { grant_in (stored_at seen slab.old key) ≡ None }
+    ensures others { (k : ℕ) → k ≢ key → get slab.new k ≡ get slab.old k }
+    ensures granted { stored_at seen slab.new key ≡ on_post (post_granted port) (stored_at seen slab.old key) }
+    ensures value { result ≡ choice_opt choice (get slab.new key) }
+    ensures serves { IfSome result (ServesIn (stored_at seen slab.old key)) }
+    ensures some { is_sched (stored_at seen slab.old key) ≡ true → result ≢ None }
 {
-    match nodes.get_mut(key) {
+    match slab.get_mut(key) {
         Some(node) => match &mut node.role {
             Role::Sched(station) => station.grant(port),
             Role::Thread { .. } => None,
         },
         None => None,
     }
+}
+
+/// Grants a scheduler through a port, and names the slot that it serves; nothing at a thread. If it is behind, it
+/// catches up before.
+fn grant_at(nodes: &mut Nodes, key: usize, port: u8) -> Option<u32>
+    requires posted { PostedIn (shown_at seen nodes.old key) }
+    requires asks { asks_in (shown_at seen nodes.old key) ≡ true }
+    requires free { grant_in (shown_at seen nodes.old key) ≡ None }
+    requires late { IsLate seen nodes.old }
+    ensures others { (k : ℕ) → k ≢ key → get nodes.new.slab k ≡ get nodes.old.slab k }
+    ensures granted { shown_at seen nodes.new key ≡ on_post (post_granted port) (shown_at seen nodes.old key) }
+    ensures value { result ≡ choice_at choice nodes.new key }
+    ensures serves { IfSome result (ServesIn (shown_at seen nodes.old key)) }
+    ensures some { is_sched (shown_at seen nodes.old key) ≡ true → result ≢ None }
+    ensures late { StaysLate seen nodes.old nodes.new }
+{
+    rouse(nodes, key);
+    grant_on(&mut nodes.slab, key, port)
 }
 
 /// Whether the seat of a port is at a place.
@@ -64,26 +84,26 @@ fn port_on(seats: &[TakenSeat], place: Place) -> Option<u8>
 }
 
 /// The port of a node that sits at a place.
-fn port_at(nodes: &Slab<Node>, key: usize, place: Place) -> Option<u8>
+fn port_at(nodes: &Nodes, key: usize, place: Place) -> Option<u8>
     ensures some { IfSome result
         (λ port. is_place (place_in (shown_at seen nodes.now key) port) (place_view place) ≡ true) }
     ensures none { IsNone result → (port : ℕ) → port < 4 →
         is_place (place_in (shown_at seen nodes.now key) port) (place_view place) ≢ true }
 {
-    match nodes.get(key) {
+    match nodes.slab.get(key) {
         Some(node) => port_on(&node.seats, place),
         None => None,
     }
 }
 
 /// Who sits at a place, and by which port, of all nodes.
-fn find_sitter(nodes: &Slab<Node>, place: Place) -> Option<(usize, u8)>
+fn find_sitter(nodes: &Nodes, place: Place) -> Option<(usize, u8)>
     ensures some { IfSome result
         (λ who. is_place (place_in (shown_at seen nodes.now who.0) who.1) (place_view place) ≡ true) }
     ensures none { IsNone result → (key port : ℕ) → port < 4 →
         is_place (place_in (shown_at seen nodes.now key) port) (place_view place) ≢ true }
 {
-    let end = nodes.capacity();
+    let end = nodes.slab.capacity();
     for key in 0..end {
         if let Some(port) = port_at(nodes, key, place) {
             return Some((key, port));
@@ -93,7 +113,7 @@ fn find_sitter(nodes: &Slab<Node>, place: Place) -> Option<(usize, u8)>
 }
 
 /// Who sits at a place, and by which port: the one who was seen there last, if it still does.
-fn sitter_at(nodes: &Slab<Node>, place: Place, last: usize) -> Option<(usize, u8)>
+fn sitter_at(nodes: &Nodes, place: Place, last: usize) -> Option<(usize, u8)>
     ensures some { IfSome result
         (λ who. is_place (place_in (shown_at seen nodes.now who.0) who.1) (place_view place) ≡ true) }
     ensures none { IsNone result → (key port : ℕ) → port < 4 →
@@ -106,8 +126,8 @@ fn sitter_at(nodes: &Slab<Node>, place: Place, last: usize) -> Option<(usize, u8
 }
 
 /// Who was seen last at a slot of a scheduler.
-fn last_on(nodes: &Slab<Node>, key: usize, slot: u32) -> usize {
-    match nodes.get(key) {
+fn last_on(nodes: &Nodes, key: usize, slot: u32) -> usize {
+    match nodes.slab.get(key) {
         Some(node) => match &node.role {
             Role::Sched(station) => station.last_at(slot),
             Role::Thread { .. } => 0,
@@ -117,7 +137,7 @@ fn last_on(nodes: &Slab<Node>, key: usize, slot: u32) -> usize {
 }
 
 /// Who was seen last at a place; at the processor the root.
-fn last_seen(nodes: &Slab<Node>, place: Place, root: usize) -> usize {
+fn last_seen(nodes: &Nodes, place: Place, root: usize) -> usize {
     match place {
         Place::Processor => root,
         Place::At { scheduler, slot } => last_on(nodes, scheduler, slot),
@@ -125,13 +145,15 @@ fn last_seen(nodes: &Slab<Node>, place: Place, root: usize) -> usize {
 }
 
 /// Notes who was seen at a slot of a scheduler.
-fn note_on(nodes: &mut Slab<Node>, key: usize, slot: u32, id: NodeId)
+fn note_on(nodes: &mut Nodes, key: usize, slot: u32, id: NodeId)
     requires posted { PostedIn (shown_at seen nodes.old key) }
+    requires late { IsLate seen nodes.old }
     ensures here { shown_at seen nodes.new key ≡ shown_at seen nodes.old key }
     ensures choice { choice_at choice nodes.new key ≡ choice_at choice nodes.old key }
-    ensures others { (k : ℕ) → k ≢ key → get nodes.new k ≡ get nodes.old k }
+    ensures others { (k : ℕ) → k ≢ key → get nodes.new.slab k ≡ get nodes.old.slab k }
+    ensures late { StaysLate seen nodes.old nodes.new }
 {
-    match nodes.get_mut(key) {
+    match nodes.slab.get_mut(key) {
         Some(node) => match &mut node.role {
             Role::Sched(station) => station.note(slot, id),
             Role::Thread { .. } => {}
@@ -141,10 +163,12 @@ fn note_on(nodes: &mut Slab<Node>, key: usize, slot: u32, id: NodeId)
 }
 
 /// Notes who was seen at a place, if it is another one than the last.
-fn note_seen(nodes: &mut Slab<Node>, place: Place, last: usize, id: NodeId)
+fn note_seen(nodes: &mut Nodes, place: Place, last: usize, id: NodeId)
     requires posted { (k : ℕ) → PostedIn (shown_at seen nodes.old k) }
+    requires late { IsLate seen nodes.old }
     ensures same { (k : ℕ) → shown_at seen nodes.new k ≡ shown_at seen nodes.old k }
     ensures choices { (k : ℕ) → choice_at choice nodes.new k ≡ choice_at choice nodes.old k }
+    ensures late { StaysLate seen nodes.old nodes.new }
 {
     if id.key() == last {
         return;
@@ -156,12 +180,14 @@ fn note_seen(nodes: &mut Slab<Node>, place: Place, last: usize, id: NodeId)
 }
 
 /// Grants along the choices down to a thread, and tells the way.
-fn grant_path(nodes: &mut Slab<Node>, root: NodeId, route: &mut Route)
+fn grant_path(nodes: &mut Nodes, root: NodeId, route: &mut Route)
     requires telling { IsTelling (shown_at seen nodes.old) Each }
     requires root { (sitter : Sitter (shown_at seen nodes.old) Processor) ×
         (asks_in (shown_at seen nodes.old sitter.node) ≡ true) }
     requires empty { route.old ≡ [] }
-    ensures { Led (shown_at seen nodes.old) (shown_at seen nodes.new) (choice_at choice nodes.new) route.new }
+    requires late { IsLate seen nodes.old }
+    ensures led { Led (shown_at seen nodes.old) (shown_at seen nodes.new) (choice_at choice nodes.new) route.new }
+    ensures late { StaysLate seen nodes.old nodes.new }
 {
     let mut place = Place::Processor;
     for step in 0..9u8 {
@@ -186,10 +212,12 @@ fn grant_path(nodes: &mut Slab<Node>, root: NodeId, route: &mut Route)
 }
 
 /// Grants from the root down, if it asks.
-fn grant_root(nodes: &mut Slab<Node>, root: Option<NodeId>, route: &mut Option<Route>)
+fn grant_root(nodes: &mut Nodes, root: Option<NodeId>, route: &mut Option<Route>)
     requires telling { IsTelling (shown_at seen nodes.old) Each }
     requires root { RootAt (shown_at seen nodes.old) root }
-    ensures { Ran (shown_at seen nodes.old) (shown_at seen nodes.new) (choice_at choice nodes.new) root route.new }
+    requires late { IsLate seen nodes.old }
+    ensures ran { Ran (shown_at seen nodes.old) (shown_at seen nodes.new) (choice_at choice nodes.new) root route.new }
+    ensures late { StaysLate seen nodes.old nodes.new }
 {
     match root {
         None => *route = None,
@@ -204,11 +232,13 @@ fn grant_root(nodes: &mut Slab<Node>, root: Option<NodeId>, route: &mut Option<R
 }
 
 /// Grants from the root down, if it asks, and tells the way.
-pub fn grant(nodes: &mut Slab<Node>, root: Option<NodeId>, route: &mut Option<Route>)
+pub fn grant(nodes: &mut Nodes, root: Option<NodeId>, route: &mut Option<Route>)
     requires telling { IsTelling (shown_at seen nodes.old) Each }
     requires root { RootAt (shown_at seen nodes.old) root }
+    requires late { IsLate seen nodes.old }
     ensures ran { Ran (shown_at seen nodes.old) (shown_at seen nodes.new) (choice_at choice nodes.new) root route.new }
     ensures along { IsAlongRoute (shown_at seen nodes.new) route.new }
+    ensures late { StaysLate seen nodes.old nodes.new }
 {
     grant_root(nodes, root, route);
 }

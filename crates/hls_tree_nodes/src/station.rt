@@ -5,29 +5,39 @@ ghost use Rattle.hls_chron.specs.Ranges.{TermsInRange, most_slots};
 ghost use Rattle.hls_chron.specs.Seats.{terms_at};
 ghost use Rattle.hls_kinds.specs.Asks.{slot_asks};
 ghost use Rattle.hls_kinds.specs.Discipline.{Serves};
-ghost use Rattle.hls_sched.specs.Seen.{config_of, IsConfigured, seen_asks, requested, released};
+ghost use Rattle.hls_sched.specs.Seen.{config_of, IsConfigured, seen_asks, requested, released, leapt};
 ghost use Rattle.hls_kinds.specs.Faults.{IsFirstFault};
-ghost use Rattle.hls_tree_nodes.specs.Shown.{HasNoFault, IsPosted, IsTold, post_granted, post_revoked, post_turned};
+ghost use Rattle.hls_tree_nodes.specs.Shown.{HasNoFault, IsPosted, IsTold, post_granted, post_freed, post_revoked};
+ghost use Rattle.hls_tree_nodes.specs.Behind.{LagsRight, late_post, lag_place, with_lag};
 ghost use Rattle.hls_tree_nodes.specs.Shown.{post_seated, post_left, post_settled, MaySit};
 ghost use Rattle.hls_kinds.specs.Room.{IsFree, IsFull};
 ghost use Rattle.hls_tree_nodes.specs.Views.{post_of};
 ghost use Rattle.std.specs.Prelude.{◌≤◌};
-ghost use Rattle.hls_kinds.specs.Stands.{always};
+ghost use Rattle.hls_kinds.specs.Stands.{always, stands_idle};
 ghost use Rattle.hls_sched.specs.Stands.{Stands, seen_stands};
 ghost use Rattle.hls_tree_nodes.specs.Leapt.{post_leapt};
 
 use crate::NodeId;
 use hls_chron::{Config, Terms};
-use hls_sched::{Scheduler, SeatFault};
+use hls_kinds::stands_idle;
+use hls_sched::{ALWAYS, Scheduler, SeatFault};
+
+/// That a box is behind: since which tick of the nodes' clock, and the place of its scheduler in the list.
+#[derive(Clone, Copy, Debug)]
+pub struct Lag {
+    pub since: u32,
+    pub at: u8,
+}
 
 /// A box that is set up, its configuration, the slots that it was told to ask, a bit each, whether it
-/// is granted, and who was seen last at each of its slots.
+/// is granted, whether it is behind, and who was seen last at each of its slots.
 #[derive(Drop)]
 pub struct Station {
     pub unit: Box<dyn Scheduler>,
     pub config: Config,
     pub mask: u32,
     pub granted: bool,
+    pub lag: Option<Lag>,
     pub last_seen: [NodeId; 32],
 }
 
@@ -83,6 +93,32 @@ fn fits(unit: &dyn Scheduler, terms: &Terms) -> Option<SeatFault>
     unit.fits(terms)
 }
 
+fn leap(unit: &mut Box<dyn Scheduler>, ticks: u32)
+    requires configured { IsConfigured (seen unit.old) }
+    requires some { 0 < ticks }
+    requires stands { ticks ≤ seen_stands (choice unit.old) (seen unit.old) }
+    requires room { ticks ≤ (seen unit.old).book.spare_ticks }
+    ensures { seen unit.new ≡ leapt ticks (choice unit.old) (seen unit.old) }
+{
+    unit.leap(ticks);
+}
+
+/// So many ticks of a box that is not granted and stands always then.
+fn leap_idle(unit: &mut Box<dyn Scheduler>, ticks: u32)
+    requires configured { IsConfigured (seen unit.old) }
+    requires idle { stands_idle (config_of (seen unit.old)) ≡ true }
+    requires free { (seen unit.old).grant ≡ None }
+    requires room { ticks ≤ (seen unit.old).book.spare_ticks }
+    ensures { seen unit.new ≡ leapt ticks None (seen unit.old) }
+{
+    let mut left = ticks;
+    while left != 0 {
+        let step = left.min(ALWAYS);
+        leap(unit, step);
+        left -= step;
+    }
+}
+
 impl Station {
     /// Whether it asks.
     pub fn asks(&self) -> bool
@@ -126,12 +162,56 @@ impl Station {
     /// Takes the processor back, if it has it.
     pub fn revoke(&mut self)
         requires posted { IsPosted (post_of seen self.old) }
-        ensures revoked { post_of seen self.new ≡ post_revoked (post_of seen self.old) }
+        ensures revoked { post_of seen self.new ≡ post_freed (post_of seen self.old) }
     {
         if self.granted {
             self.unit.revoke();
             self.granted = false;
         }
+    }
+
+    /// The same, and forgets that it was behind.
+    pub fn begin(&mut self)
+        requires posted { IsPosted (post_of seen self.old) }
+        ensures begun { post_of seen self.new ≡ post_revoked (post_of seen self.old) }
+    {
+        self.revoke();
+        self.lag = None;
+    }
+
+    /// Catches up, if it is behind, and tells its place in the list.
+    pub fn catch_up(&mut self, tick: u32) -> Option<u8>
+        requires lags { LagsRight tick self.old.lag (post_of seen self.old) }
+        ensures up { post_of seen self.new ≡ late_post true tick (post_of seen self.old) }
+        ensures place { result ≡ lag_place self.old.lag }
+    {
+        match self.lag {
+            Some(lag) => {
+                leap_idle(&mut self.unit, tick - lag.since);
+                self.lag = None;
+                Some(lag.at)
+            }
+            None => None,
+        }
+    }
+
+    /// Whether it is of a kind that stands always while it is not granted, and is neither granted nor behind.
+    pub fn is_idle(&self) -> bool
+        requires posted { IsPosted (post_of seen self.now) }
+        ensures idle { result ≡ true → stands_idle (config_of (seen self.now.unit)) ≡ true }
+        ensures free { result ≡ true → (seen self.now.unit).grant ≡ None }
+        ensures up { result ≡ true → self.now.lag ≡ None }
+    {
+        !self.granted && self.lag.is_none() && stands_idle(&self.config)
+    }
+
+    /// Whether it is new to it that a seat asks, or does not.
+    pub fn is_new(&self, slot: u32, asks: bool) -> bool
+        requires posted { IsPosted (post_of seen self.now) }
+        requires within { slot < most_slots }
+        ensures old { result ≡ false → slot_asks (seen self.now.unit).mask slot ≡ asks }
+    {
+        is_set(self.mask, slot) != asks
     }
 
     /// Grants it through a port, and names the slot that it serves.
@@ -174,13 +254,37 @@ impl Station {
         }
     }
 
-    /// One tick.
-    pub fn turn(&mut self)
+    /// So many ticks, one or as many as it stands.
+    pub fn elapse(&mut self, ticks: u32)
         requires posted { IsPosted (post_of seen self.old) }
-        requires room { 0 < (seen self.old.unit).book.spare_ticks }
-        ensures { post_of seen self.new ≡ post_turned (choice self.old.unit) (post_of seen self.old) }
+        requires some { 0 < ticks }
+        requires stands { 1 < ticks → ticks ≤ seen_stands (choice self.old.unit) (seen self.old.unit) }
+        requires room { ticks ≤ (seen self.old.unit).book.spare_ticks }
+        ensures { post_of seen self.new ≡ post_leapt ticks (choice self.old.unit) (post_of seen self.old) }
     {
-        self.unit.turn();
+        if ticks == 1 {
+            self.unit.turn();
+        } else {
+            self.unit.leap(ticks);
+        }
+    }
+
+    /// Is behind from here on, where it may be: where it is of a kind that stands always while it is not granted, is
+    /// not granted, and asks as it told.
+    pub fn note_behind(&mut self, lag: Lag, told: bool) -> bool
+        requires posted { IsPosted (post_of seen self.old) }
+        ensures noted { result ≡ true → post_of seen self.new ≡ with_lag lag (post_of seen self.old) }
+        ensures idle { result ≡ true → stands_idle (config_of (seen self.old.unit)) ≡ true }
+        ensures free { result ≡ true → (seen self.old.unit).grant ≡ None }
+        ensures up { result ≡ true → self.old.lag ≡ None }
+        ensures asks { result ≡ true → seen_asks (seen self.old.unit) ≡ told }
+        ensures none { result ≡ false → self.new ≡ self.old }
+    {
+        if self.is_idle() && self.asks() == told {
+            self.lag = Some(lag);
+            return true;
+        }
+        false
     }
 
     /// For how many ticks from the present one on it asks as it does, and serves whom it serves.
@@ -194,15 +298,21 @@ impl Station {
         self.unit.stands()
     }
 
-    /// So many ticks, in which it stands.
-    pub fn leap(&mut self, ticks: u32)
-        requires posted { IsPosted (post_of seen self.old) }
-        requires some { 0 < ticks }
-        requires stands { ticks ≤ seen_stands (choice self.old.unit) (seen self.old.unit) }
-        requires room { ticks ≤ (seen self.old.unit).book.spare_ticks }
-        ensures { post_of seen self.new ≡ post_leapt ticks (choice self.old.unit) (post_of seen self.old) }
+    /// The same, where it may be behind: then it stands always.
+    pub fn stands_late(&self, behind: bool) -> u32
+        requires posted { IsPosted (post_of seen self.now) }
+        ensures late { behind ≡ true → self.now.lag ≢ None → result ≡ always }
+        ensures up { self.now.lag ≡ None → result ≡ seen_stands (choice self.now.unit) (seen self.now.unit) }
+        ensures flat { behind ≡ false → result ≡ seen_stands (choice self.now.unit) (seen self.now.unit) }
+        ensures within { result ≤ always }
+        ensures some { 0 < result }
+        ensures law { self.now.lag ≡ None → Stands result (choice self.now.unit) (seen self.now.unit) }
+        ensures flat_law { behind ≡ false → Stands result (choice self.now.unit) (seen self.now.unit) }
     {
-        self.unit.leap(ticks);
+        if behind && self.lag.is_some() {
+            return ALWAYS;
+        }
+        self.stands()
     }
 
     /// Takes the seat at the least free slot, which it names.

@@ -1,6 +1,7 @@
 use Rattle.hls_tree_nodes.specs.Views.{shown_at}
 use Rattle.hls_tree_nodes.specs.TreeOf.{IsTelling, IsAlike, NoScheduler, IsFrom}
 use Rattle.hls_tree_nodes.specs.Known.{AreStill}
+use Rattle.hls_tree_nodes.specs.Late.{StaysLate}
 use Rattle.hls_tree_nodes.proofs.asking.tell_listed.Given as goal
 
 abbrev pub invariant-loop-id : goal.invariant-loop-id
@@ -15,4 +16,5 @@ invariant-loop-id g l = record {
   still : AreStill
       (shown_at (λ b. (goal.Scheduler-dyn g (b.vtable, b.value)).seen b.value) l.fn.nodes)
       (shown_at (λ b. (goal.Scheduler-dyn g (b.vtable, b.value)).seen b.value) l.nodes);
+  late : StaysLate (λ b. (goal.Scheduler-dyn g (b.vtable, b.value)).seen b.value) l.fn.nodes l.nodes;
 }

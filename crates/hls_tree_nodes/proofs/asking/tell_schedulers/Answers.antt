@@ -4,6 +4,7 @@ use Rattle.hls_tree_nodes.proofs.Snapshots.{alike_refl, alike_then}
 use Rattle.hls_tree_nodes.proofs.Tells.{levels_start, level_to, levels_end, roll_alike}
 use Rattle.hls_tree_nodes.specs.Levels.{IsLevel}
 use Rattle.hls_tree_nodes.proofs.Levels.{level_alike}
+use Rattle.hls_tree_nodes.proofs.Late.{stays_refl, stays_then}
 use Rattle.hls_tree_nodes.proofs.asking.tell_schedulers.Goals as goal
 
 pub loop-step-init : goal.loop-step-init
@@ -11,6 +12,7 @@ loop-step-init g c = record {
   telling = level_to _ _ _ (omega arith) (levels_start _ _ _ c.requires.roll.all c.deepest-deep.ensures.most
       c.requires.telling);
   alike = alike_refl _;
+  late = stays_refl _ _ c.requires.late;
 }
 
 pub tell_level-requires : goal.tell_level-requires
@@ -26,12 +28,14 @@ tell_level-requires g c = record {
         c.deepest-deep.ensures.within,
       ))));
   telling = level_to _ _ _ (omega (arith, c.loop-step-test.true)) c.loop-step.invariant.telling;
+  late = c.loop-step.invariant.late.late;
 }
 
 pub loop-step-preserved : goal.loop-step-preserved
 loop-step-preserved g c = record {
   telling = level_to _ _ _ (omega (arith, c.loop-step-test.true)) c.tell_level.ensures.telling;
   alike = alike_then _ _ _ c.loop-step.invariant.alike c.tell_level.ensures.alike;
+  late = stays_then _ _ _ _ c.loop-step.invariant.late c.tell_level.ensures.late;
 }
 
 pub returns-then-deep-lt2-clause-telling : goal.returns-then-deep-lt2-clause-telling
@@ -41,3 +45,6 @@ returns-then-deep-lt2-clause-telling g c = levels_end _ _ (omega (arith, c.if-de
 pub returns-clause-telling : goal.returns-clause-telling
 returns-clause-telling g c =
     levels_end _ _ (omega (arith, c.loop-step-test.false)) c.loop-step.invariant.telling
+
+pub returns-then-deep-lt2-clause-late : goal.returns-then-deep-lt2-clause-late
+returns-then-deep-lt2-clause-late g c = stays_refl _ _ c.requires.late

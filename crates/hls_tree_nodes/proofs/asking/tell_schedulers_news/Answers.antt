@@ -4,6 +4,7 @@ use Rattle.hls_tree_nodes.specs.Levels.{IsLevel}
 use Rattle.hls_tree_nodes.proofs.Snapshots.{alike_refl, alike_then}
 use Rattle.hls_tree_nodes.proofs.Tells.{levels_start, level_to, levels_end, roll_alike}
 use Rattle.hls_tree_nodes.proofs.Levels.{level_alike}
+use Rattle.hls_tree_nodes.proofs.Late.{stays_refl, stays_then}
 use Rattle.hls_tree_nodes.proofs.asking.tell_schedulers_news.Goals as goal
 
 pub loop-step-init : goal.loop-step-init
@@ -12,6 +13,8 @@ loop-step-init g c = record {
       c.requires.telling);
   alike = alike_refl _;
   voices = c.requires.known.voices;
+  late = stays_refl _ _ c.requires.late;
+  quiet = c.requires.quiet;
 }
 
 pub tell_level_news-voices-requires : goal.tell_level_news-voices-requires
@@ -28,6 +31,8 @@ tell_level_news-voices-requires g c = record {
       ))));
   telling = level_to _ _ _ (omega (arith, c.loop-step-test.true)) c.loop-step.invariant.telling;
   voices = c.loop-step.invariant.voices;
+  late = c.loop-step.invariant.late.late;
+  quiet = c.loop-step.invariant.quiet;
 }
 
 pub loop-step-preserved : goal.loop-step-preserved
@@ -35,6 +40,8 @@ loop-step-preserved g c = record {
   telling = level_to _ _ _ (omega (arith, c.loop-step-test.true)) c.tell_level_news-voices.ensures.telling;
   alike = alike_then _ _ _ c.loop-step.invariant.alike c.tell_level_news-voices.ensures.alike;
   voices = c.tell_level_news-voices.ensures.voices;
+  late = stays_then _ _ _ _ c.loop-step.invariant.late c.tell_level_news-voices.ensures.late;
+  quiet = c.tell_level_news-voices.ensures.quiet;
 }
 
 pub returns-clause-telling : goal.returns-clause-telling

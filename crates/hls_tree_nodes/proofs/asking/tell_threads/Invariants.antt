@@ -2,6 +2,7 @@ use Rattle.std.proofs.Common.{◌<◌}
 use Rattle.hls_tree_nodes.specs.Views.{shown_at}
 use Rattle.hls_tree_nodes.specs.TreeOf.{IsTelling, IsAlike, NoScheduler}
 use Rattle.hls_tree_nodes.specs.Known.{AreStill}
+use Rattle.hls_tree_nodes.specs.Late.{StaysLate}
 use Rattle.hls_tree_nodes.proofs.asking.tell_threads.Given as goal
 
 abbrev pub invariant-loop-key : goal.invariant-loop-key
@@ -16,4 +17,5 @@ invariant-loop-key g l = record {
   still : AreStill
       (shown_at (λ b. (goal.Scheduler-dyn g (b.vtable, b.value)).seen b.value) l.fn.nodes)
       (shown_at (λ b. (goal.Scheduler-dyn g (b.vtable, b.value)).seen b.value) l.nodes);
+  late : StaysLate (λ b. (goal.Scheduler-dyn g (b.vtable, b.value)).seen b.value) l.fn.nodes l.nodes;
 }

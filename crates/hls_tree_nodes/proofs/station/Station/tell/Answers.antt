@@ -6,10 +6,10 @@ use Rattle.hls_tree_nodes.proofs.station.Station.tell.Goals as goal
 pub returns-then-not-is_set : goal.returns-then-not-is_set
 returns-then-not-is_set g c =
     told_set c.args.slot c.args.asks _ _ c.«if-asks».true c.requires.posted c.requires.taken c.request.ensures
-    (ap (bit_or c.args.self.now.mask) c.bit.ensures) refl refl
+    (ap (bit_or c.args.self.now.mask) c.bit.ensures) refl refl refl
 
 pub returns-then-is_set : goal.returns-then-is_set
 returns-then-is_set g c =
     told_clear c.args.slot c.args.asks _ _ c.«if-asks».false c.requires.within (omega arith) c.requires.posted
     c.release.ensures
-    (ap (λ b. bit_and c.args.self.now.mask (bit_not w32 b)) c.«bit-then-is_set».ensures) refl refl
+    (ap (λ b. bit_and c.args.self.now.mask (bit_not w32 b)) c.«bit-then-is_set».ensures) refl refl refl
