@@ -1,7 +1,7 @@
 -- Nodes as if they were not behind.
-use Rattle.std.proofs.Common.{◌≡◌, ◌≢◌, ℕ, ◌+◌, ◌-◌, ◌≤◌, ◌<◌, ◌++◌, Bool, true, false, List, Option, Some, None, refl}
+use Rattle.std.proofs.Common.{◌≡◌, ℕ, ◌+◌, ◌-◌, ◌<◌, ◌++◌, Bool, true, false, List, Option, Some, None, refl}
 use Rattle.std.proofs.Common.{sym}
-use Rattle.std.proofs.Common.{ap, ◌∙◌, subst, arith, ◌==◌}
+use Rattle.std.proofs.Common.{ap, ◌∙◌, subst, arith}
 use Rattle.std.proofs.Math.ListN.{replicate}
 use Rattle.std.proofs.lemmas.List.{replicate-append-replicate, append_assoc}
 use Rattle.hls_chron.specs.declared.book.TickRow.{TickRow}
@@ -12,15 +12,12 @@ use Rattle.hls_chron.specs.Seats.{terms_at}
 use Rattle.hls_kinds.specs.Asks.{asks}
 use Rattle.hls_kinds.specs.Stands.{stands_idle}
 use Rattle.hls_sched.specs.Seen.{Seen, config_of, seen_asks, tick_row, leapt}
-use Rattle.hls_machine.specs.Hierarchy.{Place, Seat}
-use Rattle.hls_tree_nodes.specs.Shown.{Post, What, Scheduler, Thread, Shown, IsPosted, PostedWhat, PostedIn, on_post}
-use Rattle.hls_tree_nodes.specs.Shown.{RoomIn}
+use Rattle.hls_machine.specs.Hierarchy.{Seat}
+use Rattle.hls_tree_nodes.specs.Shown.{Post, What, Scheduler, Thread, Shown, IsPosted, PostedWhat, PostedIn}
 use Rattle.hls_tree_nodes.specs.Shown.{level_in, seats_in, place_in, mask_in, grant_in, asks_in, is_sched, ready_in}
-use Rattle.hls_tree_nodes.specs.Shown.{bare_in}
-use Rattle.hls_tree_nodes.specs.Shown.{asks_what, on_what}
-use Rattle.hls_tree_nodes.specs.Leapt.{post_leapt}
+use Rattle.hls_tree_nodes.specs.Shown.{asks_what}
 use Rattle.hls_tree_nodes.specs.declared.station.Lag.{Lag}
-use Rattle.hls_tree_nodes.specs.Behind.{late_book, late_lag, late_post, late_what, late, MayLag, LagsRight, LagsWhat}
+use Rattle.hls_tree_nodes.specs.Behind.{late_book, late_post, late_what, late, LagsRight, LagsWhat}
 use Rattle.hls_tree_nodes.specs.Behind.{LagsIn}
 use Rattle.hls_tree_nodes.specs.Behind.{behind_at, place_what, lag_place}
 

@@ -13,12 +13,13 @@ use Rattle.slab.proofs.SlabLemmas.{Updates-with_value}
 use Rattle.hls_chron.specs.Ledger.{Ledger, with_rows}
 use Rattle.hls_kinds.specs.Stands.{always}
 use Rattle.hls_sched.specs.Seen.{Seen, config_of, tick_row}
-use Rattle.hls_sched.specs.Stands.{seen_stands}
+use Rattle.hls_sched.specs.Stands.{Stands, seen_stands}
 use Rattle.hls_tree_nodes.specs.Shown.{Post, What, Scheduler, Shown, PostedIn, PostedWhat, RoomIn, RoomBare, on_what}
 use Rattle.hls_tree_nodes.specs.Shown.{on_post, post_turned, bare_what, is_sched, is_sched_what, asks_in}
 use Rattle.hls_tree_nodes.specs.Shown as shown
 use Rattle.hls_tree_nodes.specs.Leapt.{post_leapt, stands_in, StandsIn, StandsLate}
-use Rattle.hls_tree_nodes.specs.Views.{shown as shown_node, shown_opt, stored_at, shown_at, choice_opt, choice_at}
+use Rattle.hls_tree_nodes.specs.Views.{shown as shown_node, shown_opt, post_of, stored_at, shown_at, choice_opt}
+use Rattle.hls_tree_nodes.specs.Views.{choice_at}
 use Rattle.hls_tree_nodes.specs.TreeOf.{IsRoll, IsOn, IsFrom}
 use Rattle.hls_tree_nodes.specs.Known.{has_bit}
 use Rattle.hls_tree_nodes.specs.Late.{IsLate, IsQuiet, AreQuiet, AreBehind, IsSameClock}
@@ -32,6 +33,7 @@ use Rattle.hls_tree_nodes.specs.Behind.{late_book, late_post, late_what, late, L
 use Rattle.hls_tree_nodes.specs.Behind.{lag_place, place_what, behind_at, HasElapsed, with_lag, IsIdleWhat, IsNoted}
 use Rattle.hls_tree_nodes.proofs.Behind.{late_flat, late_up, late_sched, leapt_add, asks_idle}
 use Rattle.hls_tree_nodes.proofs.Idle.{idle_stands}
+use Rattle.hls_tree_nodes.proofs.Lasting.{idle_serves, late_lawful}
 use Rattle.hls_tree_nodes.proofs.Leaps.{nodes-none, nodes-more}
 use Rattle.hls_tree_nodes.proofs.Levels.{least_on, next_others, next_fewer}
 use Rattle.hls_tree_nodes.proofs.Tells.{entry_at}
@@ -77,6 +79,7 @@ more_room ticks tick (Some lag) post some may room =
       posted = may.posted;
       idle = may.idle;
       free = may.free;
+      lawful = may.lawful;
       room = omega (arith, since, room, some);
     }
 
@@ -161,6 +164,7 @@ noting ticks tick choice lag told (Some s) new now near posted room x =
         };
         idle = idle.0;
         free = idle.1;
+        lawful = idle.3;
         room = let fits_so : ticks ≤ post.unit.book.spare_ticks =
             subst (λ l. ticks ≤ (late_book true tick l post.unit).spare_ticks) idle.2 fits in
             omega (arith, now, fits_so);
@@ -220,10 +224,14 @@ silent ticks tick behind choice (Some s) not = by_what s.what not where
 idle_law : (n : ℕ) (choice : Option ℕ) (t : ℕ) (lag : Option Lag) (post : Post) → LagsRight t lag post → lag ≢ None
     → StandsLate n choice (record post.unit { book = late_book true t lag post.unit })
 idle_law n choice t None post may some = absurd (some refl)
-idle_law n choice t (Some lag) post may some = record {
-  asks = λ k lt. asks_idle (config_of post.unit) (late_book true t (Some lag) post.unit) _ k post.unit.mask may.idle;
-  serves = λ granted. absurd (granted may.free);
-}
+idle_law n choice t (Some lag) post may some =
+    let behind : Seen = record post.unit { book = late_book true t (Some lag) post.unit } in
+    record {
+      asks = λ k lt. asks_idle (config_of post.unit) behind.book _ k post.unit.mask may.idle;
+      serves = λ granted. absurd (granted may.free);
+      stays = λ serves k lt. idle_serves choice behind k may.idle may.free
+          (late_lawful t lag post may.lawful) serves;
+    }
 
 -- who is behind stands always
 pub behind_stands : (choice : Option ℕ) (t : ℕ) (o : Option Shown) → LagsIn t o → behind_at o ≢ None
@@ -249,6 +257,39 @@ behind_law n choice t (Some s) may there = by_what s.what may there where
       → StandsIn n choice (late true t (Some (record s { what = w })))
   by_what (Scheduler post) lags at = idle_law n choice t post.lag post lags (λ none. at (ap lag_place none))
   by_what (shown.Thread ready) lags at = absurd (at refl)
+
+stored_law : (n : ℕ) (choice : Option ℕ) (s : Seen) → Stands n choice s → StandsLate n choice s
+stored_law n choice s stands = record {
+  asks = stands.asks;
+  stays = λ now. stands.serves;
+  serves = λ granted. stands.serves;
+}
+
+post_law : (n : ℕ) (choice : Option ℕ) (t : ℕ) (behind : Bool) (post : Post)
+    → (behind ≡ true → LagsRight t post.lag post) → (behind ≡ false → Stands n choice post.unit)
+    → (post.lag ≡ None → Stands n choice post.unit) → StandsLate n choice (late_post behind t post).unit
+post_law n choice t false post may flat up = stored_law n choice post.unit (flat refl)
+post_law n choice t true post may flat up = by_lag post.lag refl (may refl) where
+  by_lag : (lag : Option Lag) → post.lag ≡ lag → LagsRight t lag post
+      → StandsLate n choice (record post.unit { book = late_book true t lag post.unit })
+  by_lag None is right = stored_law n choice post.unit (up is)
+  by_lag (Some lag) is right = idle_law n choice t (Some lag) post right (λ none. let no : Some lag ≡ None = none in cc)
+
+-- a node that is a scheduler, behind or not
+pub node_law : {V : Type 0} {P : V → Type 0} (show : DynBox V Global P → Seen) (choice : DynBox V Global P → Option ℕ)
+    (n : ℕ) (nodes : Nodes V P) (k : ℕ) (node : Node V P) (station : Station V P) → IsLate show nodes
+    → get nodes.slab k ≡ Some node → node.role ≡ Sched station
+    → (nodes.behind ≡ false → Stands n (choice station.unit) (show station.unit))
+    → (station.lag ≡ None → Stands n (choice station.unit) (show station.unit))
+    → StandsIn n (choice_at choice nodes k) (shown_at show nodes k)
+node_law {V} {P} show choice n nodes k node station late_so at role flat up =
+    subst (λ (o : Option (Node V P)). StandsIn n (choice_opt choice o) (late nodes.behind nodes.tick (shown_opt show o)))
+    (sym here)
+    (post_law n (choice station.unit) nodes.tick nodes.behind (post_of show station)
+    (λ on. subst (λ (o : Option (Node V P)). LagsIn nodes.tick (shown_opt show o)) here (late_so.lags on k)) flat up)
+  where
+    here : get nodes.slab k ≡ Some (record node { role = Sched station })
+    here = at ∙ ap (λ r. Some (record node { role = r })) role
 
 -- ---- bits
 

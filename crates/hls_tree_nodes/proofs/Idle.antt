@@ -1,5 +1,5 @@
 -- Boxes that are not granted, of kinds that stand always then.
-use Rattle.std.proofs.Common.{◌≡◌, ◌≢◌, ℕ, ◌+◌, ◌-◌, ◌≤◌, false, true, Option, None, refl, sym, ap, ◌∙◌, arith}
+use Rattle.std.proofs.Common.{◌≡◌, ℕ, ◌+◌, ◌-◌, ◌≤◌, true, Option, None, sym, ap, ◌∙◌, arith}
 use Rattle.std.specs.Prelude.{is_some}
 use Rattle.hls_chron.specs.Ledger.{with_rows}
 use Rattle.hls_kinds.specs.Stands.{always, stands_of, stands_idle}

@@ -1,11 +1,11 @@
 -- What calls leave of who is behind.
-use Rattle.std.proofs.Common.{◌≡◌, ℕ, Bool, true, List, Option, Some, None, refl, sym, ap, ◌∙◌, subst}
+use Rattle.std.proofs.Common.{◌≡◌, ℕ, List, refl, ◌∙◌}
 use Rattle.std.specs.declared.dyn_box.DynBox.{DynBox}
 use Rattle.std.specs.declared.alloc.Global.{Global}
 use Rattle.hls_sched.specs.Seen.{Seen}
 use Rattle.hls_tree_nodes.specs.Shown.{PostedIn, asks_in}
 use Rattle.hls_tree_nodes.specs.Views.{stored_at, shown_at}
-use Rattle.hls_tree_nodes.specs.Late.{IsLate, IsQuiet, AreBehind, StaysLate}
+use Rattle.hls_tree_nodes.specs.Late.{IsLate, IsQuiet, StaysLate}
 use Rattle.hls_tree_nodes.specs.declared.nodes.Nodes.{Nodes}
 use Rattle.hls_tree_nodes.proofs.Behind.{asks_late, posted_in}
 

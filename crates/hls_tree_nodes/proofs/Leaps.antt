@@ -177,6 +177,7 @@ mask_of mask (Some hop) = refl
 pub fewer_what : (n m : ℕ) (choice : Option ℕ) (w : What) → m ≤ n → StandsWhat n choice w → StandsWhat m choice w
 fewer_what n m choice (Scheduler post) le stands = record {
   asks = λ k lt. stands.asks k (omega (arith, lt, le));
+  stays = λ now k lt. stands.stays now k (omega (arith, lt, le));
   serves = λ granted k lt. stands.serves granted k (omega (arith, lt, le));
 }
 fewer_what n m choice (shown.Thread ready) le stands = tt

@@ -150,6 +150,7 @@ freed_by tick (Some lag) post may = record {
   posted = posted_freed post may.posted;
   idle = may.idle;
   free = refl;
+  lawful = record { made = may.lawful.made; seats = may.lawful.seats };
   room = may.room;
 }
 

@@ -2,7 +2,7 @@
 use Rattle.std.specs.Prelude.{◌≡◌, ℕ, ◌+◌, ◌-◌, ◌<◌, ◌≤◌, Bool, true, false, Option, Some, None}
 use Rattle.hls_chron.specs.Ledger.{Ledger, with_rows}
 use Rattle.hls_kinds.specs.Stands.{stands_idle}
-use Rattle.hls_sched.specs.Seen.{Seen, config_of, tick_row}
+use Rattle.hls_sched.specs.Seen.{Seen, IsLawful, config_of, tick_row}
 use Rattle.hls_tree_nodes.specs.Shown.{Post, What, Scheduler, Thread, Shown, IsPosted, asks_in, on_post}
 use Rattle.hls_tree_nodes.specs.Leapt.{post_leapt}
 use Rattle.hls_tree_nodes.specs.declared.station.Lag.{Lag}
@@ -32,14 +32,15 @@ abbrev pub late : (behind : Bool) → (tick : ℕ) → Option Shown → Option S
 late behind tick None = None
 late behind tick (Some s) = Some (record s { what = late_what behind tick s.what })
 
--- A box may be behind where it stands always: it is not granted, and of a kind that stands then. It has room for the
--- rows that it lacks.
+-- A box may be behind where it stands always: it is not granted, and of a kind that stands then. It is lawful, and has
+-- room for the rows that it lacks.
 pub record MayLag (tick : ℕ) (lag : Lag) (post : Post) : Type 0 where
   pub since : lag.since ≤ tick
   pub within : lag.at < 64
   pub posted : IsPosted post
   pub idle : stands_idle (config_of post.unit) ≡ true
   pub free : post.unit.grant ≡ None
+  pub lawful : IsLawful post.unit
   pub room : tick - lag.since ≤ post.unit.book.spare_ticks
 
 abbrev pub LagsRight : (tick : ℕ) → Option Lag → Post → Type 0
@@ -77,7 +78,8 @@ abbrev pub with_lag : Lag → Post → Post
 with_lag lag post = record post { lag = Some lag }
 
 abbrev pub IsIdleWhat : What → Type 0
-IsIdleWhat (Scheduler post) = (stands_idle (config_of post.unit) ≡ true) × (post.unit.grant ≡ None) × (post.lag ≡ None)
+IsIdleWhat (Scheduler post) =
+    (stands_idle (config_of post.unit) ≡ true) × (post.unit.grant ≡ None) × (post.lag ≡ None) × IsLawful post.unit
 IsIdleWhat (Thread ready) = ⊥
 
 abbrev pub IsIdle : Option Shown → Type 0

@@ -1,9 +1,9 @@
 -- Which nodes are behind, and what calls leave of that.
-use Rattle.std.specs.Prelude.{◌≡◌, ℕ, ◌<◌, Bool, true, false, Option, Some, None, List, slice_get}
+use Rattle.std.specs.Prelude.{◌≡◌, ℕ, ◌<◌, true, false, Option, Some, None, List, slice_get}
 use Rattle.std.specs.declared.dyn_box.DynBox.{DynBox}
 use Rattle.std.specs.declared.alloc.Global.{Global}
 use Rattle.hls_sched.specs.Seen.{Seen}
-use Rattle.hls_tree_nodes.specs.Shown.{Shown, asks_in}
+use Rattle.hls_tree_nodes.specs.Shown.{asks_in}
 use Rattle.hls_tree_nodes.specs.Behind.{LagsIn, behind_at}
 use Rattle.hls_tree_nodes.specs.Views.{stored_at}
 use Rattle.hls_tree_nodes.specs.Known.{has_bit}

@@ -17,10 +17,12 @@ post_leapt n choice post = record post { unit = leapt n choice post.unit }
 abbrev pub nodes_by : (ℕ → Option Shown) → (choices : ℕ → Option ℕ) → ℕ → ℕ → Option Shown
 nodes_by s choices n k = on_post (post_leapt n (choices k)) (s k)
 
--- A box asks in each of the next n ticks as it does in the present one, and where it is granted, the slot to serve is
--- the same.
+-- A box asks in each of the next n ticks as it does in the present one, and its choice, where it is the slot to serve,
+-- stays so; where the box is granted, it is.
 pub record StandsLate (n : ℕ) (choice : Option ℕ) (s : Seen) : Type 0 where
   pub asks : (k : ℕ) → k < n → seen_asks (leapt k choice s) ≡ seen_asks s
+  pub stays : IfSome choice (Serves (config_of s) s.book s.mask) → (k : ℕ) → k < n
+      → IfSome choice (Serves (config_of s) (leapt k choice s).book s.mask)
   pub serves : s.grant ≢ None → (k : ℕ) → k < n → IfSome choice (Serves (config_of s) (leapt k choice s).book s.mask)
 
 abbrev pub StandsWhat : ℕ → Option ℕ → What → Type 0

@@ -5,7 +5,7 @@ ghost use Rattle.hls_chron.specs.Ranges.{TermsInRange, most_slots};
 ghost use Rattle.hls_chron.specs.Seats.{terms_at};
 ghost use Rattle.hls_kinds.specs.Asks.{slot_asks};
 ghost use Rattle.hls_kinds.specs.Discipline.{Serves};
-ghost use Rattle.hls_sched.specs.Seen.{config_of, IsConfigured, seen_asks, requested, released, leapt};
+ghost use Rattle.hls_sched.specs.Seen.{config_of, IsConfigured, IsLawful, seen_asks, requested, released, leapt};
 ghost use Rattle.hls_kinds.specs.Faults.{IsFirstFault};
 ghost use Rattle.hls_tree_nodes.specs.Shown.{HasNoFault, IsPosted, IsTold, post_granted, post_freed, post_revoked};
 ghost use Rattle.hls_tree_nodes.specs.Behind.{LagsRight, late_post, lag_place, with_lag};
@@ -278,9 +278,11 @@ impl Station {
         ensures free { result ≡ true → (seen self.old.unit).grant ≡ None }
         ensures up { result ≡ true → self.old.lag ≡ None }
         ensures asks { result ≡ true → seen_asks (seen self.old.unit) ≡ told }
+        ensures lawful { result ≡ true → IsLawful (seen self.old.unit) }
         ensures none { result ≡ false → self.new ≡ self.old }
     {
         if self.is_idle() && self.asks() == told {
+            self.unit.vouch();
             self.lag = Some(lag);
             return true;
         }

@@ -1,5 +1,5 @@
 use Rattle.std.proofs.Common.{arith, refl}
-use Rattle.hls_tree_nodes.proofs.Idle.{leaping_start, leaping_step, leaping_end, may_go_on, MayGoOn}
+use Rattle.hls_tree_nodes.proofs.Idle.{leaping_start, leaping_step, leaping_end, may_go_on}
 use Rattle.hls_tree_nodes.proofs.station.leap_idle.Goals as goal
 
 pub loop-left-init : goal.loop-left-init
