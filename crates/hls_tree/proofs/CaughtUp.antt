@@ -1,5 +1,5 @@
 -- A tree of which all have caught up.
-use Rattle.std.proofs.Common.{◌≡◌, ℕ, zero, suc, ◌≤◌, true, false, List, [], Option, Some, None, map, refl, sym, ap}
+use Rattle.std.proofs.Common.{◌≡◌, ℕ, zero, suc, true, false, List, [], Option, Some, None, map, refl, sym, ap}
 use Rattle.std.proofs.Common.{◌∙◌, subst, arith, slice_index_or}
 use Rattle.std.proofs.Math.Path.{fun_ext}
 use Rattle.hls_sched.specs.Boxed.{boxed}

@@ -1,12 +1,12 @@
 -- Trees in which nobody is behind, and what calls leave of who is.
-use Rattle.std.proofs.Common.{◌≡◌, ℕ, ◌≤◌, Bool, true, false, List, Option, Some, None, refl, sym, ap, ◌∙◌, subst}
+use Rattle.std.proofs.Common.{◌≡◌, ℕ, ◌≤◌, Bool, true, false, List, Option, Some, None, sym, ap, ◌∙◌, subst}
 use Rattle.std.proofs.Math.Path.{fun_ext}
 use Rattle.std.specs.declared.dyn_box.DynBox.{DynBox}
 use Rattle.std.specs.declared.alloc.Global.{Global}
 use Rattle.hls_sched.specs.Boxed.{boxed}
 use Rattle.hls_sched.specs.Seen.{Seen}
 use Rattle.hls_machine.specs.Hierarchy.{Hierarchy}
-use Rattle.hls_tree_nodes.specs.Shown.{Shown, PostedIn, asks_in}
+use Rattle.hls_tree_nodes.specs.Shown.{PostedIn, asks_in}
 use Rattle.hls_tree_nodes.specs.Behind.{late, LagsIn, behind_at}
 use Rattle.hls_tree_nodes.specs.Known.{has_bit}
 use Rattle.hls_tree_nodes.specs.Late.{IsLate, IsQuiet, AreQuiet, AreBehind, StaysLate}
@@ -16,7 +16,7 @@ use Rattle.hls_tree_nodes.specs.declared.nodes.Nodes.{Nodes}
 use Rattle.hls_tree_nodes.proofs.Behind.{late_flat}
 use Rattle.hls_tree_nodes.proofs.Late.{quiet_stays}
 use Rattle.hls_tree_nodes.proofs.Silent.{zero_off}
-use Rattle.hls_tree.specs.Trees.{IsTreeOf, IsReadyOf, Stands, Admits, Loads, Moves, ready_of}
+use Rattle.hls_tree.specs.Trees.{IsTreeOf, IsReadyOf, Stands, ready_of}
 use Rattle.hls_tree.specs.declared.tree.Tree.{Tree}
 
 -- no place of the list has a bit
