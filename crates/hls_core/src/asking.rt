@@ -1,10 +1,8 @@
 // What is read of a core between its commands: the tree as it stands, and what a request would be answered.
-ghost use Rattle.std.specs.Prelude.{◌≡◌, ℕ, IfOk};
-ghost use Rattle.hls_scenario.specs.declared.scenario.Scenario.{Scenario as ScenarioSeen};
+ghost use Rattle.std.specs.Prelude.{◌≡◌, IfOk};
 ghost use Rattle.hls_scenario.specs.Grammar.{IsCommand};
 ghost use Rattle.hls_report_text.specs.WellFormed.{MayAnswer as IsWellFormed};
-ghost use Rattle.hls_legal.specs.Moment.{Moment, Boxes};
-ghost use Rattle.hls_tree.specs.Trees.{IsUpToDate};
+ghost use Rattle.hls_legal.specs.Moment.{Moment};
 ghost use Rattle.hls_legal.specs.Answers.{IsAnswer};
 ghost use Rattle.hls_manager.specs.Outcomes.{IsRequest};
 
@@ -18,8 +16,7 @@ use hls_tree::Tree;
 use std::alloc::AllocError;
 
 impl Core {
-    ghost use Rattle.hls_core.specs.Cores.{IsCoreOf, Runs};
-    ghost use Rattle.hls_core.specs.Readings.{scenario_of, now_of, next_of};
+    ghost use Rattle.hls_core.specs.Cores.{Runs};
     ghost use Rattle.hls_core.specs.Asking.{IsMomentOf};
 
     /// The tree as it stands.
@@ -27,19 +24,6 @@ impl Core {
         ensures { result.now ≡ self.now.tree }
     {
         &self.tree
-    }
-
-    /// Lets each scheduler of the tree catch up that is behind, so that its book can be read.
-    pub fn catch_up(&mut self)
-        requires runs { Runs seen self.old }
-        ensures is { (s : ScenarioSeen) (given : ℕ) (boxes : Boxes) → IsCoreOf seen self.old s given boxes →
-            IsCoreOf seen self.new s given boxes }
-        ensures up { IsUpToDate self.new.tree }
-        ensures now { now_of self.new ≡ now_of self.old }
-        ensures next { next_of self.new ≡ next_of self.old }
-        ensures scenario { scenario_of self.new ≡ scenario_of self.old }
-    {
-        self.tree.catch_up();
     }
 
     /// The depth in force.

@@ -6,7 +6,7 @@ ghost use Rattle.hls_kinds.specs.Room.{IsFull};
 ghost use Rattle.hls_machine.specs.Hierarchy.{Hierarchy, config_of, book_of};
 ghost use Rattle.hls_machine.specs.Legal.{IsReached};
 ghost use Rattle.hls_tree.specs.Reads.{IsLoaded};
-ghost use Rattle.hls_tree.specs.Trees.{IsTreeOf, IsUpToDate, Stands};
+ghost use Rattle.hls_tree.specs.Trees.{IsTreeOf, Stands};
 ghost use Rattle.hls_offer.specs.Left.{fit_in, IsLeft};
 
 use crate::priorities::free_spans;
@@ -60,7 +60,6 @@ fn fits_in(alloc: Global, free: u128, periods: &[u32]) -> Result<Vec<Fit>, Alloc
 /// Returns `AllocError` for want of memory.
 pub fn left_on(alloc: Global, tree: &Tree, id: NodeId, periods: &[u32]) -> Result<Left, AllocError>
     requires stands { Stands seen tree.now (λ h. IsReached h × IsLoaded (h.nodes id)) }
-    requires up { IsUpToDate tree.now }
     ensures { IfOk result (λ left. (h : Hierarchy) → IsTreeOf seen tree.now h →
         IsLeft (config_of (h.nodes id)) (book_of (h.nodes id)) periods.now left) }
 {

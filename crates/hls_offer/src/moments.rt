@@ -2,7 +2,6 @@
 ghost use Rattle.std.specs.Prelude.{◌≡◌, ◌≤◌, ◌<◌, ℕ, IfSome, IsNone, OnOk, length};
 ghost use Rattle.hls_scenario.specs.declared.scenario.Scenario.{Scenario as ScenarioSeen};
 ghost use Rattle.hls_legal.specs.Moment.{Boxes};
-ghost use Rattle.hls_tree.specs.Trees.{IsUpToDate};
 ghost use Rattle.hls_core.specs.Cores.{IsCoreOf, Runs, NoneDue};
 ghost use Rattle.hls_core.specs.Readings.{scenario_of, now_of, next_of};
 ghost use Rattle.hls_offer.specs.Moments.{tick_of, asked_tick, items_to, IsBadTick, IsGoodTick};
@@ -58,7 +57,7 @@ pub fn tick_fault(scenario: &Scenario, tick: u32) -> Option<Cause>
     None
 }
 
-/// Carries a scenario out up to a tick, the commands of the tick included. No scheduler is behind then.
+/// Carries a scenario out up to a tick, the commands of the tick included.
 ///
 /// # Errors
 /// Returns `AllocError` for want of memory.
@@ -69,7 +68,6 @@ pub fn carry_to(core: &mut Core, tick: u32) -> Result<(), AllocError>
     ensures is { OnOk result ((s : ScenarioSeen) (given : ℕ) (boxes : Boxes) → IsCoreOf seen core.old s given boxes →
         IsCoreOf seen core.new s given boxes) }
     ensures now { OnOk result (now_of core.new ≡ tick) }
-    ensures up { OnOk result (IsUpToDate core.new.tree) }
     ensures none { OnOk result (NoneDue (scenario_of core.new).items (next_of core.new) tick) }
 {
     while core.now() < tick {
@@ -77,6 +75,5 @@ pub fn carry_to(core: &mut Core, tick: u32) -> Result<(), AllocError>
         core.leap_to(tick);
     }
     carry_out_due(core)?;
-    core.catch_up();
     Ok(())
 }

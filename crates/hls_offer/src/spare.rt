@@ -3,7 +3,7 @@ ghost use Rattle.std.specs.Prelude.{OnOk};
 ghost use Rattle.hls_machine.specs.Hierarchy.{Hierarchy};
 ghost use Rattle.hls_machine.specs.Legal.{IsReached};
 ghost use Rattle.hls_tree.specs.Reads.{IsLoaded};
-ghost use Rattle.hls_tree.specs.Trees.{IsTreeOf, IsUpToDate, Stands};
+ghost use Rattle.hls_tree.specs.Trees.{IsTreeOf, Stands};
 ghost use Rattle.hls_offer.specs.Inside.Lines.{AddsFree, AddsAll};
 
 use crate::left::left_on;
@@ -23,7 +23,6 @@ fn put_one(
     out: &mut Vec<u8>,
 ) -> Result<(), AllocError>
     requires stands { Stands seen tree.now (λ h. IsReached h × IsLoaded (h.nodes id)) }
-    requires up { IsUpToDate tree.now }
     ensures { OnOk result (AddsFree seen version tree.now periods.now id out.old.items out.new.items) }
 {
     let name = tree.name(id);
@@ -46,7 +45,6 @@ pub fn put_spare(
     out: &mut Vec<u8>,
 ) -> Result<(), AllocError>
     requires stands { Stands seen tree.now IsReached }
-    requires up { IsUpToDate tree.now }
     ensures { OnOk result (AddsAll seen version tree.now periods.now out.old.items out.new.items) }
 {
     for at in 0..tree.scheds() {

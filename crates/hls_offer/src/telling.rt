@@ -1,7 +1,6 @@
 // The lines that answer a question where a core stands.
 ghost use Rattle.std.specs.Prelude.{◌≡◌, IfOk, option_copied};
 ghost use Rattle.hls_legal.specs.Moment.{Moment};
-ghost use Rattle.hls_tree.specs.Trees.{IsUpToDate};
 ghost use Rattle.hls_core.specs.Cores.{Runs};
 ghost use Rattle.hls_core.specs.Readings.{now_of};
 ghost use Rattle.hls_core.specs.Asking.{IsMomentOf};
@@ -58,7 +57,6 @@ pub fn put_told(
     out: &mut Vec<u8>,
 ) -> Result<bool, AllocError>
     requires runs { Runs seen core.now }
-    requires up { IsUpToDate core.now.tree }
     requires asked { IsAskable asked.now }
     ensures { IfOk result (λ offers. (m : Moment) → IsMomentOf seen core.now m → AddsTold
         (IsTold version asked.now.question m (now_of core.now) asked.now.periods) offers out.old.items

@@ -34,12 +34,5 @@ carry_out_due-requires-2 g c = record {
 }
 
 pub returns-clause-is : goal.returns-clause-is
-returns-clause-is g c = λ s given boxes is. c.catch_up.ensures.is s given boxes
-    (c.in_ok-carry_out_due-2.ensures.is s given boxes (c.loop-core.invariant.on s given boxes is))
-
-pub catch_up-requires : goal.catch_up-requires
-catch_up-requires g c = record {
-  runs = still_runs _ c.args.core.now c.carry_out_due-2.new.core
-      (λ s given boxes is. c.in_ok-carry_out_due-2.ensures.is s given boxes
-      (c.loop-core.invariant.on s given boxes is)) c.requires.runs;
-}
+returns-clause-is g c = λ s given boxes is.
+    c.in_ok-carry_out_due-2.ensures.is s given boxes (c.loop-core.invariant.on s given boxes is)

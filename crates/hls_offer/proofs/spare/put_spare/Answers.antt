@@ -10,7 +10,6 @@ pub put_one-requires : goal.put_one-requires
 put_one-requires g c = record {
   stands = stands_so _ c.args.tree.now _ _ c.requires.stands (λ h tree seated listed is.
       (is, listed_loaded h listed c.loop-at.at c.sched-id.result (c.sched-id.ensures h tree)));
-  up = c.requires.up;
 }
 
 pub loop-at-preserved : goal.loop-at-preserved

@@ -1,6 +1,4 @@
-use Rattle.std.proofs.Common.{subst, sym}
 use Rattle.std.specs.Prelude.{option_copied}
-use Rattle.hls_tree.specs.Trees.{IsUpToDate}
 use Rattle.hls_offer_asks.proofs.Standing.{moment_tree, ok_so, runs_stand}
 use Rattle.hls_offer.proofs.Questions.{need_periods, told_as, told_left, wish_periods}
 use Rattle.hls_offer.proofs.telling.put_told.Goals as goal
@@ -33,7 +31,6 @@ pub put_spare-requires : goal.put_spare-requires
 put_spare-requires g c = record {
   stands = runs_stand _ c.args.core.now c.tree.result.now c.tree.ensures c.requires.runs _
       (λ h tree reached. reached);
-  up = subst IsUpToDate (sym c.tree.ensures) c.requires.up;
 }
 
 pub returns-in_ok-put_spare-in-Spare : goal.returns-in_ok-put_spare-in-Spare
