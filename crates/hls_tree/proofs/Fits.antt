@@ -2,10 +2,12 @@
 use Rattle.std.proofs.Common.{◌≡◌, ℕ, Bool, true, false, Option, Some, None, refl, sym, ap, ◌∙◌}
 use Rattle.hls_chron.specs.declared.book.TickRow.{TickRow}
 use Rattle.hls_chron.specs.declared.plain.Config.{Config}
-use Rattle.hls_chron.specs.declared.plain.Config.TheVariants.{Cpu, Fp, Edf, Sfq, Rr, Wheel, Join}
+use Rattle.hls_chron.specs.declared.plain.Config.TheVariants as configs
 use Rattle.hls_chron.specs.declared.plain.Terms.{Terms}
+use Rattle.hls_chron.specs.Kinds.{by_shares}
 use Rattle.hls_chron.specs.Ledger.{Ledger, with_rows}
 use Rattle.hls_chron.specs.Seats.{terms_at, priority_in}
+use Rattle.hls_chron.proofs.ConfigLaws.{by_kind}
 use Rattle.hls_kinds.specs.Faults.{Applies, IsFirstFaultIfAny}
 use Rattle.hls_kinds.specs.Room.{occupant_at, room_used}
 use Rattle.hls_kinds.specs.Stands.{stands_idle}
@@ -61,13 +63,14 @@ with_more config b row n occupant used = record {
 alike_rows : (config : Config) (b : Ledger) (row : TickRow) (n : ℕ) → stands_idle config ≡ true
     → TellsSeats config b (with_rows b row n)
 unfolding terms_at
-alike_rows Cpu b row n idle = with_more Cpu b row n (λ slot. refl) refl
-alike_rows Fp b row n idle = with_more Fp b row n (λ slot. refl) refl
-alike_rows Edf b row n idle = cc
-alike_rows (Sfq total most quantum) b row n idle = with_more (Sfq total most quantum) b row n (λ slot. refl) refl
-alike_rows (Rr quantum) b row n idle = with_more (Rr quantum) b row n (λ slot. refl) refl
-alike_rows (Wheel frame) b row n idle = cc
-alike_rows (Join ports) b row n idle = with_more (Join ports) b row n (λ slot. refl) refl
+alike_rows config b row n =
+    by_kind (λ config. stands_idle config ≡ true → TellsSeats config b (with_rows b row n))
+    (λ idle. with_more configs.Cpu b row n (λ slot. refl) refl) (λ idle. with_more configs.Fp b row n (λ slot. refl) refl)
+    (λ idle. absurd (let no : false ≡ true = idle in cc))
+    (λ sharing idle. with_more (by_shares sharing) b row n (λ slot. refl) refl)
+    (λ quantum idle. with_more (configs.Rr quantum) b row n (λ slot. refl) refl)
+    (λ frame idle. absurd (let no : false ≡ true = idle in cc))
+    (λ ports idle. with_more (configs.Join ports) b row n (λ slot. refl) refl) config
 
 same : (config : Config) (b : Ledger) → TellsSeats config b b
 same config b = record { start = refl; marks = refl; terms = λ slot. refl; occupant = λ slot. refl; used = refl }

@@ -6,9 +6,9 @@ use Rattle.std.proofs.Math.ListN.{replicate}
 use Rattle.std.proofs.lemmas.List.{replicate-append-replicate, append_assoc}
 use Rattle.hls_chron.specs.declared.book.TickRow.{TickRow}
 use Rattle.hls_chron.specs.declared.plain.Config.{Config}
-use Rattle.hls_chron.specs.declared.plain.Config.TheVariants.{Cpu, Fp, Edf, Sfq, Rr, Wheel, Join}
 use Rattle.hls_chron.specs.Ledger.{Ledger, with_rows}
 use Rattle.hls_chron.specs.Seats.{terms_at}
+use Rattle.hls_chron.proofs.ConfigLaws.{by_kind}
 use Rattle.hls_kinds.specs.Asks.{asks}
 use Rattle.hls_kinds.specs.Stands.{stands_idle}
 use Rattle.hls_sched.specs.Seen.{Seen, config_of, seen_asks, tick_row, leapt}
@@ -158,13 +158,10 @@ posted_in b t (Some s) x = posted_what b t s.what x
 -- a scheduler that stands always while it is not granted asks by its mask alone
 pub asks_idle : (config : Config) (b : Ledger) (row : TickRow) (n mask : ℕ) → stands_idle config ≡ true
     → asks config (with_rows b row n) mask ≡ asks config b mask
-asks_idle Cpu b row n mask idle = refl
-asks_idle Fp b row n mask idle = refl
-asks_idle Edf b row n mask idle = cc
-asks_idle (Sfq total most quantum) b row n mask idle = refl
-asks_idle (Rr quantum) b row n mask idle = refl
-asks_idle (Wheel frame) b row n mask idle = cc
-asks_idle (Join ports) b row n mask idle = refl
+asks_idle config b row n mask =
+    by_kind (λ config. stands_idle config ≡ true → asks config (with_rows b row n) mask ≡ asks config b mask)
+    (λ idle. refl) (λ idle. refl) (λ idle. absurd (let no : false ≡ true = idle in cc)) (λ sharing idle. refl)
+    (λ quantum idle. refl) (λ frame idle. absurd (let no : false ≡ true = idle in cc)) (λ ports idle. refl) config
 
 asks_by : (t : ℕ) (lag : Option Lag) (post : Post) → LagsRight t lag post
     → asks (config_of post.unit) (late_book true t lag post.unit) post.unit.mask ≡ seen_asks post.unit
