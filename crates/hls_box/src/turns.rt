@@ -1,6 +1,6 @@
 // Turns of a quantum.
 ghost use Rattle.hls_chron.specs.Ranges.{most_slots};
-ghost use Rattle.std.specs.Prelude.{◌≡◌, ◌<◌, ◌≤◌, true};
+ghost use Rattle.std.specs.Prelude.{◌≡◌, ◌<◌, ◌≤◌, ◌+◌, ◌%◌, true};
 ghost use Rattle.hls_box.specs.Turns.{had_by, goes_on_by, left_by, turn_after as after, turn_left as left_turn};
 ghost use Rattle.hls_box.specs.Turns.{turn_leapt as leapt_turn};
 
@@ -31,6 +31,14 @@ pub fn turn_goes_on(mask: u32, turn: Turn) -> bool
     has_slot(mask, turn.slot) && turn.ticks != 0
 }
 
+/// One tick more of a quantum, of which so many were had.
+fn one_more(quantum: u32, had: u32) -> u32
+    requires { had < quantum }
+    ensures { result ≡ (had + 1) % quantum }
+{
+    if had + 1 == quantum { 0 } else { had + 1 }
+}
+
 /// The turn after a tick that served a slot or nobody, where these slots asked.
 pub fn turn_after(quantum: u32, mask: u32, turn: Turn, served: Option<u32>) -> Turn
     requires { turn.ticks < quantum }
@@ -39,11 +47,11 @@ pub fn turn_after(quantum: u32, mask: u32, turn: Turn, served: Option<u32>) -> T
     match served {
         Some(slot) if slot == turn.slot => Turn {
             slot,
-            ticks: (turn.ticks + 1) % quantum,
+            ticks: one_more(quantum, turn.ticks),
         },
         Some(slot) => Turn {
             slot,
-            ticks: 1 % quantum,
+            ticks: one_more(quantum, 0),
         },
         None if has_slot(mask, turn.slot) => turn,
         None => Turn {

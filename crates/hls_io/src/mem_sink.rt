@@ -95,29 +95,3 @@ impl Sink for MemSink {
         }
     }
 }
-
-#[cfg(test)]
-mod tests {
-    use super::*;
-    use std::test::Fail;
-
-    #[test]
-    fn takes_bytes_by_its_plan(rt: HostRuntime) -> Result<(), Fail> {
-        let alloc = rt.alloc();
-        let mut sink = MemSink::new(alloc, 5, 3, [1].to_vec(alloc)?)?;
-        let calls: [(&[u8], Result<usize, Failed>, &[u8]); 7] = [
-            (b"abcd", Ok(3), b"abc"),
-            (b"d", Err(Failed), b"abc"),
-            (b"d", Ok(1), b"abcd"),
-            (b"", Ok(0), b"abcd"),
-            (b"efg", Ok(1), b"abcde"),
-            (b"fg", Err(Failed), b"abcde"),
-            (b"", Ok(0), b"abcde"),
-        ];
-        for (call, (piece, taken, bytes)) in calls.iter().enumerate() {
-            assert_eq!(rt; sink.write(piece), *taken, "call {call}");
-            assert_eq!(rt; sink.bytes(), *bytes, "call {call}");
-        }
-        Ok(())
-    }
-}

@@ -82,33 +82,3 @@ impl Source for MemSource {
         Ok(count)
     }
 }
-
-#[cfg(test)]
-mod tests {
-    use super::*;
-    use std::test::Fail;
-
-    #[test]
-    fn gives_bytes_by_its_plan(rt: HostRuntime) -> Result<(), Fail> {
-        let alloc = rt.alloc();
-        let fail = [1, 5].to_vec(alloc)?;
-        let mut source = MemSource::new(b"abcdef".to_vec(alloc)?, 3, fail);
-        let calls: [(usize, Result<usize, Failed>, &[u8]); 8] = [
-            (4, Ok(3), b"abc-"),
-            (4, Err(Failed), b"----"),
-            (2, Ok(2), b"de--"),
-            (0, Ok(0), b"----"),
-            (4, Ok(1), b"f---"),
-            (4, Err(Failed), b"----"),
-            (4, Ok(0), b"----"),
-            (4, Ok(0), b"----"),
-        ];
-        for (call, (len, given, bytes)) in calls.iter().enumerate() {
-            let mut room = *b"----";
-            let len = room.len().min(*len);
-            assert_eq!(rt; source.read(&mut room[..len]), *given, "call {call}");
-            assert_eq!(rt; &room[..], *bytes, "call {call}");
-        }
-        Ok(())
-    }
-}

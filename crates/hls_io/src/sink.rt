@@ -45,26 +45,3 @@ pub fn write_all<K: Sink>(sink: &mut K, bytes: &[u8]) -> Result<(), Failed>
     }
     Ok(())
 }
-
-#[cfg(test)]
-mod tests {
-    use super::*;
-    use crate::MemSink;
-    use std::test::Fail;
-
-    #[test]
-    fn writes_all_or_stops_at_a_fault(rt: HostRuntime) -> Result<(), Fail> {
-        let alloc = rt.alloc();
-        let cases: [(usize, u32, Result<(), Failed>, &[u8]); 3] = [
-            (8, 9, Ok(()), b"abcdef"),
-            (8, 1, Err(Failed), b"abc"),
-            (5, 9, Err(Failed), b"abcde"),
-        ];
-        for (case, (room, fail, ended, written)) in cases.iter().enumerate() {
-            let mut sink = MemSink::new(alloc, *room, 3, [*fail].to_vec(alloc)?)?;
-            assert_eq!(rt; write_all(&mut sink, b"abcdef"), *ended, "case {case}");
-            assert_eq!(rt; sink.bytes(), *written, "case {case}");
-        }
-        Ok(())
-    }
-}

@@ -97,34 +97,3 @@ pub fn read_all<S: Source>(alloc: Global, source: &mut S, most: usize) -> Result
     }
     Err(ReadError::TooLong)
 }
-
-#[cfg(test)]
-mod tests {
-    use super::ReadError::{Fault, TooLong};
-    use super::*;
-    use crate::MemSource;
-    use std::test::Fail;
-
-    #[test]
-    fn reads_to_the_end_or_to_the_limit(rt: HostRuntime) -> Result<(), Fail> {
-        let alloc = rt.alloc();
-        let cases: [(usize, u32, Result<usize, ReadError>, &[u8]); 6] = [
-            (7, 9, Ok(6), b""),
-            (6, 9, Ok(6), b""),
-            (5, 9, Err(TooLong), b""),
-            (3, 9, Err(TooLong), b"ef"),
-            (7, 0, Err(Fault), b"abcd"),
-            (7, 2, Err(Fault), b""),
-        ];
-        for (case, (most, fail, given, rest)) in cases.iter().enumerate() {
-            let fail = [*fail].to_vec(alloc)?;
-            let mut source = MemSource::new(b"abcdef".to_vec(alloc)?, 4, fail);
-            let read = read_all(alloc, &mut source, *most);
-            assert_eq!(rt; read.map(|bytes| bytes.len()), *given, "case {case}");
-            let mut room = *b"----";
-            let left = source.read(&mut room).ok().unwrap_or(0).min(room.len());
-            assert_eq!(rt; &room[..left], *rest, "case {case}");
-        }
-        Ok(())
-    }
-}

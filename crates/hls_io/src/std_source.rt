@@ -50,39 +50,3 @@ impl<R: Read + Drop> Source for StdSource<R> {
         }
     }
 }
-
-#[cfg(test)]
-mod tests {
-    use super::*;
-    use std::io::{self, ErrorKind};
-    use std::test::Fail;
-
-    /// Fails at each read.
-    #[derive(Drop)]
-    struct Broken;
-
-    impl Read for Broken {
-        fn read(&mut self, _buf: &mut [u8]) -> io::Result<usize> {
-            Err(ErrorKind::Other.into())
-        }
-    }
-
-    #[test]
-    fn passes_on_what_a_reader_gives(rt: HostRuntime) -> Result<(), Fail> {
-        let mut room = *b"---";
-        let mut whole = StdSource::new(&b"abcd"[..]);
-        assert_eq!(rt; whole.read(&mut room), Ok(3));
-        assert_eq!(rt; room, *b"abc");
-        assert_eq!(rt; whole.read(&mut room), Ok(1));
-        assert_eq!(rt; room, *b"dbc");
-        assert_eq!(rt; whole.read(&mut room), Ok(0));
-        assert_eq!(rt; whole.faults, 0);
-
-        let mut broken = StdSource::new((&b"ab"[..]).chain(Broken));
-        assert_eq!(rt; broken.read(&mut room), Ok(2));
-        assert_eq!(rt; broken.read(&mut room), Err(Failed));
-        assert_eq!(rt; broken.read(&mut room), Err(Failed));
-        assert_eq!(rt; broken.faults, 2);
-        Ok(())
-    }
-}

@@ -187,27 +187,3 @@ impl Order {
         &self.winners
     }
 }
-
-#[cfg(test)]
-mod tests {
-    use super::*;
-
-    #[test]
-    fn tells_the_least_key_and_of_these_the_least_slot(rt: HostRuntime) {
-        let mut order = Order::new();
-        order.put(3, 10);
-        order.put(1, 10);
-        order.put(2, 7);
-        assert_eq!(rt; order.least(), Some(2));
-        assert_eq!(rt; order.least_but(2), Some(1));
-        assert_eq!(rt; order.least_but(1), Some(2));
-        assert_eq!(rt; order.key(1), Some(10));
-        order.put(2, 11);
-        assert_eq!(rt; order.least(), Some(1));
-        assert_eq!(rt; order.least_but(1), Some(3));
-        order.take(1);
-        assert_eq!(rt; order.least(), Some(3));
-        order.take(2);
-        assert_eq!(rt; order.least_but(3), None);
-    }
-}

@@ -65,7 +65,8 @@ alike_rows : (config : Config) (b : Ledger) (row : TickRow) (n : ℕ) → stands
 unfolding terms_at
 alike_rows config b row n =
     by_kind (λ config. stands_idle config ≡ true → TellsSeats config b (with_rows b row n))
-    (λ idle. with_more configs.Cpu b row n (λ slot. refl) refl) (λ idle. with_more configs.Fp b row n (λ slot. refl) refl)
+    (λ idle. with_more configs.Cpu b row n (λ slot. refl) refl)
+    (λ idle. with_more configs.Fp b row n (λ slot. refl) refl)
     (λ idle. absurd (let no : false ≡ true = idle in cc))
     (λ sharing idle. with_more (by_shares sharing) b row n (λ slot. refl) refl)
     (λ quantum idle. with_more (configs.Rr quantum) b row n (λ slot. refl) refl)

@@ -283,7 +283,8 @@ pub node_law : {V : Type 0} {P : V → Type 0} (show : DynBox V Global P → See
     → (station.lag ≡ None → Stands n (choice station.unit) (show station.unit))
     → StandsIn n (choice_at choice nodes k) (shown_at show nodes k)
 node_law {V} {P} show choice n nodes k node station late_so at role flat up =
-    subst (λ (o : Option (Node V P)). StandsIn n (choice_opt choice o) (late nodes.behind nodes.tick (shown_opt show o)))
+    subst
+    (λ (o : Option (Node V P)). StandsIn n (choice_opt choice o) (late nodes.behind nodes.tick (shown_opt show o)))
     (sym here)
     (post_law n (choice station.unit) nodes.tick nodes.behind (post_of show station)
     (λ on. subst (λ (o : Option (Node V P)). LagsIn nodes.tick (shown_opt show o)) here (late_so.lags on k)) flat up)

@@ -34,7 +34,9 @@ abbrev pub commands_of : List Answered → Option Standing → List Answered
 commands_of answered None = []
 commands_of answered (Some s) = drop s.born (take (s.opened + 1) answered)
 
+-- the line in force
+abbrev pub line_in_force : Content → (t : ℕ) → (name : Text) → (port : ℕ) → Option Seated
+line_in_force c t name port = last_told name port (commands_of c.answered (standing_of (standing_at c t) name))
+
 abbrev pub in_force : Content → (t : ℕ) → (name : Text) → (port : ℕ) → Option Derivation
-in_force c t name port =
-    option_map (λ (s : Seated). s.derivation)
-    (last_told name port (commands_of c.answered (standing_of (standing_at c t) name)))
+in_force c t name port = option_map (λ (s : Seated). s.derivation) (line_in_force c t name port)

@@ -1,6 +1,6 @@
 // The derivation in force of a node and a port.
 ghost use Rattle.std.specs.Prelude.{◌≡◌, ◌+◌, ℕ, drop, take, find, length, min, reverse, IfSome};
-ghost use Rattle.std.specs.Prelude.{option_copied, option_map};
+ghost use Rattle.std.specs.Prelude.{option_copied};
 ghost use Rattle.hls_derive.specs.Derivation.{IsWithinGrammar};
 ghost use Rattle.hls_report_text.specs.Content.{content_of};
 ghost use Rattle.hls_report_text.specs.WellFormed.{IsWellFormed};
@@ -102,8 +102,7 @@ pub fn derivation_of<'a>(
     requires { IsWellFormed report.now }
     ensures within { IfSome (option_copied result) (λ (s : told.Seated). IsWithinGrammar s.derivation) }
     ensures is { (t : ℕ) → IsHierarchy (content_of report.now) t hierarchy.now →
-        option_map (λ (s : told.Seated). s.derivation) (option_copied result)
-        ≡ derived.in_force (content_of report.now) t name.now port }
+        option_copied result ≡ derived.line_in_force (content_of report.now) t name.now port }
 {
     last_told(name, port, commands_of(report, hierarchy, name))
 }

@@ -83,22 +83,3 @@ impl Vproc {
         self.state = State::Waiting;
     }
 }
-
-#[cfg(test)]
-mod tests {
-    use super::*;
-
-    #[test]
-    fn goes_through_the_states(rt: HostRuntime) {
-        let mut vproc = Vproc::new();
-        assert_eq!(rt; vproc.state(), State::Released);
-        vproc.request();
-        assert_eq!(rt; vproc.state(), State::Waiting);
-        vproc.grant();
-        assert_eq!(rt; vproc.state(), State::Running);
-        vproc.revoke();
-        assert_eq!(rt; vproc.state(), State::Waiting);
-        vproc.release();
-        assert_eq!(rt; vproc.state(), State::Released);
-    }
-}
