@@ -4,8 +4,6 @@
 mod checking;
 pub mod laws;
 mod lending;
-#[cfg(test)]
-mod tests;
 
 pub use checking::{Verdict, check};
 pub use lending::{lends, lent};

@@ -1,5 +1,5 @@
-//! Values worked out by hand of what stands below the rest: what lists of ticks keep of guarantees, what rules answer,
-//! watches, a scenario that is made, and a trace.
+//! Values worked out by hand of what stands below the rest: what sources and sinks pass on, what lists of ticks keep of
+//! guarantees, what rules answer, watches, a scenario that is made, and a trace.
 #![tactic(auto)]
 
 #[cfg(test)]
@@ -8,6 +8,8 @@ mod generated;
 mod guarantees;
 #[cfg(test)]
 mod rules;
+#[cfg(test)]
+mod streams;
 #[cfg(test)]
 mod traces;
 #[cfg(test)]

@@ -414,7 +414,7 @@ fn worked_derivations(rt: &impl Abort, alloc: Global, book: &RuleBook) -> Result
 }
 
 /// A seat of this weight of a total, beside one other, in turns of a quantum.
-fn fair_queueing(total: u32, weight: u32, quantum: u32) -> Place
+pub fn fair_queueing(total: u32, weight: u32, quantum: u32) -> Place
     requires total { IsWithin 1 100 total }
     requires weight { IsWithin 1 20 weight }
     requires quantum { IsWithin 1 100 quantum }
