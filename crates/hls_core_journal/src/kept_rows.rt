@@ -104,6 +104,9 @@ fn byte_of(before: u32, row: Row) -> u8 {
 fn pair_of(before: u32, row: Row, next: Row) -> Option<Short>
     ensures { IfSome result (λ short. held before short ≡ Two row next) }
 {
+    if row.way >= 16 || next.way >= 8 {
+        return None;
+    }
     let short = Short {
         first: byte_of(before, row),
         second: byte_of(row.to, next) % 128,

@@ -72,7 +72,14 @@ pub fn name_at(names: &IndexSet<Name>, place: usize) -> &[u8]
 fn same_place(names: &IndexSet<Name>, one: u16, other: u16) -> bool
     ensures { IsTrue result ↔ (get_or names.now.keys one [] ≡ get_or names.now.keys other []) }
 {
-    one == other || name_at(names, usize::from(one)) == name_at(names, usize::from(other))
+    if one == other {
+        return true;
+    }
+    // the names of a set are apart
+    if usize::from(one.max(other)) < names.len() {
+        return false;
+    }
+    name_at(names, usize::from(one)) == name_at(names, usize::from(other))
 }
 
 /// Whether places in their order have the same names.
