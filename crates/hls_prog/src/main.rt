@@ -38,14 +38,3 @@ fn main(rt: HostRuntime) -> ExitCode {
     let status = start(alloc, &words, &mut source, &mut sink);
     ExitCode::from(status.code())
 }
-
-#[cfg(test)]
-mod clause_tests;
-#[cfg(test)]
-mod order_tests;
-#[cfg(test)]
-mod size_tests;
-#[cfg(test)]
-mod tests;
-#[cfg(test)]
-mod word_tests;

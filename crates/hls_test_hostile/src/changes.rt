@@ -1,6 +1,7 @@
 // Reports that were changed in one place, and what `check` says of them.
 use crate::running::answer;
 use hls_io::Status;
+use std::alloc::Global;
 use std::test::Fail;
 
 /// The smallest whole report: one thread for one tick.
@@ -12,7 +13,9 @@ const SMALLEST: &str = "hls-report 1\nhorizon 1\ndepth 3\n\
     accounts\na 0..0 ALL ready 1 served 1\nidle 0\nend\n";
 
 /// What stands in it, what is put in its place, and what comes of it.
-const CHANGES: [(&str, &str, Status, &str); 8] = [
+type Change = (&'static str, &'static str, Status, &'static str);
+
+const CHANGES: [Change; 8] = [
     ("", "", Status::Done, "kept\n"),
     (
         "0..0 cpu/root/a",
@@ -53,14 +56,21 @@ const CHANGES: [(&str, &str, Status, &str); 8] = [
     ),
 ];
 
+/// The first change of which `check` says something else.
+fn first_other(alloc: Global) -> Result<Option<usize>, Fail> {
+    for at in 0..CHANGES.len() {
+        let (old, new, due, word) = CHANGES[at];
+        let report = SMALLEST.replacen(alloc, old, new, 1)?;
+        let (status, written) = answer(alloc, "check", report)?;
+        if status != due || written.as_str() != word {
+            return Ok(Some(at));
+        }
+    }
+    Ok(None)
+}
+
 #[test]
 fn finds_each_change(rt: HostRuntime) -> Result<(), Fail> {
-    let alloc = rt.alloc();
-    for (case, (old, new, due, output)) in CHANGES.iter().enumerate() {
-        let report = SMALLEST.replacen(alloc, *old, new, 1)?;
-        let (status, written) = answer(alloc, &["check"], report.as_bytes())?;
-        assert_eq!(rt; status, *due, "change {case}");
-        assert_eq!(rt; written.as_str(), *output, "change {case}");
-    }
+    assert_eq!(rt; first_other(rt.alloc())?, None);
     Ok(())
 }

@@ -34,12 +34,18 @@ fn woken_thread(alloc: Global, group: u32, member: u32) -> Result<String, AllocE
     )
 }
 
-/// The groups, and then the threads, in the order in which their turns come.
-fn scenario(alloc: Global) -> Result<String, AllocError> {
+/// The groups.
+fn loads(alloc: Global) -> Result<String, AllocError> {
     let mut text = first_load(alloc)?;
     for group in 0..GROUPS {
         text.push_str(&load(alloc, group)?)?;
     }
+    Ok(text)
+}
+
+/// The groups, and then the threads, in the order in which their turns come.
+fn scenario(alloc: Global) -> Result<String, AllocError> {
+    let mut text = loads(alloc)?;
     for turn in 0..GROUPS * MEMBERS {
         let (group, member) = place_of(turn);
         text.push_str(&woken_thread(alloc, group, member)?)?;
@@ -47,15 +53,20 @@ fn scenario(alloc: Global) -> Result<String, AllocError> {
     Ok(text)
 }
 
-/// What the report tells after the answers: each thread has every 256th tick.
-fn end_of_report(alloc: Global) -> Result<String, AllocError> {
+/// Each thread has every 256th tick.
+fn schedule(alloc: Global) -> Result<String, AllocError> {
     let mut text = "schedule\n".to_string(alloc)?;
     for tick in 0..HORIZON {
         let (group, member) = place_of(tick);
         let run = format!(in alloc; "{tick}..{tick} cpu/root/r{group}/t{group}_{member}\n")?;
         text.push_str(&run)?;
     }
-    text.push_str("accounts\n")?;
+    Ok(text)
+}
+
+/// How often each thread is served.
+fn accounts(alloc: Global) -> Result<String, AllocError> {
+    let mut text = "accounts\n".to_string(alloc)?;
     for turn in 0..GROUPS * MEMBERS {
         let (group, member) = place_of(turn);
         let served = (HORIZON - turn).div_ceil(GROUPS * MEMBERS);
@@ -64,6 +75,13 @@ fn end_of_report(alloc: Global) -> Result<String, AllocError> {
         )?;
         text.push_str(&account)?;
     }
+    Ok(text)
+}
+
+/// What the report tells after the answers.
+fn end_of_report(alloc: Global) -> Result<String, AllocError> {
+    let mut text = schedule(alloc)?;
+    text.push_str(&accounts(alloc)?)?;
     text.push_str("idle 0\nend\n")?;
     Ok(text)
 }
@@ -71,14 +89,14 @@ fn end_of_report(alloc: Global) -> Result<String, AllocError> {
 #[test]
 fn serves_the_most_threads_for_the_most_ticks(rt: HostRuntime) -> Result<(), Fail> {
     let alloc = rt.alloc();
-    let (status, report) = answer(alloc, &["run"], scenario(alloc)?.as_bytes())?;
+    let (status, report) = answer(alloc, "run", scenario(alloc)?)?;
     let end = end_of_report(alloc)?;
     assert_eq!(rt; status, Status::Done);
     assert!(rt;
         report.ends_with(end.as_str()),
         "the schedule or the accounts are others"
     );
-    let (status, verdict) = answer(alloc, &["check"], report.as_bytes())?;
+    let (status, verdict) = answer(alloc, "check", report)?;
     assert_eq!(rt; status, Status::Done);
     assert_eq!(rt; verdict.as_str(), "kept\n");
     Ok(())

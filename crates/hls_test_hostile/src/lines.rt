@@ -1,75 +1,56 @@
-// Lines that no scenario has, and a line that wins over the words.
-use crate::running::answer;
+// Lines that no scenario has, a comment, and a line that wins over the words.
+use crate::running::{Case, SHORT, answer, first_other, outcome};
 use hls_io::Status;
-use hls_text::put;
 use std::alloc::{AllocError, Global};
+use std::str;
 use std::test::Fail;
 
-/// Third lines, and why a text is refused for them.
-const BAD_LINES: [(&[u8], &str); 12] = [
-    (b"at 0 wake a\x80", "Byte"),
-    (b"at 0 load cpu fp on cpu as ALL", "Name"),
-    (b"at 0 load r sfq 4 21 on cpu as ALL", "Number"),
-    (b"at 0 thread t on f res 5 4 hard as NULL", "Number"),
-    (b"at 0 thread t on f prio 0 as PSBE 3/2 1", "Number"),
-    (b"at 0 thread t on f prio 0 as PSBE 1/0 1", "Number"),
-    (b"at 0 thread t on 9 prio 0 as NULL", "Word"),
-    (b"at 0 load j join on e turn as NULL", "Short"),
-    (
-        b"at 0 load j join on e turn as NULL , e turn as NULL",
-        "Name",
-    ),
-    (b"at 0 wake a for 0", "Number"),
-    (b"at 0 wake a b", "Word"),
-    (b"at 0 block a b", "Extra"),
-];
-
 /// The report where a thread is woken that nobody has admitted.
-const NOBODY_WOKEN: &str = "hls-report 1\nhorizon 5\ndepth 3\n\
+const NOBODY_WOKEN: &[u8] = b"hls-report 1\nhorizon 5\ndepth 3\n\
     at 0 wake a\n= refused 11 NoSuchName a\n\
     schedule\n0..4 idle\naccounts\nidle 5\nend\n";
 
-/// Texts, and what comes of them.
-const TEXTS: [(&[u8], Status, &str); 7] = [
+const TEXTS: [Case; 6] = [
     (
+        &["run"],
         b"hls 1\nhorizon 5\nat 0 wake a #\x80\n",
-        Status::Done,
-        NOBODY_WOKEN,
+        (Status::Done, NOBODY_WOKEN),
     ),
     (
-        b"hls 1\nhorizon 0\n",
-        Status::RefusedText,
-        "refused line 2 Horizon\n",
+        &["run"],
+        b"",
+        (Status::RefusedText, b"refused line 1 Header\n"),
     ),
     (
-        b"hls 1\nhorizon 5\ndepth 1\ndepth 2\n",
-        Status::RefusedText,
-        "refused line 4 Word\n",
-    ),
-    (
+        &["run"],
         b"hls 2\nhorizon 1000001\n",
-        Status::RefusedText,
-        "refused line 2 Horizon\n",
+        (Status::RefusedText, b"refused line 2 Horizon\n"),
     ),
     (
-        b"hls 2\nhorizon 5\nat 0 load r sfq 4 2 on cpu as ALL\n",
-        Status::RefusedText,
-        "refused line 3 Number\n",
+        &["run"],
+        b"hls 1\nhorizon 5\nat 0 loa",
+        (Status::RefusedText, b"refused line 3 Word\n"),
     ),
     (
-        b"hls 1\nhorizon 5\nat 0 load r sfq 4 2 2 on cpu as ALL\n",
-        Status::RefusedText,
-        "refused line 3 Word\n",
+        &["run"],
+        b"hls 1\nhorizon 5\ndepth 1\ndepth 2\n",
+        (Status::RefusedText, b"refused line 4 Word\n"),
     ),
     (
-        b"hls 3\nhorizon 5\n",
-        Status::RefusedText,
-        "refused line 1 Header\n",
+        &["run"],
+        b"hls 1\nhorizon 5\nat 3 wake a\nat 2 wake a\n",
+        (Status::RefusedText, b"refused line 4 Order\n"),
     ),
 ];
 
+#[test]
+fn reads_a_comment_and_refuses_bad_lines(rt: HostRuntime) -> Result<(), Fail> {
+    assert_eq!(rt; first_other(rt.alloc(), &TEXTS, SHORT)?, None);
+    Ok(())
+}
+
 /// A guarantee that follows by one conversion.
-const ONE_CONVERSION: &[u8] = b"hls 1\nhorizon 10\ndepth 1\n\
+const ONE_CONVERSION: &str = "hls 1\nhorizon 10\ndepth 1\n\
     at 0 load root edf on cpu as ALL\n\
     at 0 load f fp on root res 3 10 soft as RESBS 3 10\n\
     at 0 thread t on f prio 0 as RESCS 3 17\n";
@@ -84,50 +65,45 @@ const ONE_CONVERSION_REPORT: &str = "hls-report 1\nhorizon 10\ndepth 1\n\
 /// A report without its derivations.
 fn without_derivations(alloc: Global, report: &str) -> Result<String, AllocError> {
     let mut rest = String::new(alloc);
-    for line in report.lines().filter(|line| !line.starts_with("by ")) {
-        rest.push_str(line)?;
-        rest.push('\n')?;
+    for line in report.lines() {
+        if !line.starts_with("by ") {
+            rest.push_str(line)?;
+            rest.push('\n')?;
+        }
     }
     Ok(rest)
 }
 
-#[test]
-fn refuses_bad_lines(rt: HostRuntime) -> Result<(), Fail> {
-    let alloc = rt.alloc();
-    for (case, (line, cause)) in BAD_LINES.iter().enumerate() {
-        let mut text = b"hls 1\nhorizon 5\n".to_vec(alloc)?;
-        put(&mut text, line)?;
-        put(&mut text, b"\n")?;
-        let (status, written) = answer(alloc, &["run"], &text)?;
-        let due = format!(in alloc; "refused line 3 {cause}\n")?;
-        assert_eq!(rt; status, Status::RefusedText, "line {case}");
-        assert_eq!(rt; written, due, "line {case}");
-    }
-    Ok(())
+/// Words that tell of no conversion.
+const NO_CONVERSION: [&[&str]; 2] = [&["run", "--depth", "0"], &["run", "--depth=0"]];
+
+/// Whether one conversion is found at these words, and `check` keeps the report.
+fn is_converted(alloc: Global, words: &[&str]) -> Result<bool, AllocError> {
+    let text = ONE_CONVERSION.as_bytes().to_vec(alloc)?;
+    let (status, written) = outcome(alloc, words, text, SHORT)?;
+    let report = str::from_utf8(&written).unwrap_or("");
+    let answers = without_derivations(alloc, report)?;
+    let (verdict, word) = answer(alloc, "check", report.to_string(alloc)?)?;
+    Ok(
+        status == Status::Done
+            && answers.as_str() == ONE_CONVERSION_REPORT
+            && verdict == Status::Done
+            && word.as_str() == "kept\n",
+    )
 }
 
-#[test]
-fn reads_comments_and_refuses_bad_heads(rt: HostRuntime) -> Result<(), Fail> {
-    for (case, (text, due, output)) in TEXTS.iter().enumerate() {
-        let (status, written) = answer(rt.alloc(), &["run"], text)?;
-        assert_eq!(rt; status, *due, "text {case}");
-        assert_eq!(rt; written.as_str(), *output, "text {case}");
+/// The first of these words that win over the text.
+fn first_that_wins(alloc: Global) -> Result<Option<usize>, Fail> {
+    for at in 0..NO_CONVERSION.len() {
+        if !is_converted(alloc, NO_CONVERSION[at])? {
+            return Ok(Some(at));
+        }
     }
-    Ok(())
+    Ok(None)
 }
 
 #[test]
 fn takes_the_depth_of_the_text_before_that_of_the_words(rt: HostRuntime) -> Result<(), Fail> {
-    let alloc = rt.alloc();
-    let words: [&[&str]; 2] = [&["run", "--depth", "0"], &["run", "--depth=0"]];
-    for words in words {
-        let (status, written) = answer(alloc, words, ONE_CONVERSION)?;
-        let answers = without_derivations(alloc, &written)?;
-        assert_eq!(rt; status, Status::Done);
-        assert_eq!(rt; answers.as_str(), ONE_CONVERSION_REPORT);
-        let (status, verdict) = answer(alloc, &["check"], written.as_bytes())?;
-        assert_eq!(rt; status, Status::Done);
-        assert_eq!(rt; verdict.as_str(), "kept\n");
-    }
+    assert_eq!(rt; first_that_wins(rt.alloc())?, None);
     Ok(())
 }

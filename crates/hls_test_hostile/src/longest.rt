@@ -1,14 +1,24 @@
-// A report that is nearly too long to be checked, and one that is too long.
-use crate::running::status_at;
-use hls_io::{MemSink, MemSource, Status};
+// A report that is nearly too long to be checked, and texts that are too long.
+use crate::running::{Due, Streams, WIDE, outcome};
+use hls_io::Status;
 use std::alloc::{AllocError, Global};
 use std::test::Fail;
 
 /// How many bytes of a report `check` takes.
 const LIMIT: usize = 268_435_456;
 
-/// How many bytes a read gives, and a write takes.
-const PIECE: usize = 1_048_576;
+/// Long reads and writes.
+const LONG_PIECES: Streams = Streams {
+    read: 1_048_576,
+    write: 1_048_576,
+    ..WIDE
+};
+
+/// The same, with room for the longest report that is checked.
+const LONG: Streams = Streams {
+    room: LIMIT,
+    ..LONG_PIECES
+};
 
 /// How many round robins sit on the one that is moved.
 const GROUPS: u32 = 8;
@@ -60,45 +70,51 @@ fn scenario(alloc: Global) -> Result<String, AllocError> {
     format!(in alloc; "hls 1\nhorizon {HORIZON}\n{loads}{threads}{moves}")
 }
 
-/// How a run about the scenario ends, and its report.
-fn run(alloc: Global) -> Result<(Status, Vec<u8>), AllocError> {
-    let mut source = MemSource::new(scenario(alloc)?.into_bytes(), PIECE, Vec::new(alloc));
-    let mut sink = MemSink::new(alloc, LIMIT, PIECE, Vec::new(alloc))?;
-    let status = status_at(alloc, &["run"], &mut source, &mut sink)?;
-    Ok((status, sink.bytes().to_vec(alloc)?))
-}
-
-/// How `check` ends on a report, and what it writes.
-fn checked(alloc: Global, report: Vec<u8>) -> Result<(Status, Vec<u8>), AllocError> {
-    let mut source = MemSource::new(report, PIECE, Vec::new(alloc));
-    let mut sink = MemSink::new(alloc, PIECE, PIECE, Vec::new(alloc))?;
-    let status = status_at(alloc, &["check"], &mut source, &mut sink)?;
-    Ok((status, sink.bytes().to_vec(alloc)?))
-}
-
 #[test]
 fn checks_a_report_that_is_nearly_too_long(rt: HostRuntime) -> Result<(), Fail> {
     let alloc = rt.alloc();
-    let (status, report) = run(alloc)?;
+    let (status, report) = outcome(alloc, &["run"], scenario(alloc)?.into_bytes(), LONG)?;
     assert_eq!(rt; status, Status::Done);
     assert!(rt; report.len() > LIMIT / 100 * 99, "{} bytes", report.len());
-    let (status, verdict) = checked(alloc, report)?;
+    let (status, verdict) = outcome(alloc, &["check"], report, LONG_PIECES)?;
     assert_eq!(rt; status, Status::Done);
     assert_eq!(rt; verdict.as_slice(), b"kept\n".as_slice());
     Ok(())
 }
 
-#[test]
-fn checks_no_more_than_the_limit(rt: HostRuntime) -> Result<(), Fail> {
-    let alloc = rt.alloc();
-    let cases: [(usize, Status, &[u8]); 2] = [
-        (LIMIT, Status::RefusedText, b"refused line 1 Form\n"),
-        (LIMIT + 1, Status::TooLong, b""),
-    ];
-    for (length, due, written) in cases {
-        let (status, words) = checked(alloc, vec![in alloc; b' '; length]?)?;
-        assert_eq!(rt; status, due, "{length} bytes");
-        assert_eq!(rt; words.as_slice(), written, "{length} bytes");
+/// A word, how many blanks are read at it, and what comes of that.
+type Blanks = (&'static str, usize, Due);
+
+const BLANKS: [Blanks; 4] = [
+    (
+        "run",
+        4_194_304,
+        (Status::RefusedText, b"refused line 2 Header\n"),
+    ),
+    ("run", 4_194_305, (Status::TooLong, b"")),
+    (
+        "check",
+        LIMIT,
+        (Status::RefusedText, b"refused line 1 Form\n"),
+    ),
+    ("check", LIMIT + 1, (Status::TooLong, b"")),
+];
+
+/// The first of these texts of which something else comes.
+fn first_other(alloc: Global) -> Result<Option<usize>, Fail> {
+    for at in 0..BLANKS.len() {
+        let (word, length, due) = BLANKS[at];
+        let blanks = vec![in alloc; b' '; length]?;
+        let (status, written) = outcome(alloc, &[word], blanks, LONG_PIECES)?;
+        if status != due.0 || written.as_slice() != due.1 {
+            return Ok(Some(at));
+        }
     }
+    Ok(None)
+}
+
+#[test]
+fn takes_no_more_than_the_limits(rt: HostRuntime) -> Result<(), Fail> {
+    assert_eq!(rt; first_other(rt.alloc())?, None);
     Ok(())
 }

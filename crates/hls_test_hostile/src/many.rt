@@ -16,7 +16,7 @@ fn wakes(alloc: Global, count: usize) -> Result<String, AllocError> {
 #[test]
 fn answers_each_of_the_most_commands(rt: HostRuntime) -> Result<(), Fail> {
     let alloc = rt.alloc();
-    let (status, written) = answer(alloc, &["run"], wakes(alloc, MOST)?.as_bytes())?;
+    let (status, written) = answer(alloc, "run", wakes(alloc, MOST)?)?;
     let refused = "at 0 wake a\n= refused 11 NoSuchName a\n".repeat(alloc, MOST)?;
     let end = "schedule\n0..4 idle\naccounts\nidle 5\nend\n";
     let due = format!(in alloc; "hls-report 1\nhorizon 5\ndepth 3\n{refused}{end}")?;
@@ -28,7 +28,7 @@ fn answers_each_of_the_most_commands(rt: HostRuntime) -> Result<(), Fail> {
 #[test]
 fn refuses_one_command_more(rt: HostRuntime) -> Result<(), Fail> {
     let alloc = rt.alloc();
-    let (status, written) = answer(alloc, &["run"], wakes(alloc, MOST + 1)?.as_bytes())?;
+    let (status, written) = answer(alloc, "run", wakes(alloc, MOST + 1)?)?;
     assert_eq!(rt; status, Status::RefusedText);
     assert_eq!(rt; written.as_str(), "refused line 65539 Many\n");
     Ok(())
