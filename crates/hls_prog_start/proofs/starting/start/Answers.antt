@@ -5,7 +5,7 @@ use Rattle.hls_prog_start.proofs.Idle.{lacks_memory, orderly}
 use Rattle.hls_prog_start.proofs.starting.start.Goals as goal
 
 pub returns-in-Ok-clause-answers : goal.returns-in-Ok-clause-answers
-returns-in-Ok-clause-answers g c = must_answer _ _ c.in-Ok.ensures.ends
+returns-in-Ok-clause-answers g c = must_answer _ _ c.in-Ok.ensures.leaves.0
 
 pub returns-in-Err-clause-ends : goal.returns-in-Err-clause-ends
 returns-in-Err-clause-ends g c =

@@ -1,6 +1,6 @@
 use Rattle.std.proofs.Common.{arith, subst}
 use Rattle.hls_prog_start.proofs.Filling.{IsFilled, filled_more, filled_whole}
-use Rattle.hls_offer_start.proofs.starting.run_with_boxes.Goals as goal
+use Rattle.hls_prog_start.proofs.program.run_with_boxes.Goals as goal
 
 pub loop-made-preserved : goal.loop-made-preserved
 loop-made-preserved g c =
