@@ -1,5 +1,5 @@
 -- Schedulers that are not granted.
-use Rattle.std.proofs.Common.{◌≡◌, ℕ, Bool, true, false, Option, refl}
+use Rattle.std.proofs.Common.{◌≡◌, ℕ, true, false, Option, refl}
 use Rattle.hls_chron.specs.declared.plain.Config.{Config}
 use Rattle.hls_chron.specs.Ledger.{Ledger}
 use Rattle.hls_chron.proofs.ConfigLaws.{by_kind}
