@@ -22,7 +22,7 @@ fn path_of(tree: &Tree, journal: &Journal, ids: &[NodeId]) -> Path
     for i in 0..ids.len() {
         let id = ids[i];
         let name = tree.name(id);
-        journal.extend(&mut path, &name, id.key());
+        journal.extend(&mut path, name, id.key());
     }
     path
 }

@@ -13,7 +13,7 @@ use Rattle.hls_machine.proofs.Commands.{thread_empty}
 use Rattle.hls_machine.proofs.Listings.{First, Later, in_cases, none_in}
 use Rattle.hls_sched.specs.Boxed.{boxed}
 use Rattle.hls_tree_nodes.specs.Views.{shown_at}
-use Rattle.hls_tree_nodes.proofs.Passes.{seats_same}
+use Rattle.hls_tree_nodes.proofs.Bare.{seats_same}
 use Rattle.hls_tree.specs.Reads.{IsSort}
 use Rattle.hls_tree.specs.Trees.{IsTreeOf, Stands, Any}
 use Rattle.hls_tree.specs.declared.seat.Sort.TheVariants as sorts

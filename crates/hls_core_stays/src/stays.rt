@@ -155,7 +155,7 @@ impl Stays {
         } else {
             let tally = Tally {
                 thread: id,
-                name: tree.name(id),
+                name: *tree.name(id),
                 kept: tree.kept(id, 0),
                 since: tree.now(),
                 until: None,

@@ -150,7 +150,7 @@ fn fault_at(tree: &Tree, seat: &Seat) -> Option<Refusal>
         }),
         Some(id) => {
             let sched = tree.name(id);
-            Some(fault_refusal(&sched, fault))
+            Some(fault_refusal(sched, fault))
         }
     }
 }

@@ -51,7 +51,7 @@ pub fn rederive(
     // A place more, for the seat of a moved node itself, which comes first.
     let mut seats = Vec::with_capacity(alloc, children.len() + 1)?;
     for child in &children {
-        let name = tree.name(child.node);
+        let name = *tree.name(child.node);
         match rederive_one(alloc, tree, rules, depth, id, have, child.node, child.port) {
             Ok(Some(derivation)) => seats.push(Seated {
                 name,

@@ -80,7 +80,7 @@ fn put_places(
     let mut offers = false;
     for at in 0..tree.scheds() {
         let on = tree.name(tree.sched(at));
-        let here = put_place(alloc, core, sought, &on, out)?;
+        let here = put_place(alloc, core, sought, on, out)?;
         offers = offers || here;
     }
     Ok(offers)

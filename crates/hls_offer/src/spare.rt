@@ -29,7 +29,7 @@ fn put_one(
     let config = tree.config(id);
     let haves = haves_of(alloc, tree, id)?;
     let left = left_on(alloc, tree, id, periods)?;
-    put_free(out, version, &name, &config, &haves, &left)
+    put_free(out, version, name, &config, &haves, &left)
 }
 
 /// Appends a line for each loaded scheduler, in the order of their loads, that tells what is left on it, with

@@ -11,7 +11,7 @@ use Rattle.hls_tree_nodes.specs.Late.{IsLate}
 use Rattle.hls_tree_nodes.specs.TreeOf.{IsOf, AreTold}
 use Rattle.hls_tree_nodes.specs.Views.{shown_at, stored_at, shown_opt}
 use Rattle.hls_tree_nodes.specs.declared.known.Known.{Known}
-use Rattle.hls_tree_nodes.proofs.Tells.{told_by}
+use Rattle.hls_tree_passes.proofs.Tells.{told_by}
 use Rattle.hls_tree.specs.Lists.{holder_view}
 use Rattle.hls_tree.specs.Names.{id_of}
 use Rattle.hls_tree.specs.Trees.{IsTreeOf}

@@ -16,7 +16,7 @@ use Rattle.hls_tree_nodes.specs.Shown.{ServesIn, on_post, mask_in, grant_in}
 use Rattle.hls_tree_nodes.specs.Shown as shown
 use Rattle.hls_tree_nodes.specs.Leapt.{StandsLate, StandsIn, StandsWhat, nodes_by, post_leapt}
 use Rattle.hls_tree_nodes.specs.TreeOf.{IsOf, IsPassing}
-use Rattle.hls_tree_nodes.proofs.Leaps.{granted_by_row}
+use Rattle.hls_tree_passes.proofs.Leaps.{granted_by_row}
 
 made_here : (node : Option Node) (s : LoadedScheduler) → bare node ≡ Some (SchedulerNode s) → IsMadeNode node
     → IsMadeNode (Some (Loaded s))

@@ -15,7 +15,7 @@ use Rattle.hls_tree_nodes.specs.declared.known.Known.{Known}
 use Rattle.hls_tree_nodes.specs.declared.nodes.Nodes.{Nodes}
 use Rattle.hls_tree_nodes.proofs.Behind.{late_flat}
 use Rattle.hls_tree_nodes.proofs.Late.{quiet_stays}
-use Rattle.hls_tree_nodes.proofs.Silent.{zero_off}
+use Rattle.hls_tree_passes.proofs.Silent.{zero_off}
 use Rattle.hls_tree.specs.Trees.{IsTreeOf, IsReadyOf, Stands, ready_of}
 use Rattle.hls_tree.specs.declared.tree.Tree.{Tree}
 

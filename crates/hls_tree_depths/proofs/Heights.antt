@@ -21,7 +21,7 @@ use Rattle.hls_tree_nodes.specs.Shown.{bare_in, level_in, seats_in, place_in, bo
 use Rattle.hls_tree_nodes.specs.Shown.{Scheduler as SchedulerWhat, Thread as ThreadWhat}
 use Rattle.hls_tree_nodes.specs.TreeOf.{IsLaid}
 use Rattle.hls_tree_nodes.proofs.Snapshots.{Nodes, rise, empty_terms}
-use Rattle.hls_tree_nodes.proofs.Passes.{seats_same, book_same}
+use Rattle.hls_tree_nodes.proofs.Bare.{seats_same, book_same}
 use Rattle.hls_tree_depths.specs.Subtrees.{sum_at}
 use Rattle.hls_tree_depths.specs.Inside.Sums.{sum_under, greatest_over, fair_in, fair_what, count_in, next_in}
 use Rattle.hls_tree_depths.specs.Inside.Sums.{counts_in, IsSettled, IsLocal}

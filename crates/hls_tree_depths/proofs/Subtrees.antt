@@ -5,7 +5,7 @@ use Rattle.hls_machine.specs.Hierarchy.{Hierarchy, Loaded, Scheduler, Seat}
 use Rattle.hls_machine.specs.Legal.{scheduler_at}
 use Rattle.hls_machine.specs.Readings.{IsUnder, IsUnderBy}
 use Rattle.hls_tree_nodes.specs.Shown.{seats_in}
-use Rattle.hls_tree_nodes.proofs.Passes.{seats_same}
+use Rattle.hls_tree_nodes.proofs.Bare.{seats_same}
 use Rattle.hls_tree_nodes.proofs.Snapshots.{Nodes}
 use Rattle.hls_tree_depths.specs.Paths.{AreNodesOf}
 use Rattle.hls_tree_depths.specs.Inside.Sums.{sum_under, greatest_over}

@@ -1,6 +1,7 @@
 // Nodes, of which some are behind.
 ghost use Rattle.std.specs.Prelude.{◌≡◌, ◌≢◌, ℕ, None, true, false};
 ghost use Rattle.slab.specs.Slab.{get};
+ghost use Rattle.hls_tree_nodes.specs.Shown.{PostedIn, asks_in, level_in};
 ghost use Rattle.hls_tree_nodes.specs.Views.{shown_at, stored_at};
 ghost use Rattle.hls_tree_nodes.specs.Behind.{behind_at, late, LagsIn};
 ghost use Rattle.hls_tree_nodes.specs.Late.{IsLate, StaysLate};
@@ -40,6 +41,35 @@ impl Nodes {
     }
 }
 
+/// Whether a node asks.
+pub fn asks_at(nodes: &Nodes, key: usize) -> bool
+    requires posted { PostedIn (shown_at seen nodes.now key) }
+    requires late { IsLate seen nodes.now }
+    ensures { result ≡ asks_in (shown_at seen nodes.now key) }
+{
+    match nodes.slab.get(key) {
+        Some(node) => node.role.asks(),
+        None => false,
+    }
+}
+
+/// The level of a node.
+pub fn stored_level(slab: &Slab<Node>, key: usize) -> u8
+    ensures { result ≡ level_in (stored_at seen slab.now key) }
+{
+    match slab.get(key) {
+        Some(node) => node.level,
+        None => 0,
+    }
+}
+
+/// The level of a node.
+pub fn level_at(nodes: &Nodes, key: usize) -> u8
+    ensures { result ≡ level_in (shown_at seen nodes.now key) }
+{
+    stored_level(&nodes.slab, key)
+}
+
 /// Lets a node catch up, if it is behind, and tells its place in the list.
 fn catch_up(slab: &mut Slab<Node>, key: usize, tick: u32) -> Option<u8>
     requires lags { LagsIn tick (stored_at seen slab.old key) }
@@ -57,7 +87,7 @@ fn catch_up(slab: &mut Slab<Node>, key: usize, tick: u32) -> Option<u8>
 }
 
 /// Lets a node catch up, if it is behind.
-pub(crate) fn rouse(nodes: &mut Nodes, key: usize)
+pub fn rouse(nodes: &mut Nodes, key: usize)
     requires late { IsLate seen nodes.old }
     ensures same { (k : ℕ) → shown_at seen nodes.new k ≡ shown_at seen nodes.old k }
     ensures late { StaysLate seen nodes.old nodes.new }
