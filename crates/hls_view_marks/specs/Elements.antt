@@ -1,5 +1,5 @@
 -- The elements of a picture, each on a line of its own.
-use Rattle.std.specs.Prelude.{ℕ, List, [], ◌∷◌, codes, decimal}
+use Rattle.std.specs.Prelude.{ℕ, [], ◌∷◌, codes, decimal}
 use Rattle.hls_text.specs.Lines.{Text}
 use Rattle.hls_view_pieces.specs.Pieces.{as_one}
 

@@ -1,6 +1,6 @@
 -- A part of the full height.
-use Rattle.std.proofs.Common.{◌≡◌, ℕ, suc, ◌+◌, ◌-◌, ◌*◌, ◌/◌, ◌<◌, ◌≤◌, arith, refl, sym, ap, ◌∙◌}
-use Rattle.std.proofs.lemmas.Nat.{mul-le, div_below, le-div}
+use Rattle.std.proofs.Common.{◌≡◌, ℕ, ◌*◌, ◌/◌, ◌<◌, ◌≤◌, arith}
+use Rattle.std.proofs.lemmas.Nat.{mul-le, div_below}
 use Rattle.std.proofs.Math.Nat.{div-le_of_le-mul, mul-div_cancel_left, mul-lt-mul_of_pos_left, mul_comm}
 
 pub part_within : (some all full : ℕ) → some ≤ all → some * full / all ≤ full
