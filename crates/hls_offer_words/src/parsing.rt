@@ -3,7 +3,7 @@ ghost use Rattle.std.specs.Prelude.{◌≡◌, IfOk, IfErr, map, string_bytes, f
 ghost use Rattle.clap.specs.declared.builder.command.Command.TheViews.{out-Command};
 ghost use Rattle.clap.specs.Words.{kind_of, app_of, subcommand_of, subcommand_rows_of};
 ghost use Rattle.hls_offer_words.specs.Table.{IsAsked, IsNotAsked};
-ghost use Rattle.hls_offer_words.specs.Inside.Commands.{worded, asking, bare, hlsoffer};
+ghost use Rattle.hls_offer_words.specs.Inside.Commands.{worded, asking, hlsoffer};
 ghost use Rattle.hls_offer_words.specs.Inside.Shapes.{told};
 
 use crate::Asked;
@@ -11,6 +11,7 @@ use crate::table::has_shape;
 use crate::told::asked_told;
 use clap::error::ErrorKind;
 use clap::{Arg, ArgAction, ArgMatches, Command, Error};
+use hls_words::{program_command, word_command};
 use std::alloc::{AllocError, Global};
 
 /// A word with others behind it.
@@ -19,8 +20,7 @@ fn worded_command<'a>(alloc: Global, name: &'a str) -> Result<Command<'a>, Alloc
     ensures local { IfOk result (λ c. (out-Command c).has_globals ≡ false) }
 {
     let words = Arg::new(alloc, "words").action(ArgAction::Append);
-    let bare = Command::new(alloc, name).disable_help_flag(true);
-    bare.arg(words)
+    word_command(alloc, name).arg(words)
 }
 
 /// A word that asks a question.
@@ -35,21 +35,10 @@ fn asking_command<'a>(alloc: Global, name: &'a str) -> Result<Command<'a>, Alloc
     worded_command(alloc, name)?.arg(tick)?.arg(depth)
 }
 
-fn bare_command<'a>(alloc: Global) -> Command<'a>
-    ensures app { app_of result ≡ bare }
-    ensures local { (out-Command result).has_globals ≡ false }
-{
-    Command::new(alloc, "hlsoffer")
-        .no_binary_name(true)
-        .disable_help_flag(true)
-        .disable_help_subcommand(true)
-        .subcommand_required(true)
-}
-
 fn hlsoffer_command<'a>(alloc: Global) -> Result<Command<'a>, AllocError>
     ensures { IfOk result (λ c. app_of c ≡ hlsoffer) }
 {
-    bare_command(alloc)
+    program_command(alloc, "hlsoffer")
         .subcommand(asking_command(alloc, "offer")?)?
         .subcommand(asking_command(alloc, "need")?)?
         .subcommand(asking_command(alloc, "spare")?)

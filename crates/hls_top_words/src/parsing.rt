@@ -3,7 +3,7 @@ ghost use Rattle.std.specs.Prelude.{◌≡◌, IfOk, IfErr, map, string_bytes, f
 ghost use Rattle.clap.specs.declared.builder.command.Command.TheViews.{out-Command};
 ghost use Rattle.clap.specs.Words.{kind_of, app_of, subcommand_of, subcommand_rows_of};
 ghost use Rattle.hls_top_words.specs.Table.{IsJob, IsNoJob};
-ghost use Rattle.hls_top_words.specs.Inside.Commands.{run, check, numbered, bare, hls};
+ghost use Rattle.hls_top_words.specs.Inside.Commands.{run, check, numbered, hls};
 ghost use Rattle.hls_top_words.specs.Inside.Shapes.{told};
 
 use crate::Job;
@@ -11,6 +11,7 @@ use crate::table::has_shape;
 use crate::told::job_told;
 use clap::error::ErrorKind;
 use clap::{Arg, ArgAction, ArgMatches, Command, Error};
+use hls_words::{program_command, word_command};
 use std::alloc::{AllocError, Global};
 
 fn run_command<'a>(alloc: Global) -> Result<Command<'a>, AllocError>
@@ -20,15 +21,14 @@ fn run_command<'a>(alloc: Global) -> Result<Command<'a>, AllocError>
     let depth = Arg::new(alloc, "depth")
         .long("depth")
         .action(ArgAction::Set);
-    let bare = Command::new(alloc, "run").disable_help_flag(true);
-    bare.arg(depth)
+    word_command(alloc, "run").arg(depth)
 }
 
 fn check_command<'a>(alloc: Global) -> Command<'a>
     ensures app { app_of result ≡ check }
     ensures local { (out-Command result).has_globals ≡ false }
 {
-    Command::new(alloc, "check").disable_help_flag(true)
+    word_command(alloc, "check")
 }
 
 /// A word that takes a number.
@@ -39,25 +39,13 @@ fn numbered_command<'a>(alloc: Global, name: &'a str) -> Result<Command<'a>, All
     let number = Arg::new(alloc, "number")
         .required(true)
         .action(ArgAction::Set);
-    let bare = Command::new(alloc, name).disable_help_flag(true);
-    bare.arg(number)
-}
-
-fn bare_command<'a>(alloc: Global) -> Command<'a>
-    ensures app { app_of result ≡ bare }
-    ensures local { (out-Command result).has_globals ≡ false }
-{
-    Command::new(alloc, "hls")
-        .no_binary_name(true)
-        .disable_help_flag(true)
-        .disable_help_subcommand(true)
-        .subcommand_required(true)
+    word_command(alloc, name).arg(number)
 }
 
 fn hls_command<'a>(alloc: Global) -> Result<Command<'a>, AllocError>
     ensures { IfOk result (λ c. app_of c ≡ hls) }
 {
-    bare_command(alloc)
+    program_command(alloc, "hls")
         .subcommand(run_command(alloc)?)?
         .subcommand(check_command(alloc))?
         .subcommand(numbered_command(alloc, "gen")?)?

@@ -3,19 +3,20 @@ ghost use Rattle.std.specs.Prelude.{◌≡◌, IfOk, IfErr, map, string_bytes, f
 ghost use Rattle.clap.specs.declared.builder.command.Command.TheViews.{out-Command};
 ghost use Rattle.clap.specs.Words.{kind_of, app_of};
 ghost use Rattle.hls_view_words.specs.Table.{IsView, IsNoView};
-ghost use Rattle.hls_view_words.specs.Inside.Commands.{margins, jobs, tree, svg, trace, bare, tables, hlsview};
+ghost use Rattle.hls_view_words.specs.Inside.Commands.{margins, jobs, tree, svg, trace, tables, hlsview};
 
 use crate::View;
 use crate::table::listed;
 use clap::error::ErrorKind;
 use clap::{Arg, ArgAction, ArgMatches, Command, Error};
+use hls_words::{program_command, word_command};
 use std::alloc::{AllocError, Global};
 
 fn margins_command<'a>(alloc: Global) -> Command<'a>
     ensures app { app_of result ≡ margins }
     ensures local { (out-Command result).has_globals ≡ false }
 {
-    Command::new(alloc, "margins").disable_help_flag(true)
+    word_command(alloc, "margins")
 }
 
 fn tree_command<'a>(alloc: Global) -> Result<Command<'a>, AllocError>
@@ -23,8 +24,7 @@ fn tree_command<'a>(alloc: Global) -> Result<Command<'a>, AllocError>
     ensures local { IfOk result (λ c. (out-Command c).has_globals ≡ false) }
 {
     let tick = Arg::new(alloc, "at").long("at").action(ArgAction::Set);
-    let bare = Command::new(alloc, "tree").disable_help_flag(true);
-    bare.arg(tick)
+    word_command(alloc, "tree").arg(tick)
 }
 
 fn jobs_command<'a>(alloc: Global) -> Result<Command<'a>, AllocError>
@@ -32,8 +32,7 @@ fn jobs_command<'a>(alloc: Global) -> Result<Command<'a>, AllocError>
     ensures local { IfOk result (λ c. (out-Command c).has_globals ≡ false) }
 {
     let name = Arg::new(alloc, "of").long("of").action(ArgAction::Set);
-    let bare = Command::new(alloc, "jobs").disable_help_flag(true);
-    bare.arg(name)
+    word_command(alloc, "jobs").arg(name)
 }
 
 fn svg_command<'a>(alloc: Global) -> Result<Command<'a>, AllocError>
@@ -42,8 +41,7 @@ fn svg_command<'a>(alloc: Global) -> Result<Command<'a>, AllocError>
 {
     let from = Arg::new(alloc, "from").long("from").action(ArgAction::Set);
     let to = Arg::new(alloc, "to").long("to").action(ArgAction::Set);
-    let bare = Command::new(alloc, "svg").disable_help_flag(true);
-    bare.arg(from)?.arg(to)
+    word_command(alloc, "svg").arg(from)?.arg(to)
 }
 
 fn trace_command<'a>(alloc: Global) -> Result<Command<'a>, AllocError>
@@ -51,26 +49,14 @@ fn trace_command<'a>(alloc: Global) -> Result<Command<'a>, AllocError>
     ensures local { IfOk result (λ c. (out-Command c).has_globals ≡ false) }
 {
     let tick = Arg::new(alloc, "tick").long("tick").action(ArgAction::Set);
-    let bare = Command::new(alloc, "trace").disable_help_flag(true);
-    bare.arg(tick)
-}
-
-fn bare_command<'a>(alloc: Global) -> Command<'a>
-    ensures app { app_of result ≡ bare }
-    ensures local { (out-Command result).has_globals ≡ false }
-{
-    Command::new(alloc, "hlsview")
-        .no_binary_name(true)
-        .disable_help_flag(true)
-        .disable_help_subcommand(true)
-        .subcommand_required(true)
+    word_command(alloc, "trace").arg(tick)
 }
 
 fn tables_command<'a>(alloc: Global) -> Result<Command<'a>, AllocError>
     ensures app { IfOk result (λ c. app_of c ≡ tables) }
     ensures local { IfOk result (λ c. (out-Command c).has_globals ≡ false) }
 {
-    bare_command(alloc)
+    program_command(alloc, "hlsview")
         .subcommand(margins_command(alloc))?
         .subcommand(tree_command(alloc)?)?
         .subcommand(jobs_command(alloc)?)

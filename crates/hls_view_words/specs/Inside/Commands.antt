@@ -1,8 +1,8 @@
 -- What clap is told of the command line.
-use Rattle.std.specs.Prelude.{codes, true, Some}
-use Rattle.clap.specs.Words.{App, Rule, Text, new_app, new_rule, with_rule, with_subcommand}
-use Rattle.clap.specs.Simple.{on_top}
+use Rattle.std.specs.Prelude.{codes, Some}
+use Rattle.clap.specs.Words.{App, Rule, new_rule, with_rule, with_subcommand}
 use Rattle.clap.specs.declared.builder.ArgAction.TheVariants.{Set}
+use Rattle.hls_words.specs.Commands.{word, program}
 
 abbrev pub at : Rule
 at = record (new_rule (codes "at")) { long = Some (codes "at"); action = Some Set }
@@ -19,34 +19,23 @@ to = record (new_rule (codes "to")) { long = Some (codes "to"); action = Some Se
 abbrev pub tick : Rule
 tick = record (new_rule (codes "tick")) { long = Some (codes "tick"); action = Some Set }
 
-abbrev pub leaf : Text → App
-leaf name = on_top (λ s. record s { disable_help_flag = true }) (new_app name)
-
 abbrev pub margins : App
-margins = leaf (codes "margins")
+margins = word (codes "margins")
 
 abbrev pub tree : App
-tree = with_rule (leaf (codes "tree")) at
+tree = with_rule (word (codes "tree")) at
 
 abbrev pub jobs : App
-jobs = with_rule (leaf (codes "jobs")) of
+jobs = with_rule (word (codes "jobs")) of
 
 abbrev pub svg : App
-svg = with_rule (with_rule (leaf (codes "svg")) from) to
+svg = with_rule (with_rule (word (codes "svg")) from) to
 
 abbrev pub trace : App
-trace = with_rule (leaf (codes "trace")) tick
-
-abbrev pub bare : App
-bare = on_top (λ s. record s {
-  no_binary_name = true;
-  disable_help_flag = true;
-  disable_help_subcommand = true;
-  subcommand_required = true;
-}) (new_app (codes "hlsview"))
+trace = with_rule (word (codes "trace")) tick
 
 abbrev pub tables : App
-tables = with_subcommand (with_subcommand (with_subcommand bare margins.top) tree.top) jobs.top
+tables = with_subcommand (with_subcommand (with_subcommand (program (codes "hlsview")) margins.top) tree.top) jobs.top
 
 abbrev pub hlsview : App
 hlsview = with_subcommand (with_subcommand tables svg.top) trace.top

@@ -11,7 +11,7 @@ extend-requires-clause-short g c =
 pub loop-i-preserved : goal.loop-i-preserved
 loop-i-preserved g c = λ h tree.
     one_more h c.args.journal.now c.args.ids.now c.loop-i.i c.index-ids-i.result c.loop-i.path c.extend.new.path
-    c.name-name.result (c.loop-i.invariant h tree) (omega arith) c.index-ids-i.is (c.name-name.ensures h tree)
+    c.name-name.result.now (c.loop-i.invariant h tree) (omega arith) c.index-ids-i.is (c.name-name.ensures h tree)
     c.extend.ensures.len c.extend.ensures.names c.extend.ensures.within
 
 pub returns : goal.returns

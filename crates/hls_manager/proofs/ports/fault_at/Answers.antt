@@ -12,10 +12,10 @@ returns-in-None-clause-answer g c = λ h perch tree listed is.
 pub returns-in-Some-parent-clause-answer : goal.returns-in-Some-parent-clause-answer
 returns-in-Some-parent-clause-answer g c = λ h perch tree listed is.
     rw c.fault_refusal.ensures.is (seat_fault h listed perch c.args.seat.now is c.in-Some-parent.id
-    c.name-sched.result c.in-Some-parent.is (c.name-sched.ensures h tree) c.in-Some.fault
+    c.name-sched.result.now c.in-Some-parent.is (c.name-sched.ensures h tree) c.in-Some.fault
     (c.in-Some.ensures h tree))
 
 pub returns-in-Some-parent-clause-formed : goal.returns-in-Some-parent-clause-formed
 returns-in-Some-parent-clause-formed g c = λ h perch tree is within.
     c.fault_refusal.ensures.formed (seat_name h perch c.args.seat.now is within c.in-Some-parent.id
-    c.name-sched.result c.in-Some-parent.is (c.name-sched.ensures h tree))
+    c.name-sched.result.now c.in-Some-parent.is (c.name-sched.ensures h tree))

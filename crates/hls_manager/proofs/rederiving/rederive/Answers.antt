@@ -47,7 +47,7 @@ returns-in-Ok-None g c =
     let none = c.in-Ok-None.ensures.none (rw c.in-Ok-None.field-0-is refl) in
     λ h tree reached.
     lacks_one h c.args.id c.args.have.now c.args.depth c.loop-child.seats.items (c.loop-child.invariant.first h tree)
-    c.child-item.result.node c.child-item.result.port c.name-name.result
+    c.child-item.result.node c.child-item.result.port c.name-name.result.now
     (child_at h c.args.id c.in_ok-children.children.items items (length c.loop-child.seats.items)
     c.loop-child.child-index c.child-item.result (c.in_ok-children.ensures h tree) c.deref-child-items.ensures.value
     c.loop-child.invariant.count read)
@@ -69,7 +69,7 @@ loop-child-preserved g c =
           subst (λ l. AreSettledFirst c.args.depth (dues_on h c.args.have.now (Some c.args.id)) l) (sym items)
           (told_one h c.args.id c.args.have.now c.args.depth c.loop-child.seats.items
           (c.loop-child.invariant.first h tree)
-          c.child-item.result.node c.child-item.result.port c.name-name.result c.in-Ok-Some.derivation
+          c.child-item.result.node c.child-item.result.port c.name-name.result.now c.in-Ok-Some.derivation
           (child_at h c.args.id c.in_ok-children.children.items children (length c.loop-child.seats.items)
           c.loop-child.child-index c.child-item.result (c.in_ok-children.ensures h tree)
           c.deref-child-items.ensures.value c.loop-child.invariant.count read)

@@ -37,7 +37,7 @@ loop-at-preserved g c = λ m at.
     (c.loop-at.at + 1) b c.args.out.now.items c.put_place.new.out.items) same
     (one_place m c.args.core.now.journal.ticks c.args.sought.now.need (option_copied c.args.sought.now.periods)
     c.loop-at.at
-    c.sched.result c.name-on.result c.loop-at.offers c.in_ok-here.here c.args.out.now.items c.loop-at.out.items
+    c.sched.result c.name-on.result.now c.loop-at.offers c.in_ok-here.here c.args.out.now.items c.loop-at.out.items
     c.put_place.new.out.items (c.sched.ensures m.hierarchy tree) (c.name-on.ensures m.hierarchy tree)
     (c.loop-at.invariant m at) (c.in_ok-here.ensures m at))
 

@@ -10,7 +10,7 @@ pub returns : goal.returns
 returns g c =
     free_line _ c.args.version c.args.tree.now c.args.periods.now c.args.id c.args.out.now.items
     c.put_free.new.out.items c.put_free.result (record {
-      name = c.name-name.result;
+      name = c.name-name.result.now;
       config = c.config-config.result;
       haves = c.in_ok-haves.haves.items;
       left = c.in_ok-left.left;

@@ -5,7 +5,7 @@ use Rattle.hls_top_words.proofs.parsing.hls_command.Goals as goal
 
 pub returns : goal.returns
 returns c =
-    let with_run = c.in_ok-subcommand.ensures.shape (search rules) ∙ ap₂ with_subcommand c.bare_command.ensures.app
+    let with_run = c.in_ok-subcommand.ensures.shape (search rules) ∙ ap₂ with_subcommand c.program_command.ensures.app
     (ap (λ (a : App). a.top) c.in_ok-run_command.ensures.app) in
     let with_check = c.in_ok-subcommand-2.ensures.shape (search rules) ∙ ap₂ with_subcommand with_run
     (ap (λ (a : App). a.top) c.check_command.ensures.app) in

@@ -13,7 +13,7 @@ returns-clause-opened g c = λ h stays tree ready thread are none.
           (w.ready_since.ensures.noted h tree ready) (w.ready_since.ensures.begun h tree)
           (ap (λ (s : Stays). s.tallies.items) w.self-is ∙ w.push_like.ensures.items like.tally like.there)
           (ap (λ (s : Stays). s.idle) w.self-is))
-      | else-is_like w ↦ open_read c.args.self.now _ h stays c.args.id w.name.result w.kept.result
+      | else-is_like w ↦ open_read c.args.self.now _ h stays c.args.id w.name.result.now w.kept.result
           w.now-else-is_like.result w.ready_since-else-is_like.result thread are none (w.name.ensures h tree)
           (w.kept.ensures h tree) (w.now-else-is_like.ensures h tree)
           (w.ready_since-else-is_like.ensures.noted h tree ready) (w.ready_since-else-is_like.ensures.begun h tree)
