@@ -65,7 +65,8 @@ returns-in-None g c =
           ∙ sym (no_choice (λ b. (goal.Scheduler-dyn g (b.vtable, b.value)).seen b.value)
           (λ b. (goal.Scheduler-dyn g (b.vtable, b.value)).choice b.value) c.note_seen.new.nodes c.in-Some.key
           (λ is. c.grant_at-slot.ensures.some is c.in-None.is)))
-          (choice_others _ c.note_seen.new.nodes c.grant_at-slot.new.nodes c.in-Some.key c.grant_at-slot.ensures.others))
+          (choice_others _ c.note_seen.new.nodes c.grant_at-slot.new.nodes c.in-Some.key
+          c.grant_at-slot.ensures.others))
           (λ is. c.grant_at-slot.ensures.some is c.in-None.is) _
           (c.push.ensures ∙ ap (λ n. c.loop-step.route ++ n ∷ []) c.of-id.ensures);
       late = stays_then (λ b. (goal.Scheduler-dyn g (b.vtable, b.value)).seen b.value)
