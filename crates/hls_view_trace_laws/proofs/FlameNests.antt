@@ -2,7 +2,7 @@
 use Rattle.std.proofs.Common.{◌≡◌, ◌∙◌, ℕ, ◌+◌, ◌≤◌, ◌<◌, List, [], ◌∷◌, ◌++◌, true, false, refl, ap, sym, arith}
 use Rattle.std.proofs.Common.{subst, inl, inr}
 use Rattle.std.proofs.Common.{append_assoc}
-use Rattle.std.specs.Prelude.{Bool, cond, Option, Some, None, ◌⊎◌}
+use Rattle.std.specs.Prelude.{Bool, cond, Option, Some, None}
 use Rattle.std.specs.List.{AllByRecursion, AllPairs}
 use Rattle.hls_text.specs.Lines.{Text}
 use Rattle.hls_report_text.specs.declared.stretch.Stretch.{Stretch}
@@ -11,11 +11,10 @@ use Rattle.hls_report_text.specs.WellFormed.{Cover, IsContent}
 use Rattle.hls_view_trace.specs.declared.event.Place.{Place}
 use Rattle.hls_view_trace.specs.declared.event.Event.{Event}
 use Rattle.hls_view_trace.specs.declared.event.Event.TheVariants.{Slice}
-use Rattle.hls_view_trace.specs.declared.event.Event.TheVariants as events
 use Rattle.hls_view_tracks.specs.Flame.{names_in, begins, last_tick, run_slice, slice_of, slices_below, flame}
 use Rattle.hls_view_trace_laws.specs.Nesting.{LiesBy, IsNested}
 use Rattle.hls_view_trace_laws.proofs.Pairs.{Pairs, all-append, all-map, pairs-append, pairs-at}
-use Rattle.hls_view_trace_laws.proofs.Prefixes.{begins_front, begins_all, begins_more, longer}
+use Rattle.hls_view_trace_laws.proofs.Prefixes.{begins_front, begins_all, longer}
 use Rattle.hls_view_trace_laws.proofs.FlameTicks.{later_last}
 
 -- more names last no longer

@@ -18,8 +18,8 @@ use Rattle.hls_view_trace.specs.declared.event.Instant.{Instant}
 use Rattle.hls_view_trace.specs.declared.event.Event.{Event}
 use Rattle.hls_view_trace.specs.declared.event.Event.TheVariants as events
 use Rattle.hls_view_trace.specs.Events as texts
-use Rattle.hls_view_trace_laws.specs.Json.{is_plain, is_blank, AreSigns, closed, plain, IsValue, string, number}
-use Rattle.hls_view_trace_laws.specs.Json.{object, array}
+use Rattle.hls_view_trace_laws.specs.Json.{is_plain, AreSigns, closed, plain, IsValue, string, number}
+use Rattle.hls_view_trace_laws.specs.Json.{object}
 use Rattle.hls_view_trace_laws.specs.Json.{IsObject, without, members, AreMembers, member, MayEnd, more, end}
 use Rattle.hls_view_trace_laws.specs.Plain.{IsPlain, IsHeldPlace, AreHeldCounts, IsPlainEvent}
 

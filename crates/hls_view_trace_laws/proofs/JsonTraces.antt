@@ -1,5 +1,5 @@
 -- The text of a trace in JSON.
-use Rattle.std.proofs.Common.{◌≡◌, ◌∙◌, ℕ, ◌<◌, ◌^◌, List, [], ◌∷◌, ◌++◌, true, refl, ap, sym, arith, subst}
+use Rattle.std.proofs.Common.{ℕ, ◌<◌, ◌^◌, List, [], ◌∷◌, ◌++◌, refl, sym, arith, subst}
 use Rattle.std.proofs.Common.{append_assoc}
 use Rattle.std.specs.Prelude.{codes, decimal, flat_map}
 use Rattle.std.specs.List.{AllByRecursion}
@@ -8,10 +8,10 @@ use Rattle.hls_view_trace.specs.declared.event.Event.{Event}
 use Rattle.hls_view_trace.specs.declared.event.Trace.{Trace}
 use Rattle.hls_view_trace.specs.Events.{event_text}
 use Rattle.hls_view_trace.specs.Traces.{head_text, next_text, events_text, trace_text}
-use Rattle.hls_view_trace_laws.specs.Json.{IsValue, object, array, IsObject, members, MayEnd, more, end}
-use Rattle.hls_view_trace_laws.specs.Json.{IsArray, empty, items, AreItems, item, MayClose, further, close, IsJson}
+use Rattle.hls_view_trace_laws.specs.Json.{object, array, IsObject, members, MayEnd, more, end}
+use Rattle.hls_view_trace_laws.specs.Json.{IsArray, empty, items, item, MayClose, further, close, IsJson}
 use Rattle.hls_view_trace_laws.specs.Plain.{IsPlain, IsPlainEvent, IsPlainTrace}
-use Rattle.hls_view_trace_laws.proofs.JsonTexts.{laid, onto, named, text_value, number_value, event_is}
+use Rattle.hls_view_trace_laws.proofs.JsonTexts.{onto, named, text_value, number_value, event_is}
 
 closing : (tick : ℕ) (events : List Event) (rest : Text) → tick < 2 ^ 32 → AllByRecursion IsPlainEvent events
     → MayClose (flat_map (next_text tick) events ++ 10 ∷ 93 ∷ rest) rest

@@ -1,7 +1,6 @@
 -- What holds of each item of a list, and of each and each later one, by recursion.
 use Rattle.std.proofs.Common.{◌≡◌, ℕ, zero, suc, ◌<◌, List, [], ◌∷◌, ◌++◌, true, false, length, subst, arith}
-use Rattle.std.specs.Prelude.{Bool, cond, get_or, filter, find, take, drop, slice_get, flat_map, map, Option, Some}
-use Rattle.std.specs.Prelude.{None}
+use Rattle.std.specs.Prelude.{Bool, cond, get_or, filter, find, take, drop, slice_get, flat_map, map, Some}
 use Rattle.std.specs.List.{AllByRecursion, AllPairs}
 
 abbrev pub Pairs : {X : Type 0} → (X → X → Type 0) → List X → Type 0

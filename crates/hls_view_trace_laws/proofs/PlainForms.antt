@@ -1,9 +1,8 @@
 -- Commands and answers have no byte that JSON must escape.
-use Rattle.std.proofs.Common.{◌≡◌, ℕ, List, [], ◌∷◌, ◌++◌, true, false, refl}
-use Rattle.std.specs.Prelude.{◌==◌, codes, cond, decimal, flat_map, Option, Some, None}
+use Rattle.std.proofs.Common.{ℕ, List, [], ◌∷◌, true, false, refl}
+use Rattle.std.specs.Prelude.{◌==◌, codes, cond, decimal, Option, Some, None}
 use Rattle.std.specs.List.{AllByRecursion}
 use Rattle.hls_text.specs.Lines.{Text}
-use Rattle.hls_chron.specs.Name.{IsName}
 use Rattle.hls_chron.specs.declared.plain.Kind.{Kind}
 use Rattle.hls_chron.specs.declared.plain.Kind.TheVariants as kinds
 use Rattle.hls_chron.specs.declared.plain.Config.{Config}

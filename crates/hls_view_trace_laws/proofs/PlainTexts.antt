@@ -1,20 +1,13 @@
 -- Texts of names, numbers and words have no byte that JSON must escape.
 use Rattle.std.proofs.Common.{◌≡◌, ◌∙◌, ℕ, zero, suc, ◌+◌, ◌/◌, ◌%◌, ◌≤◌, ◌<◌, ◌⊎◌, inl, inr, List, [], ◌∷◌, ◌++◌}
-use Rattle.std.proofs.Common.{true, false, refl, ap, sym, arith}
-use Rattle.std.specs.Prelude.{Bool, cond, not, ◌&&◌, ◌||◌, ◌==◌, nat_le, nat_lt, codes, decimal, flat_map, map}
-use Rattle.std.specs.Prelude.{length, Option, Some, None}
+use Rattle.std.proofs.Common.{true, false, refl, ap, arith}
+use Rattle.std.specs.Prelude.{Bool, cond, not, ◌&&◌, ◌||◌, ◌==◌, nat_le, codes, decimal, flat_map}
 use Rattle.std.specs.List.{AllByRecursion, list_all}
 use Rattle.std.specs.Fmt.{digits, digits_onto, digit_glyph}
 use Rattle.std.proofs.lemmas.Bool.{leb-true, le-leb, lt-ltb, ne_eqb, eqb-true}
 use Rattle.hls_text.specs.Lines.{Text}
-use Rattle.hls_chron.specs.Name.{IsName, is_name, is_letter, may_follow}
+use Rattle.hls_chron.specs.Name.{IsName, is_letter, may_follow}
 use Rattle.hls_frac.specs.declared.Frac.{Frac}
-use Rattle.hls_chron.specs.declared.plain.Kind.{Kind}
-use Rattle.hls_chron.specs.declared.plain.Kind.TheVariants as kinds
-use Rattle.hls_chron.specs.declared.plain.Config.{Config}
-use Rattle.hls_chron.specs.declared.plain.Config.TheVariants as configs
-use Rattle.hls_chron.specs.declared.plain.Terms.{Terms}
-use Rattle.hls_chron.specs.declared.plain.Terms.TheVariants as terms
 use Rattle.hls_guarantee.specs.declared.Guarantee.{Guarantee}
 use Rattle.hls_guarantee.specs.declared.Guarantee.TheVariants.{All, Null, Resb, Resc, Psbe}
 use Rattle.hls_guarantee.specs.Spelling.{fraction_text, with_fields, spelling}

@@ -1,6 +1,6 @@
 -- The schedule and the commands of a report have no byte that JSON must escape.
-use Rattle.std.proofs.Common.{◌≡◌, ◌∙◌, ℕ, ◌+◌, ◌^◌, ◌≤◌, ◌<◌, List, [], ◌∷◌, ◌++◌, true, false, refl, ap, arith}
-use Rattle.std.specs.Prelude.{Bool, cond, codes, map, Option, Some, None}
+use Rattle.std.proofs.Common.{ℕ, ◌+◌, ◌^◌, ◌≤◌, ◌<◌, List, [], ◌∷◌, ◌++◌, true, false, refl, arith}
+use Rattle.std.specs.Prelude.{Bool, cond, codes, Option, Some, None}
 use Rattle.std.specs.List.{AllByRecursion}
 use Rattle.hls_text.specs.Lines.{Text}
 use Rattle.hls_chron.specs.Name.{IsName}
@@ -16,7 +16,7 @@ use Rattle.hls_report_text.specs.WellFormed.{AreAnswered, MayAnswer, Cover, IsPa
 use Rattle.hls_view_trace.specs.declared.event.Place.{Place}
 use Rattle.hls_view_trace.specs.declared.event.Event.{Event}
 use Rattle.hls_view_tracks.specs.Flame.{names_in, begins, last_tick, run_slice, slice_of, slices_below, flame}
-use Rattle.hls_view_tracks.specs.Commands.{answer_text, instant_of, instants}
+use Rattle.hls_view_tracks.specs.Commands.{answer_text, instants}
 use Rattle.hls_view_trace_laws.specs.Plain.{IsPlain, IsHeldPlace, IsPlainEvent}
 use Rattle.hls_view_trace_laws.proofs.Pairs.{all-append}
 use Rattle.hls_view_trace_laws.proofs.PlainTexts.{plain-append, plain_name}

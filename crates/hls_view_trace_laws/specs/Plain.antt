@@ -1,5 +1,5 @@
 -- Events whose texts have no byte that JSON must escape, and whose numbers are as large as they may be held.
-use Rattle.std.specs.Prelude.{◌≡◌, ℕ, ◌^◌, ◌<◌, true, Option, Some, None}
+use Rattle.std.specs.Prelude.{◌≡◌, ◌^◌, ◌<◌, true, Option, Some, None}
 use Rattle.std.specs.List.{AllByRecursion, list_all}
 use Rattle.hls_text.specs.Lines.{Text}
 use Rattle.hls_view_trace.specs.declared.event.Counts.{Counts}
