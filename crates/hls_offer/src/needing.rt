@@ -61,6 +61,13 @@ fn put_place(
     }
 }
 
+/// A name that was lent, as a value of its own: of such a one it is known that it is a name.
+fn own(name: &Name) -> Name
+    ensures { result ≡ name.now }
+{
+    *name
+}
+
 /// Appends such a line for each loaded scheduler, in the order of their loads. Tells whether the guarantee can be had
 /// on one of them.
 fn put_places(
@@ -79,8 +86,9 @@ fn put_places(
     let tree = core.tree();
     let mut offers = false;
     for at in 0..tree.scheds() {
-        let on = tree.name(tree.sched(at));
-        let here = put_place(alloc, core, sought, on, out)?;
+        let told = tree.name(tree.sched(at));
+        let on = own(told);
+        let here = put_place(alloc, core, sought, &on, out)?;
         offers = offers || here;
     }
     Ok(offers)

@@ -1,4 +1,4 @@
-use Rattle.std.proofs.Common.{◌≡◌, ◌+◌, ◌||◌, Bool, subst, arith}
+use Rattle.std.proofs.Common.{◌≡◌, ◌∙◌, ◌+◌, ◌||◌, Bool, Some, ap, sym, subst, arith}
 use Rattle.std.specs.Prelude.{option_copied}
 use Rattle.hls_manager.proofs.Outcomes.{reached_listed}
 use Rattle.hls_offer_asks.proofs.Standing.{moment_tree, runs_stand}
@@ -19,8 +19,8 @@ sched-requires g c =
     (λ h tree reached. (let count = c.scheds-at-end.ensures h tree in let less = c.loop-at-test.true in
     omega (arith, count, less)))
 
-pub name-on-requires : goal.name-on-requires
-name-on-requires g c =
+pub name-told-requires : goal.name-told-requires
+name-told-requires g c =
     runs_stand _ c.args.core.now c.tree-tree.result.now c.tree-tree.ensures c.requires.runs _
     (λ h tree reached. loaded_some (h.nodes c.sched.result)
     (listed_loaded h (reached_listed h reached) c.loop-at.at c.sched.result (c.sched.ensures h tree)))
@@ -37,8 +37,8 @@ loop-at-preserved g c = λ m at.
     (c.loop-at.at + 1) b c.args.out.now.items c.put_place.new.out.items) same
     (one_place m c.args.core.now.journal.ticks c.args.sought.now.need (option_copied c.args.sought.now.periods)
     c.loop-at.at
-    c.sched.result c.name-on.result.now c.loop-at.offers c.in_ok-here.here c.args.out.now.items c.loop-at.out.items
-    c.put_place.new.out.items (c.sched.ensures m.hierarchy tree) (c.name-on.ensures m.hierarchy tree)
+    c.sched.result c.own-on.result c.loop-at.offers c.in_ok-here.here c.args.out.now.items c.loop-at.out.items
+    c.put_place.new.out.items (c.sched.ensures m.hierarchy tree) (c.name-told.ensures m.hierarchy tree ∙ ap Some (sym c.own-on.ensures))
     (c.loop-at.invariant m at) (c.in_ok-here.ensures m at))
 
 pub returns : goal.returns
