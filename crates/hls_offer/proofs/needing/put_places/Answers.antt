@@ -38,7 +38,8 @@ loop-at-preserved g c = λ m at.
     (one_place m c.args.core.now.journal.ticks c.args.sought.now.need (option_copied c.args.sought.now.periods)
     c.loop-at.at
     c.sched.result c.own-on.result c.loop-at.offers c.in_ok-here.here c.args.out.now.items c.loop-at.out.items
-    c.put_place.new.out.items (c.sched.ensures m.hierarchy tree) (c.name-told.ensures m.hierarchy tree ∙ ap Some (sym c.own-on.ensures))
+    c.put_place.new.out.items (c.sched.ensures m.hierarchy tree)
+    (c.name-told.ensures m.hierarchy tree ∙ ap Some (sym c.own-on.ensures))
     (c.loop-at.invariant m at) (c.in_ok-here.ensures m at))
 
 pub returns : goal.returns
