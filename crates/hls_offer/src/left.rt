@@ -12,9 +12,9 @@ ghost use Rattle.hls_offer.specs.Left.{fit_in, IsLeft};
 use crate::priorities::free_spans;
 use hls_chron::{ALL_PARTS, Book, Config, List};
 use hls_kinds::room_total;
+use hls_kinds_lookup::{occupant, room_used};
 use hls_offer_text::{Fit, Left};
 use hls_sched::Scheduler;
-use hls_test_kinds::{occupant, room_used};
 use hls_tree::{NodeId, Tree};
 use std::alloc::{AllocError, Global};
 

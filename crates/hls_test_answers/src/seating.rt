@@ -11,7 +11,7 @@ ghost use Rattle.hls_test_answers.specs.Taking.{HasPriorityBelow};
 
 use hls_chron::{Book, Config, SLOTS, Terms};
 use hls_kinds::{SeatFault, room_asked, room_total, terms_at};
-use hls_test_kinds::{occupant, room_used};
+use hls_kinds_lookup::{occupant, room_used};
 
 /// How many seats a scheduler has.
 pub fn most_seats(config: &Config) -> u32

@@ -2,9 +2,9 @@
 use crate::ranges::config_in_range;
 use crate::{Hierarchy, Scheduler};
 use hls_chron::{Book, Name, SLOTS, TickRow};
+use hls_kinds_lookup::asks_at;
 use hls_report_text::{Path, Report};
 use hls_test_accounts::is_ready;
-use hls_test_kinds::asks_at;
 use std::alloc::{AllocError, Global};
 
 /// The path of a tick.

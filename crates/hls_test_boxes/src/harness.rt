@@ -7,8 +7,8 @@ ghost use Rattle.hls_sched.specs.Seen.{IsBlank, IsConfigured, seated};
 
 use hls_chron::{Book, Config, RunRow, Sharing, Terms, TickRow};
 use hls_kinds::terms_at;
+use hls_kinds_lookup::{asks_at, discipline_choice, occupant, room_used};
 use hls_sched::{Scheduler, SeatFault};
-use hls_test_kinds::{asks_at, discipline_choice, occupant, room_used};
 use std::alloc::{AllocError, Global};
 use std::process::Abort;
 

@@ -1,10 +1,10 @@
 // The paths of a report beside those of the schedulers' disciplines.
 use hls_chron::Name;
+use hls_kinds_lookup::discipline_choice;
 use hls_report_text::{Answer, Path, Report};
 use hls_test_answers::{
     Hierarchy, asks, carry_out, config_in_range, mask_of, name_at, pass, path_at,
 };
-use hls_test_kinds::discipline_choice;
 use std::alloc::{AllocError, Global};
 
 /// The root scheduler.

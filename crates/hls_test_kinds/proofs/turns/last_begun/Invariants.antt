@@ -1,7 +1,0 @@
-use Rattle.std.proofs.Common.{◌≡◌}
-use Rattle.hls_kinds.specs.Tags.{begins_turn}
-use Rattle.hls_kinds.specs.Ticks.{last_of}
-use Rattle.hls_test_kinds.proofs.turns.last_begun.Given as goal
-
-abbrev pub invariant-loop-k : goal.invariant-loop-k
-invariant-loop-k l = l.last ≡ last_of (begins_turn l.quantum l.book) l.from l.k
