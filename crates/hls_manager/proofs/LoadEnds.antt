@@ -9,8 +9,7 @@ use Rattle.hls_chron.specs.declared.plain.Config.{Config}
 use Rattle.hls_chron.specs.declared.plain.Config.TheVariants as configs
 use Rattle.hls_chron.specs.declared.plain.Kind.TheVariants as kinds
 use Rattle.hls_chron.specs.declared.plain.Terms.{Terms}
-use Rattle.hls_chron.specs.Kinds.{kind_of, terms_kind, port_count}
-use Rattle.hls_chron.specs.Ranges.{ConfigInRange}
+use Rattle.hls_chron.specs.Kinds.{kind_of, terms_kind}
 use Rattle.hls_scenario.specs.declared.scenario.Spot.{Spot}
 use Rattle.hls_scenario.specs.declared.scenario.Spot.TheVariants.{Cpu, Under}
 use Rattle.hls_scenario.specs.declared.scenario.Perch.{Perch}

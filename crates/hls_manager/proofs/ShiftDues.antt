@@ -7,9 +7,6 @@ use Rattle.std.proofs.lemmas.Option.{slice_get_within, slice_get-map}
 use Rattle.hls_text.specs.Lines.{Text}
 use Rattle.hls_chron.specs.Name.{IsName}
 use Rattle.hls_chron.specs.Ranges.{ConfigInRange}
-use Rattle.hls_chron.specs.Kinds.{port_count}
-use Rattle.hls_chron.specs.declared.plain.Config.{Config}
-use Rattle.hls_chron.specs.declared.plain.Config.TheVariants as configs
 use Rattle.hls_chron.specs.declared.plain.Kind.{Kind}
 use Rattle.hls_guarantee.specs.declared.Guarantee.{Guarantee}
 use Rattle.hls_derive.specs.declared.derivation.Derivation.{Derivation}

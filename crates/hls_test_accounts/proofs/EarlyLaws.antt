@@ -1,6 +1,6 @@
 -- The last word on a thread up to a tick comes no later.
 use Rattle.std.proofs.Common.{◌≡◌, ℕ, ◌≤◌, List, [], ◌∷◌, Bool, true, false, cond, refl, sym, ap, ◌∙◌}
-use Rattle.std.specs.Prelude.{Option, Some, None, ◌&&◌, find, reverse, nat_le}
+use Rattle.std.specs.Prelude.{Some, ◌&&◌, find, reverse, nat_le}
 use Rattle.std.proofs.lemmas.Bool.{leb-true, and_parts}
 use Rattle.hls_text.specs.Lines.{Text}
 use Rattle.hls_report_text.specs.declared.report.Answered.{Answered}

@@ -1,6 +1,6 @@
 -- The run that has a tick, and the stretch that it spells.
-use Rattle.std.proofs.Common.{◌≡◌, ℕ, ◌-◌, List, [], ◌∷◌, Option, Some, None, Bool, true, false, ◌&&◌, nat_le}
-use Rattle.std.proofs.Common.{map, take, length, get_or, slice_get, is_none, cond, refl, sym, ap, ◌∙◌}
+use Rattle.std.proofs.Common.{◌≡◌, ℕ, List, [], ◌∷◌, Option, Some, None, Bool, true, false, ◌&&◌, nat_le}
+use Rattle.std.proofs.Common.{map, take, get_or, is_none, cond, refl, sym, ap, ◌∙◌}
 use Rattle.std.specs.Prelude.{find, option_map, option_and_then}
 use Rattle.hls_text.specs.Lines.{Text}
 use Rattle.hls_report_text.specs.declared.report.Path.{Path}
