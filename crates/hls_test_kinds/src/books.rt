@@ -32,6 +32,13 @@ pub const SHORT: Terms = Terms::Res {
     y: 4,
 };
 
+/// Fair queueing in turns of two ticks.
+pub const TWOS: Sharing = Sharing {
+    total: 4,
+    most: 2,
+    quantum: 2,
+};
+
 pub const fn seat(slot: u8, terms: Terms) -> Event {
     Event::Seat { slot, terms }
 }

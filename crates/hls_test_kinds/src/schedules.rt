@@ -1,6 +1,6 @@
 // The worked schedules, tick by tick, against what the definitions say.
-use crate::books::{HALF, LATE, LONG, SHORT, digit, pass, push_marks, seat};
-use hls_chron::{Book, Config, Event, Sharing, Terms};
+use crate::books::{HALF, LATE, LONG, SHORT, TWOS, digit, pass, push_marks, seat};
+use hls_chron::{Book, Config, Event, Terms};
 use std::alloc::AllocError;
 use std::process::Abort;
 use std::test::Fail;
@@ -42,13 +42,6 @@ const FIFTH: Terms = Terms::Res {
     hard: true,
     x: 2,
     y: 10,
-};
-
-/// Fair queueing in turns of two ticks.
-const TWOS: Sharing = Sharing {
-    total: 4,
-    most: 2,
-    quantum: 2,
 };
 
 #[test]
