@@ -3,7 +3,7 @@
 
 Usage: bench/fuzz.py [--prog COMMAND] [--other COMMAND] [--cases N] [--from NUMBER] [--profiles P,P] [--jobs N]
                      [--version N] [--keep FOLDER]
-(default: crates/hls_prog/out/hls_prog, which ./hls builds, and no other; 1,000 cases from 0; all profiles; as many
+(default: crates/hls_prog/out/hls_prog, which the gate leaves, and no other; 1,000 cases from 0; all profiles; as many
 jobs as processors; version 1 of the language; nothing is kept)
 
 The profiles are those of bench/drawn.py, and `report`: the report of one of their scenarios, with a few changes. A

@@ -3,7 +3,7 @@
 
 Usage: bench/memory.py [--program PROGRAM] [--words WORDS] [TEXT ..]
 
-PROGRAM is crates/hls_prog/out/hls_prog, which ./hls builds, if no other is given. WORDS is run, for scenarios, or
+PROGRAM is crates/hls_prog/out/hls_prog, which the gate leaves, if no other is given. WORDS is run, for scenarios, or
 check, for reports, or others in quotes. With no TEXT it runs the scenarios of two worked reports, makes a trial, and
 checks a worked report. A run in which an allocation was refused has to end with status 6 and nothing written, or with
 the output that is written where none is. The last line of each case counts them; the status is 1 where one run ended

@@ -11,7 +11,7 @@ import tempfile
 
 TOP = os.path.dirname(os.path.dirname(os.path.abspath(__file__)))
 
-# What ./hls builds.
+# What the gate leaves.
 PROVED = os.path.join(TOP, "crates", "hls_prog", "out", "hls_prog")
 
 # The most memory of a process begins with what its parent held when it was made. So a shell, which is small, makes the

@@ -1,8 +1,9 @@
 #!/usr/bin/env python3
 """Measures everything of docs/SPEED.md and writes its tables anew.
 
-Usage: bench/tables.py [--other COMMAND] [--reps N] [--instructions]
-(default: the program that ./hls built, measured alone, 7 repetitions)
+Usage: bench/tables.py [--other COMMAND] [--proved COMMAND] [--view COMMAND] [--offer COMMAND]
+                       [--reps N] [--instructions]
+(default: the programs that the gate leaves in crates/*/out, measured alone, 7 repetitions)
 
 COMMAND is a program that does the same job as `hls`; it stands first, and ratios are to it. A table stands in the page
 between a line `<!-- table: NAME -->` and a line `<!-- end -->`.
@@ -17,7 +18,10 @@ from runs import TOP
 
 PAGE = os.path.join(TOP, "docs", "SPEED.md")
 
-PROGRAM = os.path.join(TOP, "crates", "hls_prog", "out", "hls_prog")
+
+def left(crate):
+    """The program that the gate leaves of a crate."""
+    return os.path.join(TOP, "crates", crate, "out", crate)
 
 
 def table(script, *words):
@@ -38,7 +42,9 @@ def put(text, name, rows):
 def main():
     words = argparse.ArgumentParser(description=__doc__, formatter_class=argparse.RawDescriptionHelpFormatter)
     words.add_argument("--other")
-    words.add_argument("--proved", default=PROGRAM)
+    words.add_argument("--proved", default=left("hls_prog"))
+    words.add_argument("--view", default=left("hls_view_prog"))
+    words.add_argument("--offer", default=left("hls_offer_prog"))
     words.add_argument("--reps", default="7")
     words.add_argument("--instructions", action="store_true")
     args = words.parse_args()
@@ -48,7 +54,8 @@ def main():
         text = page.read()
     text = put(text, "whole", table("whole.py", "--reps", args.reps, *programs))
     text = put(text, "tree", table("tree.py", *programs, *["--instructions"] * args.instructions))
-    text = put(text, "asking", table("asking.py", "--reps", args.reps))
+    asked = ["--run", args.proved, "--view", args.view, "--offer", args.offer]
+    text = put(text, "asking", table("asking.py", "--reps", args.reps, *asked))
     with open(PAGE, "w") as page:
         page.write(text)
 

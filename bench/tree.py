@@ -2,7 +2,7 @@
 """Times ticks and commands of the whole program on large hierarchies.
 
 Usage: bench/tree.py [--prog NAME=COMMAND].. [--instructions] [--markdown]
-(default: proved=crates/hls_prog/out/hls_prog, which ./hls builds)
+(default: proved=crates/hls_prog/out/hls_prog, which the gate leaves)
 
 Each case is run with few and with many ticks or commands, several times each, and what is printed are the microseconds
 of processor time that one more tick or command takes: the least time of the greater less that of the smaller, by how

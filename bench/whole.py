@@ -3,7 +3,7 @@
 
 Usage: bench/whole.py [--prog NAME=COMMAND].. [--cases a1,b,..] [--reps N] [--timeout SECONDS] [--instructions]
                       [--markdown]
-(default: proved=crates/hls_prog/out/hls_prog, which ./hls builds; all cases; 5 repetitions; 120 s of processor time)
+(default: proved=crates/hls_prog/out/hls_prog, which the gate leaves; all cases; 5 repetitions; 120 s of processor time)
 
 Of each program the median processor time (user and system), the whole time by the ticks and by the commands, and the
 most memory are told, and the ratios to the first program (x). Cases that begin with h are `check` on reports that the
